@@ -1,0 +1,7 @@
+pub mod Spans
+pub mod Tokens
+pub mod Reading
+pub mod Keywords
+pub mod FirstLaws
+pub mod FirstPart
+pub mod FirstLoop

@@ -1,0 +1,6 @@
+pub mod Bytes
+pub mod Reads
+pub mod Words
+pub mod Grammar
+pub mod Part
+pub mod Machine

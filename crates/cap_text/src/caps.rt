@@ -1,0 +1,71 @@
+//! Lists of grants.
+
+ghost use Rattle.std.specs.Prelude.{◌≡◌, ◌≤◌, [], ◌∷◌, length, IfOk};
+
+use crate::fault::OutOfMemory;
+use crate::grant::Grant;
+use std::alloc::Global;
+use std::marker::Model;
+
+/// The grants of a capability text, at most 64, which contracts see as the list of them.
+#[derive(Debug, Drop)]
+pub struct CapList {
+    grants: Vec<Grant>,
+}
+
+impl Model for CapList {
+    ghost use Rattle.std.specs.Prelude.{List, length, ◌≤◌};
+    ghost use Rattle.cap_text.specs.declared.grant.Grant.{Grant};
+
+    ghost Value = { List Grant };
+
+    ghost view = { λ c. c.grants.items };
+
+    ghost invariant = { λ c. length c.grants.items ≤ 64 };
+}
+
+impl CapList {
+    /// No grants.
+    pub fn empty(alloc: Global) -> CapList
+        ensures { result ≡ [] }
+    {
+        CapList {
+            grants: Vec::new(alloc),
+        }
+    }
+
+    pub(crate) fn single(alloc: Global, grant: Grant) -> Result<CapList, OutOfMemory>
+        ensures { IfOk result (λ list. list ≡ grant ∷ []) }
+    {
+        let mut grants = Vec::new(alloc);
+        grants.push(grant)?;
+        Ok(CapList { grants })
+    }
+
+    /// The list of these grants. It takes no memory.
+    pub fn from_vec(grants: Vec<Grant>) -> CapList
+        requires { length grants.items ≤ 64 }
+        ensures { result ≡ grants.items }
+    {
+        CapList { grants }
+    }
+
+    /// Its grants, in the text's order.
+    pub fn grants(&self) -> &[Grant]
+        ensures value { result.now ≡ self.now }
+        ensures few { length result.now ≤ 64 }
+    {
+        self.grants.as_slice()
+    }
+
+    /// An equal list.
+    pub fn copy(&self) -> Result<CapList, OutOfMemory>
+        ensures { IfOk result (λ list. list ≡ self.now) }
+    {
+        let mut grants = Vec::new(*self.grants.allocator());
+        for grant in self.grants() {
+            grants.push(grant.copy()?)?;
+        }
+        Ok(CapList { grants })
+    }
+}

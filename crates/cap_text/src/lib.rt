@@ -1,0 +1,22 @@
+//! Capability texts of object storage daemons, and the grants that they spell.
+#![tactic(auto)]
+
+mod bytes;
+mod caps;
+mod fault;
+mod first;
+mod grant;
+mod keyword;
+mod lexer;
+mod name;
+mod tags;
+mod token;
+
+pub use caps::CapList;
+pub use fault::{CapFault, FaultKind, OutOfMemory};
+pub use first::parse;
+pub use grant::{Access, AllowGrant, Flags, Grant, NsMatch, Part, ProfileUse, Tag, copy_namespace};
+pub use keyword::Keyword;
+pub use name::{Name, copy_name};
+pub use tags::{AppTags, Pairs, Tags};
+pub use token::{Piece, Token};
