@@ -1,0 +1,22 @@
+//! Verdicts: whether the grants of a ticket allow a request, and why not.
+//!
+//! The conditions of a grant are those of the Ceph manual's User Management chapter, "Authorization
+//! capabilities"; that one grant must give all of a request's reads and writes, and that a call is covered
+//! by grants which do so, is how Ceph's daemons decide. Reports are this project's profile.
+#![tactic(auto)]
+
+mod judging;
+mod matching;
+mod path;
+mod reporting;
+mod request;
+mod ticket;
+
+pub use judging::judge;
+pub use path::Path;
+pub use reporting::report;
+pub use request::{Calls, ClassCall, Condition, Needs, Target};
+pub use ticket::{Report, Ticket};
+
+#[cfg(test)]
+mod tests;

@@ -1,0 +1,192 @@
+//! One grant against one request.
+
+ghost use Rattle.std.specs.Prelude.{◌≡◌, ◌&&◌};
+ghost use Rattle.std.specs.List.{list_any};
+ghost use Rattle.std.specs.Str.{bytes_eq};
+ghost use Rattle.verdict_core.specs.Verdict as spec;
+
+use crate::request::{ClassCall, Condition, Needs, Target};
+use cap_text::{Access, AllowGrant, AppTags, Name, NsMatch, Pairs, Part, Tag, Tags};
+
+/// No name, or this one.
+fn names(wanted: &Option<Name>, name: &str) -> bool
+    ensures { result ≡ spec.names wanted.now name.now }
+{
+    match wanted {
+        None => true,
+        Some(wanted) => wanted.as_str() == name,
+    }
+}
+
+fn matches_namespace(wanted: &Option<NsMatch>, namespace: &str) -> bool
+    ensures { result ≡ spec.matches_namespace wanted.now namespace.now }
+{
+    match wanted {
+        None => true,
+        Some(NsMatch::Exact(name)) => name.as_str() == namespace,
+        Some(NsMatch::Prefix(prefix)) => {
+            namespace.as_bytes().starts_with(prefix.as_str().as_bytes())
+        }
+    }
+}
+
+fn matches_part(part: &Part, text: &Name) -> bool
+    ensures { result ≡ spec.matches_part part.now text.now }
+{
+    match part {
+        Part::Any => true,
+        Part::Is(name) => name.equals(text),
+    }
+}
+
+/// Whether some pair has this value.
+fn has_value(value: &Name, pairs: &Pairs) -> bool
+    ensures { result ≡ list_any (λ pair. bytes_eq value.now pair.1) pairs.now }
+{
+    pairs.as_slice().iter().any(|pair| value.equals(&pair.1))
+}
+
+/// Whether some pair has this key, and a value that agrees.
+fn has_pair(key: &Name, value: &Part, pairs: &Pairs) -> bool
+    ensures { result ≡ list_any (λ pair. bytes_eq key.now pair.0 && spec.matches_part value.now pair.1) pairs.now }
+{
+    pairs
+        .as_slice()
+        .iter()
+        .any(|pair| key.equals(&pair.0) && matches_part(value, &pair.1))
+}
+
+fn matches_pairs(key: &Part, value: &Part, pairs: &Pairs) -> bool
+    ensures { result ≡ spec.matches_pairs key.now value.now pairs.now }
+{
+    match (key, value) {
+        (Part::Any, Part::Any) => true,
+        (Part::Any, Part::Is(value)) => has_value(value, pairs),
+        (Part::Is(key), value) => has_pair(key, value, pairs),
+    }
+}
+
+fn matches_application(tag: &Tag, app: &AppTags) -> bool
+    ensures { result ≡ spec.matches_application tag.now app.now }
+{
+    tag.application.equals(&app.application) && matches_pairs(&tag.key, &tag.value, &app.pairs)
+}
+
+/// Whether some application of the pool agrees with a tag.
+fn has_application(tag: &Tag, tags: &Tags) -> bool
+    ensures { result ≡ list_any (spec.matches_application tag.now) tags.now }
+{
+    tags.as_slice()
+        .iter()
+        .any(|app| matches_application(tag, app))
+}
+
+fn matches_tag(wanted: &Option<Tag>, tags: &Tags) -> bool
+    ensures { result ≡ spec.matches_tag wanted.now tags.now }
+{
+    match wanted {
+        None => true,
+        Some(tag) => has_application(tag, tags),
+    }
+}
+
+fn matches_prefix(wanted: &Option<Name>, object: &str) -> bool
+    ensures { result ≡ spec.matches_prefix wanted.now object.now }
+{
+    match wanted {
+        None => true,
+        Some(prefix) => {
+            !object.is_empty() && object.as_bytes().starts_with(prefix.as_str().as_bytes())
+        }
+    }
+}
+
+fn can_read(access: &Access) -> bool
+    ensures { result ≡ spec.can_read access.now }
+{
+    match access {
+        Access::All => true,
+        Access::Flags(flags) => flags.read,
+        Access::Class { .. } => false,
+    }
+}
+
+fn can_write(access: &Access) -> bool
+    ensures { result ≡ spec.can_write access.now }
+{
+    match access {
+        Access::All => true,
+        Access::Flags(flags) => flags.write,
+        Access::Class { .. } => false,
+    }
+}
+
+/// Whether a grant speaks of the place, and reads and writes as far as the request does.
+pub(crate) fn is_usable(grant: &AllowGrant, target: &Target<'_>, needs: &Needs) -> bool
+    ensures { result ≡ spec.is_usable grant.now target.now needs.now }
+{
+    names(&grant.pool, target.pool)
+        && matches_namespace(&grant.namespace, target.namespace)
+        && matches_tag(&grant.tag, target.tags)
+        && matches_prefix(&grant.prefix, target.object)
+        && (!needs.reads || can_read(&grant.access))
+        && (!needs.writes || can_write(&grant.access))
+}
+
+/// Whether an access covers a call.
+pub(crate) fn covers(access: &Access, call: &ClassCall) -> bool
+    ensures { result ≡ spec.covers access.now call.now }
+{
+    match access {
+        Access::All => true,
+        Access::Class { class, method } => {
+            class.equals(&call.class) && names(method, call.method.as_str())
+        }
+        Access::Flags(flags) => {
+            call.listed
+                && (!call.class_reads || flags.class_read)
+                && (!call.class_writes || flags.class_write)
+        }
+    }
+}
+
+/// The first call that an access does not cover, by its number.
+fn uncovered(access: &Access, calls: &[ClassCall]) -> Option<Condition>
+    ensures { result ≡ spec.uncovered_from 1 access.now calls.now }
+{
+    for (i, call) in calls.iter().enumerate() {
+        if !covers(access, call) {
+            return Some(Condition::Call(i + 1));
+        }
+    }
+    None
+}
+
+/// The first condition of a grant that a request fails.
+pub(crate) fn first_failure(
+    grant: &AllowGrant,
+    target: &Target<'_>,
+    needs: &Needs,
+) -> Option<Condition>
+    ensures { result ≡ spec.first_failure grant.now target.now needs.now }
+{
+    if !names(&grant.pool, target.pool) {
+        return Some(Condition::Pool);
+    }
+    if !matches_namespace(&grant.namespace, target.namespace) {
+        return Some(Condition::Namespace);
+    }
+    if !matches_tag(&grant.tag, target.tags) {
+        return Some(Condition::Tag);
+    }
+    if !matches_prefix(&grant.prefix, target.object) {
+        return Some(Condition::Prefix);
+    }
+    if needs.reads && !can_read(&grant.access) {
+        return Some(Condition::Read);
+    }
+    if needs.writes && !can_write(&grant.access) {
+        return Some(Condition::Write);
+    }
+    uncovered(&grant.access, needs.calls.as_slice())
+}

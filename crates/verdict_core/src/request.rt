@@ -1,0 +1,114 @@
+//! What a request asks for, and where.
+
+ghost use Rattle.std.specs.Prelude.{◌≡◌, IfOk};
+
+use cap_text::{Name, OutOfMemory, Tags};
+use std::marker::Model;
+
+/// Where a request goes: an object of a namespace in a pool, and the pool's application tags.
+///
+/// It borrows all of it, so that a verdict copies nothing. A listing has the empty object name.
+#[derive(Drop)]
+pub struct Target<'a> {
+    pub pool: &'a str,
+    pub tags: &'a Tags,
+    pub namespace: &'a str,
+    pub object: &'a str,
+}
+
+impl<'a> Model for Target<'a> {
+    ghost use Rattle.verdict_core.specs.Place.{Place};
+
+    ghost Value = { Place };
+
+    ghost view = { λ t. record { pool = t.pool.now; tags = t.tags.now; namespace = t.namespace.now; object = t.object.now } };
+}
+
+/// A call of a class's method, with what the class registry says of the method.
+#[derive(Debug, Drop)]
+pub struct ClassCall {
+    pub class: Name,
+    pub method: Name,
+    pub class_reads: bool,
+    pub class_writes: bool,
+    /// Whether flags alone may cover the class: it is on the default list.
+    pub listed: bool,
+}
+
+/// What a request asks for.
+#[derive(Debug, Drop)]
+pub struct Needs {
+    pub reads: bool,
+    pub writes: bool,
+    pub calls: Calls,
+}
+
+/// Calls in order, which contracts see as the list of them.
+#[derive(Debug, Drop)]
+pub struct Calls {
+    calls: Vec<ClassCall>,
+}
+
+impl Model for Calls {
+    ghost use Rattle.std.specs.Prelude.{List};
+    ghost use Rattle.verdict_core.specs.declared.request.ClassCall.{ClassCall};
+
+    ghost Value = { List ClassCall };
+
+    ghost view = { λ c. c.calls.items };
+}
+
+/// A condition of a grant that a request may fail, in the order in which they are looked at.
+#[derive(Clone, Copy, Debug, PartialEq, Eq)]
+pub enum Condition {
+    Pool,
+    Namespace,
+    Tag,
+    Prefix,
+    Read,
+    Write,
+    /// The first call that the grant does not cover, counted from 1 among the calls.
+    Call(usize),
+}
+
+impl Calls {
+    /// These calls. It takes no memory.
+    pub fn from_vec(calls: Vec<ClassCall>) -> Calls
+        ensures { result ≡ calls.items }
+    {
+        Calls { calls }
+    }
+
+    /// The calls in order.
+    pub fn as_slice(&self) -> &[ClassCall]
+        ensures { result.now ≡ self.now }
+    {
+        self.calls.as_slice()
+    }
+
+    /// An equal list.
+    pub fn copy(&self) -> Result<Calls, OutOfMemory>
+        ensures { IfOk result (λ calls. calls ≡ self.now) }
+    {
+        let mut calls = Vec::new(*self.calls.allocator());
+        for call in self.as_slice() {
+            calls.push(call.copy()?)?;
+        }
+        Ok(Calls { calls })
+    }
+}
+
+impl ClassCall {
+    /// An equal call.
+    pub fn copy(&self) -> Result<ClassCall, OutOfMemory>
+        ensures { IfOk result (λ call. call ≡ self.now) }
+    {
+        Ok(ClassCall {
+            class: self.class.copy()?,
+            method: self.method.copy()?,
+            class_reads: self.class_reads,
+            class_writes: self.class_writes,
+            listed: self.listed,
+        })
+    }
+}
