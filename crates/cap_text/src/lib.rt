@@ -20,3 +20,6 @@ pub use keyword::Keyword;
 pub use name::{Name, copy_name};
 pub use tags::{AppTags, Pairs, Tags};
 pub use token::{Piece, Token};
+
+#[cfg(test)]
+mod tests;

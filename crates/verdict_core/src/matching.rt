@@ -101,7 +101,7 @@ fn matches_prefix(wanted: &Option<Name>, object: &str) -> bool
     }
 }
 
-fn can_read(access: &Access) -> bool
+pub(crate) fn can_read(access: &Access) -> bool
     ensures { result ≡ spec.can_read access.now }
 {
     match access {
@@ -111,7 +111,7 @@ fn can_read(access: &Access) -> bool
     }
 }
 
-fn can_write(access: &Access) -> bool
+pub(crate) fn can_write(access: &Access) -> bool
     ensures { result ≡ spec.can_write access.now }
 {
     match access {

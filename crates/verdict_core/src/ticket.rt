@@ -58,6 +58,13 @@ impl Ticket {
         Ok(Ticket { grants })
     }
 
+    /// The ticket of these grants. It takes no memory.
+    pub fn from_vec(grants: Vec<(Path, AllowGrant)>) -> Ticket
+        ensures { result ≡ grants.items }
+    {
+        Ticket { grants }
+    }
+
     /// Its grants in order, each with its path.
     pub fn grants(&self) -> &[(Path, AllowGrant)]
         ensures { result.now ≡ self.now }
