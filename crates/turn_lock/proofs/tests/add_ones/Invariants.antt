@@ -1,0 +1,6 @@
+use Rattle.turn_lock.specs.Seats.{IsSameSeat}
+use Rattle.turn_lock.specs.Tales.{StartsWith}
+use Rattle.turn_lock.proofs.tests.add_ones.Given as goal
+
+abbrev pub invariant-loop : goal.invariant-loop
+invariant-loop g l = IsSameSeat l.initial.seat l.seat × StartsWith l.seat.seen l.initial.seat.seen

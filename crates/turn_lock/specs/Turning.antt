@@ -1,0 +1,104 @@
+-- The rule of the lock, which holds between any two of its atomic steps, and what each step tells the seat that makes it.
+use Rattle.std.specs.Prelude.{◌≡◌, ◌≢◌, ℕ, ◌+◌, ◌-◌, ◌<◌, ◌≤◌, Bool, true, false, List, [], ◌∷◌, ◌++◌, length, slice_index, Option, Some, min}
+use mathlib.Core.Option.{some}
+use mathlib.Core.Option as maybe
+use lib.ListN.{get_elem?}
+use Rattle.atomic_table.specs.Table.{State, Me, Step}
+use Rattle.turn_lock.specs.declared.board.Made.{Made}
+use Rattle.turn_lock.specs.declared.board.View.{View}
+use Rattle.turn_lock.specs.declared.board.Stage.{Stage}
+use Rattle.turn_lock.specs.declared.board.Stage.TheVariants.{Spent, Away, Waiting, Turn}
+use Rattle.turn_lock.specs.Tales.{StartsWith, longer, made, made_by, state_after}
+
+-- the last number that a word holds
+abbrev pub last_word : ℕ
+last_word = 18446744073709551615
+
+module _ {E : Type 0} where
+  -- so many tickets all seats together may still draw
+  abbrev pub total_draws : List (View E) → ℕ
+  total_draws [] = 0
+  total_draws (v ∷ vs) = v.draws + total_draws vs
+
+  -- the list begins with what the seat has seen or was told, and of the seat's entries it has just those that it made
+  abbrev pub HasSeen : List (Made E) → ℕ → View E → Type 0
+  HasSeen log seat v = StartsWith log v.seen × StartsWith log v.told × (made_by seat log ≡ v.mine)
+
+  -- What a seat knows in each stage. One that was joined to another knows nothing any more. One that waits has a ticket of its own that was not served yet.
+  -- One whose turn it is has seen the whole list, and has the value
+  module _ (log : List (Made E)) (owner : ℕ → ℕ) (busy : Bool) (serving next : ℕ) (seat : ℕ) (v : View E) where
+    abbrev pub Knows : Stage → Type 0
+    Knows Spent = Unit {0}
+    Knows Away = HasSeen log seat v
+    Knows (Waiting t) = HasSeen log seat v × (serving ≤ t) × (t < next) × (owner t ≡ seat) × (t ≡ serving → busy ≡ false)
+    Knows (Turn t) = HasSeen log seat v × (log ≡ v.seen) × (t ≡ serving) × (t < next) × (owner t ≡ seat) × (busy ≡ true)
+
+module _ {T S E : Type 0} (state : T → S) (after : S → E → S) (first : S) where
+  -- `log` is the list of all turns, `owner` the seat that drew each ticket, and `busy` says that the value is out.
+  -- At home the value stands for the list
+  pub record Turning (serving next : ℕ) (homes : List (maybe.Option (Option T))) (views : List (View E)) : Type 0 where
+    pub log : List (Made E)
+    pub owner : ℕ → ℕ
+    pub busy : Bool
+    pub room : total_draws views + next ≤ last_word
+    pub order : serving ≤ next
+    pub within : busy ≡ true → serving < next
+    pub home : busy ≡ false → (x : T) × (get_elem? homes 0 ≡ some (some (Some x))) × (state x ≡ state_after after first log)
+    pub each_seat : (j : ℕ) (v : View E) → get_elem? views j ≡ some v → Knows log owner busy serving next j v v.stage
+    pub strangers : (j : ℕ) → length views ≤ j → made_by j log ≡ []
+
+  abbrev pub Ruled : State (Option T) (View E) → Type 0
+  Ruled s = (length s.words ≡ 2) × Turning (slice_index s.words 0) (slice_index s.words 1) s.homes s.views
+
+-- a new seat may draw so many tickets
+abbrev pub part_of : ℕ → ℕ
+part_of draws = min draws 4294967296
+
+module _ {E : Type 0} where
+  abbrev pub first_view : View E
+  first_view = record { seen = []; told = []; mine = []; draws = last_word; stage = Away }
+
+  abbrev pub kept_view : View E → View E
+  kept_view v = record v { draws = v.draws - part_of v.draws }
+
+  abbrev pub given_view : View E → View E
+  given_view v = record { seen = v.seen; told = []; mine = []; draws = part_of v.draws; stage = Away }
+
+  abbrev pub joined_view : View E → View E → View E
+  joined_view v w = record v { told = w.seen; draws = min (v.draws + w.draws) last_word }
+
+  abbrev pub spent_view : View E
+  spent_view = record { seen = []; told = []; mine = []; draws = 0; stage = Spent }
+
+  abbrev pub settled_view : View E → View E
+  settled_view v = record v { seen = longer v.seen v.told; told = [] }
+
+abbrev Sat : Type 0 → Type 0 → Type 0
+Sat T E = Me (Option T) (View E)
+
+module _ {T E : Type 0} where
+  -- the seat has drawn the number found, and waits
+  abbrev pub drew : Step (Option T) → Sat T E → ℕ → Sat T E → Type 0
+  drew st m n m' = m' ≡ (record m.0 { draws = m.0.draws - 1; stage = Waiting n }, m.1)
+
+  -- the seat's one entry stands at the end of the list, and it has nothing any more
+  abbrev pub called : ℕ → List E → Step (Option T) → Sat T E → ℕ → Sat T E → Type 0
+  called by adds st m n m' = (e : E) → adds ≡ e ∷ [] → (m' ≡ (record m.0 { seen = m.0.seen ++ made by e ∷ []; mine = m.0.mine ++ e ∷ []; stage = Away }, [])) × (made_by by m'.0.seen ≡ m'.0.mine)
+
+  -- of what it has seen and what it was told the seat keeps the longer, which begins with both, and in which it has made no entry but its own
+  abbrev pub settled : ℕ → Step (Option T) → Sat T E → ℕ → Sat T E → Type 0
+  settled by st m n m' = (m' ≡ (settled_view m.0, m.1)) × StartsWith m'.0.seen m.0.seen × StartsWith m'.0.seen m.0.told × StartsWith m'.0.mine (made_by by m'.0.seen)
+
+  module _ {S : Type 0} (state : T → S) (after : S → E → S) (firsts : List S) (by : ℕ) where
+    -- the turn has come: the seat has the value, which stands for the list that the seat has now seen
+    pub record Found (t : ℕ) (m m' : Sat T E) : Type 0 where
+      pub value : T
+      pub log : List (Made E)
+      pub begins : StartsWith log m.0.seen
+      pub own : made_by by log ≡ m.0.mine
+      pub seat : m' ≡ (record m.0 { seen = log; stage = Turn t }, (0, Some value) ∷ [])
+      pub stands : (f : S) → firsts ≡ f ∷ [] → state value ≡ state_after after f log
+
+    -- it is the seat's turn exactly where the number found is its ticket
+    abbrev pub looked : ℕ → Step (Option T) → Sat T E → ℕ → Sat T E → Type 0
+    looked ticket st m n m' = (n ≡ ticket → Found ticket m m') × (n ≢ ticket → m' ≡ m)

@@ -1,0 +1,182 @@
+//! The lock and its seats.
+ghost use Rattle.std.specs.Prelude.{◌≡◌, ◌+◌, ◌<◌, [], All, IfOk, IfErr, vec_len};
+ghost use Rattle.turn_lock.specs.Seats.{IsSeatOf, IsNewSeatOf, IsSameSeat, HasItsOwn};
+ghost use Rattle.turn_lock.specs.Tales.{StartsWith, longer};
+ghost use Rattle.turn_lock.specs.Turned.{Turned, Closes};
+
+use crate::OutOfMemory;
+use crate::meaning::{Recorded, Step};
+use crate::turnstile::{Place, Turnstile};
+use std::alloc::Global;
+use std::marker::Model;
+use std::sync::Wait;
+use std::thread;
+
+// So many numbers a seat that was split off may draw at most.
+const PART: u64 = 1 << 32;
+
+/// A value under a lock, which stands for the list of all turns that were taken on it.
+///
+/// Clauses see a lock as which one it is, `table`, and the state that its value began with, `first`. Share it by `&` between threads, and give each thread a seat.
+#[derive(Drop)]
+pub struct TurnLock<T: Recorded> {
+    turnstile: Turnstile<T>,
+}
+
+impl<T: Recorded> Model for TurnLock<T> {
+    ghost use Rattle.turn_lock.specs.Seats.{Locked};
+
+    ghost Value = { Locked T.State };
+
+    ghost view = { λ l. record { table = l.turnstile.table.shared.table_id; first = T.state l.turnstile.table.shared.key.value } };
+}
+
+/// The right to take turns on one lock.
+///
+/// Clauses see a seat as the `lock` that it is of, its `number`, the beginning of the list that it has `seen`, and the entries that are its own, `mine`. The list
+/// itself is nowhere at run time: a seat is a `u64`, how many numbers it may still draw. A seat that is dropped takes these with it, and its entries stay.
+#[derive(Drop)]
+pub struct Seat<T: Recorded> {
+    place: Place<T>,
+    draws: u64,
+}
+
+impl<T: Recorded> Model for Seat<T> {
+    ghost use Rattle.std.specs.Prelude.{◌≡◌, []};
+    ghost use Rattle.turn_lock.specs.declared.board.Stage.TheVariants.{Away};
+    ghost use Rattle.turn_lock.specs.Seats.{Seated, HasItsOwn, seated};
+
+    ghost Value = { Seated T.Entry };
+
+    ghost view = { λ s. seated s.place };
+
+    ghost invariant = { λ s. (s.place.me.0.stage ≡ Away) × (s.place.me.0.told ≡ []) × (s.place.me.0.draws ≡ s.draws) × (s.place.me.1 ≡ []) × HasItsOwn (seated s.place) };
+}
+
+fn wait_for_ever<R: Wait>(rt: &R)
+    ensures { ⊥ }
+{
+    for _ in rt.forever() {
+        thread::yield_now();
+    }
+}
+
+impl<T: Recorded> TurnLock<T> {
+    // The lock and a first seat, which may draw every number but the last.
+    fn open(alloc: Global, value: T) -> Result<(TurnLock<T>, Seat<T>), T>
+        ensures ok { IfOk result (λ r. (r.0.first ≡ T.state value) × IsNewSeatOf r.0 r.1) }
+        ensures err { IfErr result (λ x. x ≡ value) }
+    {
+        let (turnstile, place) = Turnstile::new(alloc, value)?;
+        let seat = Seat {
+            place,
+            draws: u64::MAX,
+        };
+        Ok((TurnLock { turnstile }, seat))
+    }
+
+    /// A lock over the value, with so many seats, one at least. The list is empty, and no seat has seen or made anything.
+    ///
+    /// # Errors
+    ///
+    /// The value comes back as it was where there is no memory for the table or for the list of seats.
+    pub fn new(
+        alloc: Global,
+        value: T,
+        seats: usize,
+    ) -> Result<(TurnLock<T>, Vec<Seat<T>>), (T, OutOfMemory)>
+        requires { 0 < seats }
+        ensures first { IfOk result (λ r. r.0.first ≡ T.state value) }
+        ensures seats { IfOk result (λ r. (vec_len r.1 ≡ seats) × All (IsNewSeatOf r.0) r.1.items) }
+        ensures err { IfErr result (λ e. e.0 ≡ value) }
+    {
+        let Ok(mut all) = Vec::with_capacity(alloc, seats) else {
+            return Err((value, OutOfMemory));
+        };
+        match TurnLock::open(alloc, value) {
+            Ok((lock, mut first)) => {
+                for _ in 1..seats {
+                    all.push_reserved(first.split(&lock));
+                }
+                all.push_reserved(first);
+                Ok((lock, all))
+            }
+            Err(value) => Err((value, OutOfMemory)),
+        }
+    }
+
+    /// Runs the step once, in a turn of its own, and answers what it answered.
+    ///
+    /// It waits until every turn that drew its number before is over. Where the step is refused its entry is an idle one, as the step's contract says. It returns in
+    /// no bounded time, and never where the seat has no number left to draw, or where a step takes a turn of its own lock.
+    pub fn turn<R: Wait, St: Step<Value = T> + Drop>(
+        &self,
+        rt: &R,
+        seat: &mut Seat<T>,
+        step: St,
+    ) -> St::Answer
+    where
+        T: Drop,
+        requires { IsSeatOf self.now seat.old }
+        ensures seat { IsSameSeat seat.old seat.new }
+        ensures turned { Turned T.after St.entry St.tells self.now.first step result seat.old seat.new }
+    {
+        if seat.draws == 0 {
+            wait_for_ever(rt);
+        }
+        let answer = self.turnstile.turn(rt, &mut seat.place, step);
+        seat.draws -= 1;
+        answer
+    }
+
+    /// Takes a last turn, and in it the value out of the lock.
+    ///
+    /// No thread has the lock any more, so each turn that was begun is over. The value stands for the whole list, which begins with what this seat had seen. To
+    /// have this of each seat, [`Seat::join`] them into one first. It waits as a turn does.
+    pub fn close<R: Wait>(self, rt: &R, seat: Seat<T>) -> T
+    where
+        T: Drop,
+        requires { IsSeatOf self seat }
+        ensures { Closes T.after self.first (T.state result) seat }
+    {
+        let TurnLock { turnstile } = self;
+        let Seat { place, draws } = seat;
+        if draws == 0 {
+            wait_for_ever(rt);
+        }
+        turnstile.close(rt, place)
+    }
+}
+
+impl<T: Recorded> Seat<T> {
+    /// A new seat of the lock, which has seen what this one has, and made nothing.
+    ///
+    /// It gets 2^32 of the numbers that this one may draw, or all where there are fewer. It takes no memory, and waits for nobody.
+    pub fn split(&mut self, lock: &TurnLock<T>) -> Seat<T>
+        requires { IsSeatOf lock.now self.old }
+        ensures same { self.new ≡ self.old }
+        ensures new { IsSeatOf lock.now result × (result.seen ≡ self.old.seen) × (result.mine ≡ []) }
+        ensures own { HasItsOwn self.new × HasItsOwn result }
+    {
+        let part = self.draws.min(PART);
+        let place = lock.turnstile.split(&mut self.place);
+        self.draws -= part;
+        Seat { place, draws: part }
+    }
+
+    /// From now on this seat has seen what both had seen, and may draw what both might. The other is spent: its entries stay in the list under its number.
+    ///
+    /// It takes no memory, and waits for nobody.
+    pub fn join(&mut self, lock: &TurnLock<T>, other: Seat<T>)
+        requires own { IsSeatOf lock.now self.old }
+        requires other { IsSeatOf lock.now other }
+        ensures same { IsSameSeat self.old self.new × (self.new.mine ≡ self.old.mine) }
+        ensures longer { self.new.seen ≡ longer self.old.seen other.seen }
+        ensures begins { StartsWith self.new.seen self.old.seen × StartsWith self.new.seen other.seen }
+        ensures own { HasItsOwn self.new }
+    {
+        let Seat { place, draws } = other;
+        lock.turnstile.join(&mut self.place, place);
+        self.draws = self.draws.saturating_add(draws);
+    }
+}
