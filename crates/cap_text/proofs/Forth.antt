@@ -201,23 +201,23 @@ assigned_namespace_go done may d ts n mid (inr (m, e, h)) =
 module _ (done : List Grant) (may : ClauseSet) (d : Draft) (ts rest : List Token) where
   pub pool_go : (v : List ℕ) → may.pool ≡ true → PoolClause ts v rest → Go done (places.Clauses may d) ts (filled slots.Pool may d v) rest
   unfolding step
-  pool_go v open (m, e, h) =
-      ap (reads done (places.Clauses may d)) e ∙ word_go done (places.Clauses may d) (places.Assigned slots.Pool may d) (codes "pool") m (ap (λ b. where_open b (places.Assigned slots.Pool may d)) open) ∙ assigned_go done slots.Pool may d m v rest h
+  pool_go v can (m, e, h) =
+      ap (reads done (places.Clauses may d)) e ∙ word_go done (places.Clauses may d) (places.Assigned slots.Pool may d) (codes "pool") m (ap (λ b. where_open b (places.Assigned slots.Pool may d)) can) ∙ assigned_go done slots.Pool may d m v rest h
 
   pub namespace_clause_go : (n : NsMatch) → may.namespace ≡ true → NamespaceClause ts n rest → Go done (places.Clauses may d) ts (namespace_place may d n) rest
   unfolding step
-  namespace_clause_go n open (m, e, h) =
-      ap (reads done (places.Clauses may d)) e ∙ word_go done (places.Clauses may d) (places.Namespace may d) (codes "namespace") m (ap (λ b. where_open b (places.Namespace may d)) open) ∙ assigned_namespace_go done may d m n rest h
+  namespace_clause_go n can (m, e, h) =
+      ap (reads done (places.Clauses may d)) e ∙ word_go done (places.Clauses may d) (places.Namespace may d) (codes "namespace") m (ap (λ b. where_open b (places.Namespace may d)) can) ∙ assigned_namespace_go done may d m n rest h
 
   pub prefix_go : (v : List ℕ) → may.prefix ≡ true → PrefixClause ts v rest → Go done (places.Clauses may d) ts (filled slots.Prefix may d v) rest
   unfolding step
-  prefix_go v open (m, e, h) =
-      ap (reads done (places.Clauses may d)) e ∙ word_go done (places.Clauses may d) (places.Value slots.Prefix may d) (codes "object_prefix") m (ap (λ b. where_open b (places.Value slots.Prefix may d)) open) ∙ filled_go done slots.Prefix may d m v rest h
+  prefix_go v can (m, e, h) =
+      ap (reads done (places.Clauses may d)) e ∙ word_go done (places.Clauses may d) (places.Value slots.Prefix may d) (codes "object_prefix") m (ap (λ b. where_open b (places.Value slots.Prefix may d)) can) ∙ filled_go done slots.Prefix may d m v rest h
 
   pub tag_go : (t : Tag) → may.tag ≡ true → TagClause ts t rest → Go done (places.Clauses may d) ts (tag_place t.application t.key d t.value) rest
   unfolding step
-  tag_go t open (a, b, c, e, val, k, v) =
-      ap (reads done (places.Clauses may d)) e ∙ word_go done (places.Clauses may d) (places.Value slots.Application may d) (codes "tag") a (ap (λ x. where_open x (places.Value slots.Application may d)) open)
+  tag_go t can (a, b, c, e, val, k, v) =
+      ap (reads done (places.Clauses may d)) e ∙ word_go done (places.Clauses may d) (places.Value slots.Application may d) (codes "tag") a (ap (λ x. where_open x (places.Value slots.Application may d)) can)
       ∙ filled_go done slots.Application may d a t.application b val
       ∙ part_go done (places.Key t.application d) (λ x. places.KeyEquals t.application x d) (λ w. refl) (λ x q. refl) (λ x. refl) b t.key (Equals ∷ c) k
       ∙ equals_go done (places.KeyEquals t.application t.key d) (places.KeyValue t.application t.key d) c refl
@@ -237,11 +237,7 @@ module _ (done : List Grant) (may : ClauseSet) (d : Draft) (rest : List Token) (
   class_words_go : (f : Flags) (k l : Bool) → Go done (places.Letters f may d) (where_set k (codes "class-read") (where_set l (codes "class-write") rest)) (accessed may d (accesses.Flags (flags f.read f.write (f.class_read || k) (f.class_write || l)))) rest
   unfolding step
   class_words_go f k l = cases k l where
-    F : Bool → Bool → Result (List Grant) FaultKind
-    unfolding step
-    F x y = reads done (accessed may d (accesses.Flags (flags f.read f.write x y))) rest
     cases : (k l : Bool) → reads done (places.Letters f may d) (where_set k (codes "class-read") (where_set l (codes "class-write") rest)) ≡ reads done (accessed may d (accesses.Flags (flags f.read f.write (f.class_read || k) (f.class_write || l)))) rest
-    unfolding step
     cases true true =
         word_go done (places.Letters f may d) (places.ClassRead (record f { class_read = true }) may d) (codes "class-read") (Word (codes "class-write") ∷ rest) refl
         ∙ word_go done (places.ClassRead (record f { class_read = true }) may d) _ (codes "class-write") rest refl
@@ -301,18 +297,18 @@ module _ (done : List Grant) (may : ClauseSet) (d : Draft) (rest : List Token) (
 module _ (done : List Grant) (h : Head) where
   pool_part : (ts : List Token) (x : Option (List ℕ)) (mid : List Token) (may : ClauseSet) → may.pool ≡ true → Optional PoolClause ts x mid
       → (after : ClauseSet) × (after.namespace ≡ may.namespace) × (after.prefix ≡ may.prefix) × Go done (places.Clauses may (fresh h)) ts (places.Clauses after (draft h x None None None)) mid
-  pool_part ts None mid may open e = (may, refl, refl, ap (reads done (places.Clauses may (fresh h))) e)
-  pool_part ts (Some v) mid may open c = (after_pool may, refl, refl, pool_go done may (fresh h) ts mid v open c)
+  pool_part ts None mid may can e = (may, refl, refl, ap (reads done (places.Clauses may (fresh h))) e)
+  pool_part ts (Some v) mid may can c = (after_pool may, refl, refl, pool_go done may (fresh h) ts mid v can c)
 
   namespace_part : (pool : Option (List ℕ)) (ts : List Token) (x : Option NsMatch) (mid : List Token) (may : ClauseSet) → may.namespace ≡ true → Optional NamespaceClause ts x mid
       → (after : ClauseSet) × (after.prefix ≡ may.prefix) × (after.tag ≡ may.tag) × Go done (places.Clauses may (draft h pool None None None)) ts (places.Clauses after (draft h pool x None None)) mid
-  namespace_part pool ts None mid may open e = (may, refl, refl, ap (reads done (places.Clauses may (draft h pool None None None))) e)
-  namespace_part pool ts (Some n) mid may open c = (after_namespace may, refl, refl, namespace_clause_go done may (draft h pool None None None) ts mid n open c)
+  namespace_part pool ts None mid may can e = (may, refl, refl, ap (reads done (places.Clauses may (draft h pool None None None))) e)
+  namespace_part pool ts (Some n) mid may can c = (after_namespace may, refl, refl, namespace_clause_go done may (draft h pool None None None) ts mid n can c)
 
   prefix_part : (pool : Option (List ℕ)) (ns : Option NsMatch) (ts : List Token) (x : Option (List ℕ)) (mid : List Token) (may : ClauseSet) → may.prefix ≡ true → Optional PrefixClause ts x mid
       → (after : ClauseSet) × Go done (places.Clauses may (draft h pool ns None None)) ts (places.Clauses after (draft h pool ns x None)) mid
-  prefix_part pool ns ts None mid may open e = (may, ap (reads done (places.Clauses may (draft h pool ns None None))) e)
-  prefix_part pool ns ts (Some v) mid may open c = (no_more, prefix_go done may (draft h pool ns None None) ts mid v open c)
+  prefix_part pool ns ts None mid may can e = (may, ap (reads done (places.Clauses may (draft h pool ns None None))) e)
+  prefix_part pool ns ts (Some v) mid may can c = (no_more, prefix_go done may (draft h pool ns None None) ts mid v can c)
 
   pub match_go : (ts : List Token) (g : AllowGrant) (rest : List Token) → MatchPhrase ts g rest → (after : ClauseSet) × Go done (places.Clauses every (fresh h)) ts (places.Clauses after (draft h g.pool g.namespace g.prefix g.tag)) rest
   match_go ts g rest (inl (none, (a, b, p, n, x))) =
@@ -367,8 +363,8 @@ grant_go done p starts ts (Profile used) rest (a, b, c, e, val, pool, ns) end =
 
 followed_end : (ts : List Token) (gs : List Grant) → Followed GrantPhrase ts gs → IsEnd ts
 followed_end ts [] e = let P : List Token → Type 0 = λ x. IsEnd x in subst P (sym e) tt
-followed_end ts (g ∷ gs) (a, b, inl e, h) = let P : List Token → Type 0 = λ x. IsEnd x in subst P (sym e) tt
-followed_end ts (g ∷ gs) (a, b, inr e, h) = let P : List Token → Type 0 = λ x. IsEnd x in subst P (sym e) tt
+followed_end ts (g ∷ gs) (a, b, inl e, one, others) = let P : List Token → Type 0 = λ x. IsEnd x in subst P (sym e) tt
+followed_end ts (g ∷ gs) (a, b, inr e, one, others) = let P : List Token → Type 0 = λ x. IsEnd x in subst P (sym e) tt
 
 abbrev all_of : List Grant → Result (List Grant) FaultKind
 all_of gs = Ok gs

@@ -5,3 +5,5 @@ pub mod Keywords
 pub mod Stars
 pub mod Forth
 pub mod Once
+pub mod Back
+pub mod Runs
