@@ -7,3 +7,5 @@ pub mod Forth
 pub mod Once
 pub mod Back
 pub mod Runs
+pub mod FaultKinds
+pub mod Loop

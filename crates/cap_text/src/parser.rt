@@ -5,7 +5,7 @@ ghost use Rattle.cap_text.specs.declared.grant.Grant.{Grant};
 ghost use Rattle.cap_text.specs.Grammar.{Spells, AtMostOneList};
 ghost use Rattle.cap_text.specs.Gives.{Gives};
 ghost use Rattle.cap_text.specs.Machine.{advance, finish, placed};
-ghost use Rattle.cap_text.specs.Faults.{OrMemory};
+ghost use Rattle.cap_text.specs.Faults.{OrMemory, IsFirstFault};
 
 use crate::caps::CapList;
 use crate::fault::{CapFault, FaultKind};
@@ -72,6 +72,7 @@ fn fault(kind: FaultKind, at: usize) -> CapFault
 pub fn parse(alloc: Global, text: &str) -> Result<CapList, CapFault>
     ensures list { IfOk result (λ list. Spells text.now list) }
     ensures none { IfErr result (λ fault. OrMemory fault ((gs : List Grant) → Spells text.now gs → ⊥)) }
+    ensures first { IfErr result (λ fault. OrMemory fault (IsFirstFault text.now fault)) }
 {
     if text.len() > LONGEST {
         return Err(fault(FaultKind::TooLong, 0));
