@@ -2,6 +2,10 @@ pub mod Spans
 pub mod Tokens
 pub mod Reading
 pub mod Keywords
-pub mod FirstLaws
-pub mod FirstPart
-pub mod FirstLoop
+pub mod Stars
+pub mod Forth
+pub mod Once
+pub mod Back
+pub mod Runs
+pub mod FaultKinds
+pub mod Loop

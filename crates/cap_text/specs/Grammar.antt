@@ -148,3 +148,7 @@ CanBeSpelled gs = (text : List ℕ) × (ts : List Token) × IsText text ts × Gr
 -- a text of at most 4,096 bytes spells the list of at most 64 grants
 abbrev pub Spells : List ℕ → List Grant → Type 0
 Spells text gs = (length text ≤ 4096) × (length gs ≤ 64) × ((ts : List Token) × IsText text ts × Grants GrantPhrase ts gs)
+
+-- no text spells two lists
+abbrev pub AtMostOneList : Type 0
+AtMostOneList = (text : List ℕ) (a b : List Grant) → Spells text a → Spells text b → a ≡ b

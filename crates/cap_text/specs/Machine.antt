@@ -1,72 +1,276 @@
--- Reading token by token.
-use Rattle.std.specs.Prelude.{◌≡◌, ℕ, Bool, true, false, List, [], ◌∷◌, Option, Some, None, Result, Ok, Err, option_and_then}
+-- The grammar, token by token.
+use Rattle.std.specs.Prelude.{◌≡◌, ◌≢◌, ℕ, ◌⊎◌, Bool, true, false, ◌||◌, List, [], ◌∷◌, ◌++◌, codes, Option, Some, None, Result, Ok, Err, if◌then◌else◌}
 use Rattle.cap_text.specs.declared.token.Token.{Token}
 use Rattle.cap_text.specs.declared.token.Token.TheVariants.{Comma, Semicolon, Equals, Star, Word, Quoted}
 use Rattle.cap_text.specs.declared.grant.Access.{Access}
-use Rattle.cap_text.specs.declared.grant.Access.TheVariants.{All, Flags, Class}
-use Rattle.cap_text.specs.declared.grant.Flags.{Flags as FlagSet}
+use Rattle.cap_text.specs.declared.grant.Access.TheVariants as accesses
+use Rattle.cap_text.specs.declared.grant.Flags.{Flags}
+use Rattle.cap_text.specs.declared.grant.NsMatch.{NsMatch}
+use Rattle.cap_text.specs.declared.grant.NsMatch.TheVariants.{Exact, Prefix}
+use Rattle.cap_text.specs.declared.grant.Part.{Part}
+use Rattle.cap_text.specs.declared.grant.Part.TheVariants.{Any, Is}
+use Rattle.cap_text.specs.declared.grant.Tag.{Tag}
+use Rattle.cap_text.specs.declared.grant.AllowGrant.{AllowGrant}
+use Rattle.cap_text.specs.declared.grant.ProfileUse.{ProfileUse}
 use Rattle.cap_text.specs.declared.grant.Grant.{Grant}
-use Rattle.cap_text.specs.declared.fault.CapFault.{CapFault}
+use Rattle.cap_text.specs.declared.grant.Grant.TheVariants.{Allow, Profile}
 use Rattle.cap_text.specs.declared.fault.FaultKind.{FaultKind}
-use Rattle.cap_text.specs.declared.fault.FaultKind.TheVariants.{TooLong, TooManyGrants, UnknownWord, BadAccess, BadMatch, BadWord, NetworkClause, OutOfMemory, NotYet}
+use Rattle.cap_text.specs.declared.fault.FaultKind.TheVariants.{UnknownWord, BadAccess, BadMatch, BadWord, NetworkClause, OutOfMemory}
+use Rattle.cap_text.specs.declared.fault.CapFault.{CapFault}
 use Rattle.cap_text.specs.declared.keyword.Keyword.{Keyword}
 use Rattle.cap_text.specs.declared.keyword.Keyword.TheVariants as kw
-use Rattle.cap_text.specs.declared.first.State.{State}
-use Rattle.cap_text.specs.declared.first.State.TheVariants.{Start, Clauses, PoolKey, PoolEquals}
+use Rattle.cap_text.specs.declared.place.ClauseSet.{ClauseSet}
+use Rattle.cap_text.specs.declared.place.Head.{Head}
+use Rattle.cap_text.specs.declared.place.Head.TheVariants as heads
+use Rattle.cap_text.specs.declared.place.Draft.{Draft}
+use Rattle.cap_text.specs.declared.place.Slot.{Slot}
+use Rattle.cap_text.specs.declared.place.Slot.TheVariants as slots
+use Rattle.cap_text.specs.declared.place.Place.{Place}
+use Rattle.cap_text.specs.declared.place.Place.TheVariants as places
+use Rattle.cap_text.specs.declared.state.State.{State}
 use Rattle.cap_text.specs.Words.{keyword_of}
-use Rattle.cap_text.specs.Part.{plain}
-use Rattle.cap_text.specs.Reads.{IsText}
+use Rattle.cap_text.specs.Grammar.{namespace_of, part_of, begins_clause}
 
--- what letters stand for: x is both class flags
-abbrev pub flags_of : Bool → Bool → Bool → FlagSet
-flags_of r w x = record { read = r; write = w; class_read = x; class_write = x }
+-- ---- clauses
 
-abbrev pub after_start : Keyword → Option State
-after_start kw.Allow = Some (Clauses None None)
-after_start k = None
+abbrev pub every : ClauseSet
+every = record { pool = true; namespace = true; prefix = true; tag = true }
 
-abbrev pub after_keyword : Option Access → Option (List ℕ) → Keyword → Option State
-after_keyword None pool kw.All = Some (Clauses (Some All) pool)
-after_keyword None pool (kw.Letters r w x) = Some (Clauses (Some (Flags (flags_of r w x))) pool)
-after_keyword access None kw.Pool = Some (PoolKey access)
-after_keyword access pool k = None
+abbrev pub of_profile : ClauseSet
+of_profile = record { pool = true; namespace = true; prefix = false; tag = false }
 
--- the state behind a token, if a grant may go on so
-unfoldable pub step : State → Token → Option State
-step Start (Word w) = after_start (keyword_of w)
-step (Clauses None pool) (Star behind) = Some (Clauses (Some All) pool)
-step (Clauses access pool) (Word w) = after_keyword access pool (keyword_of w)
-step (PoolKey access) Equals = Some (PoolEquals access)
-step (PoolKey access) (Word w) = Some (Clauses access (Some w))
-step (PoolEquals access) (Word w) = Some (Clauses access (Some w))
-step s t = None
+abbrev pub no_more : ClauseSet
+no_more = record { pool = false; namespace = false; prefix = false; tag = false }
 
--- the grants of a text that ends there
-abbrev pub finish : State → Option (List Grant)
-finish Start = Some []
-finish (Clauses (Some access) pool) = Some (plain access pool ∷ [])
-finish s = None
+abbrev pub after_pool : ClauseSet → ClauseSet
+after_pool may = record { pool = false; namespace = may.namespace; prefix = may.prefix; tag = false }
 
-abbrev pub run : State → List Token → Option State
-run s [] = Some s
-run s (t ∷ ts) = option_and_then (λ u. run u ts) (step s t)
+abbrev pub after_namespace : ClauseSet → ClauseSet
+after_namespace may = record { pool = false; namespace = false; prefix = may.prefix; tag = may.tag }
 
-abbrev pub IsMemoryOr : {A : Type 0} → FaultKind → Option A → Type 0
-IsMemoryOr OutOfMemory o = Unit {0}
-IsMemoryOr NotYet o = o ≡ None
-IsMemoryOr k o = ⊥
+abbrev pub draft : Head → Option (List ℕ) → Option NsMatch → Option (List ℕ) → Option Tag → Draft
+draft h pool namespace prefix tag = record { head = h; pool = pool; namespace = namespace; prefix = prefix; tag = tag }
 
--- what a step of the code gives is this, unless memory ran out
-abbrev pub Gives : {A : Type 0} → Result A CapFault → Option A → Type 0
-Gives (Ok x) o = o ≡ Some x
-Gives (Err e) o = (e.at ≡ 0) × IsMemoryOr e.kind o
+abbrev pub fresh : Head → Draft
+fresh h = draft h None None None None
 
--- the state that the tokens of the text lead to, or: no reading of the text leads to a state
-abbrev pub NowhereUnless : List ℕ → FaultKind → Type 0
-NowhereUnless text OutOfMemory = Unit {0}
-NowhereUnless text NotYet = (ts : List Token) → IsText text ts → run Start ts ≡ None
-NowhereUnless text k = ⊥
+-- ---- accesses
 
-abbrev pub ReadsTo : List ℕ → Result State CapFault → Type 0
-ReadsTo text (Ok s) = (ts : List Token) × IsText text ts × (run Start ts ≡ Some s)
-ReadsTo text (Err e) = (e.at ≡ 0) × NowhereUnless text e.kind
+abbrev pub with_access : Draft → Access → Draft
+with_access d a = record d { head = heads.Allow (Some a) }
+
+abbrev pub kept_if : Bool → ClauseSet → ClauseSet
+kept_if true may = may
+kept_if false may = no_more
+
+abbrev pub after_access : ClauseSet → ClauseSet
+after_access may = kept_if may.pool may
+
+abbrev pub accessed : ClauseSet → Draft → Access → Place
+accessed may d a = places.Clauses (after_access may) (with_access d a)
+
+abbrev pub wants_access : Head → Bool
+wants_access (heads.Allow None) = true
+wants_access h = false
+
+abbrev pub flags : Bool → Bool → Bool → Bool → Flags
+flags r w k l = record { read = r; write = w; class_read = k; class_write = l }
+
+abbrev pub access_word : ClauseSet → Draft → Keyword → Result Place FaultKind
+access_word may d kw.All = Ok (accessed may d accesses.All)
+access_word may d kw.Class = Ok (places.Value slots.Class may d)
+access_word may d (kw.Letters r w x) = Ok (places.Letters (flags r w x x) may d)
+access_word may d kw.ClassRead = Ok (places.ClassRead (flags false false true false) may d)
+access_word may d kw.ClassWrite = Ok (accessed may d (accesses.Flags (flags false false false true)))
+access_word may d k = Err BadAccess
+
+abbrev pub where_open : Bool → Place → Result Place FaultKind
+where_open true p = Ok p
+where_open false p = Err BadMatch
+
+abbrev pub where_due : Bool → Result Place FaultKind → Result Place FaultKind
+where_due true r = r
+where_due false r = Err UnknownWord
+
+abbrev pub clause_word : ClauseSet → Draft → Keyword → Result Place FaultKind
+clause_word may d kw.Pool = where_open may.pool (places.Assigned slots.Pool may d)
+clause_word may d kw.Namespace = where_open may.namespace (places.Namespace may d)
+clause_word may d kw.ObjectPrefix = where_open may.prefix (places.Value slots.Prefix may d)
+clause_word may d kw.Tag = where_open may.tag (places.Value slots.Application may d)
+clause_word may d kw.Network = Err NetworkClause
+clause_word may d k = where_due (wants_access d.head) (access_word may d k)
+
+abbrev pub clauses : ClauseSet → Draft → Token → Result Place FaultKind
+clauses may d (Word w) = clause_word may d (keyword_of w)
+clauses may d (Star b) = where_due (wants_access d.head) (Ok (accessed may d accesses.All))
+clauses may d t = where_due (wants_access d.head) (Err BadAccess)
+
+-- ---- behind an access
+
+abbrev pub behind_flags : ClauseSet → Draft → Flags → Keyword → Result Place FaultKind
+behind_flags may d f k = clause_word (after_access may) (with_access d (accesses.Flags f)) k
+
+abbrev pub class_read_word : Flags → ClauseSet → Draft → Keyword → Result Place FaultKind
+class_read_word f may d kw.ClassWrite = Ok (accessed may d (accesses.Flags (record f { class_write = true })))
+class_read_word f may d k = behind_flags may d f k
+
+abbrev pub letters_word : Flags → ClauseSet → Draft → Keyword → Result Place FaultKind
+letters_word f may d kw.ClassRead = Ok (places.ClassRead (record f { class_read = true }) may d)
+letters_word f may d k = class_read_word f may d k
+
+abbrev pub letters_step : Flags → ClauseSet → Draft → Token → Result Place FaultKind
+letters_step f may d (Word w) = letters_word f may d (keyword_of w)
+letters_step f may d t = Err UnknownWord
+
+abbrev pub class_read_step : Flags → ClauseSet → Draft → Token → Result Place FaultKind
+class_read_step f may d (Word w) = class_read_word f may d (keyword_of w)
+class_read_step f may d t = Err UnknownWord
+
+abbrev pub method_place : List ℕ → ClauseSet → Draft → Option (List ℕ) → Place
+method_place c may d m = accessed may d (accesses.Class c m)
+
+abbrev pub method_word : List ℕ → ClauseSet → Draft → List ℕ → Keyword → Result Place FaultKind
+method_word c may d w kw.Pool = clause_word (after_access may) (with_access d (accesses.Class c None)) kw.Pool
+method_word c may d w kw.Namespace = clause_word (after_access may) (with_access d (accesses.Class c None)) kw.Namespace
+method_word c may d w kw.ObjectPrefix = clause_word (after_access may) (with_access d (accesses.Class c None)) kw.ObjectPrefix
+method_word c may d w kw.Tag = clause_word (after_access may) (with_access d (accesses.Class c None)) kw.Tag
+method_word c may d w kw.Network = clause_word (after_access may) (with_access d (accesses.Class c None)) kw.Network
+method_word c may d w k = Ok (method_place c may d (Some w))
+
+abbrev pub method_step : List ℕ → ClauseSet → Draft → Token → Result Place FaultKind
+method_step c may d (Word w) = method_word c may d w (keyword_of w)
+method_step c may d (Quoted []) = Err BadWord
+method_step c may d (Quoted (b ∷ q)) = Ok (method_place c may d (Some (b ∷ q)))
+method_step c may d t = Err UnknownWord
+
+-- ---- values
+
+-- a word, or a quoted text that is not empty
+abbrev pub value_of : Token → Result (List ℕ) FaultKind
+value_of (Word w) = Ok w
+value_of (Quoted (b ∷ q)) = Ok (b ∷ q)
+value_of t = Err BadWord
+
+abbrev pub mapped : {A B : Type 0} → (A → B) → Result A FaultKind → Result B FaultKind
+mapped f (Ok x) = Ok (f x)
+mapped f (Err k) = Err k
+
+abbrev pub filled : Slot → ClauseSet → Draft → List ℕ → Place
+filled slots.Profile may d v = places.Clauses may (record d { head = heads.Profile v })
+filled slots.Class may d v = places.Method v may d
+filled slots.Pool may d v = places.Clauses (after_pool may) (record d { pool = Some v })
+filled slots.Prefix may d v = places.Clauses no_more (record d { prefix = Some v })
+filled slots.Application may d v = places.Key v d
+
+abbrev pub value_step : Slot → ClauseSet → Draft → Token → Result Place FaultKind
+value_step s may d t = mapped (filled s may d) (value_of t)
+
+abbrev pub namespace_place : ClauseSet → Draft → NsMatch → Place
+namespace_place may d ns = places.Clauses (after_namespace may) (record d { namespace = Some ns })
+
+abbrev pub namespace_step : ClauseSet → Draft → Token → Result Place FaultKind
+namespace_step may d (Word w) = Ok (places.NamespaceWord w may d)
+namespace_step may d (Quoted q) = Ok (namespace_place may d (namespace_of q))
+namespace_step may d (Star behind) = Ok (namespace_place may d (Prefix []))
+namespace_step may d t = Err BadWord
+
+abbrev pub namespace_word_step : List ℕ → ClauseSet → Draft → Token → Result Place FaultKind
+namespace_word_step w may d (Star true) = Ok (namespace_place may d (Prefix w))
+namespace_word_step w may d t = clauses (after_namespace may) (record d { namespace = Some (Exact w) }) t
+
+abbrev pub part_at : Token → Result Part FaultKind
+part_at (Star behind) = Ok Any
+part_at t = mapped part_of (value_of t)
+
+abbrev pub key_step : List ℕ → Draft → Token → Result Place FaultKind
+key_step a d t = mapped (λ k. places.KeyEquals a k d) (part_at t)
+
+abbrev pub tag_place : List ℕ → Part → Draft → Part → Place
+tag_place a k d v = places.Clauses no_more (record d { tag = Some (record { application = a; key = k; value = v }) })
+
+abbrev pub key_value_step : List ℕ → Part → Draft → Token → Result Place FaultKind
+key_value_step a k d t = mapped (tag_place a k d) (part_at t)
+
+-- ---- grants
+
+abbrev pub start_word : Keyword → Result Place FaultKind
+start_word kw.Allow = Ok (places.Clauses every (fresh (heads.Allow None)))
+start_word kw.Profile = Ok (places.Assigned slots.Profile of_profile (fresh (heads.Allow None)))
+start_word k = Err UnknownWord
+
+abbrev pub start_step : Token → Result Place FaultKind
+start_step (Word w) = start_word (keyword_of w)
+start_step t = Err UnknownWord
+
+-- the place behind a token other than a separator
+unfoldable pub step : Place → Token → Result Place FaultKind
+step places.Start t = start_step t
+step places.Separator t = start_step t
+step (places.Clauses may d) t = clauses may d t
+step (places.Letters f may d) t = letters_step f may d t
+step (places.ClassRead f may d) t = class_read_step f may d t
+step (places.Method c may d) t = method_step c may d t
+step (places.Assigned s may d) Equals = Ok (places.Value s may d)
+step (places.Assigned s may d) t = value_step s may d t
+step (places.Value s may d) t = value_step s may d t
+step (places.Namespace may d) Equals = Ok (places.NamespaceEquals may d)
+step (places.Namespace may d) t = namespace_step may d t
+step (places.NamespaceEquals may d) t = namespace_step may d t
+step (places.NamespaceWord w may d) t = namespace_word_step w may d t
+step (places.Key a d) t = key_step a d t
+step (places.KeyEquals a k d) Equals = Ok (places.KeyValue a k d)
+step (places.KeyEquals a k d) t = Err BadMatch
+step (places.KeyValue a k d) t = key_value_step a k d t
+
+abbrev pub made : Draft → Access → AllowGrant
+made d a = record { access = a; pool = d.pool; namespace = d.namespace; prefix = d.prefix; tag = d.tag }
+
+abbrev pub grant_with : Head → Draft → Result Grant FaultKind
+grant_with (heads.Allow None) d = Err BadAccess
+grant_with (heads.Allow (Some a)) d = Ok (Allow (made d a))
+grant_with (heads.Profile n) d = Ok (Profile (record { name = n; pool = d.pool; namespace = d.namespace }))
+
+abbrev pub grant_of : Draft → Result Grant FaultKind
+grant_of d = grant_with d.head d
+
+-- the grant that is whole here
+abbrev pub close : Place → Result Grant FaultKind
+close places.Start = Err UnknownWord
+close places.Separator = Err UnknownWord
+close (places.Clauses may d) = grant_of d
+close (places.Letters f may d) = grant_of (with_access d (accesses.Flags f))
+close (places.ClassRead f may d) = grant_of (with_access d (accesses.Flags f))
+close (places.Method c may d) = grant_of (with_access d (accesses.Class c None))
+close (places.NamespaceWord w may d) = grant_of (record d { namespace = Some (Exact w) })
+close (places.KeyEquals a k d) = Err BadMatch
+close p = Err BadWord
+
+-- ---- lists
+
+abbrev pub after_grant : List Grant → Result Grant FaultKind → Result State FaultKind
+after_grant done (Ok g) = Ok (record { done = done ++ g ∷ []; place = places.Separator })
+after_grant done (Err k) = Err k
+
+abbrev pub in_grant : List Grant → Result Place FaultKind → Result State FaultKind
+in_grant done (Ok p) = Ok (record { done = done; place = p })
+in_grant done (Err k) = Err k
+
+abbrev pub advance : State → Token → Result State FaultKind
+advance s Comma = after_grant s.done (close s.place)
+advance s Semicolon = after_grant s.done (close s.place)
+advance s t = in_grant s.done (step s.place t)
+
+abbrev pub ended : List Grant → Result Grant FaultKind → Result (List Grant) FaultKind
+ended done (Ok g) = Ok (done ++ g ∷ [])
+ended done (Err k) = Err k
+
+abbrev pub finish_at : Place → List Grant → Result (List Grant) FaultKind
+finish_at places.Start done = Ok done
+finish_at p done = ended done (close p)
+
+abbrev pub finish : State → Result (List Grant) FaultKind
+finish s = finish_at s.place s.done
+
+abbrev pub placed : FaultKind → ℕ → CapFault
+placed OutOfMemory at = record { kind = OutOfMemory; at = 0 }
+placed k at = record { kind = k; at = at }

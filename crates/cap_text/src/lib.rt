@@ -4,20 +4,25 @@
 mod bytes;
 mod caps;
 mod fault;
-mod first;
 mod grant;
 mod keyword;
 mod lexer;
+mod machine;
 mod name;
+mod parser;
+mod place;
+mod state;
 mod tags;
+#[cfg(test)]
+mod tests;
 mod token;
 
 pub use caps::CapList;
 pub use fault::{CapFault, FaultKind, OutOfMemory};
-pub use first::parse;
 pub use grant::{Access, AllowGrant, Flags, Grant, NsMatch, Part, ProfileUse, Tag, copy_namespace};
 pub use keyword::Keyword;
 pub use name::{Name, copy_name};
+pub use parser::{parse, spells_at_most_one};
 pub use tags::{AppTags, Pairs, Tags};
 pub use token::{Piece, Token};
 

@@ -1,0 +1,13 @@
+-- What a step of the code answers.
+use Rattle.std.specs.Prelude.{◌≡◌, Result, Ok, Err}
+use Rattle.cap_text.specs.declared.fault.FaultKind.{FaultKind}
+use Rattle.cap_text.specs.declared.fault.FaultKind.TheVariants.{OutOfMemory}
+
+-- what the code gives is this, unless memory ran out
+abbrev pub Gives : {A : Type 0} → Result A FaultKind → Result A FaultKind → Type 0
+Gives (Ok x) r = r ≡ Ok x
+Gives (Err OutOfMemory) r = Unit {0}
+Gives (Err k) r = r ≡ Err k
+
+abbrev pub GivesTo : {A : Type 0} → Result A FaultKind → A → Type 0
+GivesTo r x = Gives r (Ok x)

@@ -1,0 +1,116 @@
+//! Reads capability texts.
+
+ghost use Rattle.std.specs.Prelude.{◌≡◌, ◌≤◌, ◌∷◌, ◌++◌, [], List, IfOk, IfErr, length};
+ghost use Rattle.cap_text.specs.declared.grant.Grant.{Grant};
+ghost use Rattle.cap_text.specs.Grammar.{Spells, AtMostOneList};
+ghost use Rattle.cap_text.specs.Gives.{Gives};
+ghost use Rattle.cap_text.specs.Machine.{advance, finish, placed};
+ghost use Rattle.cap_text.specs.Faults.{OrMemory, IsFirstFault};
+
+use crate::caps::CapList;
+use crate::fault::{CapFault, FaultKind};
+use crate::grant::Grant;
+use crate::lexer::look;
+use crate::machine::{close, step};
+use crate::place::Place;
+use crate::state::{Grants, State};
+use crate::token::Token;
+use std::alloc::Global;
+
+/// The most bytes that a text may have.
+const LONGEST: usize = 4096;
+
+/// The most grants that a text may spell.
+const MOST_GRANTS: usize = 64;
+
+fn advance(alloc: Global, state: State, token: Token<'_>) -> Result<State, FaultKind>
+    ensures { Gives result (advance state token.entry) }
+{
+    let done = state.done;
+    match token {
+        Token::Comma | Token::Semicolon => {
+            let grant = close(state.place)?;
+            let done = done.with(grant)?;
+            Ok(State {
+                done,
+                place: Place::Separator,
+            })
+        }
+        token => {
+            let place = step(alloc, state.place, token)?;
+            Ok(State { done, place })
+        }
+    }
+}
+
+fn finish(state: State) -> Result<Grants, FaultKind>
+    ensures { Gives result (finish state) }
+{
+    let done = state.done;
+    match state.place {
+        Place::Start => Ok(done),
+        place => {
+            let grant = close(place)?;
+            done.with(grant)
+        }
+    }
+}
+
+fn fault(kind: FaultKind, at: usize) -> CapFault
+    ensures { result ≡ placed kind at }
+{
+    match kind {
+        FaultKind::OutOfMemory => CapFault { kind, at: 0 },
+        _ => CapFault { kind, at },
+    }
+}
+
+/// The grants that a text spells, or its first fault. It takes time linear in the text.
+///
+/// A text that is refused spells no list, unless memory ran out (C8).
+/// The grammar is this project's profile of the forms in the Ceph manual's User Management chapter.
+pub fn parse(alloc: Global, text: &str) -> Result<CapList, CapFault>
+    ensures list { IfOk result (λ list. Spells text.now list) }
+    ensures none { IfErr result (λ fault. OrMemory fault ((gs : List Grant) → Spells text.now gs → ⊥)) }
+    ensures first { IfErr result (λ fault. OrMemory fault (IsFirstFault text.now fault)) }
+{
+    if text.len() > LONGEST {
+        return Err(fault(FaultKind::TooLong, 0));
+    }
+    let mut state = State {
+        done: Grants::new(alloc),
+        place: Place::Start,
+    };
+    let mut rest = text;
+    let mut behind_word = false;
+    'tokens: loop {
+        let (start, found) = look(rest, behind_word);
+        let at = text.len() - start.len();
+        if start.is_empty() {
+            return match finish(state) {
+                Ok(grants) => Ok(CapList::from_vec(grants.into_vec())),
+                Err(kind) => Err(fault(kind, at)),
+            };
+        }
+        if state.done.len() == MOST_GRANTS {
+            return Err(fault(FaultKind::TooManyGrants, at));
+        }
+        match found {
+            Some((token, after)) => {
+                behind_word = token.is_word();
+                match advance(alloc, state, token) {
+                    Ok(next) => state = next,
+                    Err(kind) => return Err(fault(kind, at)),
+                }
+                rest = after;
+            }
+            None => return Err(fault(FaultKind::BadWord, at)),
+        }
+    }
+}
+
+/// The law that a text spells at most one list of grants.
+pub fn spells_at_most_one()
+    ensures { AtMostOneList }
+{
+}
