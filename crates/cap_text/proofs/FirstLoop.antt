@@ -1,6 +1,9 @@
 -- What the loop over the tokens keeps.
 use Rattle.std.proofs.Common.{◌≡◌, ℕ, Bool, true, false, cond, List, [], ◌∷◌, ◌++◌, Option, Some, None, Result, Ok, Err, refl, sym, ap, subst, ◌∙◌, append_assoc}
-use Rattle.std.specs.Prelude.{option_and_then, length, ◌≤◌, IfOk, IfErr}
+use Rattle.std.specs.Prelude.{option_and_then, length, ◌≤◌, IfOk, IfErr, IfSome}
+use Rattle.std.specs.List.{list_all}
+use Rattle.cap_text.specs.Spellable.{is_spellable}
+use Rattle.cap_text.proofs.SpelledGrants.{text_is_spellable}
 use Rattle.cap_text.specs.declared.grant.Grant.{Grant}
 use Rattle.cap_text.specs.declared.fault.FaultKind.{FaultKind}
 use Rattle.cap_text.specs.declared.fault.FaultKind.TheVariants.{TooLong, TooManyGrants, UnknownWord, BadAccess, BadMatch, BadWord, NetworkClause, OutOfMemory, NotYet}
@@ -118,3 +121,14 @@ kind_no_list text NetworkClause s short read h = h
 pub fault_of_end : (text : List ℕ) (s : State) (r : Result (List Grant) CapFault) → length text ≤ 4096 → ReadsTo text (Ok s) → Gives r (finish s) → IfErr r (IsFaultOf text)
 fault_of_end text s (Ok gs) short read given = tt
 fault_of_end text s (Err e) short read given = (given.0, kind_no_list text e.kind s short read given.1)
+
+-- the grants of a text can be spelled
+pub spellable : (text : List ℕ) (s : State) → length text ≤ 4096 → ReadsTo text (Ok s) → IfSome (finish s) (λ gs. list_all is_spellable gs ≡ true)
+spellable text s short read =
+    elim (finish s) as (λ o. finish s ≡ o → IfSome o (λ gs. list_all is_spellable gs ≡ true)) [
+      | Some gs ↦ λ e.
+          let left = left_of text s gs read e in
+          let spelled = spelled_today text gs short left.0 left.1 left.2 in
+          text_is_spellable text spelled.2.0 gs spelled.2.1 spelled.2.2
+      | None ↦ λ e. tt
+    ] refl

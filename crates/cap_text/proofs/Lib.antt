@@ -2,6 +2,8 @@ pub mod Spans
 pub mod Tokens
 pub mod Reading
 pub mod Keywords
+pub mod SpelledValues
+pub mod SpelledGrants
 pub mod FirstLaws
 pub mod FirstPart
 pub mod FirstLoop

@@ -2,5 +2,6 @@ pub mod Bytes
 pub mod Reads
 pub mod Words
 pub mod Grammar
+pub mod Spellable
 pub mod Part
 pub mod Machine

@@ -1,8 +1,10 @@
 //! Reads nothing, or one grant.
 
-ghost use Rattle.std.specs.Prelude.{◌≡◌, IfOk, IfErr};
+ghost use Rattle.std.specs.Prelude.{◌≡◌, true, IfOk, IfErr, IfSome};
+ghost use Rattle.std.specs.List.{list_all};
 ghost use Rattle.cap_text.specs.Machine.{Gives, step, finish, ReadsTo};
 ghost use Rattle.cap_text.specs.Part.{SpellsToday, IsFaultOf};
+ghost use Rattle.cap_text.specs.Spellable.{is_spellable};
 
 use crate::caps::CapList;
 use crate::fault::{CapFault, FaultKind};
@@ -96,6 +98,7 @@ fn read(alloc: Global, text: &str) -> Result<State, CapFault>
 }
 
 fn finish(alloc: Global, state: State) -> Result<CapList, CapFault>
+    requires { IfSome (finish state) (λ gs. list_all is_spellable gs ≡ true) }
     ensures { Gives result (finish state) }
 {
     match state {

@@ -9,6 +9,7 @@ mod grant;
 mod keyword;
 mod lexer;
 mod name;
+mod spellable;
 mod tags;
 mod token;
 
@@ -18,5 +19,6 @@ pub use first::parse;
 pub use grant::{Access, AllowGrant, Flags, Grant, NsMatch, Part, ProfileUse, Tag, copy_namespace};
 pub use keyword::Keyword;
 pub use name::{Name, copy_name};
+pub use spellable::spelled_is_spellable;
 pub use tags::{AppTags, Pairs, Tags};
 pub use token::{Piece, Token};
