@@ -4,6 +4,9 @@ pub mod Reading
 pub mod Keywords
 pub mod SpelledValues
 pub mod SpelledGrants
+pub mod PrintedMarks
+pub mod PrintedPhrases
+pub mod PrintedGrants
 pub mod FirstLaws
 pub mod FirstPart
 pub mod FirstLoop

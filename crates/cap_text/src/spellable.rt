@@ -6,3 +6,8 @@ ghost use Rattle.cap_text.specs.Spellable.{SpelledIsSpellable, SpellableIsSpelle
 pub fn spelled_is_spellable()
     ensures { SpelledIsSpellable }
 {}
+
+/// A law: some text spells whatever passes the test. It does nothing.
+pub fn spellable_is_spelled()
+    ensures { SpellableIsSpelled }
+{}
