@@ -11,12 +11,12 @@ use Rattle.cap_text.specs.declared.grant.ProfileUse.{ProfileUse}
 use Rattle.cap_text.specs.declared.grant.Grant.{Grant}
 use Rattle.cap_text.specs.declared.grant.Grant.TheVariants.{Allow, Profile}
 use Rattle.cap_text.specs.Reads.{is_word, IsText}
-use Rattle.cap_text.specs.Grammar.{AccessPhrase, MatchPhrase, GrantPhrase, Followed, Grants, CanBeSpelled, Spells}
+use Rattle.cap_text.specs.Grammar.{MatchPhrase, GrantPhrase, Followed, Grants, CanBeSpelled, Spells}
 use Rattle.cap_text.specs.Spellable.{is_value, none_or, is_access, is_namespace, is_tag, is_place, is_alone, is_allow, is_spellable}
-use Rattle.cap_text.specs.Printed.{printed_value, printed_access, printed_pool, printed_namespaces, printed_prefix, printed_tag, printed_allow, printed_profile, printed_grant, printed}
+use Rattle.cap_text.specs.Printed.{printed_value, printed_access, printed_pool, printed_namespaces, printed_prefix, printed_tag, printed_grant, printed}
 use Rattle.cap_text.proofs.SpelledValues.{and_both, is_written}
-use Rattle.cap_text.proofs.PrintedMarks.{Mark, bytes_of, text_of, tokens_of, Fits, Free, marks_read, spaced_free}
-use Rattle.cap_text.proofs.PrintedPhrases.{Prints, Written, value_written, pool_prints, prefix_prints, namespaces_print, tag_prints, access_prints}
+use Rattle.cap_text.proofs.PrintedMarks.{Mark, text_of, tokens_of, Free, marks_read, spaced_free}
+use Rattle.cap_text.proofs.PrintedPhrases.{Prints, value_written, pool_prints, prefix_prints, namespaces_print, tag_prints, access_prints}
 
 -- the match of a grant
 abbrev match_text : AllowGrant → List ℕ

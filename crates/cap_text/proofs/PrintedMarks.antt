@@ -1,15 +1,15 @@
 -- A text written token by token is read as these tokens.
-use Rattle.std.proofs.Common.{◌≡◌, ◌≢◌, ℕ, Bool, true, false, cond, not, List, [], ◌∷◌, ◌++◌, refl, sym, ap, subst, ◌∙◌, arith, inl, inr, append_assoc}
+use Rattle.std.proofs.Common.{◌≡◌, ◌≢◌, ℕ, Bool, true, false, cond, not, List, [], ◌∷◌, ◌++◌, refl, sym, ap, ◌∙◌, arith, inl, inr, append_assoc}
 use Rattle.std.specs.Prelude.{◌==◌, ◌&&◌, ◌||◌, ◌⊎◌}
 use Rattle.std.specs.List.{list_all, list_any}
 use Rattle.std.proofs.lemmas.Bool.Decides.{nat_tests}
-use Rattle.cap_text.specs.Bytes.{is_space, is_word_byte, is_quote, is_quotable, Each, StopsBefore, is_empty}
+use Rattle.cap_text.specs.Bytes.{is_word_byte, is_quote, is_quotable, StopsBefore, is_empty}
 use Rattle.cap_text.specs.declared.token.Token.{Token}
 use Rattle.cap_text.specs.declared.token.Token.TheVariants.{Comma, Semicolon, Equals, Star, Word, Quoted}
-use Rattle.cap_text.specs.Reads.{Stands, SaysBehind, is_word, ReadsOne, Reads}
+use Rattle.cap_text.specs.Reads.{Stands, SaysBehind, is_word, Reads}
 use Rattle.cap_text.specs.Spellable.{can_be_quoted}
 use Rattle.cap_text.specs.Printed.{quote_for, quoted}
-use Rattle.cap_text.proofs.SpelledValues.{and_both, or_cases, both_and, all_each, not_false, is_written}
+use Rattle.cap_text.proofs.SpelledValues.{and_both, or_cases, both_and, all_each, is_written}
 
 -- a token, and whether a space stands before it
 abbrev pub Mark : Type 0

@@ -1,8 +1,8 @@
 -- The printed form of each part of a grant is written by tokens that the grammar reads as this part.
-use Rattle.std.proofs.Common.{◌≡◌, ◌≢◌, ℕ, Bool, true, false, cond, not, List, [], ◌∷◌, ◌++◌, refl, sym, ap, subst, ◌∙◌, arith, inl, inr, append_assoc, Option, Some, None, length, eqb}
-use Rattle.std.specs.Prelude.{◌==◌, ◌&&◌, ◌||◌, ◌⊎◌, codes, is_none, is_some}
+use Rattle.std.proofs.Common.{◌≡◌, ◌≢◌, ℕ, Bool, true, false, cond, not, List, [], ◌∷◌, ◌++◌, refl, sym, ap, subst, ◌∙◌, inl, inr, append_assoc, Option, Some, None, length}
+use Rattle.std.specs.Prelude.{◌&&◌, ◌||◌, ◌⊎◌, codes}
 use Rattle.std.specs.Str.{bytes_eq}
-use Rattle.std.specs.List.{list_all, flat_map}
+use Rattle.std.specs.List.{list_all}
 use Rattle.std.proofs.Math.Dec.{eqb-suc-zero}
 use Rattle.cap_text.specs.declared.token.Token.{Token}
 use Rattle.cap_text.specs.declared.token.Token.TheVariants.{Comma, Semicolon, Equals, Star, Word, Quoted}
@@ -14,17 +14,14 @@ use Rattle.cap_text.specs.declared.grant.NsMatch.TheVariants.{Exact, Prefix}
 use Rattle.cap_text.specs.declared.grant.Part.{Part}
 use Rattle.cap_text.specs.declared.grant.Part.TheVariants.{Any, Is}
 use Rattle.cap_text.specs.declared.grant.Tag.{Tag}
-use Rattle.cap_text.specs.declared.grant.AllowGrant.{AllowGrant}
-use Rattle.cap_text.specs.declared.grant.Grant.{Grant}
-use Rattle.cap_text.specs.declared.grant.Grant.TheVariants.{Allow, Profile}
 use Rattle.cap_text.specs.Bytes.{is_word_byte, is_quotable, is_empty}
 use Rattle.cap_text.specs.Reads.{is_word}
-use Rattle.cap_text.specs.Words.{letters, keyword_of}
-use Rattle.cap_text.specs.Grammar.{Phrase, Optional, Assigned, Behind, Value, before_star, matched, namespace_of, BeginsApart, Namespace, part_of, TagPart, PoolClause, NamespaceClause, PrefixClause, TagClause, begins_clause, Method, where_set, flag_words, AccessPhrase}
+use Rattle.cap_text.specs.Words.{keyword_of}
+use Rattle.cap_text.specs.Grammar.{Phrase, Optional, Value, matched, namespace_of, BeginsApart, Namespace, part_of, TagPart, PoolClause, NamespaceClause, PrefixClause, TagClause, begins_clause, Method, AccessPhrase}
 use Rattle.cap_text.specs.Spellable.{can_be_quoted, is_value, none_or, is_access, ends_in_star, is_namespace, is_part, is_tag}
-use Rattle.cap_text.specs.Printed.{quoted, printed_value, printed_method, printed_namespace, printed_part, class_word, spaced, printed_option, printed_access, printed_pool, printed_namespaces, printed_prefix, printed_tag}
+use Rattle.cap_text.specs.Printed.{quoted, printed_value, printed_method, printed_namespace, printed_part, printed_option, printed_access, printed_pool, printed_namespaces, printed_prefix, printed_tag}
 use Rattle.cap_text.proofs.SpelledValues.{and_both, both_and, or_cases, or_first, or_second, not_false, all_joined, is_written, star_behind, no_star_none}
-use Rattle.cap_text.proofs.PrintedMarks.{Mark, bytes_of, text_of, tokens_of, IsApart, Fits, Free, IsCalm, spaced_free, first_fits}
+use Rattle.cap_text.proofs.PrintedMarks.{Mark, bytes_of, text_of, tokens_of, Fits, Free, IsCalm, spaced_free, first_fits}
 
 -- Marks that may stand behind anything, written as this text and then the further marks, which the grammar reads as this part.
 pub record Prints (P : List Token → List Token → Type 0) (text : List ℕ) (ms : List Mark) : Type 0 where

@@ -1,5 +1,5 @@
 -- The printed form of capability lists. Source: this project's profile.
-use Rattle.std.specs.Prelude.{◌≡◌, ◌≤◌, ℕ, Bool, true, false, ◌&&◌, ◌==◌, List, [], ◌∷◌, ◌++◌, length, codes, Option, Some, None, if◌then◌else◌}
+use Rattle.std.specs.Prelude.{ℕ, Bool, true, false, ◌&&◌, ◌==◌, List, [], ◌∷◌, ◌++◌, length, codes, Option, Some, None, if◌then◌else◌}
 use Rattle.std.specs.List.{list_all, list_any, join_by}
 use Rattle.cap_text.specs.declared.grant.Access.{Access}
 use Rattle.cap_text.specs.declared.grant.Access.TheVariants.{All, Flags, Class}
