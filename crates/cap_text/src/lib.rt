@@ -24,3 +24,6 @@ pub use printing::print;
 pub use spellable::{spellable_is_spelled, spelled_is_spellable};
 pub use tags::{AppTags, Pairs, Tags};
 pub use token::{Piece, Token};
+
+#[cfg(test)]
+mod tests;
