@@ -44,7 +44,7 @@ impl CapList {
     {
         let mut grants = Vec::new(alloc);
         grants.push(grant)?;
-        Ok(CapList { grants })
+        Ok(CapList::from_vec(grants))
     }
 
     /// The list of these grants, each of which the grammar can spell. It takes no memory.
@@ -69,10 +69,10 @@ impl CapList {
     pub fn copy(&self) -> Result<CapList, OutOfMemory>
         ensures { IfOk result (λ list. list ≡ self.now) }
     {
-        let mut grants = Vec::new(*self.grants.allocator());
+        let mut copies = Vec::new(*self.grants.allocator());
         for grant in self.grants() {
-            grants.push(grant.copy()?)?;
+            copies.push(grant.copy()?)?;
         }
-        Ok(CapList { grants })
+        Ok(CapList { grants: copies })
     }
 }
