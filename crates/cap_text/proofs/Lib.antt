@@ -9,3 +9,8 @@ pub mod Back
 pub mod Runs
 pub mod FaultKinds
 pub mod Loop
+pub mod SpelledValues
+pub mod SpelledGrants
+pub mod PrintedMarks
+pub mod PrintedPhrases
+pub mod PrintedGrants

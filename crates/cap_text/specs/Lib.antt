@@ -4,4 +4,6 @@ pub mod Words
 pub mod Grammar
 pub mod Gives
 pub mod Faults
+pub mod Spellable
+pub mod Printed
 pub mod Machine

@@ -1,27 +1,31 @@
 //! Lists of grants.
 
-ghost use Rattle.std.specs.Prelude.{◌≡◌, ◌≤◌, [], ◌∷◌, length, IfOk};
+ghost use Rattle.std.specs.Prelude.{◌≡◌, ◌≤◌, [], ◌∷◌, true, length, IfOk};
+ghost use Rattle.std.specs.List.{list_all};
+ghost use Rattle.cap_text.specs.Spellable.{is_spellable};
 
 use crate::fault::OutOfMemory;
 use crate::grant::Grant;
 use std::alloc::Global;
 use std::marker::Model;
 
-/// The grants of a capability text, at most 64, which contracts see as the list of them.
+/// The grants of a capability text, at most 64 and each one that the grammar can spell, which contracts see as the list of them.
 #[derive(Debug, Drop)]
 pub struct CapList {
     grants: Vec<Grant>,
 }
 
 impl Model for CapList {
-    ghost use Rattle.std.specs.Prelude.{List, length, ◌≤◌};
+    ghost use Rattle.std.specs.Prelude.{List, true, length, ◌≡◌, ◌≤◌};
+    ghost use Rattle.std.specs.List.{list_all};
     ghost use Rattle.cap_text.specs.declared.grant.Grant.{Grant};
+    ghost use Rattle.cap_text.specs.Spellable.{is_spellable};
 
     ghost Value = { List Grant };
 
     ghost view = { λ c. c.grants.items };
 
-    ghost invariant = { λ c. length c.grants.items ≤ 64 };
+    ghost invariant = { λ c. (length c.grants.items ≤ 64) × (list_all is_spellable c.grants.items ≡ true) };
 }
 
 impl CapList {
@@ -34,17 +38,10 @@ impl CapList {
         }
     }
 
-    pub(crate) fn single(alloc: Global, grant: Grant) -> Result<CapList, OutOfMemory>
-        ensures { IfOk result (λ list. list ≡ grant ∷ []) }
-    {
-        let mut grants = Vec::new(alloc);
-        grants.push(grant)?;
-        Ok(CapList { grants })
-    }
-
-    /// The list of these grants. It takes no memory.
+    /// The list of these grants, each of which the grammar can spell. It takes no memory.
     pub fn from_vec(grants: Vec<Grant>) -> CapList
-        requires { length grants.items ≤ 64 }
+        requires few { length grants.items ≤ 64 }
+        requires spellable { list_all is_spellable grants.items ≡ true }
         ensures { result ≡ grants.items }
     {
         CapList { grants }
@@ -54,6 +51,7 @@ impl CapList {
     pub fn grants(&self) -> &[Grant]
         ensures value { result.now ≡ self.now }
         ensures few { length result.now ≤ 64 }
+        ensures spellable { list_all is_spellable result.now ≡ true }
     {
         self.grants.as_slice()
     }
@@ -62,10 +60,10 @@ impl CapList {
     pub fn copy(&self) -> Result<CapList, OutOfMemory>
         ensures { IfOk result (λ list. list ≡ self.now) }
     {
-        let mut grants = Vec::new(*self.grants.allocator());
+        let mut copies = Vec::new(*self.grants.allocator());
         for grant in self.grants() {
-            grants.push(grant.copy()?)?;
+            copies.push(grant.copy()?)?;
         }
-        Ok(CapList { grants })
+        Ok(CapList { grants: copies })
     }
 }

@@ -12,9 +12,9 @@ mod name;
 mod parser;
 mod place;
 mod state;
+mod printing;
+mod spellable;
 mod tags;
-#[cfg(test)]
-mod tests;
 mod token;
 
 pub use caps::CapList;
@@ -23,6 +23,8 @@ pub use grant::{Access, AllowGrant, Flags, Grant, NsMatch, Part, ProfileUse, Tag
 pub use keyword::Keyword;
 pub use name::{Name, copy_name};
 pub use parser::{parse, spells_at_most_one};
+pub use printing::print;
+pub use spellable::{spellable_is_spelled, spelled_is_spellable};
 pub use tags::{AppTags, Pairs, Tags};
 pub use token::{Piece, Token};
 

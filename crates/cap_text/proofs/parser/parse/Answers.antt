@@ -9,7 +9,16 @@ use Rattle.cap_text.specs.Machine.{advance, finish}
 use Rattle.cap_text.proofs.Reading.{one_utf8, one_shorter, skips_all, skips_some}
 use Rattle.cap_text.proofs.Stars.{nil_of, not_nil_of}
 use Rattle.cap_text.proofs.Loop.{goes_on, no_list_at, first_at, no_list_unread, first_unread, no_list_past, past_found, no_list_end, first_end, spelled, told_none, told_first}
+use Rattle.cap_text.proofs.SpelledGrants.{text_is_spellable}
 use Rattle.cap_text.proofs.parser.parse.Goals as goal
+
+pub from_vec-requires-clause-spellable : goal.from_vec-requires-clause-spellable
+from_vec-requires-clause-spellable c =
+    let i = c.tokens.invariant.3 in
+    let start = c.look-found.result.0.now in
+    let none : start ≡ [] = nil_of start c.is_empty.result c.is_empty.ensures c.if-is_empty.true in
+    let is : Spells c.args.text.now c.in-Ok.grants = spelled c.args.text.now c.tokens.rest.now c.tokens.behind_word c.tokens.state i.0 i.1 c.in-Ok.grants c.tokens.invariant.2 (skips_all c.tokens.rest.now start c.look-found.ensures.start none) c.in-Ok.ensures in
+    rw c.into_vec.ensures (text_is_spellable c.args.text.now is.2.0 c.in-Ok.grants is.2.1 is.2.2)
 
 pub returns-in-Ok-clause-list : goal.returns-in-Ok-clause-list
 returns-in-Ok-clause-list c =
