@@ -29,9 +29,9 @@ key_at es k x d h at = get_or-map (λ e. e.0) es k x d h ∙ ap (λ e. e.0) at
 -- where the test of keys fails, the name in the table differs
 name_fails : (es : Entries) (name : List ℕ) (k : ℕ) → k < length es → ((d : String Global) → bytes_eq name (string_bytes (get_or (keys_of es) k d)) ≡ false) → bytes_eq name (get_or (table_of es) k nothing).0 ≡ false
 name_fails es name k h fails = elim (slice_get_cases es k).1 [
-    | inl w ↦ ap (λ e. bytes_eq name e.0) (table_at es k w.0 h w.3) ∙ ap (λ d. bytes_eq name (string_bytes d)) (sym (key_at es k w.0 w.0.0 h w.3)) ∙ fails w.0.0
-    | inr w ↦ absurd (omega arith)
-  ]
+  | inl w ↦ ap (λ e. bytes_eq name e.0) (table_at es k w.0 h w.3) ∙ ap (λ d. bytes_eq name (string_bytes d)) (sym (key_at es k w.0 w.0.0 h w.3)) ∙ fails w.0.0
+  | inr w ↦ absurd (omega arith)
+]
 
 -- the name is no key
 pub missing : (es : Entries) (name : List ℕ) (before : ℕ) (used : ProfileUse) → position (λ k. bytes_eq name (string_bytes k)) (keys_of es) ≡ None → before ≤ length es → used.name ≡ name → parts_before es before used ≡ []
@@ -60,10 +60,10 @@ here es name before place key profile unique at there h low =
       key = key;
       there = there;
       means = λ used is.
-        found before (table_of es) place used low (rw length-map h)
+          found before (table_of es) place used low (rw length-map h)
           (rw (is, in_table) tested)
           (λ k l m. rw is (name_fails es name k (omega arith) (λ d.
-            rw same (ap (λ x. bytes_eq (string_bytes x) (string_bytes (get_or (keys_of es) k d))) (sym (key_at es place (key, profile) d (omega arith) entry))
-              ∙ apart_from_distinct (λ (a b : String Global). bytes_eq (string_bytes a) (string_bytes b)) (keys_of es) place k d unique l (rw length-map (omega arith))))))
-        ∙ ap (λ e. numbered (parts_of (reverse (take place (table_of es)))) 1 (map (filled used) e.1)) in_table
+          rw same (ap (λ x. bytes_eq (string_bytes x) (string_bytes (get_or (keys_of es) k d))) (sym (key_at es place (key, profile) d (omega arith) entry))
+          ∙ apart_from_distinct (λ (a b : String Global). bytes_eq (string_bytes a) (string_bytes b)) (keys_of es) place k d unique l (rw length-map (omega arith))))))
+          ∙ ap (λ e. numbered (parts_of (reverse (take place (table_of es)))) 1 (map (filled used) e.1)) in_table;
     }

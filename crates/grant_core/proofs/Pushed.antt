@@ -1,5 +1,5 @@
 -- A profile that is put last.
-use Rattle.std.proofs.Common.{◌≡◌, ℕ, zero, suc, ◌<◌, ◌≤◌, List, [], ◌∷◌, ◌++◌, false, Option, None, Some, is_some, length, map, take, slice_get, ap, refl, ◌∙◌, sym, arith, length-append, ◌⊎◌, inl, inr}
+use Rattle.std.proofs.Common.{◌≡◌, ℕ, zero, suc, ◌<◌, ◌≤◌, List, [], ◌∷◌, ◌++◌, false, Option, None, Some, is_some, length, take, slice_get, ap, refl, ◌∙◌, sym, arith, length-append, ◌⊎◌, inl, inr}
 use Rattle.std.specs.Prelude.{String, string_bytes}
 use Rattle.std.specs.declared.alloc.Global.{Global}
 use Rattle.std.specs.Map.{lookup}
@@ -37,18 +37,18 @@ before_push es x k h = ap (take k) (table_of-push es x.0 x.1) ∙ take-append-le
 
 pub IsSized-push : (es : Entries) (x : String Global × Profile) → IsSized es → length es < 32 → x.1.size ≡ length (flat (table_of es) x.1.body) → x.1.size ≤ 256 → IsSized (es ++ x ∷ [])
 IsSized-push es x sized room size small = record {
-    few = omega (arith, room, length-append es (x ∷ []));
-    sizes = λ k e at. elim (at_push es x e k at) [
-      | inl w ↦ sized.sizes k e w.1 ∙ ap (λ t. length (flat t e.1.body)) (sym (before_push es x k (omega (arith, w.0))))
-      | inr w ↦ ap (λ y. y.1.size) w.1 ∙ size ∙ ap (λ y. length (flat (table_of es) y.1.body)) (sym w.1)
-          ∙ ap (λ t. length (flat t e.1.body)) (sym (before_push es x k (omega (arith, w.0)) ∙ take_all k (table_of es) (rw length-map (omega (arith, w.0)))))
-    ];
-    small = λ k e at. elim (at_push es x e k at) [ inl w ↦ sized.small k e w.1 | inr w ↦ rw w.1 small ]
-  }
+  few = omega (arith, room, length-append es (x ∷ []));
+  sizes = λ k e at. elim (at_push es x e k at) [
+    | inl w ↦ sized.sizes k e w.1 ∙ ap (λ t. length (flat t e.1.body)) (sym (before_push es x k (omega (arith, w.0))))
+    | inr w ↦ ap (λ y. y.1.size) w.1 ∙ size ∙ ap (λ y. length (flat (table_of es) y.1.body)) (sym w.1)
+        ∙ ap (λ t. length (flat t e.1.body)) (sym (before_push es x k (omega (arith, w.0)) ∙ take_all k (table_of es) (rw length-map (omega (arith, w.0)))))
+  ];
+  small = λ k e at. elim (at_push es x e k at) [ inl w ↦ sized.small k e w.1 | inr w ↦ rw w.1 small ];
+}
 
 -- a new name goes last
 pub pushed_entries : {S : Type 0} (m : IndexMap (String Global) Profile S) (name : List ℕ) (k : String Global) (p : Profile) → string_bytes k ≡ name → has_profile (table_of m.entries) name ≡ false
     → insert_entry (λ (a b : String Global). bytes_eq (string_bytes a) (string_bytes b)) m.entries k p ≡ m.entries ++ (k, p) ∷ []
 pushed_entries m name k p is fresh =
     insert_entry-new (λ (a b : String Global). bytes_eq (string_bytes a) (string_bytes b)) m k p
-      (ap (λ n. lookup (λ (q : String Global). bytes_eq n (string_bytes q)) m.entries) is ∙ fresh_lookup m.entries name fresh)
+    (ap (λ n. lookup (λ (q : String Global). bytes_eq n (string_bytes q)) m.entries) is ∙ fresh_lookup m.entries name fresh)

@@ -1,5 +1,5 @@
 -- Sizes of profiles.
-use Rattle.std.proofs.Common.{◌≡◌, ℕ, ◌+◌, ◌≤◌, List, [], ◌∷◌, length, map, reverse, take, Bool, true, false, ◌||◌, cond, Option, Some, is_some, sym, ap, ◌∙◌, refl, subst, arith}
+use Rattle.std.proofs.Common.{◌≡◌, ℕ, List, [], ◌∷◌, length, reverse, take, Bool, true, false, ◌||◌, cond, Option, Some, is_some, sym, ap, ◌∙◌, refl, subst, arith}
 use Rattle.std.specs.Prelude.{String, string_bytes}
 use Rattle.std.specs.declared.alloc.Global.{Global}
 use Rattle.std.specs.List.{list_any}

@@ -1,5 +1,5 @@
 -- Looking a profile up in the table, and what its use comes to.
-use Rattle.std.proofs.Common.{◌≡◌, ℕ, zero, suc, ◌+◌, ◌<◌, ◌≤◌, List, [], ◌∷◌, ◌++◌, Bool, true, false, cond, is_some, length, get_or, take, map, reverse, refl, sym, ap, ◌∙◌, subst, arith, length-append, ◌⊎◌, inl, inr}
+use Rattle.std.proofs.Common.{◌≡◌, ℕ, zero, suc, ◌+◌, ◌<◌, ◌≤◌, List, [], ◌∷◌, Bool, true, false, cond, is_some, length, get_or, take, map, reverse, refl, sym, ap, ◌∙◌, subst, arith, length-append, ◌⊎◌, inl, inr}
 use Rattle.std.proofs.Math.Numerals.{add-one}
 use Rattle.std.proofs.lemmas.Bool.{cases_lt}
 use Rattle.std.proofs.lemmas.List.{reverse-append, length-map}
@@ -91,7 +91,7 @@ pub names_of : (t : Table) (p q : ProfileUse) → p.name ≡ q.name → length (
 names_of [] p q e = refl
 names_of (profile ∷ before) p q e =
     let body : length (numbered (parts_of before) 1 (map (filled p) profile.1)) ≡ length (numbered (parts_of before) 1 (map (filled q) profile.1)) =
-      same_numbered (parts_of before) (names_of before) p 1 1 profile.1 ∙ sym (same_numbered (parts_of before) (names_of before) q 1 1 profile.1) in
+    same_numbered (parts_of before) (names_of before) p 1 1 profile.1 ∙ sym (same_numbered (parts_of before) (names_of before) q 1 1 profile.1) in
     ap (λ n. length (cond (bytes_eq n profile.0) (numbered (parts_of before) 1 (map (filled p) profile.1)) (parts_of before p))) e
     ∙ by_name (bytes_eq q.name profile.0) _ _ _ _ body (names_of before p q e)
 

@@ -13,7 +13,7 @@ allow_flags read write class_read class_write =
       pool = None;
       namespace = None;
       prefix = None;
-      tag = None
+      tag = None;
     })
 
 -- allow r; allow rw; allow r class-read; and profile rbd-read-only, allow rwx

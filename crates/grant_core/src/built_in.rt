@@ -21,8 +21,15 @@ impl ProfileTable {
         let read_write = vec![in alloc; allow_flags(true, true, false, false)]?;
         add_free(&mut table, "read-write", CapList::from_vec(read_write))?;
         let rbd_read_only = vec![in alloc; allow_flags(true, false, true, false)]?;
-        add_free(&mut table, "rbd-read-only", CapList::from_vec(rbd_read_only))?;
-        let rbd = vec![in alloc; use_of(Name::new(alloc, "rbd-read-only")?), allow_flags(true, true, true, true)]?;
+        add_free(
+            &mut table,
+            "rbd-read-only",
+            CapList::from_vec(rbd_read_only),
+        )?;
+        let rbd = vec![in alloc;
+            use_of(Name::new(alloc, "rbd-read-only")?),
+            allow_flags(true, true, true, true),
+        ]?;
         add_free(&mut table, "rbd", CapList::from_vec(rbd))?;
         Ok(table)
     }

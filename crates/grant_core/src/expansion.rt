@@ -21,11 +21,7 @@ use std::alloc::Global;
 ///
 /// The time is linear in the grants of the list and in those that it comes to: a use that comes to none is passed over.
 /// It is refused by the first of these that holds: the first grant that uses an unknown profile; more than 256 grants.
-pub fn expand(
-    alloc: Global,
-    table: &ProfileTable,
-    list: &CapList,
-) -> Result<GrantTree, ExpandFault>
+pub fn expand(alloc: Global, table: &ProfileTable, list: &CapList) -> Result<GrantTree, ExpandFault>
     ensures tree { IfOk result (λ tree. tree ≡ flat table.now list.now) }
     ensures few { IfOk result (λ tree. length tree ≤ 256) }
     ensures refused { RefusedFirst (expand_refusal table.now list.now) ExpandFault.OutOfMemory result }
@@ -109,9 +105,5 @@ fn grow_use(
     }
     let inner = filled_use(used, inner)?;
     let branches = grow(alloc, profiles, earlier, &inner, profile.body.grants())?;
-    Ok(Branches::Use(
-        place,
-        Box::new(alloc, branches)?,
-        Box::new(alloc, rest)?,
-    ))
+    Ok(Branches::Use(place, Box::new(alloc, branches)?, Box::new(alloc, rest)?))
 }

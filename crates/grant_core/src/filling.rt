@@ -6,10 +6,7 @@ ghost use Rattle.grant_core.specs.Flat.{filled_allow, filled_use};
 use cap_text::{AllowGrant, OutOfMemory, ProfileUse, copy_name, copy_namespace};
 
 /// An allow with what it takes from the use: one with a pool of its own takes nothing.
-pub(crate) fn filled_allow(
-    used: &ProfileUse,
-    grant: &AllowGrant,
-) -> Result<AllowGrant, OutOfMemory>
+pub(crate) fn filled_allow(used: &ProfileUse, grant: &AllowGrant) -> Result<AllowGrant, OutOfMemory>
     ensures { IfOk result (λ grant'. grant' ≡ filled_allow used.now grant.now) }
 {
     let mut filled = grant.copy()?;

@@ -11,10 +11,9 @@ mod filling;
 mod path;
 mod refusal;
 mod table;
-mod tree;
-
 #[cfg(test)]
 mod tests;
+mod tree;
 
 pub use expansion::expand;
 pub use fault::ExpandFault;

@@ -56,7 +56,7 @@ impl fmt::Display for Path {
     ghost output = { λ path. Some (printed_path path) };
 
     fn fmt<W: fmt::Write>(&self, f: &mut fmt::Formatter<W>) -> fmt::Result {
-        if let Some((first, others)) = self.places.as_slice().split_first() {
+        if let Some((first, others)) = self.as_slice().split_first() {
             write!(f, "{first}")?;
             for place in others {
                 write!(f, ".{place}")?;

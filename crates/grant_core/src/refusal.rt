@@ -42,10 +42,7 @@ fn body_fault(
 }
 
 // The first fault of a list's grants.
-fn first_list_fault(
-    profiles: &IndexMap<String, Profile>,
-    grants: &[Grant],
-) -> Option<ExpandFault>
+fn first_list_fault(profiles: &IndexMap<String, Profile>, grants: &[Grant]) -> Option<ExpandFault>
     requires { length grants.now ≤ 64 }
     ensures { result ≡ first_fault (spec.list_fault (table_of profiles.now.entries)) 1 grants.now }
 {
@@ -58,10 +55,7 @@ fn first_list_fault(
 }
 
 // The first fault of a body's grants.
-fn first_body_fault(
-    profiles: &IndexMap<String, Profile>,
-    body: &[Grant],
-) -> Option<ExpandFault>
+fn first_body_fault(profiles: &IndexMap<String, Profile>, body: &[Grant]) -> Option<ExpandFault>
     requires { length body.now ≤ 64 }
     ensures { result ≡ first_fault (spec.body_fault (table_of profiles.now.entries)) 1 body.now }
 {

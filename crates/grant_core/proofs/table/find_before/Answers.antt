@@ -13,4 +13,4 @@ returns-then-place-before c =
 pub returns : goal.returns
 returns c =
     here c.args.profiles.now.entries c.args.name.now c.args.before c.in_ok-place.place c.in_ok-profile.field-0-0.now c.in_ok-profile.profile.now c.len.ensures.unique
-      (rw c.as_str.ensures at (sym c.in_ok-place.ensures.index)) (sym c.in_ok-profile.ensures.entry) c.requires c.if-place-before.false
+    (rw c.as_str.ensures at (sym c.in_ok-place.ensures.index)) (sym c.in_ok-profile.ensures.entry) c.requires c.if-place-before.false

@@ -1,4 +1,3 @@
-use Rattle.std.proofs.Common.{◌≡◌, ◌∙◌, ap, sym, length}
 use Rattle.grant_core.proofs.Sizes.{size_in_table}
 use Rattle.grant_core.proofs.table.size_of_grant.Goals as goal
 

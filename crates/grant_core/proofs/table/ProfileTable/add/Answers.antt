@@ -1,4 +1,4 @@
-use Rattle.std.proofs.Common.{◌≡◌, sym, ◌∙◌, ap, unwrap_or, arith}
+use Rattle.std.proofs.Common.{sym, ◌∙◌, ap, unwrap_or}
 use Rattle.std.proofs.lemmas.Result.{err_from_is_err_and}
 use Rattle.grant_core.specs.declared.fault.ExpandFault.TheVariants.{OutOfMemory}
 use Rattle.grant_core.proofs.table.ProfileTable.add.Goals as goal
