@@ -7,13 +7,11 @@
 
 mod judging;
 mod matching;
-mod path;
 mod reporting;
 mod request;
 mod ticket;
 
 pub use judging::judge;
-pub use path::Path;
 pub use reporting::report;
 pub use request::{Calls, ClassCall, Condition, Needs, Target};
 pub use ticket::{Report, Ticket};

@@ -1,13 +1,13 @@
 use crate::judging::judge;
-use crate::path::Path;
 use crate::reporting::report;
 use crate::request::{Calls, ClassCall, Condition, Needs, Target};
 use crate::ticket::Ticket;
 use cap_text::{
-    Access, AllowGrant, AppTags, CapList, Flags, Grant, Name, NsMatch, OutOfMemory, Pairs, Part,
-    Tag, Tags,
+    Access, AllowGrant, AppTags, Flags, Name, NsMatch, OutOfMemory, Pairs, Part, Tag, Tags, parse,
 };
+use grant_core::{Path, ProfileTable, expand};
 use std::alloc::Global;
+use std::fmt::Write;
 use std::test::Fail;
 
 fn flags(read: bool, write: bool, class_read: bool, class_write: bool) -> Access {
@@ -232,14 +232,15 @@ fn class_read_by_prefix(rt: HostRuntime) -> Result<(), Fail> {
 }
 
 #[test]
-fn plain_tickets_and_copies(rt: HostRuntime) -> Result<(), Fail> {
+fn tickets_of_expanded_lists(rt: HostRuntime) -> Result<(), Fail> {
     let alloc = rt.alloc();
-    let grant = allow(Access::All);
-    let list = CapList::from_vec(vec![in alloc; Grant::Allow(grant)]?);
-    let ticket = Ticket::plain(alloc, &list)?.copy()?;
-    assert_eq!(rt; ticket.grants().len(), 1);
+    let list = parse(alloc, "allow r, profile rbd pool=vms")?;
+    let tree = expand(alloc, &ProfileTable::builtin(alloc)?, &list)?;
+    let ticket = Ticket::of(alloc, &tree)?.copy()?;
+    let mut paths = String::new(alloc);
     for entry in ticket.grants() {
-        assert_eq!(rt; entry.0.places(), [1].as_slice());
+        write!(paths, "{} ", entry.0)?;
     }
+    assert_eq!(rt; paths.as_str(), "1 2.1.1 2.2 ");
     Ok(())
 }

@@ -1,12 +1,10 @@
 //! Tickets and reports.
 
-ghost use Rattle.std.specs.Prelude.{◌≡◌, ◌<◌, true, IfOk};
-ghost use Rattle.std.specs.List.{list_all};
-ghost use Rattle.verdict_core.specs.Plain.{is_allow, plain_from};
+ghost use Rattle.std.specs.Prelude.{◌≡◌, IfOk};
 
-use crate::path::Path;
 use crate::request::Condition;
-use cap_text::{AllowGrant, CapList, Grant, OutOfMemory};
+use cap_text::{AllowGrant, OutOfMemory};
+use grant_core::{GrantTree, Path};
 use std::alloc::Global;
 use std::marker::Model;
 
@@ -41,21 +39,13 @@ impl Model for Report {
 }
 
 impl Ticket {
-    /// The ticket of a list without profiles: grant i has the path i.
-    pub fn plain(alloc: Global, list: &CapList) -> Result<Ticket, OutOfMemory>
-        requires { list_all is_allow list.now ≡ true }
-        ensures { IfOk result (λ ticket. ticket ≡ plain_from 1 list.now) }
+    /// The ticket of an expanded list: its grants, each with its path.
+    pub fn of(alloc: Global, tree: &GrantTree) -> Result<Ticket, OutOfMemory>
+        ensures { IfOk result (λ ticket. ticket ≡ tree.now) }
     {
-        let mut grants = Vec::new(alloc);
-        for (i, grant) in list.grants().iter().enumerate() {
-            match grant {
-                Grant::Allow(allow) => {
-                    grants.push((Path::of(alloc, &[i + 1])?, allow.copy()?))?;
-                }
-                Grant::Profile(_) => unreachable!(),
-            }
-        }
-        Ok(Ticket { grants })
+        Ok(Ticket {
+            grants: tree.flat(alloc)?,
+        })
     }
 
     /// The ticket of these grants. It takes no memory.

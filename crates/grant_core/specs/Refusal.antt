@@ -1,0 +1,49 @@
+-- Why a profile is not added, and why a list is not expanded: this project's profile.
+use Rattle.std.specs.Prelude.{◌≡◌, ℕ, ◌+◌, List, [], ◌∷◌, length, Bool, if◌then◌else◌, is_some, Option, None, Some, Result, Ok, Err, unwrap_or, nat_lt, nat_le}
+use Rattle.std.specs.Option.{option_or}
+use Rattle.std.specs.List.{list_any}
+use Rattle.std.specs.Str.{bytes_eq}
+use Rattle.cap_text.specs.declared.grant.Grant.{Grant}
+use Rattle.cap_text.specs.declared.grant.Grant.TheVariants.{Allow, Profile}
+use Rattle.grant_core.specs.Flat.{Table, flat}
+use Rattle.grant_core.specs.declared.fault.ExpandFault.{ExpandFault}
+use Rattle.grant_core.specs.declared.fault.ExpandFault.TheVariants.{UnknownProfile, DuplicateProfile, TagInProfile, TooManyProfiles, TooLarge}
+
+-- whether the table has a profile of this name
+abbrev pub has_profile : Table → List ℕ → Bool
+has_profile table name = list_any (λ profile. bytes_eq name profile.0) table
+
+-- a use of a profile that is not in the table
+abbrev pub list_fault : Table → ℕ → Grant → Option ExpandFault
+list_fault table place (Allow g) = None
+list_fault table place (Profile used) = if has_profile table used.name then None else Some (UnknownProfile place)
+
+-- in a body also an allow with a tag
+abbrev pub body_fault : Table → ℕ → Grant → Option ExpandFault
+body_fault table place (Allow g) = if is_some g.tag then Some (TagInProfile place) else None
+body_fault table place (Profile used) = list_fault table place (Profile used)
+
+-- the fault of the first grant that has one
+abbrev pub first_fault : (ℕ → Grant → Option ExpandFault) → ℕ → List Grant → Option ExpandFault
+first_fault fault place [] = None
+first_fault fault place (g ∷ gs) = option_or (fault place g) (first_fault fault (place + 1) gs)
+
+-- more than 256 grants are left
+abbrev pub too_large : Table → List Grant → Option ExpandFault
+too_large table grants = if nat_lt 256 (length (flat table grants)) then Some TooLarge else None
+
+-- why a list is not expanded
+abbrev pub expand_refusal : Table → List Grant → Option ExpandFault
+expand_refusal table grants = option_or (first_fault (list_fault table) 1 grants) (too_large table grants)
+
+-- why a profile is not added
+abbrev pub add_refusal : Table → List ℕ → List Grant → Option ExpandFault
+add_refusal table name body =
+    if has_profile table name then Some DuplicateProfile
+    else (if nat_le 32 (length table) then Some TooManyProfiles
+    else option_or (first_fault (body_fault table) 1 body) (too_large table body))
+
+-- a call is accepted only where nothing refuses it, and refused by what must, or for want of memory where nothing else does
+abbrev pub RefusedFirst : {T E : Type 0} → Option E → E → Result T E → Type 0
+RefusedFirst refusal memory (Ok x) = refusal ≡ None
+RefusedFirst refusal memory (Err fault) = fault ≡ unwrap_or refusal memory
