@@ -3,19 +3,12 @@ use Rattle.std.specs.Prelude.{ℕ, Bool, true, false, List, [], ◌∷◌, ◌++
 use Rattle.std.specs.List.{flat_map}
 use Rattle.std.specs.Fmt.{decimal}
 use Rattle.cap_text.specs.declared.grant.AllowGrant.{AllowGrant}
-use Rattle.cap_text.specs.declared.fault.CapFault.{CapFault}
-use Rattle.cap_text.specs.declared.fault.FaultKind.{FaultKind}
-use Rattle.cap_text.specs.declared.fault.FaultKind.TheVariants as kinds
+use Rattle.grant_core.specs.Text.{printed_path}
 use Rattle.verdict_core.specs.declared.request.Needs.{Needs}
 use Rattle.verdict_core.specs.declared.request.Condition.{Condition}
 use Rattle.verdict_core.specs.declared.request.Condition.TheVariants.{Pool, Namespace, Tag, Prefix, Read, Write, Call}
 use Rattle.verdict_core.specs.Place.{Place}
 use Rattle.verdict_core.specs.Verdict.{is_allowed, report_of}
-
--- the numbers of a path, a dot before each but the first
-abbrev pub path_text : List ℕ → List ℕ
-path_text [] = []
-path_text (place ∷ places) = decimal place ++ flat_map (λ p. codes "." ++ decimal p) places
 
 abbrev pub condition_text : Condition → List ℕ
 condition_text Pool = codes "pool"
@@ -28,23 +21,11 @@ condition_text (Call n) = codes "call " ++ decimal n
 
 -- a grant's path and the condition that the request fails
 abbrev pub report_line : List ℕ × Condition → List ℕ
-report_line line = path_text line.0 ++ (codes " " ++ (condition_text line.1 ++ codes "\n"))
+report_line line = printed_path line.0 ++ (codes " " ++ (condition_text line.1 ++ codes "\n"))
 
--- a fault's number and name
-abbrev pub kind_text : FaultKind → List ℕ
-kind_text kinds.TooLong = codes "C1 TooLong"
-kind_text kinds.TooManyGrants = codes "C2 TooManyGrants"
-kind_text kinds.UnknownWord = codes "C3 UnknownWord"
-kind_text kinds.BadAccess = codes "C4 BadAccess"
-kind_text kinds.BadMatch = codes "C5 BadMatch"
-kind_text kinds.BadWord = codes "C6 BadWord"
-kind_text kinds.NetworkClause = codes "C7 NetworkClause"
-kind_text kinds.OutOfMemory = codes "C8 OutOfMemory"
-kind_text kinds.NotYet = codes "C9 NotYet"
-
--- a refused capability text, with the place of the fault
-abbrev pub refused_text : CapFault → List ℕ
-refused_text fault = codes "refused " ++ (kind_text fault.kind ++ (codes " at " ++ (decimal fault.at ++ codes "\n")))
+-- a fault by its printed form
+abbrev pub refused_text : List ℕ → List ℕ
+refused_text fault = codes "refused " ++ (fault ++ codes "\n")
 
 -- allow, or deny with a line for each grant
 abbrev pub judged_text : List (List ℕ × AllowGrant) → Place → Needs → List ℕ

@@ -4,7 +4,9 @@ ghost use Rattle.std.specs.Prelude.{◌≤◌};
 
 use crate::verdict::verdict_text;
 use cap_text::{OutOfMemory, Tags};
+use cap_text::{AppTags, Name, OutOfMemory, Pairs, Tags};
 use clap::{Arg, ArgAction, ArgMatches, Command, Error};
+use object_core::{Bytes, Op};
 use std::alloc::{AllocError, Global};
 use std::convert::AsStr;
 use std::io::{Read, Write};
@@ -16,6 +18,9 @@ const DONE: u8 = 0;
 const FAULT: u8 = 1;
 /// The words are no command line of this program.
 const BAD_COMMAND_LINE: u8 = 2;
+
+const BAD_TAG: &str = "osdgate: a tag with a `:` needs a `=` behind it\n";
+const TAG_HELP: &str = "An application of the pool, and a pair under it";
 
 /// An option whose value is taken as it is, also where it begins with a dash.
 fn text_option<'a>(alloc: Global, name: &'a str, value: &'a str, help: &'a str) -> Arg<'a> {
@@ -44,14 +49,20 @@ fn verdict_command<'a>(alloc: Global) -> Result<Command<'a>, AllocError> {
         "NAMESPACE",
         "The object's namespace, the empty one where none is given",
     );
+    let calls = Arg::new(alloc, "calls")
+        .action(ArgAction::Append)
+        .value_name("CLASS.METHOD")
+        .help("A class method that the request calls");
     Command::new(alloc, "verdict")
         .about("Tells whether a capability text allows a request, and why not")
         .arg(caps)?
         .arg(pool)?
         .arg(object)?
         .arg(namespace)?
+        .arg(text_option(alloc, "tag", "APP[:KEY=VALUE]", TAG_HELP))?
         .arg(flag(alloc, "read", "The request reads"))?
-        .arg(flag(alloc, "write", "The request writes"))
+        .arg(flag(alloc, "write", "The request writes"))?
+        .arg(calls)
 }
 
 fn whole_command<'a>(alloc: Global) -> Result<Command<'a>, AllocError> {
@@ -62,22 +73,65 @@ fn whole_command<'a>(alloc: Global) -> Result<Command<'a>, AllocError> {
         .subcommand(verdict_command(alloc)?)
 }
 
-/// The text of `osdgate verdict`.
-fn answer_verdict(alloc: Global, matches: &ArgMatches<'_>) -> Result<String, OutOfMemory> {
-    let tags = Tags::from_vec(Vec::new(alloc));
+/// An application tag: a text is cut at its first `:`, and what is behind it at its first `=`. A text with a
+/// `:` and no `=` behind it is none.
+fn tags_of(alloc: Global, text: &str) -> Result<Option<Tags>, OutOfMemory> {
+    let mut pairs = Vec::new(alloc);
+    let application = match text.split_once(':') {
+        None => text,
+        Some((application, pair)) => match pair.split_once('=') {
+            None => return Ok(None),
+            Some((key, value)) => {
+                pairs.push((Name::new(alloc, key)?, Name::new(alloc, value)?))?;
+                application
+            }
+        },
+    };
+    let application = AppTags {
+        application: Name::new(alloc, application)?,
+        pairs: Pairs::from_vec(pairs),
+    };
+    Ok(Some(Tags::from_vec(vec![in alloc; application]?)))
+}
+
+/// A call without input: a word is cut at its first `.`, and one without it is a class with an empty method.
+fn call_of(alloc: Global, word: &str) -> Result<Op, OutOfMemory> {
+    let (class, method) = word.split_once('.').unwrap_or((word, ""));
+    Ok(Op::Call {
+        class: Name::new(alloc, class)?,
+        method: Name::new(alloc, method)?,
+        input: Bytes::from_vec(Vec::new(alloc)),
+    })
+}
+
+/// The text of `osdgate verdict`, or nothing where its words are no command line.
+fn answer_verdict(
+    alloc: Global,
+    matches: &ArgMatches<'_>,
+) -> Result<Option<String>, OutOfMemory> {
+    let tags = match matches.get_str("tag") {
+        None => Tags::from_vec(Vec::new(alloc)),
+        Some(text) => match tags_of(alloc, text)? {
+            None => return Ok(None),
+            Some(tags) => tags,
+        },
+    };
     let target = Target {
         pool: matches.get_str("pool").unwrap_or(""),
         tags: &tags,
         namespace: matches.get_str("namespace").unwrap_or(""),
         object: matches.get_str("object").unwrap_or(""),
     };
-    let needs = Needs {
-        reads: matches.get_flag("read"),
-        writes: matches.get_flag("write"),
-        calls: Calls::from_vec(Vec::new(alloc)),
-    };
+    let mut calls = Vec::new(alloc);
+    if let Some(words) = matches.get_strs("calls") {
+        for word in words {
+            calls.push(call_of(alloc, word)?)?;
+        }
+    }
     let caps = matches.get_str("caps").unwrap_or("");
-    verdict_text(alloc, caps, &target, &needs)
+    let reads = matches.get_flag("read");
+    let writes = matches.get_flag("write");
+    verdict_text(alloc, caps, &target, reads, writes, calls.as_slice()).map(Some)
 }
 
 /// Writes a text and flushes.
@@ -86,12 +140,20 @@ fn write_out<W: Write>(out: &mut W, text: &str) -> bool {
 }
 
 /// The status behind an answer that was made, or for which memory was wanting.
-fn finish<O: Write, E: Write>(answer: Result<String, OutOfMemory>, out: &mut O, err: &mut E) -> u8
+fn finish<O: Write, E: Write>(
+    answer: Result<Option<String>, OutOfMemory>,
+    out: &mut O,
+    err: &mut E,
+) -> u8
     ensures { result ≤ 2 }
 {
     let (text, status) = match &answer {
-        Ok(text) if text.as_str().as_bytes().starts_with(b"refused") => (text.as_str(), FAULT),
-        Ok(text) => (text.as_str(), DONE),
+        Ok(None) => {
+            let _ = write_out(err, BAD_TAG);
+            return BAD_COMMAND_LINE;
+        }
+        Ok(Some(text)) if text.as_str().as_bytes().starts_with(b"refused") => (text.as_str(), FAULT),
+        Ok(Some(text)) => (text.as_str(), DONE),
         Err(_) => ("refused OutOfMemory\n", FAULT),
     };
     if write_out(out, text) {
@@ -102,11 +164,14 @@ fn finish<O: Write, E: Write>(answer: Result<String, OutOfMemory>, out: &mut O, 
 }
 
 /// What the words ask for, or why they are no command line.
-fn answer<S: AsStr>(alloc: Global, words: &[S]) -> Result<Result<String, OutOfMemory>, Error> {
+fn answer<S: AsStr>(
+    alloc: Global,
+    words: &[S],
+) -> Result<Result<Option<String>, OutOfMemory>, Error> {
     let matches = whole_command(alloc)?.try_get_matches_from(words)?;
     match matches.subcommand() {
         Some(("verdict", inner)) => Ok(answer_verdict(alloc, inner)),
-        _ => Ok(Ok(String::new(alloc))),
+        _ => Ok(Ok(None)),
     }
 }
 

@@ -275,14 +275,14 @@ module _ {T S E : Type 0} (state : T → S) (after : S → E → S) (first : S) 
         (refl, l.1, l.2, subst (λ (b : ℕ). StartsWith me.0.mine (made_by b w.seen)) (sym same) (subst (λ (xs : List E). StartsWith xs (made_by id w.seen)) k.2 (made_by_starts id r.log w.seen l.0))),
       )
 
-  pub splits : (id : ℕ) (v : View E) → v.stage ≡ Away → Splits Rule id v (kept_view v) (given_view v)
-  splits id v away s rule at =
+  pub splits : (id : ℕ) (v : View E) (part : ℕ) → v.stage ≡ Away → part ≤ v.draws → Splits Rule id v (kept_view part v) (given_view part v)
+  splits id v part away enough s rule at =
       let r = rule.1 in
       let serving : ℕ = get_or s.words 0 0 in
       let next : ℕ = get_or s.words 1 0 in
       let k = known r.log r.owner serving next id v r.busy Away away (r.each_seat id v at) in
-      let left : View E = kept_view v in
-      let right : View E = given_view v in
+      let left : View E = kept_view part v in
+      let right : View E = given_view part v in
       let one = total_draws-set s.views id v left at in
       let two = total_draws-append (set s.views id left) right in
       let room = r.room in

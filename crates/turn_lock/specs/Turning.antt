@@ -50,19 +50,16 @@ module _ {T S E : Type 0} (state : T → S) (after : S → E → S) (first : S) 
   abbrev pub Ruled : State (Option T) (View E) → Type 0
   Ruled s = (length s.words ≡ 2) × Turning (slice_index s.words 0) (slice_index s.words 1) s.homes s.views
 
--- a new seat may draw so many tickets
-abbrev pub part_of : ℕ → ℕ
-part_of draws = min draws 4294967296
-
 module _ {E : Type 0} where
   abbrev pub first_view : View E
   first_view = record { seen = []; told = []; mine = []; draws = last_word; stage = Away }
 
-  abbrev pub kept_view : View E → View E
-  kept_view v = record v { draws = v.draws - part_of v.draws }
+  -- so many of the numbers that a seat may draw go to a new seat, which has seen what that one has
+  abbrev pub kept_view : ℕ → View E → View E
+  kept_view part v = record v { draws = v.draws - part }
 
-  abbrev pub given_view : View E → View E
-  given_view v = record { seen = v.seen; told = []; mine = []; draws = part_of v.draws; stage = Away }
+  abbrev pub given_view : ℕ → View E → View E
+  given_view part v = record { seen = v.seen; told = []; mine = []; draws = part; stage = Away }
 
   abbrev pub joined_view : View E → View E → View E
   joined_view v w = record v { told = w.seen; draws = min (v.draws + w.draws) last_word }

@@ -1,4 +1,5 @@
-//! The rule of the table under a lock, and what each atomic step on it tells the seat that makes it.
+//! The rule of the table under a lock, and what each atomic step on it tells the seat that makes
+//! it.
 use crate::meaning::Recorded;
 use atomic_table::{Join, Play, Split, TableRule};
 use std::collections::LinkedList;
@@ -52,8 +53,9 @@ impl<T: Recorded> TableRule<Option<T>, View<T::Entry>, Snapshot<T>> for Turns<T>
     ghost first = { λ _. first_view };
 }
 
-/// What the proof of a call says of its step: the state that the lock began with, the number drawn, the seat's own number, and the entry that is added. Each is
-/// chosen where the call is proved (`Invariants.antt`), and costs nothing when it runs.
+/// What the proof of a call says of its step: the state that the lock began with, the number drawn,
+/// the seat's own number, and the entry that is added. Each is chosen where the call is proved
+/// (`Invariants.antt`), and costs nothing when it runs.
 pub(crate) trait Tale<S, E> {
     ghost use Rattle.std.specs.Prelude.{ℕ, List};
 
@@ -87,7 +89,8 @@ impl<T, E> Play<Option<T>, View<E>> for Draw {
     ghost then = { drew };
 }
 
-/// Look whether the number is served. In the proof the value leaves its slot here, with the look that finds the turn.
+/// Look whether the number is served. In the proof the value leaves its slot here, with the look
+/// that finds the turn.
 pub(crate) struct Look<N> {
     tale: PhantomData<N>,
 }
@@ -120,15 +123,28 @@ impl<T: Recorded, N: Tale<T::State, T::Entry>> Play<Option<T>, View<T::Entry>> f
     ghost then = { settled N.by };
 }
 
-/// A seat is cut in two. The new one gets a part of the numbers that may be drawn.
-pub(crate) struct Halve;
+/// How many of a seat's numbers go to a new seat, chosen as a `Tale` is.
+pub(crate) trait Part {
+    ghost use Rattle.std.specs.Prelude.{ℕ};
 
-impl<E> Split<View<E>> for Halve {
+    ghost part: { ℕ };
+}
+
+impl Part for Brand {
+    ghost part = { 0 };
+}
+
+/// A seat is cut in two. The new one gets a part of the numbers that may be drawn.
+pub(crate) struct Halve<N> {
+    part: PhantomData<N>,
+}
+
+impl<E, N: Part> Split<View<E>> for Halve<N> {
     ghost use Rattle.turn_lock.specs.Turning.{kept_view, given_view};
 
-    ghost left = { kept_view };
+    ghost left = { kept_view N.part };
 
-    ghost right = { given_view };
+    ghost right = { given_view N.part };
 }
 
 /// A seat is told what another had seen, and gets what that one might draw.

@@ -2,48 +2,60 @@
 //!
 //! # What it is
 //!
-//! A [`TurnLock`] keeps one value, which threads change in turns. It is the ticket lock of Mellor-Crummey and Scott: who wants a turn draws the next
-//! number, waits until it is served, has the value to itself, and calls the next number. What a plain lock cannot say, this one can: what happened
-//! between a thread's turns. For behind the value stands a list, with one entry for each turn, in the order of the turns. No value of the list is
-//! ever made. It is what contracts speak of, and the value at home is always the state that the entries of the list lead to.
+//! A [`TurnLock`] keeps one value, which threads change in turns. It is the ticket lock of
+//! Mellor-Crummey and Scott: who wants a turn draws the next number, waits until it is served, has
+//! the value to itself, and calls the next number. What a plain lock cannot say, this one can: what
+//! happened between a thread's turns. For behind the value stands a list, with one entry for each
+//! turn, in the order of the turns. No value of the list is ever made. It is what contracts speak
+//! of, and the value at home is always the state that the entries of the list lead to.
 //!
 //! # A value, a step, a seat
 //!
-//! - A value that may lie under the lock implements [`Recorded`]: which *state* clauses see of it, which *entries* the list has, and which state comes
-//!   *after* one more entry.
-//! - A [`Step`] is what one turn does: it changes the value and answers. Its contract says which entry the run stands for, and what the answer tells of
-//!   the state that the run found. A step that is refused stands for an idle entry, one which leaves the state as it was: a turn was taken and
-//!   nothing happened. A step that hands something over holds an `Option`, and takes it out in `run`.
-//! - A [`Seat`] is the right to take turns. It has a number, by which the list tells whose entry is whose. Clauses see a seat as the beginning of the
-//!   list that it has *seen* and the entries that are *its own*. `split` makes a second seat that has seen as much and made nothing, `join` lets one seat
-//!   see all that two had seen. Neither takes memory or waits.
+//! - A value that may lie under the lock implements [`Recorded`]: which *state* clauses see of it,
+//!   which *entries* the list has, and which state comes *after* one more entry.
+//! - A [`Step`] is what one turn does: it changes the value and answers. Its contract says which
+//!   entry the run stands for, and what the answer tells of the state that the run found. A step
+//!   that is refused stands for an idle entry, one which leaves the state as it was: a turn was
+//!   taken and nothing happened. A step that hands something over holds an `Option`, and takes it
+//!   out in `run`.
+//! - A [`Seat`] is the right to take turns. It has a number, by which the list tells whose entry is
+//!   whose. Clauses see a seat as the beginning of the list that it has *seen* and the entries that
+//!   are *its own*. `split` makes a second seat that has seen as much and made nothing, `join` lets
+//!   one seat see all that two had seen. Neither takes memory or waits.
 //!
 //! # What is promised
 //!
-//! `turn` runs its step once. The step finds a value that stands for a list which has all that the seat had seen as a prefix. It adds one entry, its
-//! own, and the seat has then seen the list up to it. Of the seat's own entries the list has just those that it made, each once. `new`, `split` and `join`
-//! keep this: a seat has never seen an entry of its own number that it did not make. A seat of one lock fits no other: each call asks for a seat of
-//! its lock.
+//! `turn` runs its step once. The step finds a value that stands for a list which has all that the
+//! seat had seen as a prefix. It adds one entry, its own, and the seat has then seen the list up to
+//! it. Of the seat's own entries the list has just those that it made, each once. `new`, `split`
+//! and `join` keep this: a seat has never seen an entry of its own number that it did not make. A
+//! seat of one lock fits no other: each call asks for a seat of its lock.
 //!
-//! `close` takes the lock, so no turn goes on any more, and hands the value out. It stands for a list that begins with what the seat had seen. Who wants
-//! this of every seat joins them into one first.
+//! `close` takes the lock, so no turn goes on any more, and hands the value out. It stands for a
+//! list that begins with what the seat had seen. Who wants this of every seat joins them into one
+//! first.
 //!
 //! # What is not promised
 //!
-//! That a turn comes, fairness, freedom from deadlock, time. `turn` and `close` wait, and what they promise holds if they return. A step that takes a turn of
-//! the same lock, or two threads that each take one lock inside a step of the other's, wait for ever. A step that never returns leaves the lock
-//! taken. Numbers are `u64`s, and the last one is never drawn: each seat may draw so many, a new one at most 2^32 of those of the seat that
-//! it was split from, and a seat with none left waits for ever.
+//! That a turn comes, fairness, freedom from deadlock, time. `turn` and `close` wait, and what they
+//! promise holds if they return. A step that takes a turn of the same lock, or two threads that
+//! each take one lock inside a step of the other's, wait for ever. A step that never returns leaves
+//! the lock taken. Numbers are `u64`s, and the last one is never drawn: each seat may draw so many,
+//! and one with none left waits for ever. The seats of `new` share them evenly, a seat that is
+//! split off gets 2^32 of those of the other, or half where that is less, and a seat that is joined
+//! hands over what it has.
 //!
 //! # The atomic steps
 //!
-//! The lock has two words, `serving` and `next`, and one slot, which holds the value. Threads meet in these eight kinds of atomic step alone, each sequentially
-//! consistent. Between any two of them one rule holds (`specs/Turning.antt`): where nobody has the turn, the value in the slot stands for the whole
-//! list, each number was drawn by one seat, and each seat has seen a beginning of the list which has just its own entries under its number.
+//! The lock has two words, `serving` and `next`, and one slot, which holds the value. Threads meet
+//! in these eight kinds of atomic step alone, each sequentially consistent. Between any two of them
+//! one rule holds (`specs/Turning.antt`): where nobody has the turn, the value in the slot stands
+//! for the whole list, each number was drawn by one seat, and each seat has seen a beginning of the
+//! list which has just its own entries under its number.
 //!
 //! | Step | Word or slot | What it tells the seat |
 //! |---|---|---|
-//! | make a seat, in `new` | none, since nobody shares the lock yet | the list is empty |
+//! | make the first seat, in `new` | none, since nobody shares the lock yet | the list is empty |
 //! | split | load of `serving` | the new seat has seen what the old one had, and made nothing |
 //! | join | load of `serving` | the seat was told what the other had seen, and the other is spent |
 //! | draw a number | `fetch_add` on `next` | its number |
@@ -52,8 +64,9 @@
 //! | give back | exchange on the slot | nothing |
 //! | call the next number | `fetch_add` on `serving` | its entry is the last of the list, which it has seen up to there; it has no number any more |
 //!
-//! An entry gets its place in the list by the one `fetch_add` that calls the next number. Between giving back and calling, the value in the slot already stands for
-//! the list and the entry of the seat whose turn it is.
+//! An entry gets its place in the list by the one `fetch_add` that calls the next number. Between
+//! giving back and calling, the value in the slot already stands for the list and the entry of the
+//! seat whose turn it is.
 #![tactic(auto)]
 
 mod board;

@@ -12,12 +12,13 @@ use std::marker::Model;
 use std::sync::Wait;
 use std::thread;
 
-// So many numbers a seat that was split off may draw at most.
+// So many numbers a seat that was split off gets at most.
 const PART: u64 = 1 << 32;
 
 /// A value under a lock, which stands for the list of all turns that were taken on it.
 ///
-/// Clauses see a lock as which one it is, `table`, and the state that its value began with, `first`. Share it by `&` between threads, and give each thread a seat.
+/// Clauses see a lock as which one it is, `table`, and the state that its value began with,
+/// `first`. Share it by `&` between threads, and give each thread a seat.
 #[derive(Drop)]
 pub struct TurnLock<T: Recorded> {
     turnstile: Turnstile<T>,
@@ -33,8 +34,10 @@ impl<T: Recorded> Model for TurnLock<T> {
 
 /// The right to take turns on one lock.
 ///
-/// Clauses see a seat as the `lock` that it is of, its `number`, the beginning of the list that it has `seen`, and the entries that are its own, `mine`. The list
-/// itself is nowhere at run time: a seat is a `u64`, how many numbers it may still draw. A seat that is dropped takes these with it, and its entries stay.
+/// Clauses see a seat as the `lock` that it is of, its `number`, the beginning of the list that it
+/// has `seen`, and the entries that are its own, `mine`. The list itself is nowhere at run time: a
+/// seat is a `u64`, how many numbers it may still draw. A seat that is dropped takes these with it,
+/// and its entries stay.
 #[derive(Drop)]
 pub struct Seat<T: Recorded> {
     place: Place<T>,
@@ -75,11 +78,13 @@ impl<T: Recorded> TurnLock<T> {
         Ok((TurnLock { turnstile }, seat))
     }
 
-    /// A lock over the value, with so many seats, one at least. The list is empty, and no seat has seen or made anything.
+    /// A lock over the value, with so many seats, one at least. The list is empty, and no seat has
+    /// seen or made anything. The seats share all numbers that may be drawn evenly.
     ///
     /// # Errors
     ///
-    /// The value comes back as it was where there is no memory for the table or for the list of seats.
+    /// The value comes back as it was where there is no memory for the table or for the list of
+    /// seats.
     pub fn new(
         alloc: Global,
         value: T,
@@ -95,8 +100,9 @@ impl<T: Recorded> TurnLock<T> {
         };
         match TurnLock::open(alloc, value) {
             Ok((lock, mut first)) => {
+                let share = u64::MAX / seats as u64;
                 for _ in 1..seats {
-                    all.push_reserved(first.split(&lock));
+                    all.push_reserved(first.split_off(&lock, share));
                 }
                 all.push_reserved(first);
                 Ok((lock, all))
@@ -107,8 +113,9 @@ impl<T: Recorded> TurnLock<T> {
 
     /// Runs the step once, in a turn of its own, and answers what it answered.
     ///
-    /// It waits until every turn that drew its number before is over. Where the step is refused its entry is an idle one, as the step's contract says. It returns in
-    /// no bounded time, and never where the seat has no number left to draw, or where a step takes a turn of its own lock.
+    /// It waits until every turn that drew its number before is over. Where the step is refused its
+    /// entry is an idle one, as the step's contract says. It returns in no bounded time, and never
+    /// where the seat has no number left to draw, or where a step takes a turn of its own lock.
     pub fn turn<R: Wait, St: Step<Value = T> + Drop>(
         &self,
         rt: &R,
@@ -131,8 +138,9 @@ impl<T: Recorded> TurnLock<T> {
 
     /// Takes a last turn, and in it the value out of the lock.
     ///
-    /// No thread has the lock any more, so each turn that was begun is over. The value stands for the whole list, which begins with what this seat had seen. To
-    /// have this of each seat, [`Seat::join`] them into one first. It waits as a turn does.
+    /// No thread has the lock any more, so each turn that was begun is over. The value stands for
+    /// the whole list, which begins with what this seat had seen. To have this of each seat,
+    /// [`Seat::join`] them into one first. It waits as a turn does.
     pub fn close<R: Wait>(self, rt: &R, seat: Seat<T>) -> T
     where
         T: Drop,
@@ -149,22 +157,38 @@ impl<T: Recorded> TurnLock<T> {
 }
 
 impl<T: Recorded> Seat<T> {
+    // A new seat, which may draw so many of the numbers that this one may, or all where there are
+    // fewer.
+    fn split_off(&mut self, lock: &TurnLock<T>, most: u64) -> Seat<T>
+        requires { IsSeatOf lock.now self.old }
+        ensures same { self.new ≡ self.old }
+        ensures new { IsSeatOf lock.now result × (result.seen ≡ self.old.seen) × (result.mine ≡ []) }
+        ensures own { HasItsOwn self.new × HasItsOwn result }
+    {
+        let part = self.draws.min(most);
+        let place = lock.turnstile.split(&mut self.place, part);
+        self.draws -= part;
+        Seat { place, draws: part }
+    }
+
     /// A new seat of the lock, which has seen what this one has, and made nothing.
     ///
-    /// It gets 2^32 of the numbers that this one may draw, or all where there are fewer. It takes no memory, and waits for nobody.
+    /// It gets 2^32 of the numbers that this one may draw, or half where that is less: enough for a
+    /// seat that only carries to another what this one has seen, or that takes turns for a while. A
+    /// seat for a long life is best made by [`TurnLock::new`]. It takes no memory, and waits for
+    /// nobody.
     pub fn split(&mut self, lock: &TurnLock<T>) -> Seat<T>
         requires { IsSeatOf lock.now self.old }
         ensures same { self.new ≡ self.old }
         ensures new { IsSeatOf lock.now result × (result.seen ≡ self.old.seen) × (result.mine ≡ []) }
         ensures own { HasItsOwn self.new × HasItsOwn result }
     {
-        let part = self.draws.min(PART);
-        let place = lock.turnstile.split(&mut self.place);
-        self.draws -= part;
-        Seat { place, draws: part }
+        let half = self.draws / 2;
+        self.split_off(lock, half.min(PART))
     }
 
-    /// From now on this seat has seen what both had seen, and may draw what both might. The other is spent: its entries stay in the list under its number.
+    /// From now on this seat has seen what both had seen, and may draw what both might. The other
+    /// is spent: its entries stay in the list under its number.
     ///
     /// It takes no memory, and waits for nobody.
     pub fn join(&mut self, lock: &TurnLock<T>, other: Seat<T>)

@@ -85,7 +85,8 @@ const ZERO: Tally = Tally {
     turns: 0,
 };
 
-// Seat 0 adds five, the step of seat 1 is refused, and seat 1 looks. No other took a turn, as the turns that they found say, so this is the list.
+// Seat 0 adds five, the step of seat 1 is refused, and seat 1 looks. No other took a turn, as the
+// turns that they found say, so this is the list.
 fn add_idle_look<R: Wait + Abort>(
     rt: &R,
     lock: &TurnLock<Tally>,
@@ -161,11 +162,13 @@ fn split_and_join<R: Wait>(
 {
     lock.turn(rt, first, Add(1));
     let mut second = first.split(lock);
-    let by_second = lock.turn(rt, &mut second, Look);
+    let mut third = second.split(lock);
+    let by_third = lock.turn(rt, &mut third, Look);
     lock.turn(rt, &mut second, Add(2));
+    second.join(lock, third);
     first.join(lock, second);
     let by_first = lock.turn(rt, first, Look);
-    (by_second, by_first)
+    (by_third, by_first)
 }
 
 fn two_seats<R: Abort>(rt: &R, alloc: Global) -> (TurnLock<Tally>, Seat<Tally>, Seat<Tally>)
@@ -216,9 +219,9 @@ fn two_threads_add_a_thousand_each(rt: HostRuntime) {
 #[test]
 fn a_join_has_seen_what_both_had(rt: HostRuntime) {
     let (lock, mut first, _second) = two_seats(&rt, rt.alloc());
-    let (by_second, by_first) = split_and_join(&rt, &lock, &mut first);
+    let (by_third, by_first) = split_and_join(&rt, &lock, &mut first);
     assert_eq!(rt;
-        by_second,
+        by_third,
         Tally {
             number: 1,
             turns: 1

@@ -1,5 +1,5 @@
 //! The two words and the slot of a lock, and a turn in its atomic steps.
-ghost use Rattle.std.specs.Prelude.{◌≡◌, ℕ, ◌-◌, ◌<◌, [], ◌∷◌, ◌++◌, Some, IfOk, IfErr};
+ghost use Rattle.std.specs.Prelude.{◌≡◌, ℕ, ◌-◌, ◌<◌, ◌≤◌, [], ◌∷◌, ◌++◌, Some, IfOk, IfErr};
 ghost use Rattle.std.specs.Bool.{MatchBool};
 ghost use Rattle.turn_lock.specs.declared.board.Stage.TheVariants.{Away, Waiting, Turn};
 ghost use Rattle.turn_lock.specs.Seats.{HasItsOwn, seated};
@@ -7,7 +7,7 @@ ghost use Rattle.turn_lock.specs.Tales.{StartsWith, longer, made, made_by, state
 ghost use Rattle.turn_lock.specs.Turning.{Found, first_view, kept_view, given_view, joined_view, settled_view};
 ghost use Rattle.turn_lock.specs.Turned.{Turned, Closes};
 
-use crate::board::{Call, Draw, Halve, Look, Settle, Tale, Tell, Turns, View};
+use crate::board::{Call, Draw, Halve, Look, Part, Settle, Tale, Tell, Turns, View};
 use crate::meaning::{Recorded, Step};
 use atomic_table::{Refused, Table};
 use std::alloc::Global;
@@ -55,17 +55,37 @@ impl<T: Recorded> Turnstile<T> {
         }
     }
 
-    // A new place, which may draw a part of the numbers that this one may.
-    pub(crate) fn split(&self, place: &mut Place<T>) -> Place<T>
+    fn split_as<N: Part>(&self, place: &mut Place<T>, part: u64) -> Place<T>
         requires table { place.old.table_id ≡ self.now.table.shared.table_id }
-        requires ready { place.old.me.0.stage ≡ Away }
-        ensures kept { (place.new.table_id ≡ place.old.table_id) × (place.new.id ≡ place.old.id) × (place.new.me ≡ (kept_view place.old.me.0, place.old.me.1)) }
-        ensures given { (result.table_id ≡ place.old.table_id) × (result.me ≡ (given_view place.old.me.0, [])) }
+        requires tale { N.part ≡ part }
+        requires ready { (place.old.me.0.stage ≡ Away) × (N.part ≤ place.old.me.0.draws) }
+        ensures kept { (place.new.table_id ≡ place.old.table_id) × (place.new.id ≡ place.old.id) × (place.new.me ≡ (kept_view N.part place.old.me.0, place.old.me.1)) }
+        ensures given { (result.table_id ≡ place.old.table_id) × (result.me ≡ (given_view N.part place.old.me.0, [])) }
+    {
+        self.table.shared.split_seat::<Halve<N>>(place)
+    }
+
+    // The token of a new seat, which may draw so many of the numbers that this one may.
+    fn split_off(&self, place: &mut Place<T>, part: u64) -> Place<T>
+        requires table { place.old.table_id ≡ self.now.table.shared.table_id }
+        requires ready { (place.old.me.0.stage ≡ Away) × (part ≤ place.old.me.0.draws) }
+        ensures kept { (place.new.table_id ≡ place.old.table_id) × (place.new.id ≡ place.old.id) × (place.new.me ≡ (kept_view part place.old.me.0, place.old.me.1)) }
+        ensures given { (result.table_id ≡ place.old.table_id) × (result.me ≡ (given_view part place.old.me.0, [])) }
+    {
+        self.split_as::<Brand>(place, part)
+    }
+
+    // The same, where the new seat has looked that no entry is its own.
+    pub(crate) fn split(&self, place: &mut Place<T>, part: u64) -> Place<T>
+        requires table { place.old.table_id ≡ self.now.table.shared.table_id }
+        requires ready { (place.old.me.0.stage ≡ Away) × (part ≤ place.old.me.0.draws) }
+        ensures kept { (place.new.table_id ≡ place.old.table_id) × (place.new.id ≡ place.old.id) × (place.new.me ≡ (kept_view part place.old.me.0, place.old.me.1)) }
+        ensures given { (result.table_id ≡ place.old.table_id) × (result.me ≡ (given_view part place.old.me.0, [])) }
         ensures own { HasItsOwn (seated result) }
     {
-        let mut part = self.table.shared.split_seat::<Halve>(place);
-        self.settle(&mut part);
-        part
+        let mut other = self.split_off(place, part);
+        self.settle(&mut other);
+        other
     }
 
     // Takes in what another place has seen.
