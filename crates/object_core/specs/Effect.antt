@@ -25,8 +25,8 @@ Effect = Result (List ℕ × Option Content) ℕ
 
 -- ENOENT where the object is missing
 abbrev pub found : {T : Type 0} → Option Content → (Content → Result T ℕ) → Result T ℕ
-found None then = Err 2
-found (Some o) then = then o
+found None next = Err 2
+found (Some o) next = next o
 
 -- EFBIG where the bytes would be over the limit; the attributes stay, and a missing object is made
 abbrev pub put : Option Content → List ℕ → Changed

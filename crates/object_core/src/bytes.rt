@@ -1,6 +1,6 @@
 //! Contents: bytes of any value, which need not be text.
 
-ghost use Rattle.std.specs.Prelude.{◌≡◌, ◌+◌, ◌≤◌, ◌++◌, [], IfOk, OnOk, length};
+ghost use Rattle.std.specs.Prelude.{◌≡◌, ◌+◌, ◌≤◌, ◌++◌, [], IfOk, OnOk, length, take, drop};
 ghost use Rattle.object_core.specs.Bytes.{part_of, resized, overwritten};
 
 use cap_text::OutOfMemory;
@@ -114,11 +114,18 @@ impl Bytes {
         requires { offset + length more.now ≤ 65536 }
         ensures { OnOk result (self.new ≡ overwritten self.old offset more.now) }
     {
-        let end = offset + more.len();
-        if self.bytes.len() < end {
-            self.bytes.resize(end, 0)?;
-        }
-        self.bytes[offset..end].copy_from_slice(more.as_slice());
+        let size = self.bytes.len().max(offset + more.len());
+        self.bytes.resize(size, 0)?;
+        lay(&mut self.bytes, offset, more.as_slice());
         Ok(())
     }
+}
+
+/// Lays bytes over a part of others.
+fn lay(bytes: &mut [u8], offset: usize, more: &[u8])
+    requires { offset + length more.now ≤ length bytes.old }
+    ensures { bytes.new ≡ take offset bytes.old ++ more.now ++ drop (offset + length more.now) bytes.old }
+{
+    let end = offset + more.len();
+    bytes[offset..end].copy_from_slice(more);
 }

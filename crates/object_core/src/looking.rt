@@ -1,6 +1,6 @@
 //! Operations that only look at an object.
 
-ghost use Rattle.std.specs.Prelude.{◌≡◌, ◌^◌, ◌<◌, Ok, IfOk, length, option_copied, codes};
+ghost use Rattle.std.specs.Prelude.{◌≡◌, ◌≤◌, Ok, IfOk, length, option_copied, codes};
 ghost use Rattle.std.specs.Fmt.{decimal as decimal_text};
 ghost use Rattle.object_core.specs.Bytes.{part_of};
 ghost use Rattle.object_core.specs.Content.{value_of};
@@ -18,8 +18,10 @@ use std::alloc::Global;
 pub(crate) type Answer = Result<Result<Bytes, u32>, OutOfMemory>;
 
 /// A number in decimal.
+#[tactic(auto, using(crate::proofs::Lengths::short_decimal))]
 pub(crate) fn decimal(alloc: Global, number: u64) -> Result<Bytes, OutOfMemory>
-    ensures { IfOk result (λ text. text ≡ decimal_text number) }
+    ensures text { IfOk result (λ text. text ≡ decimal_text number) }
+    ensures short { IfOk result (λ text. length text ≤ 20) }
 {
     let text = number.to_string(alloc)?;
     Ok(Bytes::from_vec(text.into_bytes()))

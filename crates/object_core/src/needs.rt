@@ -1,6 +1,6 @@
 //! What a vector of operations asks for.
 
-ghost use Rattle.std.specs.Prelude.{◌≡◌, Some, None, IfOk};
+ghost use Rattle.std.specs.Prelude.{◌≡◌, ◌++◌, Some, None, IfOk, OnOk, option_to_list};
 ghost use Rattle.std.specs.List.{list_any, filter_map};
 ghost use Rattle.object_core.specs.Faults.{RefusedFirst, text_of, number_of_fault};
 ghost use Rattle.object_core.specs.Needs.{needs_fault};
@@ -103,6 +103,13 @@ fn is_unknown(op: &Op) -> bool
     }
 }
 
+/// Whether some operation of a vector calls a method that the registry has not.
+fn calls_unknown(ops: &[Op]) -> bool
+    ensures { result ≡ list_any spec.is_unknown ops.now }
+{
+    ops.iter().any(|op| is_unknown(op))
+}
+
 /// Why a vector is refused. It takes no memory.
 fn needs_fault(ops: &[Op]) -> Option<NeedsFault>
     ensures { result ≡ spec.needs_fault ops.now }
@@ -111,23 +118,27 @@ fn needs_fault(ops: &[Op]) -> Option<NeedsFault>
         Some(NeedsFault::EmptyVector)
     } else if ops.len() > OP_LIMIT {
         Some(NeedsFault::TooManyOps)
-    } else if ops.iter().any(|op| is_unknown(op)) {
+    } else if calls_unknown(ops) {
         Some(NeedsFault::NoMethod)
     } else {
         None
     }
 }
 
-/// The call that an operation is, if it is one of a known method.
-fn call_of(op: &Op) -> Result<Option<ClassCall>, OutOfMemory>
-    ensures { IfOk result (λ call. call ≡ spec.call_of op.now) }
+/// Adds the call that an operation is, if it is one of a known method.
+fn push_call(calls: &mut Vec<ClassCall>, op: &Op) -> Result<(), OutOfMemory>
+    ensures { OnOk result
+        (calls.new.items ≡ calls.old.items ++ option_to_list (spec.call_of op.now)) }
 {
     match op {
         Op::Call { class, method, .. } => match method_of(class, method) {
-            None => Ok(None),
-            Some(found) => Ok(Some(registered(class, method, found)?)),
+            None => Ok(()),
+            Some(found) => {
+                calls.push(registered(class, method, found)?)?;
+                Ok(())
+            }
         },
-        _ => Ok(None),
+        _ => Ok(()),
     }
 }
 
@@ -137,9 +148,7 @@ fn calls_of(alloc: Global, ops: &[Op]) -> Result<Calls, OutOfMemory>
 {
     let mut calls = Vec::new(alloc);
     for op in ops {
-        if let Some(call) = call_of(op)? {
-            calls.push(call)?;
-        }
+        push_call(&mut calls, op)?;
     }
     Ok(Calls::from_vec(calls))
 }

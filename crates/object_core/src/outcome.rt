@@ -111,6 +111,7 @@ impl Change {
     ) -> Result<(Bytes, Attributes), OutOfMemory>
         ensures bytes { IfOk result (λ parts. parts.0 ≡ bytes_of (after (option_copied given.entry) self)) }
         ensures attributes { IfOk result (λ parts. parts.1 ≡ attributes_of (after (option_copied given.entry) self)) }
+        ensures limit { IfOk result (λ parts. length parts.0 ≤ 65536) }
     {
         match self.into_object(given)? {
             None => Ok((Bytes::new(alloc), Attributes::new(alloc))),
