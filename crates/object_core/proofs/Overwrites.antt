@@ -54,8 +54,10 @@ drop-resized bytes end size h le just =
     same e =
         let none : size - length bytes ≡ 0 = omega arith in
         ap (λ n. take size bytes ++ replicate n 0) none ∙ append-nil (take size bytes) ∙ take_all size bytes h
+
     past : size ≤ end → length (resized size bytes) ≤ end
     past all = omega (arith, length-resized size bytes)
+
     short : size ≤ end → length bytes ≤ end
     short all = omega arith
 
@@ -68,8 +70,8 @@ overwritten_in old items new more offset size n s made e laid_over =
     let start : offset ≤ size = omega arith in
     let just : offset + length more < size → size ≡ length old = λ (less : offset + length more < size). omega arith in
     let same : new ≡ overwritten old offset more = laid_over ∙ ap (λ l. take offset l ++ more ++ drop (offset + length more) l) made
-        ∙ ap (λ l. l ++ more ++ drop (offset + length more) (resized size old)) (take-resized old offset size long start)
-        ∙ ap (λ l. resized offset old ++ more ++ l) (drop-resized old (offset + length more) size long room just) in
+    ∙ ap (λ l. l ++ more ++ drop (offset + length more) (resized size old)) (take-resized old offset size long start)
+    ∙ ap (λ l. resized offset old ++ more ++ l) (drop-resized old (offset + length more) size long room just) in
     let many : length items ≡ size = ap length made ∙ length-resized size old in
     let lengths : length new ≡ length items = omega (arith, ap length same, length-overwritten old offset more) in
     written_back items new n e lengths ∙ same

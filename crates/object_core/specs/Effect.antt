@@ -122,3 +122,8 @@ run_from place object (op ∷ ops) = go_on place (effect_of object op) (λ next.
 -- what a vector of operations does
 abbrev pub effect : Option Content → List Op → Run
 effect object ops = run_from 1 object ops
+
+-- the object after a run of one: a failure leaves it as it was
+abbrev pub left_by : Option Content → Run → Option Content
+left_by object (Ok done) = done.1
+left_by object (Err fault) = object

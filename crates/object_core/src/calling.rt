@@ -35,10 +35,8 @@ fn counter_add(alloc: Global, given: Option<&Object>, change: Change, input: &By
     ensures { IfOk result (λ r. let object = after (option_copied given.entry) change in
         told_step (option_copied given.entry) r ≡ added object (spec.count_of object) (numbers.number_of input.now)) }
 {
-    let (Some(count), Some(more)) = (
-        count_of(change.look(given)),
-        number_of(input.as_slice()),
-    ) else {
+    let (Some(count), Some(more)) = (count_of(change.look(given)), number_of(input.as_slice()))
+    else {
         return Ok(Err(EINVAL));
     };
     let Some(sum) = count.checked_add(more) else {

@@ -105,12 +105,7 @@ pub(crate) fn append(
 }
 
 /// Cuts the bytes to a size, or extends them by zeros.
-pub(crate) fn truncate(
-    alloc: Global,
-    given: Option<&Object>,
-    change: Change,
-    size: u32,
-) -> Changing
+pub(crate) fn truncate(alloc: Global, given: Option<&Object>, change: Change, size: u32) -> Changing
     ensures { IfOk result (λ r. let object = after (option_copied given.entry) change in
         told_change (option_copied given.entry) r ≡ found object (λ o. put object (resized size o.bytes))) }
 {
@@ -173,7 +168,7 @@ pub(crate) fn set_attribute(
 ) -> Changing
     ensures { IfOk result (λ r.
         told_change (option_copied given.entry) r
-            ≡ attribute_set (after (option_copied given.entry) change) name.now value.now) }
+        ≡ attribute_set (after (option_copied given.entry) change) name.now value.now) }
 {
     let name_len = name.as_str().len();
     if name_len == 0 {

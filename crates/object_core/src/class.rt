@@ -30,7 +30,11 @@ pub(crate) fn method_of(class: &Name, method: &Name) -> Option<Method>
 }
 
 /// The call of a method with what the registry says of it.
-pub(crate) fn registered(class: &Name, method: &Name, found: Method) -> Result<ClassCall, OutOfMemory>
+pub(crate) fn registered(
+    class: &Name,
+    method: &Name,
+    found: Method,
+) -> Result<ClassCall, OutOfMemory>
     ensures { IfOk result (λ call. call ≡ spec.registered class.now method.now found) }
 {
     let class = class.copy()?;

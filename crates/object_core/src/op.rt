@@ -9,11 +9,17 @@ use cap_text::{Name, OutOfMemory};
 #[derive(Debug, Drop)]
 pub enum Op {
     /// Gives the bytes from a place on, at most so many, or all of them where the length is 0.
-    Read { offset: u32, length: u32 },
+    Read {
+        offset: u32,
+        length: u32,
+    },
     /// Gives the size in decimal.
     Stat,
     /// Lays bytes over the old ones from a place on, and fills a gap before them by zeros.
-    Write { offset: u32, bytes: Bytes },
+    Write {
+        offset: u32,
+        bytes: Bytes,
+    },
     /// Replaces the bytes and keeps the attributes.
     WriteFull(Bytes),
     /// Adds bytes at the end.
@@ -23,11 +29,16 @@ pub enum Op {
     /// Removes the object with its attributes.
     Remove,
     /// Makes the object where it is missing; where it is there, exclusive is refused.
-    Create { exclusive: bool },
+    Create {
+        exclusive: bool,
+    },
     /// Gives the value of an attribute.
     GetAttribute(Name),
     /// Sets an attribute.
-    SetAttribute { name: Name, value: Bytes },
+    SetAttribute {
+        name: Name,
+        value: Bytes,
+    },
     /// Removes an attribute.
     RemoveAttribute(Name),
     /// Calls a method of an object class with an input.

@@ -2,7 +2,8 @@
 
 ghost use Rattle.std.specs.Prelude.{◌≡◌, ◌≤◌, IfOk, length, option_copied};
 ghost use Rattle.object_core.specs.Content.{bytes_of, attributes_of};
-ghost use Rattle.object_core.specs.Told.{after};
+ghost use Rattle.object_core.specs.Effect.{left_by};
+ghost use Rattle.object_core.specs.Told.{after, told};
 
 use crate::attributes::Attributes;
 use crate::bytes::Bytes;
@@ -150,6 +151,18 @@ impl Change {
 }
 
 impl Outcome {
+    /// The object after a vector that was run on a given one: what fails leaves it as it was. It takes no
+    /// memory.
+    pub fn look<'a>(&'a self, given: Option<&'a Object>) -> Option<&'a Object>
+        ensures { let object = option_copied given.entry in
+            option_copied result ≡ left_by object (told object self.now) }
+    {
+        match self {
+            Outcome::Done { object, .. } => object.look(given),
+            Outcome::Failed { .. } => given,
+        }
+    }
+
     /// An equal outcome.
     pub fn copy(&self) -> Result<Outcome, OutOfMemory>
         ensures { IfOk result (λ outcome. outcome ≡ self.now) }

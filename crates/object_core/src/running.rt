@@ -5,11 +5,10 @@ ghost use Rattle.object_core.specs.Effect.{effect, effect_of};
 ghost use Rattle.object_core.specs.Told.{after, told, told_step};
 
 use crate::calling::{Step, call, changes, looks};
-use crate::changing;
-use crate::looking;
 use crate::object::Object;
 use crate::op::Op;
 use crate::outcome::{Change, Outcome, Outputs};
+use crate::{changing, looking};
 use cap_text::OutOfMemory;
 use std::alloc::Global;
 

@@ -12,7 +12,7 @@ pub loop-i-preserved : goal.loop-i-preserved
 loop-i-preserved c =
     let given = option_copied c.args.object in
     rw c.in_ok-push-in-Ok.ensures.items
-      (run_goes_on c.args.ops.now c.loop-i.i c.index-ops-i.result (after given c.loop-i.change) c.loop-i.outputs.items _ (omega arith) c.index-ops-i.is c.loop-i.invariant c.in-Ok.output (after given c.in-Ok.next) (ap (told_step given) (sym c.in-Ok.is) ∙ c.in_ok-number.ensures))
+    (run_goes_on c.args.ops.now c.loop-i.i c.index-ops-i.result (after given c.loop-i.change) c.loop-i.outputs.items _ (omega arith) c.index-ops-i.is c.loop-i.invariant c.in-Ok.output (after given c.in-Ok.next) (ap (told_step given) (sym c.in-Ok.is) ∙ c.in_ok-number.ensures))
 
 pub returns : goal.returns
 returns c =

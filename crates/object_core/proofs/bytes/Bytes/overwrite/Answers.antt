@@ -15,5 +15,5 @@ returns c =
     let part = c.deref_mut.ensures.value in
     let more = c.as_slice.ensures in
     let laid : c.lay.new.bytes ≡ take c.args.offset new.items ++ c.args.more.now ++ drop (c.args.offset + length c.args.more.now) new.items
-        = c.lay.ensures ∙ (λ k. take c.args.offset (part k) ++ more k ++ drop (c.args.offset + length (more k)) (part k)) in
+    = c.lay.ensures ∙ (λ k. take c.args.offset (part k) ++ more k ++ drop (c.args.offset + length (more k)) (part k)) in
     overwritten_in old new.items c.lay.new.bytes c.args.more.now c.args.offset end new.len size items n laid
