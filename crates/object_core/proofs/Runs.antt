@@ -1,9 +1,13 @@
 -- Runs in part.
-use Rattle.std.proofs.Common.{◌≡◌, ℕ, List, [], ◌∷◌, ◌++◌, Option, Result, Ok, Err, suc, ◌+◌, ◌<◌, ◌≤◌, length, get_or, drop, drop-cons, refl, sym, ap, ◌∙◌, arith}
+use Rattle.std.proofs.Common.{◌≡◌, ℕ, List, [], ◌∷◌, ◌++◌, Option, Result, Ok, Err, suc, ◌+◌, ◌<◌, ◌≤◌, length, get_or, drop, drop-cons, refl, sym, ap, ◌∙◌, arith, zero, Bool, true, false, ◌&&◌}
+use Rattle.std.specs.List.{list_all}
 use Rattle.std.proofs.lemmas.List.{drop_all}
 use Rattle.object_core.specs.Content.{Content}
 use Rattle.object_core.specs.Effect.{Run, Effect, effect_of, go_on, run_from, with_output}
+use Rattle.object_core.specs.Needs.{only_looks}
+use Rattle.object_core.specs.Told.{StaysAs}
 use Rattle.object_core.specs.declared.op.Op.{Op}
+use Rattle.object_core.specs.declared.outcome.Change.{Change}
 
 -- a run after these outputs
 abbrev pub with_outputs : List (List ℕ) → Run → Run
@@ -47,3 +51,17 @@ module _ (ops : List Op) (i : ℕ) (op : Op) (current : Option Content) (outputs
 -- all operations ran
 pub run_ends : (ops : List Op) (i : ℕ) (current : Option Content) (outputs : List (List ℕ)) (total : Run) → length ops ≤ i → with_outputs outputs (run_from (1 + i) current (drop i ops)) ≡ total → Ok (outputs, current) ≡ total
 run_ends ops i current outputs total h so_far = sym (with_outputs-done outputs current) ∙ ap (λ l. with_outputs outputs (run_from (1 + i) current l)) (sym (drop_all i ops h)) ∙ so_far
+
+and_true : (a b : Bool) → (a && b) ≡ true → (a ≡ true) × (b ≡ true)
+and_true true b e = (refl, e)
+and_true false b e = absurd (cc)
+
+-- each of the operations only looks
+pub looks_at : (ops : List Op) (i : ℕ) (op : Op) → i < length ops → op ≡ get_or ops i op → list_all only_looks ops ≡ true → only_looks op ≡ true
+looks_at [] i op h at all = absurd (omega arith)
+looks_at (o ∷ os) zero op h at all = ap only_looks at ∙ (and_true (only_looks o) (list_all only_looks os) all).0
+looks_at (o ∷ os) (suc i) op h at all = looks_at os i op (omega arith) at (and_true (only_looks o) (list_all only_looks os) all).1
+
+-- a step that stays as it was, at what it gave
+pub next_is : (change next : Change) (output : List ℕ) (step : Result (List ℕ × Change) ℕ) → step ≡ Ok (output, next) → StaysAs change step → next ≡ change
+next_is change next output step e h = let at : StaysAs change (Ok (output, next)) = rw e at h in at

@@ -67,3 +67,18 @@ needs_fault ops =
     else if nat_lt 16 (length ops) then Some TooManyOps
     else if list_any is_unknown ops then Some NoMethod
     else None
+
+-- whether a method only looks at its object; an unknown one does nothing
+abbrev pub is_look : Option Method → Bool
+is_look None = true
+is_look (Some CounterGet) = true
+is_look (Some CounterAdd) = false
+is_look (Some VaultPeek) = true
+
+-- whether an operation only looks at the object
+abbrev pub only_looks : Op → Bool
+only_looks (Call class method input) = is_look (method_of class method)
+only_looks (Read offset count) = true
+only_looks Stat = true
+only_looks (GetAttribute name) = true
+only_looks _ = false

@@ -1,5 +1,5 @@
 -- How the program tells effects: a change that was not made stands for the object that was given.
-use Rattle.std.specs.Prelude.{ℕ, List, [], Option, Result, Ok, Err}
+use Rattle.std.specs.Prelude.{◌≡◌, ℕ, List, [], Option, Result, Ok, Err}
 use Rattle.object_core.specs.Content.{Content}
 use Rattle.object_core.specs.Effect.{Changed, Effect, Run}
 use Rattle.object_core.specs.declared.outcome.Change.{Change}
@@ -34,3 +34,13 @@ changed_step (Err number) = Err number
 abbrev pub told : Option Content → Outcome → Run
 told given (Done outputs object) = Ok (outputs, after given object)
 told given (Failed place number) = Err (place, number)
+
+-- a step that is done leaves what became of the object before it
+abbrev pub StaysAs : Change → Result (List ℕ × Change) ℕ → Type 0
+StaysAs change (Ok step) = step.1 ≡ change
+StaysAs change (Err number) = Unit {0}
+
+-- what is done keeps the object, and so does not copy it
+abbrev pub KeepsObject : Outcome → Type 0
+KeepsObject (Done outputs object) = object ≡ change.Kept
+KeepsObject (Failed place number) = Unit {0}

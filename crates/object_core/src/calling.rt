@@ -1,11 +1,11 @@
 //! Calls of the methods of object classes.
 
-ghost use Rattle.std.specs.Prelude.{◌≡◌, IfOk, option_copied};
+ghost use Rattle.std.specs.Prelude.{◌≡◌, true, IfOk, option_copied};
 ghost use Rattle.object_core.specs.Effect.{added, effect_of_method};
 ghost use Rattle.object_core.specs.Effect as spec;
 ghost use Rattle.object_core.specs.Needs as registry;
 ghost use Rattle.object_core.specs.Number as numbers;
-ghost use Rattle.object_core.specs.Told.{after, kept_step, changed_step, told_step};
+ghost use Rattle.object_core.specs.Told.{StaysAs, after, kept_step, changed_step, told_step};
 
 use crate::bytes::Bytes;
 use crate::class::{Method, method_of};
@@ -51,7 +51,8 @@ fn counter_add(alloc: Global, given: Option<&Object>, change: Change, input: &By
 
 /// What only looks leaves the object as it is.
 pub(crate) fn looks(answer: Result<Bytes, u32>, change: Change) -> Result<(Bytes, Change), u32>
-    ensures { result ≡ kept_step change answer }
+    ensures step { result ≡ kept_step change answer }
+    ensures stays { StaysAs change result }
 {
     match answer {
         Ok(output) => Ok((output, change)),
@@ -78,8 +79,9 @@ pub(crate) fn call(
     method: &Name,
     input: &Bytes,
 ) -> Step
-    ensures { IfOk result (λ r. told_step (option_copied given.entry) r
+    ensures effect { IfOk result (λ r. told_step (option_copied given.entry) r
         ≡ effect_of_method (registry.method_of class.now method.now) (after (option_copied given.entry) change) input.now) }
+    ensures stays { registry.is_look (registry.method_of class.now method.now) ≡ true → IfOk result (StaysAs change) }
 {
     match method_of(class, method) {
         None => Ok(Err(EOPNOTSUPP)),

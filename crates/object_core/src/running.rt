@@ -1,8 +1,10 @@
 //! Vectors of operations.
 
-ghost use Rattle.std.specs.Prelude.{◌≡◌, IfOk, option_copied};
+ghost use Rattle.std.specs.Prelude.{◌≡◌, true, IfOk, option_copied};
+ghost use Rattle.std.specs.List.{list_all};
 ghost use Rattle.object_core.specs.Effect.{effect, effect_of};
-ghost use Rattle.object_core.specs.Told.{after, told, told_step};
+ghost use Rattle.object_core.specs.Needs.{only_looks};
+ghost use Rattle.object_core.specs.Told.{KeepsObject, StaysAs, after, told, told_step};
 
 use crate::calling::{Step, call, changes, looks};
 use crate::object::Object;
@@ -14,8 +16,9 @@ use std::alloc::Global;
 
 /// One operation on what became of the given object so far.
 fn step(alloc: Global, given: Option<&Object>, change: Change, op: &Op) -> Step
-    ensures { IfOk result (λ r. told_step (option_copied given.entry) r
+    ensures effect { IfOk result (λ r. told_step (option_copied given.entry) r
         ≡ effect_of (after (option_copied given.entry) change) op.now) }
+    ensures stays { only_looks op.now ≡ true → IfOk result (StaysAs change) }
 {
     match op {
         Op::Read { offset, length } => {
@@ -77,8 +80,11 @@ pub fn run_vector(
     object: Option<&Object>,
     ops: &[Op],
 ) -> Result<Outcome, OutOfMemory>
-    ensures { IfOk result (λ outcome.
+    ensures effect { IfOk result (λ outcome.
         told (option_copied object.entry) outcome ≡ effect (option_copied object.entry) ops.now) }
+
+    // What only looks copies no object.
+    ensures kept { list_all only_looks ops.now ≡ true → IfOk result KeepsObject }
 {
     let mut change = Change::Kept;
     let mut outputs = Vec::new(alloc);
