@@ -1,0 +1,5 @@
+pub mod CallList
+pub mod Lengths
+pub mod Numbers
+pub mod Overwrites
+pub mod Runs

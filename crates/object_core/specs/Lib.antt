@@ -1,0 +1,7 @@
+pub mod Bytes
+pub mod Content
+pub mod Effect
+pub mod Faults
+pub mod Needs
+pub mod Number
+pub mod Told

@@ -1,0 +1,91 @@
+//! Operations on an object.
+
+ghost use Rattle.std.specs.Prelude.{◌≡◌, IfOk};
+
+use crate::bytes::Bytes;
+use cap_text::{Name, OutOfMemory};
+
+/// An operation on an object. Places, lengths and sizes are in bytes.
+#[derive(Debug, Drop)]
+pub enum Op {
+    /// Gives the bytes from a place on, at most so many, or all of them where the length is 0.
+    Read {
+        offset: u32,
+        length: u32,
+    },
+    /// Gives the size in decimal.
+    Stat,
+    /// Lays bytes over the old ones from a place on, and fills a gap before them by zeros.
+    Write {
+        offset: u32,
+        bytes: Bytes,
+    },
+    /// Replaces the bytes and keeps the attributes.
+    WriteFull(Bytes),
+    /// Adds bytes at the end.
+    Append(Bytes),
+    /// Cuts the bytes to a size, or extends them to it by zeros.
+    Truncate(u32),
+    /// Removes the object with its attributes.
+    Remove,
+    /// Makes the object where it is missing; where it is there, exclusive is refused.
+    Create {
+        exclusive: bool,
+    },
+    /// Gives the value of an attribute.
+    GetAttribute(Name),
+    /// Sets an attribute.
+    SetAttribute {
+        name: Name,
+        value: Bytes,
+    },
+    /// Removes an attribute.
+    RemoveAttribute(Name),
+    /// Calls a method of an object class with an input.
+    Call {
+        class: Name,
+        method: Name,
+        input: Bytes,
+    },
+}
+
+impl Op {
+    /// An equal operation.
+    pub fn copy(&self) -> Result<Op, OutOfMemory>
+        ensures { IfOk result (λ op. op ≡ self.now) }
+    {
+        match self {
+            Op::Read { offset, length } => Ok(Op::Read {
+                offset: *offset,
+                length: *length,
+            }),
+            Op::Stat => Ok(Op::Stat),
+            Op::Write { offset, bytes } => Ok(Op::Write {
+                offset: *offset,
+                bytes: bytes.copy()?,
+            }),
+            Op::WriteFull(bytes) => Ok(Op::WriteFull(bytes.copy()?)),
+            Op::Append(bytes) => Ok(Op::Append(bytes.copy()?)),
+            Op::Truncate(size) => Ok(Op::Truncate(*size)),
+            Op::Remove => Ok(Op::Remove),
+            Op::Create { exclusive } => Ok(Op::Create {
+                exclusive: *exclusive,
+            }),
+            Op::GetAttribute(name) => Ok(Op::GetAttribute(name.copy()?)),
+            Op::SetAttribute { name, value } => Ok(Op::SetAttribute {
+                name: name.copy()?,
+                value: value.copy()?,
+            }),
+            Op::RemoveAttribute(name) => Ok(Op::RemoveAttribute(name.copy()?)),
+            Op::Call {
+                class,
+                method,
+                input,
+            } => Ok(Op::Call {
+                class: class.copy()?,
+                method: method.copy()?,
+                input: input.copy()?,
+            }),
+        }
+    }
+}
