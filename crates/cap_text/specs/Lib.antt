@@ -7,3 +7,4 @@ pub mod Faults
 pub mod Spellable
 pub mod Printed
 pub mod Machine
+pub mod FaultText

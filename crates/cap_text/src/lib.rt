@@ -4,6 +4,7 @@
 mod bytes;
 mod caps;
 mod fault;
+mod fault_text;
 mod grant;
 mod keyword;
 mod lexer;
@@ -11,9 +12,9 @@ mod machine;
 mod name;
 mod parser;
 mod place;
-mod state;
 mod printing;
 mod spellable;
+mod state;
 mod tags;
 mod token;
 
