@@ -3,15 +3,219 @@
 use super::*;
 use cap_text::{Name, OutOfMemory};
 use std::alloc::Global;
-use std::process::Abort;
+use std::str;
 use std::test::Fail;
 
-fn bytes(alloc: Global, text: &str) -> Result<Bytes, OutOfMemory> {
-    Bytes::from_slice(alloc, text.as_bytes())
+/// What vectors come to: the operations that make the object first (`missing` for none), the vector, and its
+/// outcome as `shown` writes it.
+const OUTCOMES: [(&str, &str, &str); 54] = [
+    (
+        "append hello",
+        "read 3 0;read 9 5;stat",
+        "lo,,5, kept hello",
+    ),
+    (
+        "append hello",
+        "read 1 3;append b;read 4 9",
+        "ell,,ob, now hellob",
+    ),
+    ("append hello", "write 3 XY;write 0 J", ",, now JelXY"),
+    ("append hello", "write 7 z", ", now hello__z"),
+    ("append hello;setxattr k v", "write_full", ", now  k=v"),
+    ("append hello", "truncate 2;truncate 4", ",, now he__"),
+    ("append hello", "remove;append n", ",, now n"),
+    ("append hello", "remove", ", now missing"),
+    ("append hello", "create", ", kept hello"),
+    ("append hello", "", " kept hello"),
+    ("missing", "", " kept missing"),
+    ("missing", "write 3", ", now ___"),
+    ("missing", "create exclusive", ", now "),
+    (
+        "missing",
+        "setxattr k v;setxattr l w;setxattr k u;getxattr l",
+        ",,,w, now  k=u l=w",
+    ),
+    (
+        "append a;setxattr k v;setxattr l w",
+        "rmxattr k;write_full f",
+        ",, now f l=w",
+    ),
+    (
+        "append a;setxattr k v",
+        "getxattr k;read 0 0",
+        "v,a, kept a k=v",
+    ),
+    // A failure leaves the object as it was.
+    (
+        "append a;setxattr k v",
+        "remove;append b;getxattr k",
+        "failed 3 61 a k=v",
+    ),
+    ("append x", "append a;create exclusive", "failed 2 17 x"),
+    ("append a;setxattr k v", "rmxattr l", "failed 1 61 a k=v"),
+    ("append hello", "vault peek", "failed 1 61 hello"),
+    ("append a", "setxattr  v", "failed 1 22 a"),
+    ("append a", "counter drop", "failed 1 95 a"),
+    ("append a", "vault get", "failed 1 95 a"),
+    ("missing", "read 0 0", "failed 1 2 missing"),
+    ("missing", "stat", "failed 1 2 missing"),
+    ("missing", "truncate 65537", "failed 1 2 missing"),
+    ("missing", "remove", "failed 1 2 missing"),
+    ("missing", "getxattr k", "failed 1 2 missing"),
+    ("missing", "rmxattr k", "failed 1 2 missing"),
+    ("missing", "counter get", "failed 1 2 missing"),
+    ("missing", "vault peek", "failed 1 2 missing"),
+    // Limits, where `*n` stands for so many bytes.
+    ("write 65535 x", "stat", "65536, kept #65536"),
+    ("write 65535 x", "append b", "failed 1 27 #65536"),
+    ("write 65535 x", "truncate 65537", "failed 1 27 #65536"),
+    ("write 65535 x", "truncate 65536", ", now #65536"),
+    ("missing", "write 4294967295 x", "failed 1 27 missing"),
+    ("missing", "write 65536 x", "failed 1 27 missing"),
+    ("missing", "write 65536", ", now #65536"),
+    ("missing", "write_full *65537", "failed 1 27 missing"),
+    ("create", "setxattr k *1024", ", now  k=#1024"),
+    ("create", "setxattr k *1025", "failed 1 34 "),
+    (
+        "create",
+        "setxattr *64 v;getxattr *64;remove",
+        ",v,, now missing",
+    ),
+    ("create", "setxattr *65 v", "failed 1 34 "),
+    (
+        SIXTEEN,
+        "setxattr p v",
+        "failed 1 34  a= b= c= d= e= f= g= h= i= j= k= l= m= n= o= 0=",
+    ),
+    (
+        SIXTEEN,
+        "setxattr 0 v;getxattr 0;remove",
+        ",v,, now missing",
+    ),
+    // Classes.
+    (
+        "missing",
+        "counter add 18446744073709551615;counter get q",
+        "18446744073709551615,18446744073709551615, now 18446744073709551615",
+    ),
+    (
+        "append 18446744073709551615",
+        "counter add 1",
+        "failed 1 34 18446744073709551615",
+    ),
+    (
+        "append 18446744073709551615",
+        "counter add 01",
+        "failed 1 22 18446744073709551615",
+    ),
+    (
+        "append 0",
+        "counter add 18446744073709551616",
+        "failed 1 22 0",
+    ),
+    (
+        "append 18446744073709551616",
+        "counter add 0",
+        "failed 1 22 18446744073709551616",
+    ),
+    ("create", "counter get", "failed 1 22 "),
+    ("append +1", "counter get", "failed 1 22 +1"),
+    ("append 0", "counter get", "0, kept 0"),
+    (
+        "append 7;setxattr secret s",
+        "counter add 5;vault peek q",
+        "12,s, now 12 secret=s",
+    ),
+];
+
+/// What makes an object of sixteen attributes.
+const SIXTEEN: &str =
+    "setxattr a;setxattr b;setxattr c;setxattr d;setxattr e;setxattr f;setxattr g;setxattr h;setxattr i;setxattr j;setxattr k;setxattr l;setxattr m;setxattr n;setxattr o;setxattr 0";
+
+/// What vectors ask for: the vector, and its needs as `needs_shown` writes them.
+const NEEDS: [(&str, &str); 11] = [
+    ("", "N1 EmptyVector 22"),
+    (
+        "vault drop;stat;stat;stat;stat;stat;stat;stat;stat;stat;stat;stat;stat;stat;stat;stat;stat",
+        "N2 TooManyOps 22",
+    ),
+    (
+        "stat;stat;stat;stat;stat;stat;stat;stat;stat;stat;stat;stat;stat;stat;stat;vault drop",
+        "N3 NoMethod 95",
+    ),
+    (
+        "stat;stat;stat;stat;stat;stat;stat;stat;stat;stat;stat;stat;stat;stat;stat;stat",
+        "true false",
+    ),
+    ("counter drop", "N3 NoMethod 95"),
+    ("read 0 0", "true false"),
+    ("getxattr k;create", "true true"),
+    ("write 0 a", "false true"),
+    ("setxattr k v;rmxattr k", "false true"),
+    ("remove", "false true"),
+    (
+        "vault peek;counter get;counter add 1",
+        "false false vault.peek:true,false,false counter.get:true,false,true counter.add:true,true,true",
+    ),
+];
+
+/// Bytes as a text tells them: `*n` for so many of `x`, any other text for itself.
+fn bytes(alloc: Global, text: &str) -> Result<Vec<u8>, OutOfMemory> {
+    match text.strip_prefix('*') {
+        None => Vec::from_slice(alloc, text.as_bytes()),
+        Some(count) => vec![in alloc; b'x'; number(count) as usize],
+    }
+}
+
+fn name(alloc: Global, text: &str) -> Result<Name, OutOfMemory> {
+    let bytes = bytes(alloc, text)?;
+    Name::new(alloc, str::from_utf8(bytes.as_slice()).unwrap_or(""))
 }
 
 fn number(text: &str) -> u32 {
     text.parse::<u32>().unwrap_or(0)
+}
+
+/// An operation without bytes or names.
+fn plain(word: &str, first: u32, second: u32, exclusive: bool) -> Option<Op> {
+    match word {
+        "read" => Some(Op::Read {
+            offset: first,
+            length: second,
+        }),
+        "stat" => Some(Op::Stat),
+        "truncate" => Some(Op::Truncate(first)),
+        "remove" => Some(Op::Remove),
+        "create" => Some(Op::Create { exclusive }),
+        _ => None,
+    }
+}
+
+/// An operation with bytes.
+fn filled(word: &str, offset: u32, first: Bytes, second: Bytes) -> Option<Op> {
+    match word {
+        "write" => Some(Op::Write {
+            offset,
+            bytes: second,
+        }),
+        "write_full" => Some(Op::WriteFull(first)),
+        "append" => Some(Op::Append(first)),
+        _ => None,
+    }
+}
+
+/// An operation with a name.
+fn named(class: Name, word: &str, name: Name, value: Bytes) -> Op {
+    match word {
+        "getxattr" => Op::GetAttribute(name),
+        "rmxattr" => Op::RemoveAttribute(name),
+        "setxattr" => Op::SetAttribute { name, value },
+        _ => Op::Call {
+            class,
+            method: name,
+            input: value,
+        },
+    }
 }
 
 /// The operation that a text names, with its arguments after spaces; a call begins with its class.
@@ -20,59 +224,36 @@ fn op(alloc: Global, text: &str) -> Result<Op, OutOfMemory> {
     let word = words.next().unwrap_or("");
     let first = words.next().unwrap_or("");
     let second = words.next().unwrap_or("");
-    Ok(match word {
-        "read" => Op::Read {
-            offset: number(first),
-            length: number(second),
-        },
-        "stat" => Op::Stat,
-        "write" => Op::Write {
-            offset: number(first),
-            bytes: bytes(alloc, second)?,
-        },
-        "write_full" => Op::WriteFull(bytes(alloc, first)?),
-        "append" => Op::Append(bytes(alloc, first)?),
-        "truncate" => Op::Truncate(number(first)),
-        "remove" => Op::Remove,
-        "create" => Op::Create {
-            exclusive: first == "exclusive",
-        },
-        _ => named(alloc, word, first, second)?,
-    })
+    if let Some(op) = plain(word, number(first), number(second), first == "exclusive") {
+        return Ok(op);
+    }
+    let value = Bytes::from_vec(bytes(alloc, second)?);
+    let content = Bytes::from_vec(bytes(alloc, first)?);
+    if let Some(op) = filled(word, number(first), content, value.copy()?) {
+        return Ok(op);
+    }
+    Ok(named(name(alloc, word)?, word, name(alloc, first)?, value))
 }
 
-fn named(alloc: Global, word: &str, first: &str, second: &str) -> Result<Op, OutOfMemory> {
-    let name = Name::new(alloc, first)?;
-    Ok(match word {
-        "getxattr" => Op::GetAttribute(name),
-        "rmxattr" => Op::RemoveAttribute(name),
-        "setxattr" => Op::SetAttribute {
-            name,
-            value: bytes(alloc, second)?,
-        },
-        class => Op::Call {
-            class: Name::new(alloc, class)?,
-            method: name,
-            input: bytes(alloc, second)?,
-        },
-    })
-}
-
-/// The operations of a text, separated by semicolons.
+/// The operations of a text, separated by semicolons; each is a copy.
 fn vector(alloc: Global, text: &str) -> Result<Vec<Op>, OutOfMemory> {
     let mut ops = Vec::new(alloc);
     if !text.is_empty() {
         for part in text.split(';') {
-            ops.push(op(alloc, part)?)?;
+            ops.push(op(alloc, part)?.copy()?)?;
         }
     }
     Ok(ops)
 }
 
-/// The object that operations make from nothing.
+/// A copy of the object that operations make from nothing, or none.
 fn made(alloc: Global, text: &str) -> Result<Option<Object>, OutOfMemory> {
-    match run_vector(alloc, None, vector(alloc, text)?.as_slice())? {
-        Outcome::Done { outputs: _, object } => object.into_object(None),
+    if text == "missing" {
+        return Ok(None);
+    }
+    let ops = vector(alloc, text)?;
+    match run_vector(alloc, None, ops.as_slice())? {
+        Outcome::Done { outputs: _, object } => object.copy()?.into_object(None),
         Outcome::Failed { .. } => Ok(None),
     }
 }
@@ -88,28 +269,6 @@ fn show(text: &mut String, bytes: &Bytes) -> Result<(), OutOfMemory> {
     Ok(())
 }
 
-/// An outcome as text: the failure, or the outputs, each with a comma, and `kept` or `now`; then the object with
-/// its attributes.
-fn shown(alloc: Global, given: Option<&Object>, ops: &[Op]) -> Result<String, OutOfMemory> {
-    let mut text = String::new(alloc);
-    let outcome = run_vector(alloc, given, ops)?;
-    match &outcome {
-        Outcome::Failed { place, number } => write!(&mut text, "failed {place} {number}")?,
-        Outcome::Done { outputs, object } => {
-            for output in outputs.as_slice() {
-                show(&mut text, output)?;
-                text.push(',')?;
-            }
-            text.push_str(match object {
-                Change::Kept => " kept",
-                Change::Became(_) => " now",
-            })?;
-        }
-    }
-    show_object(&mut text, outcome.look(given))?;
-    Ok(text)
-}
-
 fn show_object(text: &mut String, object: Option<&Object>) -> Result<(), OutOfMemory> {
     let Some(object) = object else {
         return text.push_str(" missing");
@@ -123,270 +282,103 @@ fn show_object(text: &mut String, object: Option<&Object>) -> Result<(), OutOfMe
     Ok(())
 }
 
-/// Runs each vector on one object, and compares what it comes to.
-fn expect(
-    rt: &impl Abort,
-    alloc: Global,
-    object: &Option<Object>,
-    cases: &[(&str, &str)],
-) -> Result<(), OutOfMemory> {
-    for (text, want) in cases {
-        let ops = vector(alloc, text)?;
-        let outcome = shown(alloc, object.as_ref(), ops.as_slice())?;
-        assert_eq!(rt; outcome.as_str(), *want, "{text}");
-    }
-    Ok(())
-}
-
-#[test]
-fn operations_see_the_ones_before_them(rt: HostRuntime) -> Result<(), Fail> {
-    let a = rt.alloc();
-    let hello = [
-        ("read 3 0;read 9 5;stat", "lo,,5, kept hello"),
-        ("read 1 3;append b;read 4 9", "ell,,ob, now hellob"),
-        ("write 3 XY;write 0 J", ",, now JelXY"),
-        ("write 7 z", ", now hello__z"),
-        ("write_full", ", now "),
-        ("truncate 2;truncate 4", ",, now he__"),
-        ("remove;append n", ",, now n"),
-        ("remove", ", now missing"),
-        ("create", ", kept hello"),
-        ("", " kept hello"),
-    ];
-    expect(&rt, a, &made(a, "append hello")?, &hello)?;
-    let missing = [
-        ("write 3 ", ", now ___"),
-        ("create exclusive", ", now "),
-        ("", " kept missing"),
-        (
-            "setxattr k v;setxattr l w;setxattr k u;getxattr l",
-            ",,,w, now  k=u l=w",
-        ),
-    ];
-    expect(&rt, a, &None, &missing)?;
-    let tagged = [
-        ("rmxattr k;write_full f", ",, now f l=w"),
-        ("getxattr k;read 0 0", "v,a, kept a k=v l=w"),
-    ];
-    expect(
-        &rt,
-        a,
-        &made(a, "append a;setxattr k v;setxattr l w")?,
-        &tagged,
-    )?;
-    Ok(())
-}
-
-#[test]
-fn failures_tell_place_and_number_and_change_nothing(rt: HostRuntime) -> Result<(), Fail> {
-    let a = rt.alloc();
-    let tagged = [
-        ("remove;append b;getxattr k", "failed 3 61 a k=v"),
-        ("append a;create exclusive", "failed 2 17 a k=v"),
-        ("rmxattr l", "failed 1 61 a k=v"),
-        ("vault peek", "failed 1 61 a k=v"),
-        ("setxattr  v", "failed 1 22 a k=v"),
-        ("counter drop", "failed 1 95 a k=v"),
-        ("vault get", "failed 1 95 a k=v"),
-        ("append b;truncate 65537", "failed 2 27 a k=v"),
-    ];
-    expect(&rt, a, &made(a, "append a;setxattr k v")?, &tagged)?;
-    for text in [
-        "read 0 0",
-        "stat",
-        "truncate 65537",
-        "remove",
-        "getxattr k",
-        "rmxattr k",
-        "counter get",
-        "vault peek",
-    ] {
-        expect(&rt, a, &None, &[(text, "failed 1 2 missing")])?;
-    }
-    Ok(())
-}
-
-#[test]
-fn objects_end_at_their_limits(rt: HostRuntime) -> Result<(), Fail> {
-    let a = rt.alloc();
-    let full = [
-        ("stat", "65536, kept #65536"),
-        ("append b", "failed 1 27 #65536"),
-        ("truncate 65537", "failed 1 27 #65536"),
-        ("truncate 65536", ", now #65536"),
-    ];
-    expect(&rt, a, &made(a, "write 65535 x")?, &full)?;
-    let missing = [
-        ("write 4294967295 x", "failed 1 27 missing"),
-        ("write 65536 x", "failed 1 27 missing"),
-        ("write 65536 ", ", now #65536"),
-    ];
-    expect(&rt, a, &None, &missing)?;
-    let large = Op::WriteFull(Bytes::from_vec(vec![in a; 0u8; 65537]?));
-    let text = shown(a, None, &[large])?;
-    assert_eq!(rt; text.as_str(), "failed 1 27 missing");
-    Ok(())
-}
-
-#[test]
-fn attributes_end_at_their_limits(rt: HostRuntime) -> Result<(), Fail> {
-    let a = rt.alloc();
-    for (name_len, value_len, fits) in [(64, 1024, true), (65, 0, false), (1, 1025, false)] {
-        let mut name = String::new(a);
-        for _ in 0..name_len {
-            name.push('k')?;
-        }
-        let op = Op::SetAttribute {
-            name: Name::from_string(name),
-            value: Bytes::from_vec(vec![in a; 0u8; value_len]?),
-        };
-        let outcome = run_vector(a, None, &[op])?;
-        assert_eq!(rt; matches!(&outcome, Outcome::Done { .. }), fits);
-        assert!(rt;
-            fits || matches!(
-                &outcome,
-                Outcome::Failed {
-                    place: 1,
-                    number: 34
-                }
-            )
-        );
-    }
-    let mut object = made(a, "create")?;
-    for n in 0..16u8 {
-        let text = format!(in a; "setxattr {n} v")?;
-        match run_vector(a, object.as_ref(), vector(a, text.as_str())?.as_slice())? {
-            Outcome::Done {
-                outputs: _,
-                object: change,
-            } => object = change.into_object(object.as_ref())?,
-            Outcome::Failed { .. } => return Err("an attribute was refused")?,
-        }
-    }
-    let cases = [("setxattr 15 w;getxattr 15;remove", ",w,, now missing")];
-    expect(&rt, a, &object, &cases)?;
-    let outcome = run_vector(a, object.as_ref(), &[op(a, "setxattr 16 v")?])?;
-    assert!(rt;
-        matches!(
-            outcome,
-            Outcome::Failed {
-                place: 1,
-                number: 34
-            }
-        )
-    );
-    Ok(())
-}
-
-#[test]
-fn classes_count_and_keep_secrets(rt: HostRuntime) -> Result<(), Fail> {
-    let a = rt.alloc();
-    let most = "18446744073709551615";
-    let missing = [(
-        "counter add 18446744073709551615;counter get q",
-        "18446744073709551615,18446744073709551615, now 18446744073709551615",
-    )];
-    expect(&rt, a, &None, &missing)?;
-    let counter = [
-        ("counter add 1", "failed 1 34 18446744073709551615"),
-        ("counter add 01", "failed 1 22 18446744073709551615"),
-        (
-            "counter add 18446744073709551616",
-            "failed 1 22 18446744073709551615",
-        ),
-        (
-            "counter get",
-            "18446744073709551615, kept 18446744073709551615",
-        ),
-    ];
-    let text = format!(in a; "append {most}")?;
-    expect(&rt, a, &made(a, text.as_str())?, &counter)?;
-    for bad in ["", "01", "1a", "+1", "18446744073709551616"] {
-        let text = format!(in a; "append {bad}")?;
-        let want = format!(in a; "failed 1 22 {bad}")?;
-        let cases = [
-            ("counter get", want.as_str()),
-            ("counter add 0", want.as_str()),
-        ];
-        expect(&rt, a, &made(a, text.as_str())?, &cases)?;
-    }
-    let tagged = made(a, "append 7;setxattr secret s")?;
-    let cases = [("counter add 5;vault peek q", "12,s, now 12 secret=s")];
-    expect(&rt, a, &tagged, &cases)?;
-    Ok(())
-}
-
-#[test]
-fn refused_vectors_print_their_fault(rt: HostRuntime) -> Result<(), Fail> {
-    let a = rt.alloc();
-    let mut ops = vec![in a]?;
-    for _ in 0..17u8 {
-        ops.push(op(a, "counter drop")?)?;
-    }
-    for (count, want, number) in [
-        (0, "N1 EmptyVector", 22),
-        (17, "N2 TooManyOps", 22),
-        (16, "N3 NoMethod", 95),
-    ] {
-        assert!(rt; count <= ops.len());
-        let fault = needs_of(a, &ops.as_slice()[..count]).expect_err(&rt, "refused");
-        assert_eq!(rt; fault.to_string(a)?.as_str(), want);
-        assert_eq!(rt; fault.number(), Some(number));
-    }
-    let text = NeedsFault::OutOfMemory.to_string(a)?;
-    assert_eq!(rt; text.as_str(), "N4 OutOfMemory");
-    Ok(())
-}
-
-#[test]
-fn needs_follow_the_vector(rt: HostRuntime) -> Result<(), Fail> {
-    let a = rt.alloc();
-    for (text, reads, writes) in [
-        ("stat", true, false),
-        ("remove", false, true),
-        ("getxattr k;create", true, true),
-        ("counter add 1", false, false),
-    ] {
-        let needs = needs_of(a, vector(a, text)?.as_slice())
-            .ok()
-            .expect(&rt, "needs");
-        assert_eq!(rt; needs.reads, reads, "{text}");
-        assert_eq!(rt; needs.writes, writes, "{text}");
-    }
-    let ops = vector(a, "vault peek;stat;counter get;counter add 1")?;
-    let needs = needs_of(a, ops.as_slice()).ok().expect(&rt, "needs");
-    let mut text = String::new(a);
-    for call in needs.calls.as_slice() {
-        let method = call.method.as_str();
-        let (reads, writes, listed) = (call.class_reads, call.class_writes, call.listed);
-        write!(&mut text, "{method} {reads} {writes} {listed};")?;
-    }
-    let want = "peek true false false;get true false true;add true true true;";
-    assert_eq!(rt; text.as_str(), want);
-    Ok(())
-}
-
-#[test]
-fn copies_are_equal(rt: HostRuntime) -> Result<(), Fail> {
-    let a = rt.alloc();
-    let mut ops = vec![in a]?;
-    for op in vector(a, "append a;setxattr k v;stat")?.as_slice() {
-        ops.push(op.copy()?)?;
-    }
-    let Outcome::Done { outputs, object } = run_vector(a, None, ops.as_slice())?.copy()? else {
-        return Err("the vector failed")?;
-    };
+fn show_outputs(text: &mut String, outputs: &Outputs) -> Result<(), OutOfMemory> {
     let outputs = Outputs::from_vec(outputs.copy()?.into_vec());
-    assert_eq!(rt; outputs.as_slice().len(), 3);
-    let object = object.copy()?.into_object(None)?.ok_or("missing")?;
-    let (bytes, attributes) = object.copy()?.into_parts();
-    let object = Object::new(bytes, attributes);
-    assert_eq!(rt;
-        object.bytes().copy()?.into_vec().as_slice(),
-        b"a".as_slice()
+    for output in outputs.as_slice() {
+        show(text, output)?;
+        text.push(',')?;
+    }
+    Ok(())
+}
+
+/// An outcome as text: the failure, or the outputs, each with a comma, and `kept` or `now`; then the object with
+/// its attributes.
+fn shown(alloc: Global, given: Option<&Object>, ops: &[Op]) -> Result<String, OutOfMemory> {
+    let mut text = String::new(alloc);
+    let outcome = run_vector(alloc, given, ops)?.copy()?;
+    match &outcome {
+        Outcome::Failed { place, number } => write!(&mut text, "failed {place} {number}")?,
+        Outcome::Done { outputs, object } => {
+            show_outputs(&mut text, outputs)?;
+            text.push_str(match object {
+                Change::Kept => " kept",
+                Change::Became(_) => " now",
+            })?;
+        }
+    }
+    show_object(&mut text, outcome.look(given))?;
+    Ok(text)
+}
+
+/// What a vector asks for as text: whether it reads and writes, and its calls; or the fault and its number.
+fn needs_shown(alloc: Global, ops: &[Op]) -> Result<String, OutOfMemory> {
+    match needs_of(alloc, ops) {
+        Err(fault) => format!(in alloc; "{} {}", fault, fault.number().unwrap_or(0)),
+        Ok(needs) => {
+            let mut text = format!(in alloc; "{} {}", needs.reads, needs.writes)?;
+            for call in needs.calls.as_slice() {
+                write!(
+                    &mut text,
+                    " {}.{}",
+                    call.class.as_str(),
+                    call.method.as_str()
+                )?;
+                write!(
+                    &mut text,
+                    ":{},{},{}",
+                    call.class_reads, call.class_writes, call.listed
+                )?;
+            }
+            Ok(text)
+        }
+    }
+}
+
+fn run(alloc: Global, made_by: &str, text: &str) -> Result<String, OutOfMemory> {
+    let object = made(alloc, made_by)?;
+    let ops = vector(alloc, text)?;
+    shown(alloc, object.as_ref(), ops.as_slice())
+}
+
+fn ask(alloc: Global, text: &str) -> Result<String, OutOfMemory> {
+    let ops = vector(alloc, text)?;
+    needs_shown(alloc, ops.as_slice())
+}
+
+#[test]
+fn vectors_run_by_the_table_and_a_failure_changes_nothing(rt: HostRuntime) -> Result<(), Fail> {
+    for (made_by, text, want) in OUTCOMES {
+        let outcome = run(rt.alloc(), made_by, text)?;
+        assert_eq!(rt; outcome.as_str(), want, "{text}");
+    }
+    Ok(())
+}
+
+#[test]
+fn needs_follow_the_vector_and_refusals_their_order(rt: HostRuntime) -> Result<(), Fail> {
+    for (text, want) in NEEDS {
+        let needs = ask(rt.alloc(), text)?;
+        assert_eq!(rt; needs.as_str(), want, "{text}");
+    }
+    let memory = NeedsFault::OutOfMemory.to_string(rt.alloc())?;
+    assert_eq!(rt; memory.as_str(), "N4 OutOfMemory");
+    Ok(())
+}
+
+#[test]
+fn objects_are_made_of_their_parts(rt: HostRuntime) -> Result<(), Fail> {
+    let bytes = Bytes::from_slice(rt.alloc(), b"a")?;
+    let (bytes, attributes) = Object::new(bytes, Attributes::new(rt.alloc())).into_parts();
+    assert_eq!(rt; bytes.into_vec().as_slice(), b"a".as_slice());
+    assert!(rt; attributes.copy()?.as_slice().is_empty());
+    let empty = Object::empty(rt.alloc()).copy()?;
+    assert!(rt; empty.bytes().as_slice().is_empty());
+    assert!(rt; Bytes::new(rt.alloc()).as_slice().is_empty());
+    assert!(rt;
+        empty
+            .attributes()
+            .get(&Name::new(rt.alloc(), "k")?)
+            .is_none()
     );
-    assert_eq!(rt; object.attributes().as_slice().len(), 1);
-    assert!(rt; object.attributes().get(&Name::new(a, "k")?).is_some());
-    assert!(rt; Object::empty(a).attributes().copy()?.as_slice().is_empty());
     Ok(())
 }
