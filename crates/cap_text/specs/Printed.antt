@@ -20,6 +20,7 @@ use Rattle.cap_text.specs.Grammar.{begins_clause}
 abbrev pub quote_for : List ℕ → ℕ
 quote_for text = if list_any (λ b. b == 34) text then 39 else 34
 
+-- between quotes of one kind
 abbrev pub quoted : List ℕ → List ℕ
 quoted text = quote_for text ∷ (text ++ quote_for text ∷ [])
 
@@ -31,10 +32,12 @@ printed_value name = if list_all is_word_byte name then name else quoted name
 unfoldable pub printed_method : List ℕ → List ℕ
 printed_method method = if begins_clause (keyword_of method) then quoted method else printed_value method
 
+-- two quotes for the empty namespace; the star of a prefix stands within its quotes
 unfoldable pub printed_namespace : NsMatch → List ℕ
 printed_namespace (Exact name) = if length name == 0 then codes "\"\"" else printed_value name
 printed_namespace (Prefix front) = if list_all is_word_byte front then front ++ codes "*" else quoted (front ++ codes "*")
 
+-- a star for any
 abbrev pub printed_part : Part → List ℕ
 printed_part Any = codes "*"
 printed_part (Is name) = printed_value name
@@ -56,6 +59,7 @@ abbrev pub printed_option : {A : Type 0} → (A → List ℕ) → Option A → L
 printed_option text None = []
 printed_option text (Some x) = text x
 
+-- a star for all; a class with its method; letters, with x where both class flags are set, and a class word
 abbrev pub printed_access : Access → List ℕ
 printed_access All = codes "*"
 printed_access (Class class method) = codes "class " ++ (printed_value class ++ printed_option (λ name. codes " " ++ printed_method name) method)
@@ -74,15 +78,19 @@ printed_prefix = printed_option (λ name. codes " object_prefix " ++ printed_val
 abbrev pub printed_tag : Option Tag → List ℕ
 printed_tag = printed_option (λ tag. codes " tag " ++ (printed_value tag.application ++ (codes " " ++ (printed_part tag.key ++ (codes "=" ++ printed_part tag.value)))))
 
+-- the access, and then the clauses in the grammar's order
 abbrev pub printed_allow : AllowGrant → List ℕ
 printed_allow g = codes "allow " ++ (printed_access g.access ++ (printed_pool g.pool ++ (printed_namespaces g.namespace ++ (printed_prefix g.prefix ++ printed_tag g.tag))))
 
+-- the profile's name, and then its clauses
 abbrev pub printed_profile : ProfileUse → List ℕ
 printed_profile used = codes "profile " ++ (printed_value used.name ++ (printed_pool used.pool ++ printed_namespaces used.namespace))
 
+-- one grant
 abbrev pub printed_grant : Grant → List ℕ
 printed_grant (Allow g) = printed_allow g
 printed_grant (Profile used) = printed_profile used
 
+-- the grants, a comma and a space between them
 abbrev pub printed : List Grant → List ℕ
 printed gs = join_by printed_grant (codes ", ") gs

@@ -35,21 +35,23 @@ is_access All = true
 is_access (Flags f) = f.read || (f.write || (f.class_read || f.class_write))
 is_access (Class class method) = is_value class && none_or is_value method
 
+-- the last byte is a star
 abbrev pub ends_in_star : List ℕ → Bool
 ends_in_star [] = false
 ends_in_star (b ∷ []) = b == 42
 ends_in_star (b ∷ c ∷ bytes) = ends_in_star (c ∷ bytes)
 
--- either may be empty
+-- either may be empty; a namespace that ends in a star would be read as a prefix
 abbrev pub is_namespace : NsMatch → Bool
 is_namespace (Exact name) = can_be_quoted name && not (ends_in_star name)
 is_namespace (Prefix front) = can_be_quoted front
 
--- the one byte * stands for any
+-- the one byte * would be read as any
 abbrev pub is_part : Part → Bool
 is_part Any = true
 is_part (Is name) = is_value name && not (bytes_eq name (codes "*"))
 
+-- an application with a pair of parts
 abbrev pub is_tag : Tag → Bool
 is_tag tag = is_value tag.application && (is_part tag.key && is_part tag.value)
 
@@ -62,9 +64,11 @@ is_alone g (Some tag) = is_none g.pool && is_none g.prefix
 abbrev pub is_place : Option (List ℕ) → Option NsMatch → Bool
 is_place pool namespace = none_or is_value pool && none_or is_namespace namespace
 
+-- each part passes its test, and a tag stands alone
 abbrev pub is_allow : AllowGrant → Bool
 is_allow g = is_access g.access && (is_place g.pool g.namespace && (none_or is_value g.prefix && (none_or is_tag g.tag && is_alone g g.tag)))
 
+-- the grammar can spell the grant
 abbrev pub is_spellable : Grant → Bool
 is_spellable (Allow g) = is_allow g
 is_spellable (Profile used) = is_value used.name && is_place used.pool used.namespace
