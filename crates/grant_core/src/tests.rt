@@ -1,92 +1,10 @@
 //! Worked examples.
 
 use crate::{ExpandFault, GrantTree, Path, ProfileTable, expand};
-use cap_text::{Access, AllowGrant, CapList, Flags, Grant, Name, NsMatch, Part, ProfileUse, Tag};
+use cap_text::{Access, AllowGrant, CapList, NsMatch, parse};
 use std::alloc::Global;
 use std::fmt::Write;
-use std::process::Abort;
 use std::test::Fail;
-
-// What the words behind a grant's second say, of those that these examples use.
-#[derive(Drop)]
-struct Clauses {
-    pool: Option<Name>,
-    namespace: Option<NsMatch>,
-    class_read: bool,
-    tagged: bool,
-}
-
-fn read_clauses(alloc: Global, text: &str) -> Result<Clauses, Fail> {
-    let mut clauses = Clauses {
-        pool: None,
-        namespace: None,
-        class_read: false,
-        tagged: false,
-    };
-    for word in text.split(' ') {
-        if let Some(pool) = word.strip_prefix("pool=") {
-            clauses.pool = Some(Name::new(alloc, pool)?);
-        } else if let Some(namespace) = word.strip_prefix("namespace=") {
-            clauses.namespace = Some(NsMatch::Exact(Name::new(alloc, namespace)?));
-        } else if word == "class-read" {
-            clauses.class_read = true;
-        } else if word == "tag" {
-            clauses.tagged = true;
-        }
-    }
-    Ok(clauses)
-}
-
-fn tag(alloc: Global) -> Result<Tag, Fail> {
-    Ok(Tag {
-        application: Name::new(alloc, "a")?,
-        key: Part::Is(Name::new(alloc, "b")?),
-        value: Part::Is(Name::new(alloc, "c")?),
-    })
-}
-
-fn read_grant(alloc: Global, text: &str) -> Result<Grant, Fail> {
-    let clauses = read_clauses(alloc, text)?;
-    let mut words = text.split(' ');
-    let first = words.next();
-    let second = words.next().unwrap_or("");
-    if first == Some("profile") {
-        return Ok(Grant::Profile(ProfileUse {
-            name: Name::new(alloc, second)?,
-            pool: clauses.pool,
-            namespace: clauses.namespace,
-        }));
-    }
-    let execute = second == "rwx";
-    Ok(Grant::Allow(AllowGrant {
-        access: Access::Flags(Flags {
-            read: true,
-            write: second != "r",
-            class_read: execute || clauses.class_read,
-            class_write: execute,
-        }),
-        pool: clauses.pool,
-        namespace: clauses.namespace,
-        prefix: None,
-        tag: if clauses.tagged {
-            Some(tag(alloc)?)
-        } else {
-            None
-        },
-    }))
-}
-
-// The list that a text spells, of the forms that these examples use.
-fn read(rt: &impl Abort, alloc: Global, text: &str) -> Result<CapList, Fail> {
-    let mut grants = Vec::new(alloc);
-    if !text.is_empty() {
-        for grant in text.split(", ") {
-            grants.push(read_grant(alloc, grant)?)?;
-        }
-    }
-    assert!(rt; grants.len() <= 64);
-    Ok(CapList::from_vec(grants))
-}
 
 fn write_namespace(shown: &mut String, namespace: &NsMatch) -> Result<(), Fail> {
     match namespace {
@@ -148,9 +66,7 @@ fn uses(alloc: Global, name: &str, count: usize) -> Result<String, Fail> {
 fn uses_are_replaced_by_filled_grants(rt: HostRuntime) -> Result<(), Fail> {
     let alloc = rt.alloc();
     let mut table = ProfileTable::builtin(alloc)?;
-    let own = read(
-        &rt,
-        alloc,
+    let own = parse(alloc,
         "allow r pool=own, allow rw namespace=n, allow rwx, profile read-only pool=p",
     )?;
     table.add("own", own)?;
@@ -174,7 +90,7 @@ fn uses_are_replaced_by_filled_grants(rt: HostRuntime) -> Result<(), Fail> {
             "1 allow r tag a b=c; 2.1 allow r pool=own; 2.2 allow rw namespace=n; 2.3 allow rwx namespace=m; 2.4.1 allow r pool=p",
         ),
     ] {
-        let tree = expand(alloc, &table, &read(&rt, alloc, text)?)?;
+        let tree = expand(alloc, &table, &parse(alloc, text)?)?;
         assert_eq!(rt; show(alloc, &tree)?.as_str(), want, "{text}");
     }
     Ok(())
@@ -210,30 +126,30 @@ fn refusals_come_in_their_order(rt: HostRuntime) -> Result<(), Fail> {
         ("five", "allow r", Err(ExpandFault::DuplicateProfile)),
     ] {
         assert_eq!(rt;
-            table.add(name, read(&rt, alloc, body)?),
+            table.add(name, parse(alloc, body)?),
             want,
             "{name} {body}"
         );
     }
     let many = uses(alloc, "five", 51)?;
-    let tree = expand(alloc, &table, &read(&rt, alloc, many.as_str())?)?;
+    let tree = expand(alloc, &table, &parse(alloc, many.as_str())?)?;
     assert_eq!(rt; tree.flat(alloc)?.len(), 255);
     let exact = format!(in alloc; "{many}, allow r")?;
-    let tree = expand(alloc, &table, &read(&rt, alloc, exact.as_str())?)?;
+    let tree = expand(alloc, &table, &parse(alloc, exact.as_str())?)?;
     assert_eq!(rt; tree.flat(alloc)?.len(), 256);
-    table.add("most", read(&rt, alloc, exact.as_str())?)?;
+    table.add("most", parse(alloc, exact.as_str())?)?;
     let more = format!(in alloc; "{many}, profile five")?;
     assert_eq!(rt;
-        expand(alloc, &table, &read(&rt, alloc, more.as_str())?).err(),
+        expand(alloc, &table, &parse(alloc, more.as_str())?).err(),
         Some(ExpandFault::TooLarge)
     );
     assert_eq!(rt;
-        table.add("more", read(&rt, alloc, more.as_str())?),
+        table.add("more", parse(alloc, more.as_str())?),
         Err(ExpandFault::TooLarge)
     );
     let unknown = format!(in alloc; "{many}, profile five, profile osd")?;
     assert_eq!(rt;
-        expand(alloc, &table, &read(&rt, alloc, unknown.as_str())?).err(),
+        expand(alloc, &table, &parse(alloc, unknown.as_str())?).err(),
         Some(ExpandFault::UnknownProfile(53))
     );
     Ok(())
@@ -248,17 +164,17 @@ fn a_chain_of_empty_profiles_is_expanded_at_once(rt: HostRuntime) -> Result<(), 
         let before = format!(in alloc; "p{}", i - 1)?;
         let body = uses(alloc, before.as_str(), 64)?;
         let name = format!(in alloc; "p{i}")?;
-        table.add(name.as_str(), read(&rt, alloc, body.as_str())?)?;
+        table.add(name.as_str(), parse(alloc, body.as_str())?)?;
     }
     let all = uses(alloc, "p27", 64)?;
-    let tree = expand(alloc, &table, &read(&rt, alloc, all.as_str())?)?;
+    let tree = expand(alloc, &table, &parse(alloc, all.as_str())?)?;
     assert_eq!(rt; tree.flat(alloc)?.len(), 0);
     assert_eq!(rt;
-        table.add("p28", read(&rt, alloc, "profile osd")?),
+        table.add("p28", parse(alloc, "profile osd")?),
         Err(ExpandFault::TooManyProfiles)
     );
     assert_eq!(rt;
-        table.add("p27", read(&rt, alloc, "profile osd")?),
+        table.add("p27", parse(alloc, "profile osd")?),
         Err(ExpandFault::DuplicateProfile)
     );
     Ok(())
