@@ -3,14 +3,13 @@
 ghost use Rattle.std.specs.Prelude.{◌≤◌};
 
 use crate::verdict::verdict_text;
-use cap_text::{OutOfMemory, Tags};
 use cap_text::{AppTags, Name, OutOfMemory, Pairs, Tags};
 use clap::{Arg, ArgAction, ArgMatches, Command, Error};
 use object_core::{Bytes, Op};
 use std::alloc::{AllocError, Global};
 use std::convert::AsStr;
 use std::io::{Read, Write};
-use verdict_core::{Calls, Needs, Target};
+use verdict_core::Target;
 
 /// All is done.
 const DONE: u8 = 0;
@@ -20,6 +19,7 @@ const FAULT: u8 = 1;
 const BAD_COMMAND_LINE: u8 = 2;
 
 const BAD_TAG: &str = "osdgate: a tag with a `:` needs a `=` behind it\n";
+
 const TAG_HELP: &str = "An application of the pool, and a pair under it";
 
 /// An option whose value is taken as it is, also where it begins with a dash.
@@ -105,10 +105,7 @@ fn call_of(alloc: Global, word: &str) -> Result<Op, OutOfMemory> {
 }
 
 /// The text of `osdgate verdict`, or nothing where its words are no command line.
-fn answer_verdict(
-    alloc: Global,
-    matches: &ArgMatches<'_>,
-) -> Result<Option<String>, OutOfMemory> {
+fn answer_verdict(alloc: Global, matches: &ArgMatches<'_>) -> Result<Option<String>, OutOfMemory> {
     let tags = match matches.get_str("tag") {
         None => Tags::from_vec(Vec::new(alloc)),
         Some(text) => match tags_of(alloc, text)? {
@@ -152,7 +149,10 @@ fn finish<O: Write, E: Write>(
             let _ = write_out(err, BAD_TAG);
             return BAD_COMMAND_LINE;
         }
-        Ok(Some(text)) if text.as_str().as_bytes().starts_with(b"refused") => (text.as_str(), FAULT),
+        Ok(Some(text)) if text.as_str().as_bytes().starts_with(b"refused") => (
+            text.as_str(),
+            FAULT,
+        ),
         Ok(Some(text)) => (text.as_str(), DONE),
         Err(_) => ("refused OutOfMemory\n", FAULT),
     };

@@ -134,10 +134,12 @@ pub fn verdict_text(
 {
     match parse(alloc, caps) {
         Ok(list) => list_text(alloc, &list, target, reads, writes, calls),
-        Err(CapFault {
-            kind: FaultKind::OutOfMemory,
-            ..
-        }) => Err(AllocError),
+        Err(
+            CapFault {
+                kind: FaultKind::OutOfMemory,
+                ..
+            },
+        ) => Err(AllocError),
         Err(fault) => refused_by_parse(alloc, fault),
     }
 }
