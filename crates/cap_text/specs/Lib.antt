@@ -5,3 +5,4 @@ pub mod Grammar
 pub mod Gives
 pub mod Faults
 pub mod Machine
+pub mod Texts
