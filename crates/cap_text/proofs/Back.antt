@@ -145,6 +145,7 @@ access_back may d ts a mid g rest due acc left = go may.pool refl left where
   first : LeftAll may (with_access d a) mid g rest → LeftPool may (with_access d a) mid g rest
   first (inl h) = h
   first (inr h) = some_none a h.1
+
   go : (b : Bool) → may.pool ≡ b → LeftAll (kept_if b may) (with_access d a) mid g rest → LeftAll may d ts g rest
   go true e left = inr (e, due, (a, mid, acc, first left))
   go false e left =
@@ -309,8 +310,7 @@ b_letters f may d w kw.ClassRead ts q h e =
           (true, l, mid, is_word_first w _ ts (keyword_is w kw.ClassRead h) ∙ ap (λ z. Word (codes "class-read") ∷ z) eq, flags_along f may d mid g rest true (f.class_write || l) (f.class_read || true) (f.class_write || l) (sym (or_true f.class_read)) refl left),
     )
 b_letters f may d w k ts q h e =
-    let b = b_class_read f may d w k ts q h e in
-    (
+    let b = b_class_read f may d w k ts q h e in (
       b.0,
       λ g rest left. let r = b.1 g rest left in (false, r.0, r.1, r.2, flags_along f may d r.1 g rest f.class_read (f.class_write || r.0) (f.class_read || false) (f.class_write || r.0) (sym (or_false f.class_read)) refl r.3),
     )
@@ -319,8 +319,10 @@ b_method : (c : List ℕ) (may : ClauseSet) (d : Draft) (w : List ℕ) (k : Keyw
 b_method c may d w k ts q h e = cases k h e where
   clause : (k : Keyword) → keyword_of w ≡ k → clause_word (after_access may) (with_access d (accesses.Class c None)) k ≡ Ok q → Back (places.Method c may d) (Word w) ts q
   clause k h e = let b = b_clause (after_access may) (with_access d (accesses.Class c None)) w k ts q h e in (b.0, λ g rest left. (None, Word w ∷ ts, refl, b.1 g rest left))
+
   taken : (k : Keyword) → keyword_of w ≡ k → begins_clause k ≡ false → okay (method_place c may d (Some w)) ≡ Ok q → Back (places.Method c may d) (Word w) ts q
   taken k h no_clause e = back_to (places.Method c may d) (Word w) ts _ q e (refl, λ g rest left. (Some w, ts, inl (ap begins_clause h ∙ no_clause, refl), left))
+
   cases : (k : Keyword) → keyword_of w ≡ k → method_word c may d w k ≡ Ok q → Back (places.Method c may d) (Word w) ts q
   cases kw.Pool h e = clause kw.Pool h e
   cases kw.Namespace h e = clause kw.Namespace h e
@@ -426,11 +428,13 @@ profile_back : (w : List ℕ) (ts : List Token) (g : Grant) (rest : List Token) 
 profile_back w ts g rest e (v, mid, val, h) = goes h where
   made_use : Option (List ℕ) → Option NsMatch → Grant
   made_use pool n = Profile (record { name = v; pool = pool; namespace = n })
+
   whole : (pool : Option (List ℕ)) (n : Option NsMatch) (c end : List Token) → Optional PoolClause mid pool c → Optional NamespaceClause c n end → Closes (draft (heads.Profile v) pool n None None) end g rest → GrantPhrase (Word w ∷ ts) g rest
   whole pool n c end x y z =
       let P : Grant → Type 0 = λ k. GrantPhrase (Word w ∷ ts) k rest in
       let Q : List Token → Type 0 = λ k. Optional NamespaceClause c n k in
       subst P (sym z.1) (ts, mid, c, is_word_first w _ ts e, val, x, subst Q z.0 y)
+
   goes : LeftAll of_profile (fresh (heads.Profile v)) mid g rest → GrantPhrase (Word w ∷ ts) g rest
   goes (inl (inl (inl (inl c)))) = whole None None mid mid refl refl c
   goes (inl (inl (inl (inr (inl (p, c)))))) = unset p

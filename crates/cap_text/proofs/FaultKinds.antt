@@ -363,16 +363,16 @@ module _ (p : List Token) (n : Next) (ws : Words p n) where
     clauses_kind : (may : ClauseSet) (d : Draft) → ((w : List ℕ) → step q (Word w) ≡ clauses may d (Word w)) → step q (Quoted (codes "a")) ≡ clauses may d (Quoted (codes "a")) → step q Equals ≡ clauses may d Equals → (b : Bool) → wants_access d.head ≡ b → IsKind p n (clause_fault b (keyword_at n))
     clauses_kind may d hw hq he true due =
         access_kind
-          (no_bad (λ any. no BadAccess (Word []) (ap (in_grant done) (hw [] ∙ ap (λ b. where_due b (bad BadAccess)) due)) (any [])) (no BadAccess (Quoted (codes "a")) (ap (in_grant done) (hq ∙ ap (λ b. where_due b (bad BadAccess)) due))))
-          (no BadAccess (Word (codes "allow")) (ap (in_grant done) (hw (codes "allow") ∙ ap (λ b. where_due b (bad BadAccess)) due)))
-          (yes_to (accessed may d accesses.All) (Word (codes "all")) (ap (in_grant done) (hw (codes "all") ∙ ap (λ b. where_due b (Ok (accessed may d accesses.All))) due)))
-          (no BadAccess Equals (ap (in_grant done) (he ∙ ap (λ b. where_due b (bad BadAccess)) due)))
+        (no_bad (λ any. no BadAccess (Word []) (ap (in_grant done) (hw [] ∙ ap (λ b. where_due b (bad BadAccess)) due)) (any [])) (no BadAccess (Quoted (codes "a")) (ap (in_grant done) (hq ∙ ap (λ b. where_due b (bad BadAccess)) due))))
+        (no BadAccess (Word (codes "allow")) (ap (in_grant done) (hw (codes "allow") ∙ ap (λ b. where_due b (bad BadAccess)) due)))
+        (yes_to (accessed may d accesses.All) (Word (codes "all")) (ap (in_grant done) (hw (codes "all") ∙ ap (λ b. where_due b (Ok (accessed may d accesses.All))) due)))
+        (no BadAccess Equals (ap (in_grant done) (he ∙ ap (λ b. where_due b (bad BadAccess)) due)))
     clauses_kind may d hw hq he false due =
         clause_kind
-          (no_bad (λ any. no UnknownWord (Word []) (ap (in_grant done) (hw [] ∙ ap (λ b. where_due b (bad BadAccess)) due)) (any [])) (no UnknownWord (Quoted (codes "a")) (ap (in_grant done) (hq ∙ ap (λ b. where_due b (bad BadAccess)) due))))
-          (no UnknownWord (Word (codes "allow")) (ap (in_grant done) (hw (codes "allow") ∙ ap (λ b. where_due b (bad BadAccess)) due)))
-          (no UnknownWord (Word (codes "all")) (ap (in_grant done) (hw (codes "all") ∙ ap (λ b. where_due b (Ok (accessed may d accesses.All))) due)))
-          (no UnknownWord Equals (ap (in_grant done) (he ∙ ap (λ b. where_due b (bad BadAccess)) due)))
+        (no_bad (λ any. no UnknownWord (Word []) (ap (in_grant done) (hw [] ∙ ap (λ b. where_due b (bad BadAccess)) due)) (any [])) (no UnknownWord (Quoted (codes "a")) (ap (in_grant done) (hq ∙ ap (λ b. where_due b (bad BadAccess)) due))))
+        (no UnknownWord (Word (codes "allow")) (ap (in_grant done) (hw (codes "allow") ∙ ap (λ b. where_due b (bad BadAccess)) due)))
+        (no UnknownWord (Word (codes "all")) (ap (in_grant done) (hw (codes "all") ∙ ap (λ b. where_due b (Ok (accessed may d accesses.All))) due)))
+        (no UnknownWord Equals (ap (in_grant done) (he ∙ ap (λ b. where_due b (bad BadAccess)) due)))
 
   pub kind_of : (done : List Grant) (q : Place) → run origin p ≡ whole (at_place done q) → IsKind p n (fault_by q n)
   unfolding step

@@ -105,7 +105,14 @@ fn access_word(may: ClauseSet, draft: Draft, keyword: Keyword) -> Result<Place, 
         }
         Keyword::ClassWrite => {
             let class_write = true;
-            Ok(accessed(may, draft, Access::Flags(Flags { class_write, ..none })))
+            Ok(accessed(
+                may,
+                draft,
+                Access::Flags(Flags {
+                    class_write,
+                    ..none
+                }),
+            ))
         }
         _ => Err(FaultKind::BadAccess),
     }
@@ -139,19 +146,21 @@ fn clauses(may: ClauseSet, draft: Draft, token: Token<'_>) -> Result<Place, Faul
     }
 }
 
-fn letters(
-    flags: Flags,
-    may: ClauseSet,
-    draft: Draft,
-    token: Token<'_>,
-) -> Result<Place, FaultKind>
+fn letters(flags: Flags, may: ClauseSet, draft: Draft, token: Token<'_>) -> Result<Place, FaultKind>
     ensures { Gives result (letters_step flags may draft token.entry) }
 {
     match token {
         Token::Word(word) => match keyword_of(word.as_str()) {
             Keyword::ClassRead => {
                 let class_read = true;
-                Ok(Place::ClassRead(Flags { class_read, ..flags }, may, draft))
+                Ok(Place::ClassRead(
+                    Flags {
+                        class_read,
+                        ..flags
+                    },
+                    may,
+                    draft,
+                ))
             }
             keyword => class_read_word(flags, may, draft, keyword),
         },
@@ -170,7 +179,14 @@ fn class_read_word(
     match keyword {
         Keyword::ClassWrite => {
             let class_write = true;
-            Ok(accessed(may, draft, Access::Flags(Flags { class_write, ..flags })))
+            Ok(accessed(
+                may,
+                draft,
+                Access::Flags(Flags {
+                    class_write,
+                    ..flags
+                }),
+            ))
         }
         keyword => {
             let draft = with_access(draft, Access::Flags(flags));
@@ -255,13 +271,35 @@ fn filled(slot: Slot, may: ClauseSet, draft: Draft, value: Name) -> Place
     ensures { result ≡ filled slot may draft value }
 {
     match slot {
-        Slot::Profile => Place::Clauses(may, Draft { head: Head::Profile(value), ..draft }),
+        Slot::Profile => Place::Clauses(
+            may,
+            Draft {
+                head: Head::Profile(value),
+                ..draft
+            },
+        ),
         Slot::Class => Place::Method(value, may, draft),
         Slot::Pool => {
-            let may = ClauseSet { pool: false, tag: false, ..may };
-            Place::Clauses(may, Draft { pool: Some(value), ..draft })
+            let may = ClauseSet {
+                pool: false,
+                tag: false,
+                ..may
+            };
+            Place::Clauses(
+                may,
+                Draft {
+                    pool: Some(value),
+                    ..draft
+                },
+            )
         }
-        Slot::Prefix => Place::Clauses(NO_MORE, Draft { prefix: Some(value), ..draft }),
+        Slot::Prefix => Place::Clauses(
+            NO_MORE,
+            Draft {
+                prefix: Some(value),
+                ..draft
+            },
+        ),
         Slot::Application => Place::Key(value, draft),
     }
 }
@@ -294,7 +332,11 @@ fn in_namespace(may: ClauseSet, draft: Draft, namespace: NsMatch) -> Place
     ensures { result ≡ namespace_place may draft namespace }
 {
     let namespace = Some(namespace);
-    let may = ClauseSet { pool: false, namespace: false, ..may };
+    let may = ClauseSet {
+        pool: false,
+        namespace: false,
+        ..may
+    };
     Place::Clauses(may, Draft { namespace, ..draft })
 }
 
@@ -335,7 +377,11 @@ fn behind_namespace(
         Token::Star(true) => Ok(in_namespace(may, draft, NsMatch::Prefix(name))),
         token => {
             let namespace = Some(NsMatch::Exact(name));
-            let may = ClauseSet { pool: false, namespace: false, ..may };
+            let may = ClauseSet {
+                pool: false,
+                namespace: false,
+                ..may
+            };
             clauses(may, Draft { namespace, ..draft }, token)
         }
     }
@@ -364,12 +410,7 @@ fn part(alloc: Global, token: Token<'_>) -> Result<Part, FaultKind>
     }
 }
 
-fn key(
-    alloc: Global,
-    application: Name,
-    draft: Draft,
-    token: Token<'_>,
-) -> Result<Place, FaultKind>
+fn key(alloc: Global, application: Name, draft: Draft, token: Token<'_>) -> Result<Place, FaultKind>
     ensures { Gives result (key_step application draft token.entry) }
 {
     let key = part(alloc, token)?;
@@ -386,7 +427,11 @@ fn key_value(
     ensures { Gives result (key_value_step application key draft token.entry) }
 {
     let value = part(alloc, token)?;
-    let tag = Some(Tag { application, key, value });
+    let tag = Some(Tag {
+        application,
+        key,
+        value,
+    });
     Ok(Place::Clauses(NO_MORE, Draft { tag, ..draft }))
 }
 

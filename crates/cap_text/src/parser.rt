@@ -112,5 +112,4 @@ pub fn parse(alloc: Global, text: &str) -> Result<CapList, CapFault>
 /// The law that a text spells at most one list of grants.
 pub fn spells_at_most_one()
     ensures { AtMostOneList }
-{
-}
+{}
