@@ -100,11 +100,7 @@ fn outcome(alloc: Global, text: &str) -> Result<String, OutOfMemory> {
             }
             Ok(all)
         }
-        Err(fault) => {
-            let kind = fault.kind;
-            let at = fault.at;
-            format!(in alloc; "{kind:?} at {at}")
-        }
+        Err(fault) => format!(in alloc; "{fault}"),
     }
 }
 
@@ -173,50 +169,50 @@ fn spells_these_lists(rt: HostRuntime) -> Result<(), Fail> {
 #[test]
 fn tells_the_first_fault(rt: HostRuntime) -> Result<(), Fail> {
     let rows = [
-        ("deny r", "UnknownWord at 0"),
-        ("allow", "BadAccess at 5"),
-        ("allow wr", "BadAccess at 6"),
-        ("allow r,", "UnknownWord at 8"),
-        ("allow r pool=", "BadWord at 13"),
-        ("allow r pool=\"data", "BadWord at 13"),
-        ("allow r pool=data tag rbd image=a", "BadMatch at 18"),
-        ("allow rw network 10.0.0.0/8", "NetworkClause at 9"),
-        ("allow network a r", "NetworkClause at 6"),
-        ("allow class a network b", "NetworkClause at 14"),
-        ("profile a network b", "NetworkClause at 10"),
-        ("pool=data allow r", "UnknownWord at 0"),
-        ("allow r, network x", "UnknownWord at 9"),
-        ("allow class a pool", "BadWord at 18"),
-        ("allow class a \"\"", "BadWord at 14"),
-        ("allow class-write class-read", "UnknownWord at 18"),
-        ("allow all class-read", "UnknownWord at 10"),
-        ("allow r r", "UnknownWord at 8"),
-        ("allow r class a", "UnknownWord at 8"),
-        ("allow r pool=\"a\tb\"", "BadWord at 13"),
-        ("allow r\u{b}", "BadWord at 7"),
-        ("allow tag a b network", "BadMatch at 14"),
-        ("\"\"", "UnknownWord at 0"),
-        ("allow \"\"", "BadAccess at 6"),
-        ("allow r \"\"", "UnknownWord at 8"),
-        ("allow tag a b \"\"", "BadMatch at 14"),
-        ("allow r pool= ", "BadWord at 14"),
-        ("allow pool=a \"x\"", "BadAccess at 13"),
-        ("allow pool=a ,", "BadAccess at 13"),
-        ("allow pool=a w r", "UnknownWord at 15"),
-        ("allow namespace=a*", "BadAccess at 18"),
-        ("allow r pool= network 1.2.3.4", "UnknownWord at 22"),
-        ("profile pool=a", "UnknownWord at 12"),
-        ("allow tag pool=a", "BadWord at 14"),
-        ("allow r pool=*", "BadWord at 13"),
-        ("allow tag a **", "BadMatch at 13"),
-        ("allow \"network\"", "BadAccess at 6"),
-        ("allow r \"network\"", "UnknownWord at 8"),
-        ("allow r namespace=a pool=b", "BadMatch at 20"),
-        ("allow r tag a b=c pool=b", "BadMatch at 18"),
-        ("profile a tag b c=d", "BadMatch at 10"),
-        ("profile a object_prefix b", "BadMatch at 10"),
-        ("profile a r", "UnknownWord at 10"),
-        ("profile ,", "BadWord at 8"),
+        ("deny r", "C3 UnknownWord at 0"),
+        ("allow", "C4 BadAccess at 5"),
+        ("allow wr", "C4 BadAccess at 6"),
+        ("allow r,", "C3 UnknownWord at 8"),
+        ("allow r pool=", "C6 BadWord at 13"),
+        ("allow r pool=\"data", "C6 BadWord at 13"),
+        ("allow r pool=data tag rbd image=a", "C5 BadMatch at 18"),
+        ("allow rw network 10.0.0.0/8", "C7 NetworkClause at 9"),
+        ("allow network a r", "C7 NetworkClause at 6"),
+        ("allow class a network b", "C7 NetworkClause at 14"),
+        ("profile a network b", "C7 NetworkClause at 10"),
+        ("pool=data allow r", "C3 UnknownWord at 0"),
+        ("allow r, network x", "C3 UnknownWord at 9"),
+        ("allow class a pool", "C6 BadWord at 18"),
+        ("allow class a \"\"", "C6 BadWord at 14"),
+        ("allow class-write class-read", "C3 UnknownWord at 18"),
+        ("allow all class-read", "C3 UnknownWord at 10"),
+        ("allow r r", "C3 UnknownWord at 8"),
+        ("allow r class a", "C3 UnknownWord at 8"),
+        ("allow r pool=\"a\tb\"", "C6 BadWord at 13"),
+        ("allow r\u{b}", "C6 BadWord at 7"),
+        ("allow tag a b network", "C5 BadMatch at 14"),
+        ("\"\"", "C3 UnknownWord at 0"),
+        ("allow \"\"", "C4 BadAccess at 6"),
+        ("allow r \"\"", "C3 UnknownWord at 8"),
+        ("allow tag a b \"\"", "C5 BadMatch at 14"),
+        ("allow r pool= ", "C6 BadWord at 14"),
+        ("allow pool=a \"x\"", "C4 BadAccess at 13"),
+        ("allow pool=a ,", "C4 BadAccess at 13"),
+        ("allow pool=a w r", "C3 UnknownWord at 15"),
+        ("allow namespace=a*", "C4 BadAccess at 18"),
+        ("allow r pool= network 1.2.3.4", "C3 UnknownWord at 22"),
+        ("profile pool=a", "C3 UnknownWord at 12"),
+        ("allow tag pool=a", "C6 BadWord at 14"),
+        ("allow r pool=*", "C6 BadWord at 13"),
+        ("allow tag a **", "C5 BadMatch at 13"),
+        ("allow \"network\"", "C4 BadAccess at 6"),
+        ("allow r \"network\"", "C3 UnknownWord at 8"),
+        ("allow r namespace=a pool=b", "C5 BadMatch at 20"),
+        ("allow r tag a b=c pool=b", "C5 BadMatch at 18"),
+        ("profile a tag b c=d", "C5 BadMatch at 10"),
+        ("profile a object_prefix b", "C5 BadMatch at 10"),
+        ("profile a r", "C3 UnknownWord at 10"),
+        ("profile ,", "C6 BadWord at 8"),
     ];
     for (text, want) in rows {
         let got = outcome(rt.alloc(), text)?;
@@ -251,12 +247,12 @@ fn keeps_the_limits(rt: HostRuntime) -> Result<(), Fail> {
     let most = many(alloc, 64)?;
     assert_eq!(rt; parse(alloc, most.as_str())?.grants().len(), 64);
     let rows = [
-        (",allow r", "TooManyGrants at 512"),
-        (",", "UnknownWord at 512"),
-        (", ", "UnknownWord at 513"),
-        (", \u{b}", "TooManyGrants at 513"),
-        (";)", "TooManyGrants at 512"),
-        (" r", "UnknownWord at 512"),
+        (",allow r", "C2 TooManyGrants at 512"),
+        (",", "C3 UnknownWord at 512"),
+        (", ", "C3 UnknownWord at 513"),
+        (", \u{b}", "C2 TooManyGrants at 513"),
+        (";)", "C2 TooManyGrants at 512"),
+        (" r", "C3 UnknownWord at 512"),
     ];
     for (more, want) in rows {
         let mut text = many(alloc, 64)?;
