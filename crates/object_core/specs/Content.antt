@@ -1,6 +1,6 @@
 -- What an object holds, and its limits. Source: RADOS objects, which have bytes and named attributes; the
 -- limits are this project's profile.
-use Rattle.std.specs.Prelude.{ℕ, ◌+◌, ◌<◌, ◌≤◌, List, [], ◌∷◌, ◌++◌, Bool, ◌||◌, Option, None, Some, is_some, length, nat_lt, find, position, All, slice_set, remove}
+use Rattle.std.specs.Prelude.{ℕ, ◌<◌, ◌≤◌, List, [], ◌∷◌, ◌++◌, Bool, ◌||◌, Option, is_some, length, nat_lt, find, position, All, slice_set, remove}
 use Rattle.std.specs.Option.{option_map, option_map_or}
 use Rattle.std.specs.Str.{bytes_eq}
 

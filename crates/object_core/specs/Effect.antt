@@ -1,6 +1,6 @@
 -- What operations do to an object. Source: Ceph's object operations and the numbers of its errors; classes
 -- and limits are this project's profile.
-use Rattle.std.specs.Prelude.{ℕ, ◌+◌, ◌^◌, List, [], ◌∷◌, ◌++◌, Bool, ◌==◌, ◌||◌, if◌then◌else◌, Option, None, Some, is_none, is_some, not, Result, Ok, Err, length, nat_lt, codes}
+use Rattle.std.specs.Prelude.{ℕ, ◌+◌, ◌^◌, List, [], ◌∷◌, ◌++◌, Bool, ◌==◌, ◌||◌, if◌then◌else◌, Option, None, Some, is_none, not, Result, Ok, Err, length, nat_lt, codes}
 use Rattle.std.specs.Fmt.{decimal}
 use Rattle.object_core.specs.Bytes.{part_of, resized, overwritten}
 use Rattle.object_core.specs.Content.{Content, empty, bytes_of, attributes_of, value_of, place_of, has_room, with_attribute, without_attribute}

@@ -1,5 +1,6 @@
 pub mod Bytes
 pub mod Content
+pub mod Digits
 pub mod Effect
 pub mod Faults
 pub mod Needs

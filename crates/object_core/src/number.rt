@@ -2,6 +2,7 @@
 
 ghost use Rattle.std.specs.Prelude.{◌≡◌};
 ghost use Rattle.std.specs.Str.{all_ascii_digits};
+ghost use Rattle.object_core.specs.Digits.{is_canonical};
 ghost use Rattle.object_core.specs.Number as spec;
 
 use std::str;
@@ -20,7 +21,7 @@ fn are_digits(text: &[u8]) -> bool
 
 /// Whether a text is a number in its canonical form.
 fn is_canonical(text: &[u8]) -> bool
-    ensures { result ≡ spec.is_canonical text.now }
+    ensures { result ≡ is_canonical text.now }
 {
     if !are_digits(text) || text.is_empty() {
         return false;

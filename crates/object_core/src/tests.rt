@@ -3,12 +3,15 @@
 use super::*;
 use cap_text::{Name, OutOfMemory};
 use std::alloc::Global;
+use std::process::Abort;
 use std::str;
 use std::test::Fail;
 
-/// What vectors come to: the operations that make the object first (`missing` for none), the vector, and its
-/// outcome as `shown` writes it.
-const OUTCOMES: [(&str, &str, &str); 54] = [
+// What vectors come to. Each row has the operations that make the object first (`missing` for none), the vector,
+// and its outcome as `shown` writes it; `*n` stands for so many bytes.
+
+/// Operations on an object that is there.
+const OPERATIONS: [(&str, &str, &str); 8] = [
     (
         "append hello",
         "read 3 0;read 9 5;stat",
@@ -25,6 +28,10 @@ const OUTCOMES: [(&str, &str, &str); 54] = [
     ("append hello", "truncate 2;truncate 4", ",, now he__"),
     ("append hello", "remove;append n", ",, now n"),
     ("append hello", "remove", ", now missing"),
+];
+
+/// Objects that are made, and attributes.
+const MAKINGS: [(&str, &str, &str); 8] = [
     ("append hello", "create", ", kept hello"),
     ("append hello", "", " kept hello"),
     ("missing", "", " kept missing"),
@@ -45,7 +52,10 @@ const OUTCOMES: [(&str, &str, &str); 54] = [
         "getxattr k;read 0 0",
         "v,a, kept a k=v",
     ),
-    // A failure leaves the object as it was.
+];
+
+/// A failure leaves the object as it was.
+const FAILURES: [(&str, &str, &str); 7] = [
     (
         "append a;setxattr k v",
         "remove;append b;getxattr k",
@@ -57,15 +67,22 @@ const OUTCOMES: [(&str, &str, &str); 54] = [
     ("append a", "setxattr  v", "failed 1 22 a"),
     ("append a", "counter drop", "failed 1 95 a"),
     ("append a", "vault get", "failed 1 95 a"),
-    ("missing", "read 0 0", "failed 1 2 missing"),
-    ("missing", "stat", "failed 1 2 missing"),
-    ("missing", "truncate 65537", "failed 1 2 missing"),
-    ("missing", "remove", "failed 1 2 missing"),
-    ("missing", "getxattr k", "failed 1 2 missing"),
-    ("missing", "rmxattr k", "failed 1 2 missing"),
-    ("missing", "counter get", "failed 1 2 missing"),
-    ("missing", "vault peek", "failed 1 2 missing"),
-    // Limits, where `*n` stands for so many bytes.
+];
+
+/// What a missing object refuses.
+const MISSING: [&str; 8] = [
+    "read 0 0",
+    "stat",
+    "truncate 65537",
+    "remove",
+    "getxattr k",
+    "rmxattr k",
+    "counter get",
+    "vault peek",
+];
+
+/// Objects end at 65,536 bytes.
+const SIZES: [(&str, &str, &str); 8] = [
     ("write 65535 x", "stat", "65536, kept #65536"),
     ("write 65535 x", "append b", "failed 1 27 #65536"),
     ("write 65535 x", "truncate 65537", "failed 1 27 #65536"),
@@ -74,6 +91,10 @@ const OUTCOMES: [(&str, &str, &str); 54] = [
     ("missing", "write 65536 x", "failed 1 27 missing"),
     ("missing", "write 65536", ", now #65536"),
     ("missing", "write_full *65537", "failed 1 27 missing"),
+];
+
+/// Attributes end at their limits.
+const ATTRIBUTES: [(&str, &str, &str); 6] = [
     ("create", "setxattr k *1024", ", now  k=#1024"),
     ("create", "setxattr k *1025", "failed 1 34 "),
     (
@@ -92,7 +113,10 @@ const OUTCOMES: [(&str, &str, &str); 54] = [
         "setxattr 0 v;getxattr 0;remove",
         ",v,, now missing",
     ),
-    // Classes.
+];
+
+/// Counters and vaults.
+const CLASSES: [(&str, &str, &str); 9] = [
     (
         "missing",
         "counter add 18446744073709551615;counter get q",
@@ -345,11 +369,71 @@ fn ask(alloc: Global, text: &str) -> Result<String, OutOfMemory> {
     needs_shown(alloc, ops.as_slice())
 }
 
+/// Compares what a vector comes to.
+fn expect(
+    rt: &impl Abort,
+    alloc: Global,
+    made_by: &str,
+    text: &str,
+    want: &str,
+) -> Result<(), OutOfMemory> {
+    let outcome = run(alloc, made_by, text)?;
+    assert_eq!(rt; outcome.as_str(), want, "{text}");
+    Ok(())
+}
+
 #[test]
-fn vectors_run_by_the_table_and_a_failure_changes_nothing(rt: HostRuntime) -> Result<(), Fail> {
-    for (made_by, text, want) in OUTCOMES {
-        let outcome = run(rt.alloc(), made_by, text)?;
-        assert_eq!(rt; outcome.as_str(), want, "{text}");
+fn operations_see_the_ones_before_them(rt: HostRuntime) -> Result<(), Fail> {
+    for (made_by, text, want) in OPERATIONS {
+        expect(&rt, rt.alloc(), made_by, text, want)?;
+    }
+    Ok(())
+}
+
+#[test]
+fn operations_make_objects_and_attributes(rt: HostRuntime) -> Result<(), Fail> {
+    for (made_by, text, want) in MAKINGS {
+        expect(&rt, rt.alloc(), made_by, text, want)?;
+    }
+    Ok(())
+}
+
+#[test]
+fn failures_tell_place_and_number_and_change_nothing(rt: HostRuntime) -> Result<(), Fail> {
+    for (made_by, text, want) in FAILURES {
+        expect(&rt, rt.alloc(), made_by, text, want)?;
+    }
+    Ok(())
+}
+
+#[test]
+fn objects_end_at_their_size(rt: HostRuntime) -> Result<(), Fail> {
+    for (made_by, text, want) in SIZES {
+        expect(&rt, rt.alloc(), made_by, text, want)?;
+    }
+    Ok(())
+}
+
+#[test]
+fn attributes_end_at_their_limits(rt: HostRuntime) -> Result<(), Fail> {
+    for (made_by, text, want) in ATTRIBUTES {
+        expect(&rt, rt.alloc(), made_by, text, want)?;
+    }
+    Ok(())
+}
+
+#[test]
+fn classes_count_and_keep_secrets(rt: HostRuntime) -> Result<(), Fail> {
+    for (made_by, text, want) in CLASSES {
+        expect(&rt, rt.alloc(), made_by, text, want)?;
+    }
+    Ok(())
+}
+
+#[test]
+fn missing_objects_are_told(rt: HostRuntime) -> Result<(), Fail> {
+    for text in MISSING {
+        expect(&rt, rt.alloc(), "missing", text, "failed 1 2 missing")?;
     }
     Ok(())
 }
