@@ -1,7 +1,6 @@
 -- What the grammar takes is read.
-use Rattle.std.proofs.Common.{◌≡◌, ◌≢◌, ℕ, Bool, true, false, cond, List, [], ◌∷◌, ◌++◌, Option, Some, None, Result, Ok, Err, refl, sym, ap, subst, ◌∙◌, inl, inr, append_assoc}
-use Rattle.std.specs.Prelude.{◌⊎◌, ◌||◌, codes}
-use Rattle.std.proofs.lemmas.List.{append-nil}
+use Rattle.std.proofs.Common.{◌≡◌, ℕ, Bool, true, false, List, [], ◌∷◌, ◌++◌, Option, Some, None, Result, Ok, Err, refl, sym, ap, subst, ◌∙◌, inl, inr, append_assoc}
+use Rattle.std.specs.Prelude.{◌||◌, codes}
 use Rattle.cap_text.specs.declared.token.Token.{Token}
 use Rattle.cap_text.specs.declared.token.Token.TheVariants.{Comma, Semicolon, Equals, Star, Word, Quoted}
 use Rattle.cap_text.specs.declared.grant.Access.{Access}
@@ -10,14 +9,12 @@ use Rattle.cap_text.specs.declared.grant.Flags.{Flags}
 use Rattle.cap_text.specs.declared.grant.NsMatch.{NsMatch}
 use Rattle.cap_text.specs.declared.grant.NsMatch.TheVariants.{Exact, Prefix}
 use Rattle.cap_text.specs.declared.grant.Part.{Part}
-use Rattle.cap_text.specs.declared.grant.Part.TheVariants.{Any, Is}
+use Rattle.cap_text.specs.declared.grant.Part.TheVariants.{Any}
 use Rattle.cap_text.specs.declared.grant.Tag.{Tag}
 use Rattle.cap_text.specs.declared.grant.AllowGrant.{AllowGrant}
-use Rattle.cap_text.specs.declared.grant.ProfileUse.{ProfileUse}
 use Rattle.cap_text.specs.declared.grant.Grant.{Grant}
 use Rattle.cap_text.specs.declared.grant.Grant.TheVariants.{Allow, Profile}
 use Rattle.cap_text.specs.declared.fault.FaultKind.{FaultKind}
-use Rattle.cap_text.specs.declared.fault.FaultKind.TheVariants.{UnknownWord, BadAccess, BadMatch, BadWord, NetworkClause, OutOfMemory}
 use Rattle.cap_text.specs.declared.keyword.Keyword.{Keyword}
 use Rattle.cap_text.specs.declared.keyword.Keyword.TheVariants as kw
 use Rattle.cap_text.specs.declared.place.ClauseSet.{ClauseSet}
@@ -30,8 +27,8 @@ use Rattle.cap_text.specs.declared.place.Place.{Place}
 use Rattle.cap_text.specs.declared.place.Place.TheVariants as places
 use Rattle.cap_text.specs.declared.state.State.{State}
 use Rattle.cap_text.specs.Words.{letters, keyword_of}
-use Rattle.cap_text.specs.Grammar.{Phrase, Optional, Assigned, Behind, Value, Namespace, BeginsApart, namespace_of, part_of, TagPart, PoolClause, NamespaceClause, PrefixClause, TagClause, begins_clause, Method, where_set, flag_words, AccessPhrase, MatchPhrase, GrantPhrase, Separated, Followed, Grants}
-use Rattle.cap_text.specs.Machine.{every, of_profile, no_more, after_pool, after_namespace, draft, fresh, with_access, kept_if, after_access, accessed, wants_access, flags, access_word, where_open, where_due, clause_word, clauses, behind_flags, class_read_word, letters_word, letters_step, class_read_step, method_place, method_word, method_step, value_of, mapped, filled, value_step, namespace_place, namespace_step, namespace_word_step, part_at, key_step, tag_place, key_value_step, start_word, start_step, step, made, grant_with, grant_of, close, after_grant, in_grant, advance, ended, finish_at, finish}
+use Rattle.cap_text.specs.Grammar.{Optional, Assigned, Behind, Value, Namespace, BeginsApart, namespace_of, part_of, TagPart, PoolClause, NamespaceClause, PrefixClause, TagClause, begins_clause, Method, where_set, flag_words, AccessPhrase, MatchPhrase, GrantPhrase, Separated, Followed, Grants}
+use Rattle.cap_text.specs.Machine.{every, of_profile, no_more, after_pool, after_namespace, draft, fresh, with_access, after_access, accessed, wants_access, flags, where_open, where_due, clause_word, behind_flags, class_read_word, letters_word, method_place, method_word, filled, namespace_place, tag_place, start_word, step, grant_of, after_grant, in_grant, advance, ended, finish}
 use Rattle.cap_text.proofs.Keywords.{letters_keyword}
 
 -- ---- runs

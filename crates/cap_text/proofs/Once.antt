@@ -1,12 +1,11 @@
 -- A text spells at most one list.
-use Rattle.std.proofs.Common.{◌≡◌, ℕ, List, [], Result, Ok, Err, sym, ap, subst, ◌∙◌}
+use Rattle.std.proofs.Common.{◌≡◌, List, Result, Ok, sym, subst, ◌∙◌}
 use Rattle.cap_text.specs.declared.token.Token.{Token}
 use Rattle.cap_text.specs.declared.grant.Grant.{Grant}
 use Rattle.cap_text.specs.declared.fault.FaultKind.{FaultKind}
-use Rattle.cap_text.specs.declared.place.Place.TheVariants as places
-use Rattle.cap_text.specs.Grammar.{GrantPhrase, Grants, Spells, AtMostOneList}
+use Rattle.cap_text.specs.Grammar.{GrantPhrase, Grants, AtMostOneList}
 use Rattle.cap_text.proofs.Reading.{text_unique}
-use Rattle.cap_text.proofs.Forth.{reads, complete}
+use Rattle.cap_text.proofs.Forth.{complete}
 
 abbrev all_of : List Grant → Result (List Grant) FaultKind
 all_of gs = Ok gs

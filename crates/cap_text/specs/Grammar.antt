@@ -1,6 +1,6 @@
 -- The grammar of capability texts, by their tokens.
 -- The forms are those of Ceph User Management, "Authorization capabilities"; orders, separators, quotes and limits are this project's profile.
-use Rattle.std.specs.Prelude.{◌≡◌, ◌≢◌, ◌≤◌, ℕ, ◌⊎◌, Bool, true, false, ◌||◌, ◌==◌, List, [], ◌∷◌, ◌++◌, length, codes, Option, Some, None, option_map, if◌then◌else◌}
+use Rattle.std.specs.Prelude.{◌≡◌, ◌≢◌, ◌≤◌, ℕ, ◌⊎◌, Bool, true, false, ◌||◌, ◌==◌, List, [], ◌∷◌, length, codes, Option, Some, None, option_map, if◌then◌else◌}
 use Rattle.std.specs.Str.{bytes_eq}
 use Rattle.cap_text.specs.declared.token.Token.{Token}
 use Rattle.cap_text.specs.declared.token.Token.TheVariants.{Comma, Semicolon, Equals, Star, Word, Quoted}
@@ -12,7 +12,6 @@ use Rattle.cap_text.specs.declared.grant.Part.{Part}
 use Rattle.cap_text.specs.declared.grant.Part.TheVariants.{Any, Is}
 use Rattle.cap_text.specs.declared.grant.Tag.{Tag}
 use Rattle.cap_text.specs.declared.grant.AllowGrant.{AllowGrant}
-use Rattle.cap_text.specs.declared.grant.ProfileUse.{ProfileUse}
 use Rattle.cap_text.specs.declared.grant.Grant.{Grant}
 use Rattle.cap_text.specs.declared.grant.Grant.TheVariants.{Allow, Profile}
 use Rattle.cap_text.specs.declared.keyword.Keyword.{Keyword}

@@ -1,5 +1,5 @@
 -- The grammar, token by token.
-use Rattle.std.specs.Prelude.{◌≡◌, ◌≢◌, ℕ, ◌⊎◌, Bool, true, false, ◌||◌, List, [], ◌∷◌, ◌++◌, codes, Option, Some, None, Result, Ok, Err, if◌then◌else◌}
+use Rattle.std.specs.Prelude.{ℕ, Bool, true, false, List, [], ◌∷◌, ◌++◌, Option, Some, None, Result, Ok, Err}
 use Rattle.cap_text.specs.declared.token.Token.{Token}
 use Rattle.cap_text.specs.declared.token.Token.TheVariants.{Comma, Semicolon, Equals, Star, Word, Quoted}
 use Rattle.cap_text.specs.declared.grant.Access.{Access}
@@ -8,10 +8,9 @@ use Rattle.cap_text.specs.declared.grant.Flags.{Flags}
 use Rattle.cap_text.specs.declared.grant.NsMatch.{NsMatch}
 use Rattle.cap_text.specs.declared.grant.NsMatch.TheVariants.{Exact, Prefix}
 use Rattle.cap_text.specs.declared.grant.Part.{Part}
-use Rattle.cap_text.specs.declared.grant.Part.TheVariants.{Any, Is}
+use Rattle.cap_text.specs.declared.grant.Part.TheVariants.{Any}
 use Rattle.cap_text.specs.declared.grant.Tag.{Tag}
 use Rattle.cap_text.specs.declared.grant.AllowGrant.{AllowGrant}
-use Rattle.cap_text.specs.declared.grant.ProfileUse.{ProfileUse}
 use Rattle.cap_text.specs.declared.grant.Grant.{Grant}
 use Rattle.cap_text.specs.declared.grant.Grant.TheVariants.{Allow, Profile}
 use Rattle.cap_text.specs.declared.fault.FaultKind.{FaultKind}
@@ -29,7 +28,7 @@ use Rattle.cap_text.specs.declared.place.Place.{Place}
 use Rattle.cap_text.specs.declared.place.Place.TheVariants as places
 use Rattle.cap_text.specs.declared.state.State.{State}
 use Rattle.cap_text.specs.Words.{keyword_of}
-use Rattle.cap_text.specs.Grammar.{namespace_of, part_of, begins_clause}
+use Rattle.cap_text.specs.Grammar.{namespace_of, part_of}
 
 -- ---- clauses
 

@@ -1,4 +1,4 @@
-use Rattle.std.proofs.Common.{◌≡◌, ◌-◌, ℕ, suc, ap, sym, ◌∙◌, List, length, get_or, take, Ok, subst}
+use Rattle.std.proofs.Common.{◌≡◌, ◌-◌, ℕ, suc, ap, sym, ◌∙◌, List, length, get_or, Ok, subst}
 use Rattle.cap_text.proofs.Stars.{is_exact, is_prefix, no_star_end, no_text, empty_of, some_of}
 use Rattle.cap_text.proofs.machine.namespace_of.Goals.{then-is_empty-via-then-is_empty, then-is_empty-via-else-is_empty+then-bytes-ne42}
 use Rattle.cap_text.proofs.machine.namespace_of.Goals as goal

@@ -1,8 +1,5 @@
-use Rattle.std.proofs.Common.{◌≡◌, ◌≢◌, ◌++◌, ◌∷◌, [], ℕ, ◌+◌, ◌-◌, ◌≤◌, Bool, true, false, List, length, sym, ap, ◌∙◌, arith, IsUtf8, eqb, Ok, Err, refl, inr, subst}
+use Rattle.std.proofs.Common.{◌≡◌, ◌≢◌, ◌++◌, ◌∷◌, [], ℕ, ◌+◌, ◌-◌, List, length, sym, ◌∙◌, arith, IsUtf8, inr, subst}
 use Rattle.cap_text.specs.declared.grant.Grant.{Grant}
-use Rattle.cap_text.specs.declared.token.Token.{Token}
-use Rattle.cap_text.specs.declared.fault.FaultKind.TheVariants.{TooManyGrants, BadWord}
-use Rattle.cap_text.specs.Bytes.{is_space, Each}
 use Rattle.cap_text.specs.Reads.{IsUnreadable}
 use Rattle.cap_text.specs.Grammar.{Spells}
 use Rattle.cap_text.specs.Machine.{advance, finish}
