@@ -66,7 +66,8 @@ fn uses(alloc: Global, name: &str, count: usize) -> Result<String, Fail> {
 fn uses_are_replaced_by_filled_grants(rt: HostRuntime) -> Result<(), Fail> {
     let alloc = rt.alloc();
     let mut table = ProfileTable::builtin(alloc)?;
-    let own = parse(alloc,
+    let own = parse(
+        alloc,
         "allow r pool=own, allow rw namespace=n, allow rwx, profile read-only pool=p",
     )?;
     table.add("own", own)?;
@@ -125,11 +126,7 @@ fn refusals_come_in_their_order(rt: HostRuntime) -> Result<(), Fail> {
         ),
         ("five", "allow r", Err(ExpandFault::DuplicateProfile)),
     ] {
-        assert_eq!(rt;
-            table.add(name, parse(alloc, body)?),
-            want,
-            "{name} {body}"
-        );
+        assert_eq!(rt; table.add(name, parse(alloc, body)?), want, "{name} {body}");
     }
     let many = uses(alloc, "five", 51)?;
     let tree = expand(alloc, &table, &parse(alloc, many.as_str())?)?;

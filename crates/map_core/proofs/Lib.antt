@@ -1,0 +1,5 @@
+pub mod Acceptance
+pub mod FirstPlaces
+pub mod OnePool
+pub mod IntervalLists
+pub mod Current

@@ -1,0 +1,15 @@
+-- The state of the map, and the history that it follows from.
+use Rattle.std.specs.Prelude.{ℕ, List, Bool}
+use Rattle.map_core.specs.declared.command.MapCommand.{MapCommand}
+use Rattle.map_core.specs.declared.pool.Pool.{Pool}
+
+-- how many daemons there are, the pools in order of creation, and 16 flags that tell which daemons are up (the cluster map: the RADOS paper)
+pub record MapState : Type 0 where
+  pub daemons : ℕ
+  pub pools : List Pool
+  pub up : List Bool
+
+-- how many daemons there are, and the commands that were accepted
+pub record History : Type 0 where
+  pub daemons : ℕ
+  pub commands : List MapCommand

@@ -1,0 +1,21 @@
+//! The cluster map: pools, the applications that they are tagged with, and which daemons are up.
+//!
+//! A map is what its accepted commands made of it. Each command makes an epoch, and a pool can be seen as it was at any of them.
+#![tactic(auto)]
+
+mod command;
+mod edits;
+mod fault;
+mod map;
+mod pool;
+mod refusals;
+mod replay;
+mod sets;
+#[cfg(test)]
+mod tests;
+
+pub use cap_text::OutOfMemory;
+pub use command::MapCommand;
+pub use fault::MapFault;
+pub use map::ClusterMap;
+pub use pool::{Epoch, Pool, PoolView};

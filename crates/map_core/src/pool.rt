@@ -1,0 +1,89 @@
+//! Pools, as they are and as they were.
+
+ghost use Rattle.std.specs.Prelude.{◌≡◌, IfOk};
+
+use cap_text::{Name, OutOfMemory, Tags};
+
+/// The number of a state of the map, from 1 on, at most 65,535.
+pub type Epoch = u32;
+
+/// A pool: its name, how many groups it has, and how large their acting sets are.
+#[derive(Debug, Drop)]
+pub struct Pool {
+    pub name: Name,
+    /// Its groups are numbered from 0.
+    pub pg_num: u32,
+    /// How many daemons an acting set has, where so many are up.
+    pub size: u32,
+    /// How many daemons of an acting set are needed to decide a request.
+    pub min_size: u32,
+    /// The applications that it is tagged with.
+    pub tags: Tags,
+}
+
+/// A pool as it was at an epoch.
+#[derive(Debug, Drop)]
+pub struct PoolView {
+    pub epoch: Epoch,
+    /// The pool's name.
+    pub pool: Name,
+    pub pg_num: u32,
+    pub size: u32,
+    pub min_size: u32,
+    pub tags: Tags,
+}
+
+impl PoolView {
+    /// An equal view.
+    pub fn copy(&self) -> Result<PoolView, OutOfMemory>
+        ensures { IfOk result (λ view. view ≡ self.now) }
+    {
+        Ok(PoolView {
+            epoch: self.epoch,
+            pool: self.pool.copy()?,
+            pg_num: self.pg_num,
+            size: self.size,
+            min_size: self.min_size,
+            tags: self.tags.copy()?,
+        })
+    }
+}
+
+impl Pool {
+    ghost use Rattle.map_core.specs.Map.{view_of};
+
+    // The view of this pool.
+    pub(crate) fn into_view(self, epoch: Epoch) -> PoolView
+        ensures { result ≡ view_of epoch self }
+    {
+        let Pool {
+            name,
+            pg_num,
+            size,
+            min_size,
+            tags,
+        } = self;
+        PoolView {
+            epoch,
+            pool: name,
+            pg_num,
+            size,
+            min_size,
+            tags,
+        }
+    }
+
+    // A view of an equal pool.
+    pub(crate) fn to_view(&self, epoch: Epoch) -> Result<PoolView, OutOfMemory>
+        ensures { IfOk result (λ view. view ≡ view_of epoch self.now) }
+    {
+        Ok(PoolView {
+            epoch,
+            pool: self.name.copy()?,
+            pg_num: self.pg_num,
+            size: self.size,
+            min_size: self.min_size,
+            tags: self.tags.copy()?,
+        })
+    }
+}

@@ -1,0 +1,6 @@
+pub mod Counts
+pub mod Hashes
+pub mod Keys
+pub mod Numbers
+pub mod Padding
+pub mod Ranks
