@@ -1,0 +1,95 @@
+-- Why a call on the users is refused: this project's profile.
+use Rattle.std.specs.Prelude.{◌≡◌, ℕ, List, [], ◌∷◌, Bool, not, ◌||◌, if◌then◌else◌, Option, None, Some, Result, Ok, Err, unwrap_or, length, nat_le}
+use Rattle.cap_text.specs.declared.fault.CapFault.{CapFault}
+use Rattle.cap_text.specs.declared.fault.FaultKind.{FaultKind}
+use Rattle.cap_text.specs.declared.fault.FaultKind.TheVariants as kinds
+use Rattle.cap_text.specs.declared.grant.Grant.{Grant}
+use Rattle.cap_text.specs.Grammar.{Spells}
+use Rattle.grant_core.specs.declared.fault.ExpandFault.{ExpandFault}
+use Rattle.grant_core.specs.declared.fault.ExpandFault.TheVariants as expansion
+use Rattle.grant_core.specs.Flat.{Table}
+use Rattle.grant_core.specs.Refusal.{expand_refusal}
+use Rattle.auth_db.specs.declared.caps.Caps.{Caps}
+use Rattle.auth_db.specs.declared.db.Creation.{Creation}
+use Rattle.auth_db.specs.declared.db.Creation.TheVariants.{There}
+use Rattle.auth_db.specs.declared.fault.AuthFault.{AuthFault}
+use Rattle.auth_db.specs.declared.fault.AuthFault.TheVariants.{BadName, Exists, NoEntity, CapsDiffer, BadCaps, BadProfile, OutOfMemory, Limit}
+use Rattle.auth_db.specs.Names.{is_user_name}
+use Rattle.auth_db.specs.Texts.{has_long_text, too_long, has_no_text, are_same_caps, IsGood, IsBadText}
+use Rattle.auth_db.specs.Users.{Users, has_user}
+
+-- ---- what takes no memory to find
+
+-- the fault of the first test that holds
+abbrev pub first_of : List (Bool × AuthFault) → Option AuthFault
+first_of [] = None
+first_of (test ∷ tests) = if test.0 then Some test.1 else first_of tests
+
+abbrev pub long_refusal : Caps → Option AuthFault
+long_refusal caps = first_of ((has_long_text caps, BadCaps too_long) ∷ [])
+
+-- why a user is not found
+abbrev pub known_refusal : Users → List ℕ → Option AuthFault
+known_refusal users name = first_of ((not (is_user_name name), BadName) ∷ (not (has_user users name), NoEntity) ∷ [])
+
+-- why a user is not added, before its osd text is read
+abbrev pub add_refusal : Users → List ℕ → Caps → Option AuthFault
+add_refusal users name caps =
+    first_of ((not (is_user_name name), BadName) ∷ (has_user users name, Exists) ∷ (nat_le 1024 (length users), Limit) ∷ (has_long_text caps, BadCaps too_long) ∷ [])
+
+-- why a user's texts are not changed, before its osd text is read
+abbrev pub caps_refusal : Users → List ℕ → Caps → Option AuthFault
+caps_refusal users name caps =
+    first_of ((not (is_user_name name), BadName) ∷ (not (has_user users name), NoEntity) ∷ (has_long_text caps, BadCaps too_long) ∷ [])
+
+-- what the creation of a user who exists answers
+abbrev pub again : List ℕ → Caps → Caps → Result Creation AuthFault
+again name stored caps =
+    if is_user_name name then (if has_no_text caps || are_same_caps caps stored then Ok There else Err CapsDiffer) else Err BadName
+
+-- refused exactly where this refusal holds
+abbrev pub RefusedExactly : {T : Type 0} → Option AuthFault → Result T AuthFault → Type 0
+RefusedExactly refusal (Ok x) = refusal ≡ None
+RefusedExactly refusal (Err fault) = refusal ≡ Some fault
+
+-- the same, or refused for want of memory where nothing else refuses
+abbrev pub RefusedFirst : {T : Type 0} → Option AuthFault → Result T AuthFault → Type 0
+RefusedFirst refusal (Ok x) = refusal ≡ None
+RefusedFirst refusal (Err fault) = fault ≡ unwrap_or refusal OutOfMemory
+
+-- ---- what an osd text is refused by
+
+-- its first fault, or why its list is not expanded; want of memory may come in place of either
+abbrev pub TextRefuses : Table → List ℕ → AuthFault → Type 0
+TextRefuses table text OutOfMemory = Unit {0}
+TextRefuses table text (BadCaps fault) = IsBadText text fault
+TextRefuses table text (BadProfile fault) = (grants : List Grant) × Spells text grants × (expand_refusal table grants ≡ Some fault)
+TextRefuses table text fault = ⊥
+
+abbrev pub OsdRefuses : Table → Option (List ℕ) → AuthFault → Type 0
+OsdRefuses table None fault = fault ≡ OutOfMemory
+OsdRefuses table (Some text) fault = TextRefuses table text fault
+
+-- the earlier refusal where one holds, and else the osd text's
+abbrev pub Refuses : Option AuthFault → Table → Option (List ℕ) → AuthFault → Type 0
+Refuses (Some first) table osd fault = fault ≡ first
+Refuses None table osd fault = OsdRefuses table osd fault
+
+-- Accepted only where no refusal holds, so that the osd text is good; refused by the first that holds.
+abbrev pub Judged : {T : Type 0} → Option AuthFault → Table → Option (List ℕ) → Result T AuthFault → Type 0
+Judged first table osd (Ok x) = (first ≡ None) × IsGood table osd
+Judged first table osd (Err fault) = Refuses first table osd fault
+
+-- ---- what the layers below refuse, as a fault of the users
+
+abbrev pub fault_of_kind : CapFault → FaultKind → AuthFault
+fault_of_kind fault kinds.OutOfMemory = OutOfMemory
+fault_of_kind fault kind = BadCaps fault
+
+-- want of memory is this layer's own
+abbrev pub text_fault : CapFault → AuthFault
+text_fault fault = fault_of_kind fault fault.kind
+
+abbrev pub profile_fault : ExpandFault → AuthFault
+profile_fault expansion.OutOfMemory = OutOfMemory
+profile_fault fault = BadProfile fault

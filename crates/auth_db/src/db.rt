@@ -1,0 +1,259 @@
+//! The users and their commands.
+
+ghost use Rattle.std.specs.Prelude.{◌≡◌, ◌≤◌, [], IfOk, IfErr, OnOk, OnErr, IfSome, IsNone, length};
+ghost use Rattle.std.specs.List.Sorted.{IsStrictlySortedBy};
+ghost use Rattle.std.specs.Map.{keys_of};
+ghost use Rattle.std.specs.Ordering.{nat_cmp};
+ghost use Rattle.std.specs.Cmp.Lexicographic.{slice_cmp};
+ghost use Rattle.auth_db.specs.Entries.{users_of};
+ghost use Rattle.auth_db.specs.Refusals.{again, Judged, RefusedExactly, RefusedFirst};
+ghost use Rattle.auth_db.specs.Refusals as spec;
+ghost use Rattle.auth_db.specs.Texts.{IsGood};
+ghost use Rattle.auth_db.specs.Users.{user_at, users_after, after, Add, GetOrCreate, SetCaps, Delete, GoesByStep, HasTicket};
+
+use crate::caps::Caps;
+use crate::fault::AuthFault;
+use crate::name::is_user_name;
+use crate::reading::{check_osd, osd_ticket};
+use crate::users::{Users, count, find, has_user, names, put, take};
+use cap_text::{CapFault, FaultKind, Name};
+use grant_core::ProfileTable;
+use std::alloc::Global;
+use std::collections::BTreeMap;
+use std::marker::Model;
+use verdict_core::Ticket;
+
+/// The most users that there may be.
+const MOST_USERS: usize = 1024;
+
+/// What a call of `get_or_create` found.
+#[derive(Clone, Copy, Debug, PartialEq, Eq)]
+pub enum Creation {
+    /// There was no user of the name, and now there is.
+    Made,
+    /// The user was there.
+    There,
+}
+
+/// The users, at most 1,024, each with its texts, and the profiles that osd texts may use.
+///
+/// Contracts see the table of profiles and the list of the users by their names' bytes. The osd text of each user
+/// spells a list of grants that is expanded with the table. Names are found by search.
+#[derive(Drop)]
+pub struct AuthDb {
+    alloc: Global,
+    table: ProfileTable,
+    users: Users,
+}
+
+impl Model for AuthDb {
+    ghost use Rattle.auth_db.specs.Users.{Database, IsKept};
+    ghost use Rattle.auth_db.specs.Entries.{users_of};
+
+    ghost Value = { Database };
+
+    ghost view = { λ a. record { table = a.table; users = users_of a.users.entries } };
+
+    ghost invariant = { λ a. IsKept a.table (users_of a.users.entries) };
+}
+
+impl AuthDb {
+    /// No users. It takes no memory.
+    pub fn new(alloc: Global, table: ProfileTable) -> AuthDb
+        ensures table { result.table ≡ table }
+        ensures users { result.users ≡ users_after [] }
+    {
+        AuthDb {
+            alloc,
+            table,
+            users: BTreeMap::new(alloc),
+        }
+    }
+
+    /// Adds a user.
+    ///
+    /// It is refused by the first of these that holds: A1 the name is none; A2 there is such a user; A8 there are 1,024;
+    /// A5 a text is too long, or the osd text spells no list; A6 its list is not expanded; A7 memory is wanting.
+    pub fn add(&mut self, name: &str, caps: Caps) -> Result<(), AuthFault>
+        ensures added { OnOk result (self.new ≡ after self.old (Add name.now caps)) }
+        ensures judged { Judged (spec.add_refusal self.old.users name.now caps) self.old.table caps.osd result }
+        ensures unchanged { OnErr result (self.new ≡ self.old) }
+    {
+        if let Some(fault) = add_refusal(&self.users, name, &caps) {
+            return Err(fault);
+        }
+        if let Err(fault) = check_osd(self.alloc, &self.table, &caps.osd) {
+            return Err(fault);
+        }
+        put(self.alloc, &mut self.users, name, caps)?;
+        Ok(())
+    }
+
+    /// Makes a user, or finds it where no texts are given or just those that it has.
+    ///
+    /// It is refused by A1 where the name is none, by A4 where the user is there with other texts, and else as by `add`.
+    pub fn get_or_create(&mut self, name: &str, caps: Caps) -> Result<Creation, AuthFault>
+        ensures stepped { OnOk result (self.new ≡ after self.old (GetOrCreate name.now caps)) }
+        ensures there { IfSome (user_at self.old.users name.now) (λ stored. result ≡ again name.now stored caps) }
+        ensures made { IsNone (user_at self.old.users name.now) → IfOk result (λ creation. creation ≡ Creation.Made) }
+        ensures judged { IsNone (user_at self.old.users name.now)
+            → Judged (spec.add_refusal self.old.users name.now caps) self.old.table caps.osd result }
+        ensures unchanged { OnErr result (self.new ≡ self.old) }
+    {
+        if let Some(stored) = find(&self.users, name) {
+            return found_again(name, stored, &caps);
+        }
+        match self.add(name, caps) {
+            Ok(()) => Ok(Creation::Made),
+            Err(fault) => Err(fault),
+        }
+    }
+
+    /// Puts all four texts of a user in the place of those that it has.
+    ///
+    /// It is refused by the first of these that holds: A1 the name is none; A3 there is no such user; A5 a text is too
+    /// long, or the osd text spells no list; A6 its list is not expanded; A7 memory is wanting.
+    pub fn caps(&mut self, name: &str, caps: Caps) -> Result<(), AuthFault>
+        ensures put { OnOk result (self.new ≡ after self.old (SetCaps name.now caps)) }
+        ensures judged { Judged (spec.caps_refusal self.old.users name.now caps) self.old.table caps.osd result }
+        ensures unchanged { OnErr result (self.new ≡ self.old) }
+    {
+        if let Some(fault) = caps_refusal(&self.users, name, &caps) {
+            return Err(fault);
+        }
+        if let Err(fault) = check_osd(self.alloc, &self.table, &caps.osd) {
+            return Err(fault);
+        }
+        put(self.alloc, &mut self.users, name, caps)?;
+        Ok(())
+    }
+
+    /// Removes a user. It takes no memory.
+    ///
+    /// It is refused by A1 where the name is none, and by A3 where there is no such user.
+    pub fn del(&mut self, name: &str) -> Result<(), AuthFault>
+        ensures removed { OnOk result (self.new ≡ after self.old (Delete name.now)) }
+        ensures refused { RefusedExactly (spec.known_refusal self.old.users name.now) result }
+        ensures unchanged { OnErr result (self.new ≡ self.old) }
+    {
+        if !is_user_name(name) {
+            return Err(AuthFault::BadName);
+        }
+        if take(&mut self.users, name) {
+            Ok(())
+        } else {
+            Err(AuthFault::NoEntity)
+        }
+    }
+
+    /// The texts of a user. It takes no memory.
+    ///
+    /// It is refused by A1 where the name is none, and by A3 where there is no such user.
+    pub fn get(&self, name: &str) -> Result<&Caps, AuthFault>
+        ensures found { IfOk result (λ caps. user_at self.now.users name.now ≡ Some caps.now) }
+        ensures good { IfOk result (λ caps. IsGood self.now.table caps.now.osd) }
+        ensures refused { RefusedExactly (spec.known_refusal self.now.users name.now) result }
+    {
+        if !is_user_name(name) {
+            return Err(AuthFault::BadName);
+        }
+        match find(&self.users, name) {
+            Some(caps) => Ok(caps),
+            None => Err(AuthFault::NoEntity),
+        }
+    }
+
+    /// The names of the users, in the order of their bytes. It is refused by A7 alone.
+    pub fn list(&self) -> Result<Vec<Name>, AuthFault>
+        ensures names { IfOk result (λ names. names.items ≡ keys_of self.now.users) }
+        ensures sorted { IsStrictlySortedBy (slice_cmp nat_cmp) (keys_of self.now.users) }
+        ensures few { length self.now.users ≤ 1024 }
+        ensures refused { IfErr result (λ fault. fault ≡ AuthFault.OutOfMemory) }
+    {
+        match names(self.alloc, &self.users) {
+            Ok(names) => Ok(names),
+            Err(_) => Err(AuthFault::OutOfMemory),
+        }
+    }
+
+    /// The ticket of a user: what its osd text comes to with the table, and nothing without one.
+    ///
+    /// It is refused by A1 where the name is none, by A3 where there is no such user, and by A7 for want of memory.
+    pub fn ticket(&self, name: &str) -> Result<Ticket, AuthFault>
+        ensures ticket { IfOk result (λ ticket. HasTicket self.now name.now ticket) }
+        ensures refused { RefusedFirst (spec.known_refusal self.now.users name.now) result }
+    {
+        if !is_user_name(name) {
+            return Err(AuthFault::BadName);
+        }
+        match find(&self.users, name) {
+            None => Err(AuthFault::NoEntity),
+            Some(caps) => match osd_ticket(self.alloc, &self.table, &caps.osd) {
+                Ok(ticket) => Ok(ticket),
+                Err(_) => Err(AuthFault::OutOfMemory),
+            },
+        }
+    }
+}
+
+/// The law that one more command is one more step of the users.
+pub fn goes_by_step()
+    ensures { GoesByStep }
+{}
+
+// Why a user is not added, before its osd text is read.
+fn add_refusal(users: &Users, name: &str, caps: &Caps) -> Option<AuthFault>
+    ensures { result ≡ spec.add_refusal (users_of users.now.entries) name.now caps.now }
+{
+    if !is_user_name(name) {
+        return Some(AuthFault::BadName);
+    }
+    if has_user(users, name) {
+        return Some(AuthFault::Exists);
+    }
+    if count(users) >= MOST_USERS {
+        return Some(AuthFault::Limit);
+    }
+    long_text(caps)
+}
+
+// Why a user's texts are not changed, before its osd text is read.
+fn caps_refusal(users: &Users, name: &str, caps: &Caps) -> Option<AuthFault>
+    ensures { result ≡ spec.caps_refusal (users_of users.now.entries) name.now caps.now }
+{
+    if !is_user_name(name) {
+        return Some(AuthFault::BadName);
+    }
+    if !has_user(users, name) {
+        return Some(AuthFault::NoEntity);
+    }
+    long_text(caps)
+}
+
+// The refusal of a text that is too long.
+fn long_text(caps: &Caps) -> Option<AuthFault>
+    ensures { result ≡ spec.long_refusal caps.now }
+{
+    if caps.is_too_long() {
+        Some(AuthFault::BadCaps(CapFault {
+            kind: FaultKind::TooLong,
+            at: 0,
+        }))
+    } else {
+        None
+    }
+}
+
+// What the creation of a user who exists answers.
+fn found_again(name: &str, stored: &Caps, caps: &Caps) -> Result<Creation, AuthFault>
+    ensures { result ≡ again name.now stored.now caps.now }
+{
+    if !is_user_name(name) {
+        return Err(AuthFault::BadName);
+    }
+    if caps.is_empty() || caps.equals(stored) {
+        Ok(Creation::There)
+    } else {
+        Err(AuthFault::CapsDiffer)
+    }
+}

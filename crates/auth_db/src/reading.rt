@@ -1,0 +1,82 @@
+//! Reading osd texts.
+
+ghost use Rattle.std.specs.Prelude.{◌≡◌, IfOk, IfErr, OnOk};
+ghost use Rattle.auth_db.specs.Refusals as spec;
+ghost use Rattle.auth_db.specs.Texts.{IsGood, IsGoodText, IsTicket, IsTicketOf};
+ghost use Rattle.auth_db.specs.Refusals.{TextRefuses, OsdRefuses};
+
+use crate::fault::AuthFault;
+use cap_text::{CapFault, FaultKind, Name, OutOfMemory, parse};
+use grant_core::{ExpandFault, GrantTree, ProfileTable, expand};
+use std::alloc::{AllocError, Global};
+use verdict_core::Ticket;
+
+/// What an osd text comes to with a table.
+fn expand_text(alloc: Global, table: &ProfileTable, text: &str) -> Result<GrantTree, AuthFault>
+    ensures good { OnOk result (IsGoodText table.now text.now) }
+    ensures tree { IfOk result (λ tree. IsTicketOf table.now text.now tree) }
+    ensures refused { IfErr result (λ fault. TextRefuses table.now text.now fault) }
+{
+    match parse(alloc, text) {
+        Err(fault) => Err(text_fault(fault)),
+        Ok(list) => match expand(alloc, table, &list) {
+            Err(fault) => Err(profile_fault(fault)),
+            Ok(tree) => Ok(tree),
+        },
+    }
+}
+
+// A text's fault, where want of memory is the users' own.
+fn text_fault(fault: CapFault) -> AuthFault
+    ensures { result ≡ spec.text_fault fault }
+{
+    match fault.kind {
+        FaultKind::OutOfMemory => AuthFault::OutOfMemory,
+        _ => AuthFault::BadCaps(fault),
+    }
+}
+
+// The fault of an expansion, where want of memory is the users' own.
+fn profile_fault(fault: ExpandFault) -> AuthFault
+    ensures { result ≡ spec.profile_fault fault }
+{
+    match fault {
+        ExpandFault::OutOfMemory => AuthFault::OutOfMemory,
+        _ => AuthFault::BadProfile(fault),
+    }
+}
+
+/// Whether a user may have this osd text.
+pub(crate) fn check_osd(
+    alloc: Global,
+    table: &ProfileTable,
+    osd: &Option<Name>,
+) -> Result<(), AuthFault>
+    ensures good { OnOk result (IsGood table.now osd.now) }
+    ensures refused { IfErr result (λ fault. OsdRefuses table.now osd.now fault) }
+{
+    match osd {
+        None => Ok(()),
+        Some(text) => match expand_text(alloc, table, text.as_str()) {
+            Err(fault) => Err(fault),
+            Ok(_) => Ok(()),
+        },
+    }
+}
+
+/// The ticket of a stored osd text. Such a text is good, so that only memory can be wanting.
+pub(crate) fn osd_ticket(
+    alloc: Global,
+    table: &ProfileTable,
+    osd: &Option<Name>,
+) -> Result<Ticket, OutOfMemory>
+    ensures { IfOk result (λ ticket. IsTicket table.now osd.now ticket) }
+{
+    match osd {
+        None => Ok(Ticket::from_vec(Vec::new(alloc))),
+        Some(text) => match expand_text(alloc, table, text.as_str()) {
+            Err(_) => Err(AllocError),
+            Ok(tree) => Ticket::of(alloc, &tree),
+        },
+    }
+}
