@@ -5,3 +5,4 @@ pub mod Map
 pub mod Refusal
 pub mod Replay
 pub mod State
+pub mod Printed

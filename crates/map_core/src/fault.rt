@@ -1,9 +1,11 @@
 //! Why a command or a question is refused.
 
-ghost use Rattle.std.specs.Prelude.{◌≡◌};
+ghost use Rattle.std.specs.Prelude.{◌≡◌, Some};
+ghost use Rattle.map_core.specs.Printed.{fault_text};
 ghost use Rattle.map_core.specs.declared.fault.MapFault.TheVariants as faults;
 
 use std::alloc::{AllocError, AllocFailed};
+use std::fmt;
 
 /// Why a command or a question is refused, which leaves the map as it was.
 ///
@@ -50,3 +52,26 @@ impl<T: Drop> From<AllocFailed<T>> for MapFault {
         MapFault::OutOfMemory
     }
 }
+
+/// Its number and its name, as `M7 Limit`.
+impl fmt::Display for MapFault {
+    ghost output = { λ fault. Some (fault_text fault) };
+
+    fn fmt<W: fmt::Write>(&self, f: &mut fmt::Formatter<W>) -> fmt::Result {
+        f.write_str(match self {
+            MapFault::PoolExists => "M1 PoolExists",
+            MapFault::NoPool => "M2 NoPool",
+            MapFault::NoApplication => "M3 NoApplication",
+            MapFault::NoKey => "M4 NoKey",
+            MapFault::NoDaemon => "M5 NoDaemon",
+            MapFault::AlreadySo => "M6 AlreadySo",
+            MapFault::Limit => "M7 Limit",
+            MapFault::OutOfMemory => "M8 OutOfMemory",
+            MapFault::BadName => "M9 BadName",
+            MapFault::NoGroup => "M10 NoGroup",
+            MapFault::NoEpoch => "M11 NoEpoch",
+        })
+    }
+}
+
+impl std::error::Error for MapFault {}

@@ -176,3 +176,17 @@ fn limits_of_a_map(rt: HostRuntime) -> Result<(), Fail> {
     ];
     run(&rt, rt.alloc(), &mut map, &full)
 }
+
+#[test]
+fn faults_print_their_number_and_name(rt: HostRuntime) -> Result<(), Fail> {
+    let alloc = rt.alloc();
+    for (fault, want) in [
+        (MapFault::PoolExists, "M1 PoolExists"),
+        (MapFault::Limit, "M7 Limit"),
+        (MapFault::NoEpoch, "M11 NoEpoch"),
+    ] {
+        let printed = fault.to_string(alloc)?;
+        assert!(rt; printed.as_str() == want, "{want}");
+    }
+    Ok(())
+}
