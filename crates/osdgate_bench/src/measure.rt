@@ -1,7 +1,6 @@
 //! Runs of one piece of work, and their times.
 
-ghost use Rattle.std.specs.Prelude.{◌≡◌, ◌*◌, ◌/◌, ◌<◌, ◌≤◌, List, ℕ, length, min, slice_index, usize, IfOk};
-ghost use Rattle.std.specs.List.Sorted.{IsPermutation, IsNonDecreasing};
+ghost use Rattle.std.specs.Prelude.{◌≡◌, ◌*◌, ◌/◌, ◌^◌, ◌<◌, ◌≤◌, length, IfOk};
 ghost use Rattle.osdgate_bench.specs.Runs.{AreLeastAndMiddle};
 
 use crate::fault::Fault;

@@ -1,5 +1,7 @@
 //! What it costs to read a capability text.
 
+ghost use Rattle.std.specs.Prelude.{◌≤◌};
+
 use crate::fault::Fault;
 use crate::measure::Work;
 use crate::table::Table;

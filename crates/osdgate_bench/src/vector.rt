@@ -12,15 +12,15 @@ use std::time::Clock;
 
 /// A vector on an object, which is run and its outcome let go.
 #[derive(Drop)]
-struct Run<'a> {
+struct Run {
     alloc: Global,
-    object: &'a Object,
-    ops: &'a [Op],
+    object: Object,
+    ops: Vec<Op>,
 }
 
-impl Work for Run<'_> {
+impl Work for Run {
     fn once(&self, _turn: usize) -> Result<bool, OutOfMemory> {
-        match run_vector(self.alloc, Some(self.object), self.ops)? {
+        match run_vector(self.alloc, Some(&self.object), self.ops.as_slice())? {
             Outcome::Done { .. } => Ok(true),
             Outcome::Failed { .. } => Ok(false),
         }
@@ -41,6 +41,13 @@ fn repeated(alloc: Global, text: &str, times: usize) -> Result<Object, OutOfMemo
         bytes.extend_from_slice(text.as_bytes())?;
     }
     object_of(alloc, bytes.as_slice())
+}
+
+/// A vector of one operation.
+fn single(alloc: Global, object: Object, op: Op) -> Result<Run, OutOfMemory> {
+    let mut ops = Vec::new(alloc);
+    ops.push(op)?;
+    Ok(Run { alloc, object, ops })
 }
 
 fn read_all() -> Op {
@@ -64,7 +71,7 @@ fn add_one(alloc: Global) -> Result<Op, OutOfMemory> {
 }
 
 /// Four times a read, an append, a setting of an attribute and a look at it.
-fn sixteen(alloc: Global, name: &str) -> Result<Vec<Op>, OutOfMemory> {
+fn sixteen(alloc: Global, object: Object, name: &str) -> Result<Run, OutOfMemory> {
     let mut ops = Vec::new(alloc);
     for _ in 0..4 {
         ops.push(read_all())?;
@@ -75,30 +82,50 @@ fn sixteen(alloc: Global, name: &str) -> Result<Vec<Op>, OutOfMemory> {
         })?;
         ops.push(Op::GetAttribute(Name::new(alloc, "owner")?))?;
     }
-    Ok(ops)
+    Ok(Run { alloc, object, ops })
 }
 
-/// Adds the rows of vectors, over contents that repeat a given name.
+/// The vectors that are measured.
+#[derive(Clone, Copy, Debug)]
+enum Kind {
+    Read,
+    Append,
+    Count,
+    Sixteen,
+}
+
+impl Kind {
+    fn name(self) -> &'static str {
+        match self {
+            Kind::Read => "vector, a read of 1,024 names",
+            Kind::Append => "vector, an append to 1,024 names",
+            Kind::Count => "vector, counter.add",
+            Kind::Sixteen => "vector, 16 operations on 16 names",
+        }
+    }
+
+    /// The vector and its object, over contents that repeat a given name.
+    fn work(self, alloc: Global, name: &str) -> Result<Run, OutOfMemory> {
+        match self {
+            Kind::Read => single(alloc, repeated(alloc, name, 1024)?, read_all()),
+            Kind::Append => {
+                let op = append(alloc, name)?;
+                single(alloc, repeated(alloc, name, 1024)?, op)
+            }
+            Kind::Count => {
+                let op = add_one(alloc)?;
+                single(alloc, object_of(alloc, b"41")?, op)
+            }
+            Kind::Sixteen => sixteen(alloc, repeated(alloc, name, 16)?, name),
+        }
+    }
+}
+
+/// Adds the rows of vectors, over a given name.
 pub(crate) fn add_vectors<C: Clock>(table: &mut Table<'_, C>, name: &str) -> Result<(), Fault> {
-    let alloc = table.alloc();
-    let long = repeated(alloc, name, 1024)?;
-    let number = object_of(alloc, b"41")?;
-    let short = repeated(alloc, name, 16)?;
-    let read = vec![in alloc; read_all()]?;
-    let added = vec![in alloc; append(alloc, name)?]?;
-    let counted = vec![in alloc; add_one(alloc)?]?;
-    let mixed = sixteen(alloc, name)?;
-    for (row, object, ops) in [
-        ("vector, a read of 1,024 names", &long, read.as_slice()),
-        ("vector, an append to 1,024 names", &long, added.as_slice()),
-        ("vector, counter.add", &number, counted.as_slice()),
-        (
-            "vector, 16 operations on 16 names",
-            &short,
-            mixed.as_slice(),
-        ),
-    ] {
-        table.row(row, &Run { alloc, object, ops })?;
+    for kind in [Kind::Read, Kind::Append, Kind::Count, Kind::Sixteen] {
+        let work = kind.work(table.alloc(), name)?;
+        table.row(kind.name(), &work)?;
     }
     Ok(())
 }

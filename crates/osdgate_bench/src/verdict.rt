@@ -1,5 +1,7 @@
 //! What a verdict costs, and what a denied one with its report.
 
+ghost use Rattle.std.specs.Prelude.{◌<◌, ◌≤◌};
+
 use crate::fault::Fault;
 use crate::measure::Work;
 use crate::table::Table;
