@@ -4,8 +4,9 @@ ghost use Rattle.std.specs.Prelude.{◌≡◌};
 ghost use Rattle.cap_text.specs.Grammar.{namespace_of, part_of};
 ghost use Rattle.cap_text.specs.declared.grant.Access.TheVariants as accesses;
 ghost use Rattle.cap_text.specs.Gives.{Gives, GivesTo};
-ghost use Rattle.cap_text.specs.Machine.{fresh, with_access, after_access, accessed, wants_access, clause_word, access_word, clauses, letters_step, class_read_word, class_read_step, method_step, value_of, value_step, filled, namespace_place, namespace_step, namespace_word_step, part_at, key_step, key_value_step, start_step, step, grant_of, close};
+ghost use Rattle.cap_text.specs.Machine.{with_access, after_access, accessed, wants_access, clause_word, access_word, clauses, letters_step, class_read_word, class_read_step, method_step, value_of, value_step, filled, namespace_place, namespace_step, namespace_word_step, part_at, key_step, key_value_step, start_step, step, grant_of, close};
 
+use crate::draft::BoxedDraft;
 use crate::fault::FaultKind;
 use crate::grant::{Access, AllowGrant, Flags, Grant, NsMatch, Part, ProfileUse, Tag};
 use crate::keyword::{Keyword, keyword_of};
@@ -35,25 +36,10 @@ const NO_MORE: ClauseSet = ClauseSet {
     tag: false,
 };
 
-fn fresh(head: Head) -> Draft
-    ensures { result ≡ fresh head }
-{
-    Draft {
-        head,
-        pool: None,
-        namespace: None,
-        prefix: None,
-        tag: None,
-    }
-}
-
-fn with_access(draft: Draft, access: Access) -> Draft
+fn with_access(draft: BoxedDraft, access: Access) -> BoxedDraft
     ensures { result ≡ with_access draft access }
 {
-    Draft {
-        head: Head::Allow(Some(access)),
-        ..draft
-    }
+    draft.with_head(Head::Allow(Some(access)))
 }
 
 /// An access that comes first is followed by the clauses; one that follows them ends the grant.
@@ -63,7 +49,7 @@ fn after_access(may: ClauseSet) -> ClauseSet
     if may.pool { may } else { NO_MORE }
 }
 
-fn accessed(may: ClauseSet, draft: Draft, access: Access) -> Place
+fn accessed(may: ClauseSet, draft: BoxedDraft, access: Access) -> Place
     ensures { result ≡ accessed may draft access }
 {
     Place::Clauses(after_access(may), with_access(draft, access))
@@ -78,7 +64,7 @@ fn wants_access(head: &Head) -> bool
     }
 }
 
-fn access_word(may: ClauseSet, draft: Draft, keyword: Keyword) -> Result<Place, FaultKind>
+fn access_word(may: ClauseSet, draft: BoxedDraft, keyword: Keyword) -> Result<Place, FaultKind>
     ensures { Gives result (access_word may draft keyword) }
 {
     let none = Flags {
@@ -118,7 +104,7 @@ fn access_word(may: ClauseSet, draft: Draft, keyword: Keyword) -> Result<Place, 
     }
 }
 
-fn clause_word(may: ClauseSet, draft: Draft, keyword: Keyword) -> Result<Place, FaultKind>
+fn clause_word(may: ClauseSet, draft: BoxedDraft, keyword: Keyword) -> Result<Place, FaultKind>
     ensures { Gives result (clause_word may draft keyword) }
 {
     match keyword {
@@ -130,23 +116,28 @@ fn clause_word(may: ClauseSet, draft: Draft, keyword: Keyword) -> Result<Place, 
             Err(FaultKind::BadMatch)
         }
         Keyword::Network => Err(FaultKind::NetworkClause),
-        _ if wants_access(&draft.head) => access_word(may, draft, keyword),
+        _ if wants_access(draft.head()) => access_word(may, draft, keyword),
         _ => Err(FaultKind::UnknownWord),
     }
 }
 
-fn clauses(may: ClauseSet, draft: Draft, token: Token<'_>) -> Result<Place, FaultKind>
+fn clauses(may: ClauseSet, draft: BoxedDraft, token: Token<'_>) -> Result<Place, FaultKind>
     ensures { Gives result (clauses may draft token.entry) }
 {
     match token {
         Token::Word(word) => clause_word(may, draft, keyword_of(word.as_str())),
-        Token::Star(_) if wants_access(&draft.head) => Ok(accessed(may, draft, Access::All)),
-        _ if wants_access(&draft.head) => Err(FaultKind::BadAccess),
+        Token::Star(_) if wants_access(draft.head()) => Ok(accessed(may, draft, Access::All)),
+        _ if wants_access(draft.head()) => Err(FaultKind::BadAccess),
         _ => Err(FaultKind::UnknownWord),
     }
 }
 
-fn letters(flags: Flags, may: ClauseSet, draft: Draft, token: Token<'_>) -> Result<Place, FaultKind>
+fn letters(
+    flags: Flags,
+    may: ClauseSet,
+    draft: BoxedDraft,
+    token: Token<'_>,
+) -> Result<Place, FaultKind>
     ensures { Gives result (letters_step flags may draft token.entry) }
 {
     match token {
@@ -171,7 +162,7 @@ fn letters(flags: Flags, may: ClauseSet, draft: Draft, token: Token<'_>) -> Resu
 fn class_read_word(
     flags: Flags,
     may: ClauseSet,
-    draft: Draft,
+    draft: BoxedDraft,
     keyword: Keyword,
 ) -> Result<Place, FaultKind>
     ensures { Gives result (class_read_word flags may draft keyword) }
@@ -198,7 +189,7 @@ fn class_read_word(
 fn class_read(
     flags: Flags,
     may: ClauseSet,
-    draft: Draft,
+    draft: BoxedDraft,
     token: Token<'_>,
 ) -> Result<Place, FaultKind>
     ensures { Gives result (class_read_step flags may draft token.entry) }
@@ -225,7 +216,7 @@ fn method(
     alloc: Global,
     class: Name,
     may: ClauseSet,
-    draft: Draft,
+    draft: BoxedDraft,
     token: Token<'_>,
 ) -> Result<Place, FaultKind>
     ensures { Gives result (method_step class may draft token.entry) }
@@ -267,17 +258,11 @@ fn value(alloc: Global, token: Token<'_>) -> Result<Name, FaultKind>
 }
 
 /// The place behind a value.
-fn filled(slot: Slot, may: ClauseSet, draft: Draft, value: Name) -> Place
+fn filled(slot: Slot, may: ClauseSet, draft: BoxedDraft, value: Name) -> Place
     ensures { result ≡ filled slot may draft value }
 {
     match slot {
-        Slot::Profile => Place::Clauses(
-            may,
-            Draft {
-                head: Head::Profile(value),
-                ..draft
-            },
-        ),
+        Slot::Profile => Place::Clauses(may, draft.with_head(Head::Profile(value))),
         Slot::Class => Place::Method(value, may, draft),
         Slot::Pool => {
             let may = ClauseSet {
@@ -285,21 +270,9 @@ fn filled(slot: Slot, may: ClauseSet, draft: Draft, value: Name) -> Place
                 tag: false,
                 ..may
             };
-            Place::Clauses(
-                may,
-                Draft {
-                    pool: Some(value),
-                    ..draft
-                },
-            )
+            Place::Clauses(may, draft.with_pool(value))
         }
-        Slot::Prefix => Place::Clauses(
-            NO_MORE,
-            Draft {
-                prefix: Some(value),
-                ..draft
-            },
-        ),
+        Slot::Prefix => Place::Clauses(NO_MORE, draft.with_prefix(value)),
         Slot::Application => Place::Key(value, draft),
     }
 }
@@ -308,7 +281,7 @@ fn filled_by(
     alloc: Global,
     slot: Slot,
     may: ClauseSet,
-    draft: Draft,
+    draft: BoxedDraft,
     token: Token<'_>,
 ) -> Result<Place, FaultKind>
     ensures { Gives result (value_step slot may draft token.entry) }
@@ -328,22 +301,21 @@ fn namespace_of(alloc: Global, text: &str) -> Result<NsMatch, FaultKind>
     Ok(NsMatch::Prefix(name_of(alloc, front)?))
 }
 
-fn in_namespace(may: ClauseSet, draft: Draft, namespace: NsMatch) -> Place
+fn in_namespace(may: ClauseSet, draft: BoxedDraft, namespace: NsMatch) -> Place
     ensures { result ≡ namespace_place may draft namespace }
 {
-    let namespace = Some(namespace);
     let may = ClauseSet {
         pool: false,
         namespace: false,
         ..may
     };
-    Place::Clauses(may, Draft { namespace, ..draft })
+    Place::Clauses(may, draft.with_namespace(namespace))
 }
 
 fn namespace(
     alloc: Global,
     may: ClauseSet,
-    draft: Draft,
+    draft: BoxedDraft,
     token: Token<'_>,
 ) -> Result<Place, FaultKind>
     ensures { Gives result (namespace_step may draft token.entry) }
@@ -368,7 +340,7 @@ fn namespace(
 fn behind_namespace(
     name: Name,
     may: ClauseSet,
-    draft: Draft,
+    draft: BoxedDraft,
     token: Token<'_>,
 ) -> Result<Place, FaultKind>
     ensures { Gives result (namespace_word_step name may draft token.entry) }
@@ -376,13 +348,13 @@ fn behind_namespace(
     match token {
         Token::Star(true) => Ok(in_namespace(may, draft, NsMatch::Prefix(name))),
         token => {
-            let namespace = Some(NsMatch::Exact(name));
+            let draft = draft.with_namespace(NsMatch::Exact(name));
             let may = ClauseSet {
                 pool: false,
                 namespace: false,
                 ..may
             };
-            clauses(may, Draft { namespace, ..draft }, token)
+            clauses(may, draft, token)
         }
     }
 }
@@ -410,7 +382,12 @@ fn part(alloc: Global, token: Token<'_>) -> Result<Part, FaultKind>
     }
 }
 
-fn key(alloc: Global, application: Name, draft: Draft, token: Token<'_>) -> Result<Place, FaultKind>
+fn key(
+    alloc: Global,
+    application: Name,
+    draft: BoxedDraft,
+    token: Token<'_>,
+) -> Result<Place, FaultKind>
     ensures { Gives result (key_step application draft token.entry) }
 {
     let key = part(alloc, token)?;
@@ -421,28 +398,28 @@ fn key_value(
     alloc: Global,
     application: Name,
     key: Part,
-    draft: Draft,
+    draft: BoxedDraft,
     token: Token<'_>,
 ) -> Result<Place, FaultKind>
     ensures { Gives result (key_value_step application key draft token.entry) }
 {
     let value = part(alloc, token)?;
-    let tag = Some(Tag {
+    let tag = Tag {
         application,
         key,
         value,
-    });
-    Ok(Place::Clauses(NO_MORE, Draft { tag, ..draft }))
+    };
+    Ok(Place::Clauses(NO_MORE, draft.with_tag(tag)))
 }
 
-fn start(token: Token<'_>) -> Result<Place, FaultKind>
+fn start(alloc: Global, token: Token<'_>) -> Result<Place, FaultKind>
     ensures { Gives result (start_step token.entry) }
 {
     match token {
         Token::Word(word) => match keyword_of(word.as_str()) {
-            Keyword::Allow => Ok(Place::Clauses(EVERY, fresh(Head::Allow(None)))),
+            Keyword::Allow => Ok(Place::Clauses(EVERY, BoxedDraft::new(alloc, Head::Allow(None))?)),
             Keyword::Profile => {
-                let draft = fresh(Head::Allow(None));
+                let draft = BoxedDraft::new(alloc, Head::Allow(None))?;
                 Ok(Place::Assigned(Slot::Profile, OF_PROFILE, draft))
             }
             _ => Err(FaultKind::UnknownWord),
@@ -457,7 +434,7 @@ pub(crate) fn step(alloc: Global, place: Place, token: Token<'_>) -> Result<Plac
     ensures { Gives result (step place token.entry) }
 {
     match place {
-        Place::Start | Place::Separator => start(token),
+        Place::Start | Place::Separator => start(alloc, token),
         Place::Clauses(may, draft) => clauses(may, draft, token),
         Place::Letters(flags, may, draft) => letters(flags, may, draft, token),
         Place::ClassRead(flags, may, draft) => class_read(flags, may, draft, token),
@@ -484,7 +461,7 @@ pub(crate) fn step(alloc: Global, place: Place, token: Token<'_>) -> Result<Plac
     }
 }
 
-fn grant_of(draft: Draft) -> Result<Grant, FaultKind>
+fn grant_of(draft: BoxedDraft) -> Result<Grant, FaultKind>
     ensures { Gives result (grant_of draft) }
 {
     let Draft {
@@ -493,7 +470,7 @@ fn grant_of(draft: Draft) -> Result<Grant, FaultKind>
         namespace,
         prefix,
         tag,
-    } = draft;
+    } = draft.into_inner();
     match head {
         Head::Profile(name) => Ok(Grant::Profile(ProfileUse {
             name,
@@ -524,8 +501,7 @@ pub(crate) fn close(place: Place) -> Result<Grant, FaultKind>
         }
         Place::Method(class, _, draft) => grant_of(with_access(draft, class_of(class, None))),
         Place::NamespaceWord(name, _, draft) => {
-            let namespace = Some(NsMatch::Exact(name));
-            grant_of(Draft { namespace, ..draft })
+            grant_of(draft.with_namespace(NsMatch::Exact(name)))
         }
         Place::Start | Place::Separator => Err(FaultKind::UnknownWord),
         Place::KeyEquals(_, _, _) => Err(FaultKind::BadMatch),
