@@ -121,6 +121,7 @@ fn clause_word(may: ClauseSet, draft: BoxedDraft, keyword: Keyword) -> Result<Pl
     }
 }
 
+#[inline(never)]
 fn clauses(may: ClauseSet, draft: BoxedDraft, token: Token<'_>) -> Result<Place, FaultKind>
     ensures { Gives result (clauses may draft token.entry) }
 {
@@ -132,6 +133,7 @@ fn clauses(may: ClauseSet, draft: BoxedDraft, token: Token<'_>) -> Result<Place,
     }
 }
 
+#[inline(never)]
 fn letters(
     flags: Flags,
     may: ClauseSet,
@@ -186,6 +188,7 @@ fn class_read_word(
     }
 }
 
+#[inline(never)]
 fn class_read(
     flags: Flags,
     may: ClauseSet,
@@ -212,6 +215,7 @@ fn class_of(class: Name, method: Option<Name>) -> Access
     Access::Class { class, method }
 }
 
+#[inline(never)]
 fn method(
     alloc: Global,
     class: Name,
@@ -277,6 +281,7 @@ fn filled(slot: Slot, may: ClauseSet, draft: BoxedDraft, value: Name) -> Place
     }
 }
 
+#[inline(never)]
 fn filled_by(
     alloc: Global,
     slot: Slot,
@@ -312,6 +317,7 @@ fn in_namespace(may: ClauseSet, draft: BoxedDraft, namespace: NsMatch) -> Place
     Place::Clauses(may, draft.with_namespace(namespace))
 }
 
+#[inline(never)]
 fn namespace(
     alloc: Global,
     may: ClauseSet,
@@ -337,6 +343,7 @@ fn namespace(
     }
 }
 
+#[inline(never)]
 fn behind_namespace(
     name: Name,
     may: ClauseSet,
@@ -382,6 +389,7 @@ fn part(alloc: Global, token: Token<'_>) -> Result<Part, FaultKind>
     }
 }
 
+#[inline(never)]
 fn key(
     alloc: Global,
     application: Name,
@@ -394,6 +402,7 @@ fn key(
     Ok(Place::KeyEquals(application, key, draft))
 }
 
+#[inline(never)]
 fn key_value(
     alloc: Global,
     application: Name,
@@ -412,6 +421,7 @@ fn key_value(
     Ok(Place::Clauses(NO_MORE, draft.with_tag(tag)))
 }
 
+#[inline(never)]
 fn start(alloc: Global, token: Token<'_>) -> Result<Place, FaultKind>
     ensures { Gives result (start_step token.entry) }
 {
@@ -429,6 +439,8 @@ fn start(alloc: Global, token: Token<'_>) -> Result<Place, FaultKind>
 }
 
 /// The place behind a token that is no separator.
+///
+/// What it calls is never inlined: it would set all their places to zero at each token.
 #[tactic(auto, unfolding(crate::specs::Machine::step))]
 pub(crate) fn step(alloc: Global, place: Place, token: Token<'_>) -> Result<Place, FaultKind>
     ensures { Gives result (step place token.entry) }

@@ -4,7 +4,7 @@ ghost use Rattle.std.specs.Prelude.{◌≡◌, ◌≤◌, ◌∷◌, ◌++◌, [
 ghost use Rattle.cap_text.specs.declared.grant.Grant.{Grant};
 ghost use Rattle.cap_text.specs.Grammar.{Spells, AtMostOneList};
 ghost use Rattle.cap_text.specs.Gives.{Gives};
-ghost use Rattle.cap_text.specs.Machine.{advance, finish, placed};
+ghost use Rattle.cap_text.specs.Machine.{advance, after_grant, close, finish, placed};
 ghost use Rattle.cap_text.specs.Faults.{OrMemory, IsFirstFault};
 
 use crate::caps::CapList;
@@ -23,26 +23,35 @@ const LONGEST: usize = 4096;
 /// The most grants that a text may spell.
 const MOST_GRANTS: usize = 64;
 
+/// Puts the grant that a separator ends behind the others. It is not inlined, since room for a grant would be
+/// made at each token then.
+#[inline(never)]
+fn end_grant(state: State) -> Result<State, FaultKind>
+    ensures { Gives result (after_grant state.done (close state.place)) }
+{
+    let done = state.done;
+    let grant = close(state.place)?;
+    let done = done.with(grant)?;
+    Ok(State {
+        done,
+        place: Place::Separator,
+    })
+}
+
 fn advance(alloc: Global, state: State, token: Token<'_>) -> Result<State, FaultKind>
     ensures { Gives result (advance state token.entry) }
 {
-    let done = state.done;
     match token {
-        Token::Comma | Token::Semicolon => {
-            let grant = close(state.place)?;
-            let done = done.with(grant)?;
-            Ok(State {
-                done,
-                place: Place::Separator,
-            })
-        }
+        Token::Comma | Token::Semicolon => end_grant(state),
         token => {
+            let done = state.done;
             let place = step(alloc, state.place, token)?;
             Ok(State { done, place })
         }
     }
 }
 
+#[inline(never)]
 fn finish(state: State) -> Result<Grants, FaultKind>
     ensures { Gives result (finish state) }
 {
