@@ -122,8 +122,8 @@ fn clause_word(may: ClauseSet, draft: BoxedDraft, keyword: Keyword) -> Result<Pl
 }
 
 #[inline(never)]
-fn clauses(may: ClauseSet, draft: BoxedDraft, token: Token<'_>) -> Result<Place, FaultKind>
-    ensures { Gives result (clauses may draft token.entry) }
+fn clauses(may: ClauseSet, draft: BoxedDraft, token: &Token<'_>) -> Result<Place, FaultKind>
+    ensures { Gives result (clauses may draft token.now) }
 {
     match token {
         Token::Word(word) => clause_word(may, draft, keyword_of(word.as_str())),
@@ -138,9 +138,9 @@ fn letters(
     flags: Flags,
     may: ClauseSet,
     draft: BoxedDraft,
-    token: Token<'_>,
+    token: &Token<'_>,
 ) -> Result<Place, FaultKind>
-    ensures { Gives result (letters_step flags may draft token.entry) }
+    ensures { Gives result (letters_step flags may draft token.now) }
 {
     match token {
         Token::Word(word) => match keyword_of(word.as_str()) {
@@ -193,9 +193,9 @@ fn class_read(
     flags: Flags,
     may: ClauseSet,
     draft: BoxedDraft,
-    token: Token<'_>,
+    token: &Token<'_>,
 ) -> Result<Place, FaultKind>
-    ensures { Gives result (class_read_step flags may draft token.entry) }
+    ensures { Gives result (class_read_step flags may draft token.now) }
 {
     match token {
         Token::Word(word) => class_read_word(flags, may, draft, keyword_of(word.as_str())),
@@ -221,9 +221,9 @@ fn method(
     class: Name,
     may: ClauseSet,
     draft: BoxedDraft,
-    token: Token<'_>,
+    token: &Token<'_>,
 ) -> Result<Place, FaultKind>
-    ensures { Gives result (method_step class may draft token.entry) }
+    ensures { Gives result (method_step class may draft token.now) }
 {
     match token {
         Token::Word(word) => match keyword_of(word.as_str()) {
@@ -251,8 +251,8 @@ fn method(
     }
 }
 
-fn value(alloc: Global, token: Token<'_>) -> Result<Name, FaultKind>
-    ensures { Gives result (value_of token.entry) }
+fn value(alloc: Global, token: &Token<'_>) -> Result<Name, FaultKind>
+    ensures { Gives result (value_of token.now) }
 {
     match token {
         Token::Word(word) => name_of(alloc, word.as_str()),
@@ -287,9 +287,9 @@ fn filled_by(
     slot: Slot,
     may: ClauseSet,
     draft: BoxedDraft,
-    token: Token<'_>,
+    token: &Token<'_>,
 ) -> Result<Place, FaultKind>
-    ensures { Gives result (value_step slot may draft token.entry) }
+    ensures { Gives result (value_step slot may draft token.now) }
 {
     let value = value(alloc, token)?;
     Ok(filled(slot, may, draft, value))
@@ -322,9 +322,9 @@ fn namespace(
     alloc: Global,
     may: ClauseSet,
     draft: BoxedDraft,
-    token: Token<'_>,
+    token: &Token<'_>,
 ) -> Result<Place, FaultKind>
-    ensures { Gives result (namespace_step may draft token.entry) }
+    ensures { Gives result (namespace_step may draft token.now) }
 {
     match token {
         Token::Word(word) => {
@@ -348,9 +348,9 @@ fn behind_namespace(
     name: Name,
     may: ClauseSet,
     draft: BoxedDraft,
-    token: Token<'_>,
+    token: &Token<'_>,
 ) -> Result<Place, FaultKind>
-    ensures { Gives result (namespace_word_step name may draft token.entry) }
+    ensures { Gives result (namespace_word_step name may draft token.now) }
 {
     match token {
         Token::Star(true) => Ok(in_namespace(may, draft, NsMatch::Prefix(name))),
@@ -377,8 +377,8 @@ fn part_of(name: Name) -> Part
 }
 
 /// One side of a tag's pair.
-fn part(alloc: Global, token: Token<'_>) -> Result<Part, FaultKind>
-    ensures { Gives result (part_at token.entry) }
+fn part(alloc: Global, token: &Token<'_>) -> Result<Part, FaultKind>
+    ensures { Gives result (part_at token.now) }
 {
     match token {
         Token::Star(_) => Ok(Part::Any),
@@ -394,9 +394,9 @@ fn key(
     alloc: Global,
     application: Name,
     draft: BoxedDraft,
-    token: Token<'_>,
+    token: &Token<'_>,
 ) -> Result<Place, FaultKind>
-    ensures { Gives result (key_step application draft token.entry) }
+    ensures { Gives result (key_step application draft token.now) }
 {
     let key = part(alloc, token)?;
     Ok(Place::KeyEquals(application, key, draft))
@@ -408,9 +408,9 @@ fn key_value(
     application: Name,
     key: Part,
     draft: BoxedDraft,
-    token: Token<'_>,
+    token: &Token<'_>,
 ) -> Result<Place, FaultKind>
-    ensures { Gives result (key_value_step application key draft token.entry) }
+    ensures { Gives result (key_value_step application key draft token.now) }
 {
     let value = part(alloc, token)?;
     let tag = Tag {
@@ -422,8 +422,8 @@ fn key_value(
 }
 
 #[inline(never)]
-fn start(alloc: Global, token: Token<'_>) -> Result<Place, FaultKind>
-    ensures { Gives result (start_step token.entry) }
+fn start(alloc: Global, token: &Token<'_>) -> Result<Place, FaultKind>
+    ensures { Gives result (start_step token.now) }
 {
     match token {
         Token::Word(word) => match keyword_of(word.as_str()) {
@@ -442,8 +442,8 @@ fn start(alloc: Global, token: Token<'_>) -> Result<Place, FaultKind>
 ///
 /// What it calls is never inlined: it would set all their places to zero at each token.
 #[tactic(auto, unfolding(crate::specs::Machine::step))]
-pub(crate) fn step(alloc: Global, place: Place, token: Token<'_>) -> Result<Place, FaultKind>
-    ensures { Gives result (step place token.entry) }
+pub(crate) fn step(alloc: Global, place: Place, token: &Token<'_>) -> Result<Place, FaultKind>
+    ensures { Gives result (step place token.now) }
 {
     match place {
         Place::Start | Place::Separator => start(alloc, token),

@@ -38,8 +38,8 @@ fn end_grant(state: State) -> Result<State, FaultKind>
     })
 }
 
-fn advance(alloc: Global, state: State, token: Token<'_>) -> Result<State, FaultKind>
-    ensures { Gives result (advance state token.entry) }
+fn advance(alloc: Global, state: State, token: &Token<'_>) -> Result<State, FaultKind>
+    ensures { Gives result (advance state token.now) }
 {
     match token {
         Token::Comma | Token::Semicolon => end_grant(state),
@@ -107,7 +107,7 @@ pub fn parse(alloc: Global, text: &str) -> Result<CapList, CapFault>
         match found {
             Some((token, after)) => {
                 behind_word = token.is_word();
-                match advance(alloc, state, token) {
+                match advance(alloc, state, &token) {
                     Ok(next) => state = next,
                     Err(kind) => return Err(fault(kind, at)),
                 }
