@@ -1,10 +1,10 @@
-//! Drafts of grants on the heap.
+//! Drafts of grants, names and parts of tags on the heap, so that a place of the grammar is small.
 
 ghost use Rattle.std.specs.Prelude.{◌≡◌, Some, IfOk};
 ghost use Rattle.cap_text.specs.Machine.{fresh};
 
 use crate::fault::OutOfMemory;
-use crate::grant::{NsMatch, Tag};
+use crate::grant::{NsMatch, Part, Tag};
 use crate::name::Name;
 use crate::place::{Draft, Head};
 use std::alloc::Global;
@@ -89,5 +89,69 @@ impl BoxedDraft {
     {
         let BoxedDraft { draft } = self;
         Box::into_inner(draft)
+    }
+}
+
+/// A name on the heap, which contracts see as the name.
+#[derive(Debug, Drop)]
+pub struct BoxedName {
+    name: Box<Name>,
+}
+
+impl Model for BoxedName {
+    ghost use Rattle.std.specs.Prelude.{List, ℕ};
+
+    ghost Value = { List ℕ };
+
+    ghost view = { λ b. b.name.value };
+}
+
+impl BoxedName {
+    pub fn new(alloc: Global, name: Name) -> Result<BoxedName, OutOfMemory>
+        ensures { IfOk result (λ boxed. boxed ≡ name) }
+    {
+        Ok(BoxedName {
+            name: Box::new(alloc, name)?,
+        })
+    }
+
+    /// The name, for good.
+    pub fn into_inner(self) -> Name
+        ensures { result ≡ self }
+    {
+        let BoxedName { name } = self;
+        Box::into_inner(name)
+    }
+}
+
+/// A part of a tag on the heap, which contracts see as the part.
+#[derive(Debug, Drop)]
+pub struct BoxedPart {
+    part: Box<Part>,
+}
+
+impl Model for BoxedPart {
+    ghost use Rattle.cap_text.specs.declared.grant.Part.{Part};
+
+    ghost Value = { Part };
+
+    ghost view = { λ b. b.part.value };
+}
+
+impl BoxedPart {
+    pub fn new(alloc: Global, part: Part) -> Result<BoxedPart, OutOfMemory>
+        ensures { IfOk result (λ boxed. boxed ≡ part) }
+    {
+        Ok(BoxedPart {
+            part: Box::new(alloc, part)?,
+        })
+    }
+
+    /// The part, for good.
+    pub fn into_inner(self) -> Part
+        ensures { result ≡ self }
+    {
+        let BoxedPart { part } = self;
+        Box::into_inner(part)
     }
 }

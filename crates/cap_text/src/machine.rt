@@ -6,7 +6,7 @@ ghost use Rattle.cap_text.specs.declared.grant.Access.TheVariants as accesses;
 ghost use Rattle.cap_text.specs.Gives.{Gives, GivesTo};
 ghost use Rattle.cap_text.specs.Machine.{with_access, after_access, accessed, wants_access, clause_word, access_word, clauses, letters_step, class_read_word, class_read_step, method_step, value_of, value_step, filled, namespace_place, namespace_step, namespace_word_step, part_at, key_step, key_value_step, start_step, step, grant_of, close};
 
-use crate::draft::BoxedDraft;
+use crate::draft::{BoxedDraft, BoxedName, BoxedPart};
 use crate::fault::FaultKind;
 use crate::grant::{Access, AllowGrant, Flags, Grant, NsMatch, Part, ProfileUse, Tag};
 use crate::keyword::{Keyword, keyword_of};
@@ -218,13 +218,14 @@ fn class_of(class: Name, method: Option<Name>) -> Access
 #[inline(never)]
 fn method(
     alloc: Global,
-    class: Name,
+    class: BoxedName,
     may: ClauseSet,
     draft: BoxedDraft,
     token: &Token<'_>,
 ) -> Result<Place, FaultKind>
     ensures { Gives result (method_step class may draft token.now) }
 {
+    let class = class.into_inner();
     match token {
         Token::Word(word) => match keyword_of(word.as_str()) {
             keyword @ (Keyword::Pool
@@ -262,22 +263,28 @@ fn value(alloc: Global, token: &Token<'_>) -> Result<Name, FaultKind>
 }
 
 /// The place behind a value.
-fn filled(slot: Slot, may: ClauseSet, draft: BoxedDraft, value: Name) -> Place
-    ensures { result ≡ filled slot may draft value }
+fn filled(
+    alloc: Global,
+    slot: Slot,
+    may: ClauseSet,
+    draft: BoxedDraft,
+    value: Name,
+) -> Result<Place, FaultKind>
+    ensures { GivesTo result (filled slot may draft value) }
 {
     match slot {
-        Slot::Profile => Place::Clauses(may, draft.with_head(Head::Profile(value))),
-        Slot::Class => Place::Method(value, may, draft),
+        Slot::Profile => Ok(Place::Clauses(may, draft.with_head(Head::Profile(value)))),
+        Slot::Class => Ok(Place::Method(BoxedName::new(alloc, value)?, may, draft)),
         Slot::Pool => {
             let may = ClauseSet {
                 pool: false,
                 tag: false,
                 ..may
             };
-            Place::Clauses(may, draft.with_pool(value))
+            Ok(Place::Clauses(may, draft.with_pool(value)))
         }
-        Slot::Prefix => Place::Clauses(NO_MORE, draft.with_prefix(value)),
-        Slot::Application => Place::Key(value, draft),
+        Slot::Prefix => Ok(Place::Clauses(NO_MORE, draft.with_prefix(value))),
+        Slot::Application => Ok(Place::Key(BoxedName::new(alloc, value)?, draft)),
     }
 }
 
@@ -292,7 +299,7 @@ fn filled_by(
     ensures { Gives result (value_step slot may draft token.now) }
 {
     let value = value(alloc, token)?;
-    Ok(filled(slot, may, draft, value))
+    filled(alloc, slot, may, draft, value)
 }
 
 fn namespace_of(alloc: Global, text: &str) -> Result<NsMatch, FaultKind>
@@ -329,7 +336,7 @@ fn namespace(
     match token {
         Token::Word(word) => {
             let name = name_of(alloc, word.as_str())?;
-            Ok(Place::NamespaceWord(name, may, draft))
+            Ok(Place::NamespaceWord(BoxedName::new(alloc, name)?, may, draft))
         }
         Token::Quoted(quoted) => {
             let namespace = namespace_of(alloc, quoted.as_str())?;
@@ -345,13 +352,14 @@ fn namespace(
 
 #[inline(never)]
 fn behind_namespace(
-    name: Name,
+    name: BoxedName,
     may: ClauseSet,
     draft: BoxedDraft,
     token: &Token<'_>,
 ) -> Result<Place, FaultKind>
     ensures { Gives result (namespace_word_step name may draft token.now) }
 {
+    let name = name.into_inner();
     match token {
         Token::Star(true) => Ok(in_namespace(may, draft, NsMatch::Prefix(name))),
         token => {
@@ -392,21 +400,21 @@ fn part(alloc: Global, token: &Token<'_>) -> Result<Part, FaultKind>
 #[inline(never)]
 fn key(
     alloc: Global,
-    application: Name,
+    application: BoxedName,
     draft: BoxedDraft,
     token: &Token<'_>,
 ) -> Result<Place, FaultKind>
     ensures { Gives result (key_step application draft token.now) }
 {
     let key = part(alloc, token)?;
-    Ok(Place::KeyEquals(application, key, draft))
+    Ok(Place::KeyEquals(application, BoxedPart::new(alloc, key)?, draft))
 }
 
 #[inline(never)]
 fn key_value(
     alloc: Global,
-    application: Name,
-    key: Part,
+    application: BoxedName,
+    key: BoxedPart,
     draft: BoxedDraft,
     token: &Token<'_>,
 ) -> Result<Place, FaultKind>
@@ -414,8 +422,8 @@ fn key_value(
 {
     let value = part(alloc, token)?;
     let tag = Tag {
-        application,
-        key,
+        application: application.into_inner(),
+        key: key.into_inner(),
         value,
     };
     Ok(Place::Clauses(NO_MORE, draft.with_tag(tag)))
@@ -511,9 +519,12 @@ pub(crate) fn close(place: Place) -> Result<Grant, FaultKind>
         Place::Letters(flags, _, draft) | Place::ClassRead(flags, _, draft) => {
             grant_of(with_access(draft, Access::Flags(flags)))
         }
-        Place::Method(class, _, draft) => grant_of(with_access(draft, class_of(class, None))),
+        Place::Method(class, _, draft) => grant_of(with_access(
+            draft,
+            class_of(class.into_inner(), None),
+        )),
         Place::NamespaceWord(name, _, draft) => {
-            grant_of(draft.with_namespace(NsMatch::Exact(name)))
+            grant_of(draft.with_namespace(NsMatch::Exact(name.into_inner())))
         }
         Place::Start | Place::Separator => Err(FaultKind::UnknownWord),
         Place::KeyEquals(_, _, _) => Err(FaultKind::BadMatch),

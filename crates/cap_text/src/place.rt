@@ -1,7 +1,7 @@
 //! Where in the grammar a text has come to.
 
-use crate::draft::BoxedDraft;
-use crate::grant::{Access, Flags, NsMatch, Part, Tag};
+use crate::draft::{BoxedDraft, BoxedName, BoxedPart};
+use crate::grant::{Access, Flags, NsMatch, Tag};
 use crate::name::Name;
 
 /// The clauses that may still come in a grant.
@@ -40,7 +40,7 @@ pub enum Slot {
     Application,
 }
 
-/// What may come next. The draft is on the heap, so that a place is small and a step moves little.
+/// What may come next. What it carries is on the heap, so that a place is small and a step moves little.
 #[derive(Debug, Drop)]
 pub enum Place {
     /// The first grant, or the end of an empty text.
@@ -54,7 +54,7 @@ pub enum Place {
     /// `class-write` behind `class-read`, or what follows the access.
     ClassRead(Flags, ClauseSet, BoxedDraft),
     /// The method of this class, or what follows the access.
-    Method(Name, ClauseSet, BoxedDraft),
+    Method(BoxedName, ClauseSet, BoxedDraft),
     /// `=`, or the value.
     Assigned(Slot, ClauseSet, BoxedDraft),
     /// The value.
@@ -64,11 +64,11 @@ pub enum Place {
     /// The namespace.
     NamespaceEquals(ClauseSet, BoxedDraft),
     /// A star directly behind this word of a namespace, or what follows the clause.
-    NamespaceWord(Name, ClauseSet, BoxedDraft),
+    NamespaceWord(BoxedName, ClauseSet, BoxedDraft),
     /// The key of this application's tag.
-    Key(Name, BoxedDraft),
+    Key(BoxedName, BoxedDraft),
     /// The `=` behind the key.
-    KeyEquals(Name, Part, BoxedDraft),
+    KeyEquals(BoxedName, BoxedPart, BoxedDraft),
     /// The value of the key.
-    KeyValue(Name, Part, BoxedDraft),
+    KeyValue(BoxedName, BoxedPart, BoxedDraft),
 }
