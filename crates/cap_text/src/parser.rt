@@ -65,14 +65,13 @@ fn finish(state: State) -> Result<Grants, FaultKind>
     }
 }
 
-/// How many grants a text has at most, by its separators: at least 1 and at most 64. It says how much room to
-/// make, and nothing else.
-fn most_grants_of(bytes: &[u8]) -> usize
+/// For how many grants room is made at first: for all where there are up to three. It says nothing else.
+fn first_room(bytes: &[u8]) -> usize
     ensures some { 1 ≤ result }
-    ensures few { result ≤ 64 }
+    ensures few { result ≤ 3 }
 {
     let separators = bytes.iter().filter(|b| **b == b',' || **b == b';').count();
-    separators.min(MOST_GRANTS - 1) + 1
+    separators.min(2) + 1
 }
 
 fn fault(kind: FaultKind, at: usize) -> CapFault
@@ -97,7 +96,7 @@ pub fn parse(alloc: Global, text: &str) -> Result<CapList, CapFault>
         return Err(fault(FaultKind::TooLong, 0));
     }
     let mut state = State {
-        done: Grants::with_room(alloc, most_grants_of(text.as_bytes()))?,
+        done: Grants::with_room(alloc, first_room(text.as_bytes()))?,
         place: Place::Start,
     };
     let mut rest = text;
