@@ -1,94 +1,139 @@
 //! Drafts of grants, names and parts of tags on the heap, so that a place of the grammar is small.
 
-ghost use Rattle.std.specs.Prelude.{◌≡◌, Some, IfOk};
-ghost use Rattle.cap_text.specs.Machine.{fresh};
+ghost use Rattle.std.specs.Prelude.{◌≡◌, None, Some, IfOk};
+ghost use Rattle.cap_text.specs.Gives.{Gives};
+ghost use Rattle.cap_text.specs.Machine.{fresh, grant_of, wants_access, with_access};
+ghost use Rattle.cap_text.specs.declared.place.Head.TheVariants as heads;
 
-use crate::fault::OutOfMemory;
-use crate::grant::{NsMatch, Part, Tag};
+use crate::fault::{FaultKind, OutOfMemory};
+use crate::grant::{Access, AllowGrant, Grant, NsMatch, Part, ProfileUse, Tag};
 use crate::name::Name;
-use crate::place::{Draft, Head};
 use std::alloc::Global;
 use std::marker::Model;
+
+/// What a draft is of.
+#[derive(Debug, Drop)]
+pub enum Kind {
+    /// An `allow` whose access is still due.
+    Open,
+    /// An `allow` with its access.
+    Allow,
+    /// The use of a profile.
+    Profile(Name),
+}
+
+/// A draft in the form of the grant that it becomes. Its access counts only where the kind says so.
+#[derive(Debug, Drop)]
+pub struct Sheet {
+    pub kind: Kind,
+    pub grant: AllowGrant,
+}
 
 /// A draft that stays at one place on the heap while it is filled, which contracts see as the draft.
 #[derive(Debug, Drop)]
 pub struct BoxedDraft {
-    draft: Box<Draft>,
+    sheet: Box<Sheet>,
 }
 
 impl Model for BoxedDraft {
     ghost use Rattle.cap_text.specs.declared.place.Draft.{Draft};
+    ghost use Rattle.cap_text.specs.Sheet.{draft_of};
 
     ghost Value = { Draft };
 
-    ghost view = { λ b. b.draft.value };
+    ghost view = { λ b. draft_of b.sheet.value };
 }
 
 impl BoxedDraft {
-    /// A draft with this head alone.
-    pub fn new(alloc: Global, head: Head) -> Result<BoxedDraft, OutOfMemory>
-        ensures { IfOk result (λ draft. draft ≡ fresh head) }
+    /// An `allow` with nothing behind it.
+    pub fn new(alloc: Global) -> Result<BoxedDraft, OutOfMemory>
+        ensures { IfOk result (λ draft. draft ≡ fresh (heads.Allow None)) }
     {
-        let draft = Draft {
-            head,
+        let grant = AllowGrant {
+            access: Access::All,
             pool: None,
             namespace: None,
             prefix: None,
             tag: None,
         };
+        let kind = Kind::Open;
         Ok(BoxedDraft {
-            draft: Box::new(alloc, draft)?,
+            sheet: Box::new(alloc, Sheet { kind, grant })?,
         })
     }
 
-    /// What it begins with.
-    pub fn head(&self) -> &Head
-        ensures { result.now ≡ self.now.head }
+    /// Whether it is an `allow` whose access is still due.
+    pub fn wants_access(&self) -> bool
+        ensures { result ≡ wants_access self.now.head }
     {
-        &self.draft.head
+        matches!(self.sheet.kind, Kind::Open)
     }
 
-    pub fn with_head(mut self, head: Head) -> BoxedDraft
-        ensures { result ≡ record self { head = head } }
+    pub fn with_access(mut self, access: Access) -> BoxedDraft
+        ensures { result ≡ with_access self access }
     {
-        self.draft.head = head;
+        self.sheet.grant.access = access;
+        self.sheet.kind = Kind::Allow;
+        self
+    }
+
+    pub fn with_profile(mut self, name: Name) -> BoxedDraft
+        ensures { result ≡ record self { head = heads.Profile name } }
+    {
+        self.sheet.kind = Kind::Profile(name);
         self
     }
 
     pub fn with_pool(mut self, pool: Name) -> BoxedDraft
         ensures { result ≡ record self { pool = Some pool } }
     {
-        self.draft.pool = Some(pool);
+        self.sheet.grant.pool = Some(pool);
         self
     }
 
     pub fn with_namespace(mut self, namespace: NsMatch) -> BoxedDraft
         ensures { result ≡ record self { namespace = Some namespace } }
     {
-        self.draft.namespace = Some(namespace);
+        self.sheet.grant.namespace = Some(namespace);
         self
     }
 
     pub fn with_prefix(mut self, prefix: Name) -> BoxedDraft
         ensures { result ≡ record self { prefix = Some prefix } }
     {
-        self.draft.prefix = Some(prefix);
+        self.sheet.grant.prefix = Some(prefix);
         self
     }
 
     pub fn with_tag(mut self, tag: Tag) -> BoxedDraft
         ensures { result ≡ record self { tag = Some tag } }
     {
-        self.draft.tag = Some(tag);
+        self.sheet.grant.tag = Some(tag);
         self
     }
 
-    /// The draft, for good.
-    pub fn into_inner(self) -> Draft
-        ensures { result ≡ self }
+    /// The grant, where its access is there.
+    pub fn into_grant(self) -> Result<Grant, FaultKind>
+        ensures { Gives result (grant_of self) }
     {
-        let BoxedDraft { draft } = self;
-        Box::into_inner(draft)
+        let BoxedDraft { sheet } = self;
+        let Sheet { kind, grant } = Box::into_inner(sheet);
+        match kind {
+            Kind::Open => Err(FaultKind::BadAccess),
+            Kind::Allow => Ok(Grant::Allow(grant)),
+            Kind::Profile(name) => {
+                let AllowGrant {
+                    pool,
+                    namespace,
+                    ..
+                } = grant;
+                Ok(Grant::Profile(ProfileUse {
+                    name,
+                    pool,
+                    namespace,
+                }))
+            }
+        }
     }
 }
 

@@ -4,14 +4,14 @@ ghost use Rattle.std.specs.Prelude.{◌≡◌};
 ghost use Rattle.cap_text.specs.Grammar.{namespace_of, part_of};
 ghost use Rattle.cap_text.specs.declared.grant.Access.TheVariants as accesses;
 ghost use Rattle.cap_text.specs.Gives.{Gives, GivesTo};
-ghost use Rattle.cap_text.specs.Machine.{with_access, after_access, accessed, wants_access, clause_word, access_word, clauses, letters_step, class_read_word, class_read_step, method_step, value_of, value_step, filled, namespace_place, namespace_step, namespace_word_step, part_at, key_step, key_value_step, start_step, step, grant_of, close};
+ghost use Rattle.cap_text.specs.Machine.{after_access, accessed, clause_word, access_word, clauses, letters_step, class_read_word, class_read_step, method_step, value_of, value_step, filled, namespace_place, namespace_step, namespace_word_step, part_at, key_step, key_value_step, start_step, step, close};
 
 use crate::draft::{BoxedDraft, BoxedName, BoxedPart};
 use crate::fault::FaultKind;
-use crate::grant::{Access, AllowGrant, Flags, Grant, NsMatch, Part, ProfileUse, Tag};
+use crate::grant::{Access, Flags, Grant, NsMatch, Part, Tag};
 use crate::keyword::{Keyword, keyword_of};
 use crate::name::Name;
-use crate::place::{ClauseSet, Draft, Head, Place, Slot};
+use crate::place::{ClauseSet, Place, Slot};
 use crate::token::Token;
 use std::alloc::Global;
 
@@ -36,12 +36,6 @@ const NO_MORE: ClauseSet = ClauseSet {
     tag: false,
 };
 
-fn with_access(draft: BoxedDraft, access: Access) -> BoxedDraft
-    ensures { result ≡ with_access draft access }
-{
-    draft.with_head(Head::Allow(Some(access)))
-}
-
 /// An access that comes first is followed by the clauses; one that follows them ends the grant.
 fn after_access(may: ClauseSet) -> ClauseSet
     ensures { result ≡ after_access may }
@@ -52,16 +46,7 @@ fn after_access(may: ClauseSet) -> ClauseSet
 fn accessed(may: ClauseSet, draft: BoxedDraft, access: Access) -> Place
     ensures { result ≡ accessed may draft access }
 {
-    Place::Clauses(after_access(may), with_access(draft, access))
-}
-
-fn wants_access(head: &Head) -> bool
-    ensures { result ≡ wants_access head.now }
-{
-    match head {
-        Head::Allow(None) => true,
-        _ => false,
-    }
+    Place::Clauses(after_access(may), draft.with_access(access))
 }
 
 fn access_word(may: ClauseSet, draft: BoxedDraft, keyword: Keyword) -> Result<Place, FaultKind>
@@ -116,7 +101,7 @@ fn clause_word(may: ClauseSet, draft: BoxedDraft, keyword: Keyword) -> Result<Pl
             Err(FaultKind::BadMatch)
         }
         Keyword::Network => Err(FaultKind::NetworkClause),
-        _ if wants_access(draft.head()) => access_word(may, draft, keyword),
+        _ if draft.wants_access() => access_word(may, draft, keyword),
         _ => Err(FaultKind::UnknownWord),
     }
 }
@@ -127,8 +112,8 @@ fn clauses(may: ClauseSet, draft: BoxedDraft, token: &Token<'_>) -> Result<Place
 {
     match token {
         Token::Word(word) => clause_word(may, draft, keyword_of(word.as_str())),
-        Token::Star(_) if wants_access(draft.head()) => Ok(accessed(may, draft, Access::All)),
-        _ if wants_access(draft.head()) => Err(FaultKind::BadAccess),
+        Token::Star(_) if draft.wants_access() => Ok(accessed(may, draft, Access::All)),
+        _ if draft.wants_access() => Err(FaultKind::BadAccess),
         _ => Err(FaultKind::UnknownWord),
     }
 }
@@ -182,7 +167,7 @@ fn class_read_word(
             ))
         }
         keyword => {
-            let draft = with_access(draft, Access::Flags(flags));
+            let draft = draft.with_access(Access::Flags(flags));
             clause_word(after_access(may), draft, keyword)
         }
     }
@@ -233,7 +218,7 @@ fn method(
             | Keyword::ObjectPrefix
             | Keyword::Tag
             | Keyword::Network) => {
-                let draft = with_access(draft, class_of(class, None));
+                let draft = draft.with_access(class_of(class, None));
                 clause_word(after_access(may), draft, keyword)
             }
             _ => {
@@ -273,7 +258,7 @@ fn filled(
     ensures { GivesTo result (filled slot may draft value) }
 {
     match slot {
-        Slot::Profile => Ok(Place::Clauses(may, draft.with_head(Head::Profile(value)))),
+        Slot::Profile => Ok(Place::Clauses(may, draft.with_profile(value))),
         Slot::Class => Ok(Place::Method(BoxedName::new(alloc, value)?, may, draft)),
         Slot::Pool => {
             let may = ClauseSet {
@@ -435,9 +420,9 @@ fn start(alloc: Global, token: &Token<'_>) -> Result<Place, FaultKind>
 {
     match token {
         Token::Word(word) => match keyword_of(word.as_str()) {
-            Keyword::Allow => Ok(Place::Clauses(EVERY, BoxedDraft::new(alloc, Head::Allow(None))?)),
+            Keyword::Allow => Ok(Place::Clauses(EVERY, BoxedDraft::new(alloc)?)),
             Keyword::Profile => {
-                let draft = BoxedDraft::new(alloc, Head::Allow(None))?;
+                let draft = BoxedDraft::new(alloc)?;
                 Ok(Place::Assigned(Slot::Profile, OF_PROFILE, draft))
             }
             _ => Err(FaultKind::UnknownWord),
@@ -481,50 +466,22 @@ pub(crate) fn step(alloc: Global, place: Place, token: &Token<'_>) -> Result<Pla
     }
 }
 
-fn grant_of(draft: BoxedDraft) -> Result<Grant, FaultKind>
-    ensures { Gives result (grant_of draft) }
-{
-    let Draft {
-        head,
-        pool,
-        namespace,
-        prefix,
-        tag,
-    } = draft.into_inner();
-    match head {
-        Head::Profile(name) => Ok(Grant::Profile(ProfileUse {
-            name,
-            pool,
-            namespace,
-        })),
-        Head::Allow(access) => match access {
-            None => Err(FaultKind::BadAccess),
-            Some(access) => Ok(Grant::Allow(AllowGrant {
-                access,
-                pool,
-                namespace,
-                prefix,
-                tag,
-            })),
-        },
-    }
-}
-
 /// The grant that is whole at a place.
 pub(crate) fn close(place: Place) -> Result<Grant, FaultKind>
     ensures { Gives result (close place) }
 {
     match place {
-        Place::Clauses(_, draft) => grant_of(draft),
+        Place::Clauses(_, draft) => draft.into_grant(),
         Place::Letters(flags, _, draft) | Place::ClassRead(flags, _, draft) => {
-            grant_of(with_access(draft, Access::Flags(flags)))
+            draft.with_access(Access::Flags(flags)).into_grant()
         }
-        Place::Method(class, _, draft) => grant_of(with_access(
-            draft,
-            class_of(class.into_inner(), None),
-        )),
+        Place::Method(class, _, draft) => draft
+            .with_access(class_of(class.into_inner(), None))
+            .into_grant(),
         Place::NamespaceWord(name, _, draft) => {
-            grant_of(draft.with_namespace(NsMatch::Exact(name.into_inner())))
+            draft
+                .with_namespace(NsMatch::Exact(name.into_inner()))
+                .into_grant()
         }
         Place::Start | Place::Separator => Err(FaultKind::UnknownWord),
         Place::KeyEquals(_, _, _) => Err(FaultKind::BadMatch),

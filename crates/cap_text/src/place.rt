@@ -13,14 +13,14 @@ pub struct ClauseSet {
     pub tag: bool,
 }
 
-/// What a grant begins with. The access of an `allow` may come behind its clauses.
+/// What a grant begins with, as contracts see it. The access of an `allow` may come behind its clauses.
 #[derive(Debug, Drop)]
 pub enum Head {
     Allow(Option<Access>),
     Profile(Name),
 }
 
-/// What was read of a grant.
+/// What was read of a grant, as contracts see it.
 #[derive(Debug, Drop)]
 pub struct Draft {
     pub head: Head,
