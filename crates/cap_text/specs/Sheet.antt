@@ -1,5 +1,5 @@
 -- How a draft is kept.
-use Rattle.std.specs.Prelude.{Option, None, Some}
+use Rattle.std.specs.Prelude.{None, Some}
 use Rattle.cap_text.specs.declared.grant.Access.{Access}
 use Rattle.cap_text.specs.declared.place.Head.{Head}
 use Rattle.cap_text.specs.declared.place.Head.TheVariants as heads

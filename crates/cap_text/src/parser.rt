@@ -65,13 +65,13 @@ fn finish(state: State) -> Result<Grants, FaultKind>
     }
 }
 
-/// For how many grants room is made at first: for all where there are up to three. It says nothing else.
+/// For how many grants room is made at first: for all where there are up to four. It says nothing else.
 fn first_room(bytes: &[u8]) -> usize
     ensures some { 1 ≤ result }
-    ensures few { result ≤ 3 }
+    ensures few { result ≤ 4 }
 {
     let separators = bytes.iter().filter(|b| **b == b',' || **b == b';').count();
-    separators.min(2) + 1
+    separators.min(3) + 1
 }
 
 fn fault(kind: FaultKind, at: usize) -> CapFault
