@@ -8,3 +8,4 @@ pub mod Spellable
 pub mod Printed
 pub mod Machine
 pub mod FaultText
+pub mod Sheet

@@ -3,6 +3,7 @@
 
 mod bytes;
 mod caps;
+mod draft;
 mod fault;
 mod fault_text;
 mod grant;

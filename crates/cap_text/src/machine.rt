@@ -4,13 +4,14 @@ ghost use Rattle.std.specs.Prelude.{◌≡◌};
 ghost use Rattle.cap_text.specs.Grammar.{namespace_of, part_of};
 ghost use Rattle.cap_text.specs.declared.grant.Access.TheVariants as accesses;
 ghost use Rattle.cap_text.specs.Gives.{Gives, GivesTo};
-ghost use Rattle.cap_text.specs.Machine.{fresh, with_access, after_access, accessed, wants_access, clause_word, access_word, clauses, letters_step, class_read_word, class_read_step, method_step, value_of, value_step, filled, namespace_place, namespace_step, namespace_word_step, part_at, key_step, key_value_step, start_step, step, grant_of, close};
+ghost use Rattle.cap_text.specs.Machine.{after_access, accessed, clause_word, access_word, clauses, letters_step, class_read_word, class_read_step, method_step, value_of, value_step, filled, namespace_place, namespace_step, namespace_word_step, part_at, key_step, key_value_step, start_step, step, close};
 
+use crate::draft::{BoxedDraft, BoxedName, BoxedPart};
 use crate::fault::FaultKind;
-use crate::grant::{Access, AllowGrant, Flags, Grant, NsMatch, Part, ProfileUse, Tag};
+use crate::grant::{Access, Flags, Grant, NsMatch, Part, Tag};
 use crate::keyword::{Keyword, keyword_of};
 use crate::name::Name;
-use crate::place::{ClauseSet, Draft, Head, Place, Slot};
+use crate::place::{ClauseSet, Place, Slot};
 use crate::token::Token;
 use std::alloc::Global;
 
@@ -35,27 +36,6 @@ const NO_MORE: ClauseSet = ClauseSet {
     tag: false,
 };
 
-fn fresh(head: Head) -> Draft
-    ensures { result ≡ fresh head }
-{
-    Draft {
-        head,
-        pool: None,
-        namespace: None,
-        prefix: None,
-        tag: None,
-    }
-}
-
-fn with_access(draft: Draft, access: Access) -> Draft
-    ensures { result ≡ with_access draft access }
-{
-    Draft {
-        head: Head::Allow(Some(access)),
-        ..draft
-    }
-}
-
 /// An access that comes first is followed by the clauses; one that follows them ends the grant.
 fn after_access(may: ClauseSet) -> ClauseSet
     ensures { result ≡ after_access may }
@@ -63,22 +43,13 @@ fn after_access(may: ClauseSet) -> ClauseSet
     if may.pool { may } else { NO_MORE }
 }
 
-fn accessed(may: ClauseSet, draft: Draft, access: Access) -> Place
+fn accessed(may: ClauseSet, draft: BoxedDraft, access: Access) -> Place
     ensures { result ≡ accessed may draft access }
 {
-    Place::Clauses(after_access(may), with_access(draft, access))
+    Place::Clauses(after_access(may), draft.with_access(access))
 }
 
-fn wants_access(head: &Head) -> bool
-    ensures { result ≡ wants_access head.now }
-{
-    match head {
-        Head::Allow(None) => true,
-        _ => false,
-    }
-}
-
-fn access_word(may: ClauseSet, draft: Draft, keyword: Keyword) -> Result<Place, FaultKind>
+fn access_word(may: ClauseSet, draft: BoxedDraft, keyword: Keyword) -> Result<Place, FaultKind>
     ensures { Gives result (access_word may draft keyword) }
 {
     let none = Flags {
@@ -118,7 +89,7 @@ fn access_word(may: ClauseSet, draft: Draft, keyword: Keyword) -> Result<Place, 
     }
 }
 
-fn clause_word(may: ClauseSet, draft: Draft, keyword: Keyword) -> Result<Place, FaultKind>
+fn clause_word(may: ClauseSet, draft: BoxedDraft, keyword: Keyword) -> Result<Place, FaultKind>
     ensures { Gives result (clause_word may draft keyword) }
 {
     match keyword {
@@ -130,24 +101,31 @@ fn clause_word(may: ClauseSet, draft: Draft, keyword: Keyword) -> Result<Place, 
             Err(FaultKind::BadMatch)
         }
         Keyword::Network => Err(FaultKind::NetworkClause),
-        _ if wants_access(&draft.head) => access_word(may, draft, keyword),
+        _ if draft.wants_access() => access_word(may, draft, keyword),
         _ => Err(FaultKind::UnknownWord),
     }
 }
 
-fn clauses(may: ClauseSet, draft: Draft, token: Token<'_>) -> Result<Place, FaultKind>
-    ensures { Gives result (clauses may draft token.entry) }
+#[inline(never)]
+fn clauses(may: ClauseSet, draft: BoxedDraft, token: &Token<'_>) -> Result<Place, FaultKind>
+    ensures { Gives result (clauses may draft token.now) }
 {
     match token {
         Token::Word(word) => clause_word(may, draft, keyword_of(word.as_str())),
-        Token::Star(_) if wants_access(&draft.head) => Ok(accessed(may, draft, Access::All)),
-        _ if wants_access(&draft.head) => Err(FaultKind::BadAccess),
+        Token::Star(_) if draft.wants_access() => Ok(accessed(may, draft, Access::All)),
+        _ if draft.wants_access() => Err(FaultKind::BadAccess),
         _ => Err(FaultKind::UnknownWord),
     }
 }
 
-fn letters(flags: Flags, may: ClauseSet, draft: Draft, token: Token<'_>) -> Result<Place, FaultKind>
-    ensures { Gives result (letters_step flags may draft token.entry) }
+#[inline(never)]
+fn letters(
+    flags: Flags,
+    may: ClauseSet,
+    draft: BoxedDraft,
+    token: &Token<'_>,
+) -> Result<Place, FaultKind>
+    ensures { Gives result (letters_step flags may draft token.now) }
 {
     match token {
         Token::Word(word) => match keyword_of(word.as_str()) {
@@ -171,7 +149,7 @@ fn letters(flags: Flags, may: ClauseSet, draft: Draft, token: Token<'_>) -> Resu
 fn class_read_word(
     flags: Flags,
     may: ClauseSet,
-    draft: Draft,
+    draft: BoxedDraft,
     keyword: Keyword,
 ) -> Result<Place, FaultKind>
     ensures { Gives result (class_read_word flags may draft keyword) }
@@ -189,19 +167,20 @@ fn class_read_word(
             ))
         }
         keyword => {
-            let draft = with_access(draft, Access::Flags(flags));
+            let draft = draft.with_access(Access::Flags(flags));
             clause_word(after_access(may), draft, keyword)
         }
     }
 }
 
+#[inline(never)]
 fn class_read(
     flags: Flags,
     may: ClauseSet,
-    draft: Draft,
-    token: Token<'_>,
+    draft: BoxedDraft,
+    token: &Token<'_>,
 ) -> Result<Place, FaultKind>
-    ensures { Gives result (class_read_step flags may draft token.entry) }
+    ensures { Gives result (class_read_step flags may draft token.now) }
 {
     match token {
         Token::Word(word) => class_read_word(flags, may, draft, keyword_of(word.as_str())),
@@ -221,15 +200,17 @@ fn class_of(class: Name, method: Option<Name>) -> Access
     Access::Class { class, method }
 }
 
+#[inline(never)]
 fn method(
     alloc: Global,
-    class: Name,
+    class: BoxedName,
     may: ClauseSet,
-    draft: Draft,
-    token: Token<'_>,
+    draft: BoxedDraft,
+    token: &Token<'_>,
 ) -> Result<Place, FaultKind>
-    ensures { Gives result (method_step class may draft token.entry) }
+    ensures { Gives result (method_step class may draft token.now) }
 {
+    let class = class.into_inner();
     match token {
         Token::Word(word) => match keyword_of(word.as_str()) {
             keyword @ (Keyword::Pool
@@ -237,7 +218,7 @@ fn method(
             | Keyword::ObjectPrefix
             | Keyword::Tag
             | Keyword::Network) => {
-                let draft = with_access(draft, class_of(class, None));
+                let draft = draft.with_access(class_of(class, None));
                 clause_word(after_access(may), draft, keyword)
             }
             _ => {
@@ -256,8 +237,8 @@ fn method(
     }
 }
 
-fn value(alloc: Global, token: Token<'_>) -> Result<Name, FaultKind>
-    ensures { Gives result (value_of token.entry) }
+fn value(alloc: Global, token: &Token<'_>) -> Result<Name, FaultKind>
+    ensures { Gives result (value_of token.now) }
 {
     match token {
         Token::Word(word) => name_of(alloc, word.as_str()),
@@ -267,54 +248,43 @@ fn value(alloc: Global, token: Token<'_>) -> Result<Name, FaultKind>
 }
 
 /// The place behind a value.
-fn filled(slot: Slot, may: ClauseSet, draft: Draft, value: Name) -> Place
-    ensures { result ≡ filled slot may draft value }
+fn filled(
+    alloc: Global,
+    slot: Slot,
+    may: ClauseSet,
+    draft: BoxedDraft,
+    value: Name,
+) -> Result<Place, FaultKind>
+    ensures { GivesTo result (filled slot may draft value) }
 {
     match slot {
-        Slot::Profile => Place::Clauses(
-            may,
-            Draft {
-                head: Head::Profile(value),
-                ..draft
-            },
-        ),
-        Slot::Class => Place::Method(value, may, draft),
+        Slot::Profile => Ok(Place::Clauses(may, draft.with_profile(value))),
+        Slot::Class => Ok(Place::Method(BoxedName::new(alloc, value)?, may, draft)),
         Slot::Pool => {
             let may = ClauseSet {
                 pool: false,
                 tag: false,
                 ..may
             };
-            Place::Clauses(
-                may,
-                Draft {
-                    pool: Some(value),
-                    ..draft
-                },
-            )
+            Ok(Place::Clauses(may, draft.with_pool(value)))
         }
-        Slot::Prefix => Place::Clauses(
-            NO_MORE,
-            Draft {
-                prefix: Some(value),
-                ..draft
-            },
-        ),
-        Slot::Application => Place::Key(value, draft),
+        Slot::Prefix => Ok(Place::Clauses(NO_MORE, draft.with_prefix(value))),
+        Slot::Application => Ok(Place::Key(BoxedName::new(alloc, value)?, draft)),
     }
 }
 
+#[inline(never)]
 fn filled_by(
     alloc: Global,
     slot: Slot,
     may: ClauseSet,
-    draft: Draft,
-    token: Token<'_>,
+    draft: BoxedDraft,
+    token: &Token<'_>,
 ) -> Result<Place, FaultKind>
-    ensures { Gives result (value_step slot may draft token.entry) }
+    ensures { Gives result (value_step slot may draft token.now) }
 {
     let value = value(alloc, token)?;
-    Ok(filled(slot, may, draft, value))
+    filled(alloc, slot, may, draft, value)
 }
 
 fn namespace_of(alloc: Global, text: &str) -> Result<NsMatch, FaultKind>
@@ -328,30 +298,30 @@ fn namespace_of(alloc: Global, text: &str) -> Result<NsMatch, FaultKind>
     Ok(NsMatch::Prefix(name_of(alloc, front)?))
 }
 
-fn in_namespace(may: ClauseSet, draft: Draft, namespace: NsMatch) -> Place
+fn in_namespace(may: ClauseSet, draft: BoxedDraft, namespace: NsMatch) -> Place
     ensures { result ≡ namespace_place may draft namespace }
 {
-    let namespace = Some(namespace);
     let may = ClauseSet {
         pool: false,
         namespace: false,
         ..may
     };
-    Place::Clauses(may, Draft { namespace, ..draft })
+    Place::Clauses(may, draft.with_namespace(namespace))
 }
 
+#[inline(never)]
 fn namespace(
     alloc: Global,
     may: ClauseSet,
-    draft: Draft,
-    token: Token<'_>,
+    draft: BoxedDraft,
+    token: &Token<'_>,
 ) -> Result<Place, FaultKind>
-    ensures { Gives result (namespace_step may draft token.entry) }
+    ensures { Gives result (namespace_step may draft token.now) }
 {
     match token {
         Token::Word(word) => {
             let name = name_of(alloc, word.as_str())?;
-            Ok(Place::NamespaceWord(name, may, draft))
+            Ok(Place::NamespaceWord(BoxedName::new(alloc, name)?, may, draft))
         }
         Token::Quoted(quoted) => {
             let namespace = namespace_of(alloc, quoted.as_str())?;
@@ -365,24 +335,26 @@ fn namespace(
     }
 }
 
+#[inline(never)]
 fn behind_namespace(
-    name: Name,
+    name: BoxedName,
     may: ClauseSet,
-    draft: Draft,
-    token: Token<'_>,
+    draft: BoxedDraft,
+    token: &Token<'_>,
 ) -> Result<Place, FaultKind>
-    ensures { Gives result (namespace_word_step name may draft token.entry) }
+    ensures { Gives result (namespace_word_step name may draft token.now) }
 {
+    let name = name.into_inner();
     match token {
         Token::Star(true) => Ok(in_namespace(may, draft, NsMatch::Prefix(name))),
         token => {
-            let namespace = Some(NsMatch::Exact(name));
+            let draft = draft.with_namespace(NsMatch::Exact(name));
             let may = ClauseSet {
                 pool: false,
                 namespace: false,
                 ..may
             };
-            clauses(may, Draft { namespace, ..draft }, token)
+            clauses(may, draft, token)
         }
     }
 }
@@ -398,8 +370,8 @@ fn part_of(name: Name) -> Part
 }
 
 /// One side of a tag's pair.
-fn part(alloc: Global, token: Token<'_>) -> Result<Part, FaultKind>
-    ensures { Gives result (part_at token.entry) }
+fn part(alloc: Global, token: &Token<'_>) -> Result<Part, FaultKind>
+    ensures { Gives result (part_at token.now) }
 {
     match token {
         Token::Star(_) => Ok(Part::Any),
@@ -410,39 +382,47 @@ fn part(alloc: Global, token: Token<'_>) -> Result<Part, FaultKind>
     }
 }
 
-fn key(alloc: Global, application: Name, draft: Draft, token: Token<'_>) -> Result<Place, FaultKind>
-    ensures { Gives result (key_step application draft token.entry) }
+#[inline(never)]
+fn key(
+    alloc: Global,
+    application: BoxedName,
+    draft: BoxedDraft,
+    token: &Token<'_>,
+) -> Result<Place, FaultKind>
+    ensures { Gives result (key_step application draft token.now) }
 {
     let key = part(alloc, token)?;
-    Ok(Place::KeyEquals(application, key, draft))
+    Ok(Place::KeyEquals(application, BoxedPart::new(alloc, key)?, draft))
 }
 
+#[inline(never)]
 fn key_value(
     alloc: Global,
-    application: Name,
-    key: Part,
-    draft: Draft,
-    token: Token<'_>,
+    application: BoxedName,
+    key: BoxedPart,
+    draft: BoxedDraft,
+    token: &Token<'_>,
 ) -> Result<Place, FaultKind>
-    ensures { Gives result (key_value_step application key draft token.entry) }
+    ensures { Gives result (key_value_step application key draft token.now) }
 {
     let value = part(alloc, token)?;
-    let tag = Some(Tag {
-        application,
-        key,
+    let tag = Tag {
+        application: application.into_inner(),
+        key: key.into_inner(),
         value,
-    });
-    Ok(Place::Clauses(NO_MORE, Draft { tag, ..draft }))
+    };
+    Ok(Place::Clauses(NO_MORE, draft.with_tag(tag)))
 }
 
-fn start(token: Token<'_>) -> Result<Place, FaultKind>
-    ensures { Gives result (start_step token.entry) }
+#[inline(never)]
+fn start(alloc: Global, token: &Token<'_>) -> Result<Place, FaultKind>
+    ensures { Gives result (start_step token.now) }
 {
     match token {
         Token::Word(word) => match keyword_of(word.as_str()) {
-            Keyword::Allow => Ok(Place::Clauses(EVERY, fresh(Head::Allow(None)))),
+            Keyword::Allow => Ok(Place::Clauses(EVERY, BoxedDraft::new(alloc)?)),
             Keyword::Profile => {
-                let draft = fresh(Head::Allow(None));
+                let draft = BoxedDraft::new(alloc)?;
                 Ok(Place::Assigned(Slot::Profile, OF_PROFILE, draft))
             }
             _ => Err(FaultKind::UnknownWord),
@@ -452,12 +432,14 @@ fn start(token: Token<'_>) -> Result<Place, FaultKind>
 }
 
 /// The place behind a token that is no separator.
+///
+/// What it calls is never inlined: it would set all their places to zero at each token.
 #[tactic(auto, unfolding(crate::specs::Machine::step))]
-pub(crate) fn step(alloc: Global, place: Place, token: Token<'_>) -> Result<Place, FaultKind>
-    ensures { Gives result (step place token.entry) }
+pub(crate) fn step(alloc: Global, place: Place, token: &Token<'_>) -> Result<Place, FaultKind>
+    ensures { Gives result (step place token.now) }
 {
     match place {
-        Place::Start | Place::Separator => start(token),
+        Place::Start | Place::Separator => start(alloc, token),
         Place::Clauses(may, draft) => clauses(may, draft, token),
         Place::Letters(flags, may, draft) => letters(flags, may, draft, token),
         Place::ClassRead(flags, may, draft) => class_read(flags, may, draft, token),
@@ -484,48 +466,22 @@ pub(crate) fn step(alloc: Global, place: Place, token: Token<'_>) -> Result<Plac
     }
 }
 
-fn grant_of(draft: Draft) -> Result<Grant, FaultKind>
-    ensures { Gives result (grant_of draft) }
-{
-    let Draft {
-        head,
-        pool,
-        namespace,
-        prefix,
-        tag,
-    } = draft;
-    match head {
-        Head::Profile(name) => Ok(Grant::Profile(ProfileUse {
-            name,
-            pool,
-            namespace,
-        })),
-        Head::Allow(access) => match access {
-            None => Err(FaultKind::BadAccess),
-            Some(access) => Ok(Grant::Allow(AllowGrant {
-                access,
-                pool,
-                namespace,
-                prefix,
-                tag,
-            })),
-        },
-    }
-}
-
 /// The grant that is whole at a place.
 pub(crate) fn close(place: Place) -> Result<Grant, FaultKind>
     ensures { Gives result (close place) }
 {
     match place {
-        Place::Clauses(_, draft) => grant_of(draft),
+        Place::Clauses(_, draft) => draft.into_grant(),
         Place::Letters(flags, _, draft) | Place::ClassRead(flags, _, draft) => {
-            grant_of(with_access(draft, Access::Flags(flags)))
+            draft.with_access(Access::Flags(flags)).into_grant()
         }
-        Place::Method(class, _, draft) => grant_of(with_access(draft, class_of(class, None))),
+        Place::Method(class, _, draft) => draft
+            .with_access(class_of(class.into_inner(), None))
+            .into_grant(),
         Place::NamespaceWord(name, _, draft) => {
-            let namespace = Some(NsMatch::Exact(name));
-            grant_of(Draft { namespace, ..draft })
+            draft
+                .with_namespace(NsMatch::Exact(name.into_inner()))
+                .into_grant()
         }
         Place::Start | Place::Separator => Err(FaultKind::UnknownWord),
         Place::KeyEquals(_, _, _) => Err(FaultKind::BadMatch),

@@ -4,7 +4,7 @@ ghost use Rattle.std.specs.Prelude.{◌≡◌, ◌≤◌, ◌∷◌, ◌++◌, [
 ghost use Rattle.cap_text.specs.declared.grant.Grant.{Grant};
 ghost use Rattle.cap_text.specs.Grammar.{Spells, AtMostOneList};
 ghost use Rattle.cap_text.specs.Gives.{Gives};
-ghost use Rattle.cap_text.specs.Machine.{advance, finish, placed};
+ghost use Rattle.cap_text.specs.Machine.{advance, after_grant, close, finish, placed};
 ghost use Rattle.cap_text.specs.Faults.{OrMemory, IsFirstFault};
 
 use crate::caps::CapList;
@@ -23,26 +23,35 @@ const LONGEST: usize = 4096;
 /// The most grants that a text may spell.
 const MOST_GRANTS: usize = 64;
 
-fn advance(alloc: Global, state: State, token: Token<'_>) -> Result<State, FaultKind>
-    ensures { Gives result (advance state token.entry) }
+/// Puts the grant that a separator ends behind the others. It is not inlined, since room for a grant would be
+/// made at each token then.
+#[inline(never)]
+fn end_grant(state: State) -> Result<State, FaultKind>
+    ensures { Gives result (after_grant state.done (close state.place)) }
 {
     let done = state.done;
+    let grant = close(state.place)?;
+    let done = done.with(grant)?;
+    Ok(State {
+        done,
+        place: Place::Separator,
+    })
+}
+
+fn advance(alloc: Global, state: State, token: &Token<'_>) -> Result<State, FaultKind>
+    ensures { Gives result (advance state token.now) }
+{
     match token {
-        Token::Comma | Token::Semicolon => {
-            let grant = close(state.place)?;
-            let done = done.with(grant)?;
-            Ok(State {
-                done,
-                place: Place::Separator,
-            })
-        }
+        Token::Comma | Token::Semicolon => end_grant(state),
         token => {
+            let done = state.done;
             let place = step(alloc, state.place, token)?;
             Ok(State { done, place })
         }
     }
 }
 
+#[inline(never)]
 fn finish(state: State) -> Result<Grants, FaultKind>
     ensures { Gives result (finish state) }
 {
@@ -54,6 +63,14 @@ fn finish(state: State) -> Result<Grants, FaultKind>
             done.with(grant)
         }
     }
+}
+
+/// For how many grants room is made at first, by the text's length in bytes. It says nothing else.
+fn first_room(length: usize) -> usize
+    ensures some { 1 ≤ result }
+    ensures few { result ≤ 4 }
+{
+    (length / 32).min(3) + 1
 }
 
 fn fault(kind: FaultKind, at: usize) -> CapFault
@@ -78,7 +95,7 @@ pub fn parse(alloc: Global, text: &str) -> Result<CapList, CapFault>
         return Err(fault(FaultKind::TooLong, 0));
     }
     let mut state = State {
-        done: Grants::new(alloc),
+        done: Grants::with_room(alloc, first_room(text.len()))?,
         place: Place::Start,
     };
     let mut rest = text;
@@ -98,7 +115,7 @@ pub fn parse(alloc: Global, text: &str) -> Result<CapList, CapFault>
         match found {
             Some((token, after)) => {
                 behind_word = token.is_word();
-                match advance(alloc, state, token) {
+                match advance(alloc, state, &token) {
                     Ok(next) => state = next,
                     Err(kind) => return Err(fault(kind, at)),
                 }

@@ -1,6 +1,7 @@
 //! Where in the grammar a text has come to.
 
-use crate::grant::{Access, Flags, NsMatch, Part, Tag};
+use crate::draft::{BoxedDraft, BoxedName, BoxedPart};
+use crate::grant::{Access, Flags, NsMatch, Tag};
 use crate::name::Name;
 
 /// The clauses that may still come in a grant.
@@ -12,14 +13,14 @@ pub struct ClauseSet {
     pub tag: bool,
 }
 
-/// What a grant begins with. The access of an `allow` may come behind its clauses.
+/// What a grant begins with, as contracts see it. The access of an `allow` may come behind its clauses.
 #[derive(Debug, Drop)]
 pub enum Head {
     Allow(Option<Access>),
     Profile(Name),
 }
 
-/// What was read of a grant.
+/// What was read of a grant, as contracts see it.
 #[derive(Debug, Drop)]
 pub struct Draft {
     pub head: Head,
@@ -39,7 +40,7 @@ pub enum Slot {
     Application,
 }
 
-/// What may come next.
+/// What may come next. What it carries is on the heap, so that a place is small and a step moves little.
 #[derive(Debug, Drop)]
 pub enum Place {
     /// The first grant, or the end of an empty text.
@@ -47,27 +48,27 @@ pub enum Place {
     /// A grant, behind a separator.
     Separator,
     /// A clause, the access where it is still due, or the end of the grant.
-    Clauses(ClauseSet, Draft),
+    Clauses(ClauseSet, BoxedDraft),
     /// `class-read` or `class-write` behind the letters, or what follows the access.
-    Letters(Flags, ClauseSet, Draft),
+    Letters(Flags, ClauseSet, BoxedDraft),
     /// `class-write` behind `class-read`, or what follows the access.
-    ClassRead(Flags, ClauseSet, Draft),
+    ClassRead(Flags, ClauseSet, BoxedDraft),
     /// The method of this class, or what follows the access.
-    Method(Name, ClauseSet, Draft),
+    Method(BoxedName, ClauseSet, BoxedDraft),
     /// `=`, or the value.
-    Assigned(Slot, ClauseSet, Draft),
+    Assigned(Slot, ClauseSet, BoxedDraft),
     /// The value.
-    Value(Slot, ClauseSet, Draft),
+    Value(Slot, ClauseSet, BoxedDraft),
     /// `=`, or the namespace.
-    Namespace(ClauseSet, Draft),
+    Namespace(ClauseSet, BoxedDraft),
     /// The namespace.
-    NamespaceEquals(ClauseSet, Draft),
+    NamespaceEquals(ClauseSet, BoxedDraft),
     /// A star directly behind this word of a namespace, or what follows the clause.
-    NamespaceWord(Name, ClauseSet, Draft),
+    NamespaceWord(BoxedName, ClauseSet, BoxedDraft),
     /// The key of this application's tag.
-    Key(Name, Draft),
+    Key(BoxedName, BoxedDraft),
     /// The `=` behind the key.
-    KeyEquals(Name, Part, Draft),
+    KeyEquals(BoxedName, BoxedPart, BoxedDraft),
     /// The value of the key.
-    KeyValue(Name, Part, Draft),
+    KeyValue(BoxedName, BoxedPart, BoxedDraft),
 }

@@ -1,9 +1,9 @@
 //! What was read of a text.
 
-ghost use Rattle.std.specs.Prelude.{◌≡◌, ◌∷◌, ◌++◌, [], List, length};
+ghost use Rattle.std.specs.Prelude.{◌≡◌, ◌∷◌, ◌++◌, [], List, length, IfOk};
 ghost use Rattle.cap_text.specs.Gives.{GivesTo};
 
-use crate::fault::FaultKind;
+use crate::fault::{FaultKind, OutOfMemory};
 use crate::grant::Grant;
 use crate::place::Place;
 use std::alloc::Global;
@@ -25,12 +25,13 @@ impl Model for Grants {
 }
 
 impl Grants {
-    pub fn new(alloc: Global) -> Grants
-        ensures { result ≡ [] }
+    /// No grants, with room for so many.
+    pub fn with_room(alloc: Global, count: usize) -> Result<Grants, OutOfMemory>
+        ensures { IfOk result (λ grants. grants ≡ []) }
     {
-        Grants {
-            items: Vec::new(alloc),
-        }
+        Ok(Grants {
+            items: Vec::with_capacity(alloc, count)?,
+        })
     }
 
     pub fn len(&self) -> usize

@@ -1,7 +1,7 @@
 -- Of a denied request each grant has a condition that it fails.
-use Rattle.std.proofs.Common.{◌≡◌, ℕ, suc, ◌+◌, ◌<◌, List, [], ◌∷◌, ◌++◌, Bool, true, false, not, ◌&&◌, ◌||◌, cond, Option, None, Some, length, get_or, take, slice_get, map, refl, sym, ap, ◌∙◌, arith}
+use Rattle.std.proofs.Common.{◌≡◌, ℕ, suc, ◌+◌, ◌<◌, List, [], ◌∷◌, ◌++◌, Bool, true, false, not, ◌&&◌, ◌||◌, cond, Option, None, Some, length, get_or, take, slice_get, map, refl, sym, ap, ◌∙◌}
 use Rattle.std.specs.Option.{option_map, option_to_list}
-use Rattle.std.specs.List.{list_any, list_all, filter_map, cons_option}
+use Rattle.std.specs.List.{list_all, cons_option}
 use Rattle.std.proofs.lemmas.Bool.{false≢true}
 use Rattle.std.proofs.lemmas.Grind.{take_at_read}
 use Rattle.std.proofs.lemmas.List.Elements.{filter_map-append}

@@ -5,7 +5,7 @@ ghost use Rattle.std.specs.List.{list_any, list_all};
 ghost use Rattle.verdict_core.specs.Verdict.{is_allowed};
 ghost use Rattle.verdict_core.specs.Verdict as spec;
 
-use crate::matching::{covers, is_usable};
+use crate::matching::{allows, is_usable};
 use crate::request::{ClassCall, Needs, Target};
 use crate::ticket::Ticket;
 
@@ -13,8 +13,10 @@ use crate::ticket::Ticket;
 fn is_covered(ticket: &Ticket, target: &Target<'_>, needs: &Needs, call: &ClassCall) -> bool
     ensures { result ≡ spec.is_covered ticket.now target.now needs.now call.now }
 {
-    ticket.grants().iter().any(|entry| is_usable(&entry.1, target, needs)
-        && covers(&entry.1.access, call))
+    ticket
+        .grants()
+        .iter()
+        .any(|entry| allows(&entry.1, target, needs, call))
 }
 
 /// Whether some grant is usable.

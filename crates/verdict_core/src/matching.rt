@@ -150,6 +150,18 @@ pub(crate) fn covers(access: &Access, call: &ClassCall) -> bool
     }
 }
 
+/// Whether a usable grant covers a call. What it covers is looked at first, since few grants cover a call.
+pub(crate) fn allows(
+    grant: &AllowGrant,
+    target: &Target<'_>,
+    needs: &Needs,
+    call: &ClassCall,
+) -> bool
+    ensures { result ≡ (spec.is_usable grant.now target.now needs.now && spec.covers grant.now.access call.now) }
+{
+    covers(&grant.access, call) && is_usable(grant, target, needs)
+}
+
 /// The first call that an access does not cover, by its number.
 fn uncovered(access: &Access, calls: &[ClassCall]) -> Option<Condition>
     ensures { result ≡ spec.uncovered_from 1 access.now calls.now }

@@ -1,0 +1,111 @@
+//! The command line.
+
+ghost use Rattle.std.specs.Prelude.{◌≤◌};
+
+use crate::expand::add_expansions;
+use crate::fault::Fault;
+use crate::parse::add_parses;
+use crate::table::Table;
+use crate::vector::add_vectors;
+use crate::verdict::add_verdicts;
+use std::alloc::Global;
+use std::convert::AsStr;
+use std::io::Write;
+use std::time::Clock;
+
+/// All is done.
+const DONE: u8 = 0;
+/// The table could not be made or written.
+const FAULT: u8 = 1;
+/// The words are no command line of this program.
+const BAD_COMMAND_LINE: u8 = 2;
+
+const USAGE: &str = "\
+osdgate_bench PART [NAME]
+
+Measures the crates of the gate and prints nanoseconds a call, the least of 15 runs and the middle one.
+Pools, classes and contents get their names from NAME, a word, which is data where none is given.
+
+PART is one of
+  verdict   a verdict, and a verdict with its report where it is no, at 1, 4, 16 and 64 grants
+  parse     reading a capability text
+  expand    expanding a list by the built-in profiles
+  vector    running a vector of operations on an object
+";
+
+/// What is measured.
+#[derive(Clone, Copy, Debug)]
+enum Part {
+    Verdict,
+    Parse,
+    Expand,
+    Vector,
+}
+
+fn part_of(word: &str) -> Option<Part> {
+    match word {
+        "verdict" => Some(Part::Verdict),
+        "parse" => Some(Part::Parse),
+        "expand" => Some(Part::Expand),
+        "vector" => Some(Part::Vector),
+        _ => None,
+    }
+}
+
+/// The table of a part.
+fn table_of<C: Clock>(alloc: Global, clock: &C, part: Part, name: &str) -> Result<String, Fault> {
+    let mut table = Table::new(alloc, clock)?;
+    match part {
+        Part::Verdict => add_verdicts(&mut table, name)?,
+        Part::Parse => add_parses(&mut table, name)?,
+        Part::Expand => add_expansions(&mut table, name)?,
+        Part::Vector => add_vectors(&mut table, name)?,
+    }
+    Ok(table.into_text()?)
+}
+
+/// Writes a text, and answers the status behind it.
+fn write_out<W: Write>(out: &mut W, text: &str) -> u8
+    ensures { result ≤ 1 }
+{
+    if out.write_all(text.as_bytes()).is_ok() && out.flush().is_ok() {
+        DONE
+    } else {
+        FAULT
+    }
+}
+
+/// Runs the program on the words of its command line, the first of which is the program's own name, and
+/// answers its exit status: 0 where it is done, 1 where the table could not be made or written, 2 where the
+/// words are no command line. Without further words it prints its usage.
+pub(crate) fn run_command<S: AsStr, C: Clock, O: Write, E: Write>(
+    alloc: Global,
+    clock: &C,
+    words: &[S],
+    out: &mut O,
+    err: &mut E,
+) -> u8
+    ensures { result ≤ 2 }
+{
+    if words.len() <= 1 {
+        return write_out(out, USAGE);
+    }
+    let name = if words.len() == 3 {
+        words[2].as_str()
+    } else {
+        "data"
+    };
+    match part_of(words[1].as_str()) {
+        Some(part) if words.len() <= 3 => match table_of(alloc, clock, part, name) {
+            Ok(text) => write_out(out, text.as_str()),
+            Err(fault) => {
+                let _ = write!(err, "osdgate_bench: {fault}\n");
+                FAULT
+            }
+        },
+        _ => {
+            let _ = write_out(err, USAGE);
+            BAD_COMMAND_LINE
+        }
+    }
+}

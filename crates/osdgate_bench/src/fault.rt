@@ -1,0 +1,60 @@
+//! Why a table is not made.
+
+use cap_text::CapFault;
+use grant_core::ExpandFault;
+use std::alloc::{AllocError, AllocFailed};
+use std::{fmt, io};
+
+/// Why a table is not made. No part of it is printed then.
+#[derive(Debug, Drop)]
+pub(crate) enum Fault {
+    /// A growth was refused.
+    OutOfMemory,
+    /// The clock could not be read.
+    Clock,
+    /// A text that is to be measured spells no list, since the given name is no word.
+    Text(CapFault),
+    /// A list that is to be measured is not expanded.
+    Expansion(ExpandFault),
+}
+
+impl From<AllocError> for Fault {
+    fn from(_error: AllocError) -> Fault {
+        Fault::OutOfMemory
+    }
+}
+
+impl<T: Drop> From<AllocFailed<T>> for Fault {
+    fn from(_error: AllocFailed<T>) -> Fault {
+        Fault::OutOfMemory
+    }
+}
+
+impl From<io::Error> for Fault {
+    fn from(_error: io::Error) -> Fault {
+        Fault::Clock
+    }
+}
+
+impl From<CapFault> for Fault {
+    fn from(fault: CapFault) -> Fault {
+        Fault::Text(fault)
+    }
+}
+
+impl From<ExpandFault> for Fault {
+    fn from(fault: ExpandFault) -> Fault {
+        Fault::Expansion(fault)
+    }
+}
+
+impl fmt::Display for Fault {
+    fn fmt<W: fmt::Write>(&self, f: &mut fmt::Formatter<W>) -> fmt::Result {
+        match self {
+            Fault::OutOfMemory => write!(f, "no memory"),
+            Fault::Clock => write!(f, "the clock could not be read"),
+            Fault::Text(fault) => write!(f, "a text is refused: {fault}"),
+            Fault::Expansion(fault) => write!(f, "a list is not expanded: {fault}"),
+        }
+    }
+}

@@ -1,0 +1,40 @@
+//! The program `osdgate_bench`: what verdicts, capability texts, expansions and vectors of operations cost, in
+//! nanoseconds a call.
+//!
+//! Only this crate reads a clock.
+#![tactic(auto)]
+
+mod command;
+mod expand;
+mod fault;
+mod measure;
+mod parse;
+mod table;
+mod text;
+mod vector;
+mod verdict;
+
+use command::run_command;
+use std::process::ExitCode;
+
+#[cfg(test)]
+mod tests;
+
+fn main(rt: HostRuntime) -> ExitCode {
+    let alloc = rt.alloc();
+    let words: Vec<String> = match std::env::args(&rt) {
+        Ok(args) => match args.collect(alloc) {
+            Ok(words) => words,
+            Err(_) => return ExitCode::from(1),
+        },
+        Err(_) => return ExitCode::from(1),
+    };
+    let status = run_command(
+        alloc,
+        &rt,
+        words.as_slice(),
+        &mut rt.stdout(),
+        &mut rt.stderr(),
+    );
+    ExitCode::from(status)
+}

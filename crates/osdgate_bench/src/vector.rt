@@ -1,0 +1,131 @@
+//! What it costs to run a vector of operations on an object.
+
+ghost use Rattle.std.specs.Prelude.{◌≤◌, length};
+
+use crate::fault::Fault;
+use crate::measure::Work;
+use crate::table::Table;
+use cap_text::{Name, OutOfMemory};
+use object_core::{Attributes, Bytes, Object, Op, Outcome, run_vector};
+use std::alloc::Global;
+use std::time::Clock;
+
+/// A vector on an object, which is run and its outcome let go.
+#[derive(Drop)]
+struct Run {
+    alloc: Global,
+    object: Object,
+    ops: Vec<Op>,
+}
+
+impl Work for Run {
+    fn once(&self, _turn: usize) -> Result<bool, OutOfMemory> {
+        match run_vector(self.alloc, Some(&self.object), self.ops.as_slice())? {
+            Outcome::Done { .. } => Ok(true),
+            Outcome::Failed { .. } => Ok(false),
+        }
+    }
+}
+
+/// The object of these bytes, the first 65,536 of them where there are more.
+fn object_of(alloc: Global, bytes: &[u8]) -> Result<Object, OutOfMemory> {
+    let kept = bytes.len().min(65536);
+    let bytes = Bytes::from_slice(alloc, &bytes[..kept])?;
+    Ok(Object::new(bytes, Attributes::new(alloc)))
+}
+
+/// The text again and again.
+fn repeated(alloc: Global, text: &str, times: usize) -> Result<Object, OutOfMemory> {
+    let mut bytes = Vec::new(alloc);
+    for _ in 0..times {
+        bytes.extend_from_slice(text.as_bytes())?;
+    }
+    object_of(alloc, bytes.as_slice())
+}
+
+/// A vector of one operation.
+fn single(alloc: Global, object: Object, op: Op) -> Result<Run, OutOfMemory> {
+    let mut ops = Vec::new(alloc);
+    ops.push(op)?;
+    Ok(Run { alloc, object, ops })
+}
+
+fn read_all() -> Op {
+    Op::Read {
+        offset: 0,
+        length: 0,
+    }
+}
+
+fn append(alloc: Global, text: &str) -> Result<Op, OutOfMemory> {
+    Ok(Op::Append(Bytes::from_slice(alloc, text.as_bytes())?))
+}
+
+/// A call of `counter.add` with the input 1.
+fn add_one(alloc: Global) -> Result<Op, OutOfMemory> {
+    Ok(Op::Call {
+        class: Name::new(alloc, "counter")?,
+        method: Name::new(alloc, "add")?,
+        input: Bytes::from_slice(alloc, b"1")?,
+    })
+}
+
+/// Four times a read, an append, a setting of an attribute and a look at it.
+fn sixteen(alloc: Global, object: Object, name: &str) -> Result<Run, OutOfMemory> {
+    let mut ops = Vec::new(alloc);
+    for _ in 0..4 {
+        ops.push(read_all())?;
+        ops.push(append(alloc, name)?)?;
+        ops.push(Op::SetAttribute {
+            name: Name::new(alloc, "owner")?,
+            value: Bytes::from_slice(alloc, name.as_bytes())?,
+        })?;
+        ops.push(Op::GetAttribute(Name::new(alloc, "owner")?))?;
+    }
+    Ok(Run { alloc, object, ops })
+}
+
+/// The vectors that are measured.
+#[derive(Clone, Copy, Debug)]
+enum Kind {
+    Read,
+    Append,
+    Count,
+    Sixteen,
+}
+
+impl Kind {
+    fn name(self) -> &'static str {
+        match self {
+            Kind::Read => "vector, a read of 1,024 names",
+            Kind::Append => "vector, an append to 1,024 names",
+            Kind::Count => "vector, counter.add",
+            Kind::Sixteen => "vector, 16 operations on 16 names",
+        }
+    }
+
+    /// The vector and its object, over contents that repeat a given name.
+    fn work(self, alloc: Global, name: &str) -> Result<Run, OutOfMemory> {
+        match self {
+            Kind::Read => single(alloc, repeated(alloc, name, 1024)?, read_all()),
+            Kind::Append => {
+                let op = append(alloc, name)?;
+                single(alloc, repeated(alloc, name, 1024)?, op)
+            }
+            Kind::Count => {
+                let op = add_one(alloc)?;
+                single(alloc, object_of(alloc, b"41")?, op)
+            }
+            Kind::Sixteen => sixteen(alloc, repeated(alloc, name, 16)?, name),
+        }
+    }
+}
+
+/// Adds the rows of vectors, over a given name.
+pub(crate) fn add_vectors<C: Clock>(table: &mut Table<'_, C>, name: &str) -> Result<(), Fault> {
+    for kind in [Kind::Read, Kind::Append, Kind::Count, Kind::Sixteen] {
+        let work = kind.work(table.alloc(), name)?;
+        table.row(kind.name(), &work)?;
+    }
+    Ok(())
+}
