@@ -1,0 +1,6 @@
+pub mod Lawful
+pub mod Listing
+pub mod Places
+pub mod Pushing
+pub mod Stores
+pub mod TextSets

@@ -1,0 +1,55 @@
+-- Laws of deciding.
+use Rattle.std.specs.Prelude.{◌≡◌, Bool, true, false, not, List, [], ◌∷◌, ◌++◌}
+use Rattle.std.specs.List.Sorted.{IsStrictlySortedBy}
+use Rattle.std.specs.FinMap.{get}
+use Rattle.verdict_core.specs.Verdict.{report_of}
+use Rattle.object_core.specs.declared.outcome.Change.{Change}
+use Rattle.object_core.specs.declared.outcome.Change.TheVariants.{Kept, Became}
+use Rattle.entry_core.specs.Request.{Sealed, place_of, needs_for}
+use Rattle.entry_core.specs.Store.{Store, ObjectName, bytes_cmp, with_object}
+use Rattle.entry_core.specs.Deciding.{store_of, is_allowed_sealed, name_of, names_in}
+use Rattle.entry_core.specs.Log.{decision, decide}
+use Rattle.entry_core.specs.declared.reply.Reply.{Reply}
+use Rattle.entry_core.specs.declared.reply.Reply.TheVariants.{Denied, Done, Failed, Names}
+use Rattle.entry_core.specs.declared.entry.Entry.{Entry}
+
+abbrev pub is_denied : Reply → Bool
+is_denied (Denied report) = true
+is_denied (Done outputs) = false
+is_denied (Failed place number) = false
+is_denied (Names names) = false
+
+abbrev pub is_done : Reply → Bool
+is_done (Denied report) = false
+is_done (Done outputs) = true
+is_done (Failed place number) = false
+is_done (Names names) = false
+
+-- on every log a request is denied just where its own ticket, place and needs are not allowed, and by their report
+abbrev pub VerdictIsSealed : Type 0
+VerdictIsSealed = (log : List Entry) (s : Sealed) → (is_denied (decide log s).reply ≡ not (is_allowed_sealed s)) × (is_allowed_sealed s ≡ false → (decide log s).reply ≡ Denied (report_of s.ticket (place_of s) (needs_for s.work)))
+
+-- an entry that was denied, that failed or that lists names leaves all objects as they were
+abbrev pub RefusalsLeaveTheStore : Type 0
+RefusalsLeaveTheStore = (log : List Entry) (e : Entry) → is_done e.reply ≡ false → store_of (log ++ e ∷ []) ≡ store_of log
+
+-- an entry leaves each object but its own as it was
+abbrev pub OthersAreLeft : Type 0
+OthersAreLeft = (log : List Entry) (e : Entry) (name : ObjectName) → (name ≡ name_of e.sealed → ⊥) → get (store_of (log ++ e ∷ [])) name ≡ get (store_of log) name
+
+-- logs that make the same store decide the same
+abbrev pub StoreDecides : Type 0
+StoreDecides = (a b : List Entry) (s : Sealed) → store_of a ≡ store_of b → decision a s ≡ decision b s
+
+-- a store after a change of one object
+abbrev pub changed : Store → ObjectName → Change → Store
+changed store name Kept = store
+changed store name (Became object) = with_object store name object
+
+-- a decision, once it stands in the log, changes the store as it says
+abbrev pub DecisionTellsTheStore : Type 0
+DecisionTellsTheStore = (log : List Entry) (s : Sealed) → store_of (log ++ decide log s ∷ []) ≡ changed (store_of log) (name_of s) (decision log s).change
+
+-- the names of a piece stand in the order of their bytes, each once
+abbrev pub ListingsAreSorted : Type 0
+ListingsAreSorted = (store : Store) (s : Sealed) → IsStrictlySortedBy bytes_cmp (names_in store s)

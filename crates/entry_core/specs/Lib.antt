@@ -1,0 +1,10 @@
+pub mod Deciding
+pub mod Inside
+pub mod Laws
+pub mod Log
+pub mod Names
+pub mod Replies
+pub mod Request
+pub mod Sealing
+pub mod Store
+pub mod Stored

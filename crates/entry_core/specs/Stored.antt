@@ -1,0 +1,64 @@
+-- How a log keeps its objects and where its entries stand.
+use Rattle.std.specs.Prelude.{◌≡◌, ℕ, ◌+◌, ◌==◌, if◌then◌else◌, List, [], ◌∷◌, Bool, Option, Some, None, map, String, string_bytes}
+use Rattle.std.specs.Arc.{arc_value}
+use Rattle.std.specs.FinSet as set
+use Rattle.std.specs.FinMap.{FinMap, from_entries, insert}
+use Rattle.std.specs.Coded.{Coded, coded_list, coded_ℕ}
+use Rattle.std.specs.Map.{lookup}
+use Rattle.std.specs.declared.alloc.Global.{Global}
+use Rattle.std.specs.declared.sync.Arc.{Arc}
+use Rattle.object_core.specs.Content.{Content}
+use Rattle.std.specs.Option.{option_map}
+use Rattle.object_core.specs.declared.outcome.Change.{Change}
+use Rattle.object_core.specs.declared.outcome.Change.TheVariants as change
+use Rattle.entry_core.specs.Store.{Store, ObjectName, bytes_cmp}
+use Rattle.entry_core.specs.Deciding.{Decision, store_of}
+use Rattle.entry_core.specs.declared.entry.Entry.{Entry}
+use Rattle.entry_core.specs.declared.decided.Left.{Left}
+use Rattle.entry_core.specs.declared.decided.Left.TheVariants as left
+
+abbrev pub Kept : Type 0
+Kept = List (ObjectName × Arc Content Global)
+
+-- the objects of a hash map, whatever their order there
+abbrev pub objects_of : Kept → Store
+objects_of entries = from_entries (map (λ e. (e.0, arc_value e.1)) entries)
+
+-- what is left of the object
+abbrev pub change_of : Left → Change
+change_of left.Kept = change.Kept
+change_of (left.Became object) = change.Became (option_map arc_value object)
+
+abbrev pub decided_of : Entry → Left → Decision
+decided_of entry left = record { entry = entry; change = change_of left }
+
+-- where the entry of a request's number stands, if there is one
+abbrev pub place_in : List Entry → ℕ → Option ℕ
+place_in [] id = None
+place_in (e ∷ es) id = if e.sealed.id == id then Some 0 else option_map (λ n. n + 1) (place_in es id)
+
+-- a log's index finds just the entries' numbers, and its objects are the store that the entries make
+pub record IsStored (log : List Entry) (index : List (ℕ × ℕ)) (objects : Store) : Type 0 where
+  pub places : (id : ℕ) → lookup (λ n. id == n) index ≡ place_in log id
+  pub made : objects ≡ store_of log
+
+-- a set of texts: a map with nothing at each
+abbrev pub Texts : Type 0
+Texts = FinMap bytes_cmp (Unit {0})
+
+abbrev pub texts_code : Coded Texts
+texts_code = set.code (coded_list coded_ℕ)
+
+abbrev pub marked_text : List ℕ → List ℕ × Unit {0}
+marked_text text = (text, tt)
+
+abbrev pub with_text : Texts → List ℕ → Texts
+with_text texts text = insert texts text tt
+
+abbrev pub texts_of : List (String Global) → Texts
+texts_of texts = from_entries (map (λ t. marked_text (string_bytes t)) texts)
+
+-- the set with the names that a piece lists, one after another
+abbrev pub collected : (ObjectName → Bool) → Texts → List ObjectName → Texts
+collected is_listed texts [] = texts
+collected is_listed texts (n ∷ ns) = collected is_listed (if is_listed n then with_text texts n.name else texts) ns

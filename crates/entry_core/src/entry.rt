@@ -1,0 +1,22 @@
+//! What stands in a log.
+
+use crate::items::TryCopy;
+use crate::reply::Reply;
+use crate::sealed::Sealed;
+use std::alloc::AllocError;
+
+/// A request and the reply that was decided.
+#[derive(Drop)]
+pub struct Entry {
+    pub sealed: Sealed,
+    pub reply: Reply,
+}
+
+impl TryCopy for Entry {
+    fn copy(&self) -> Result<Entry, AllocError> {
+        Ok(Entry {
+            sealed: self.sealed.copy()?,
+            reply: self.reply.copy()?,
+        })
+    }
+}

@@ -1,0 +1,135 @@
+//! Lists of values that can be copied.
+
+ghost use Rattle.std.specs.Prelude.{◌≡◌, ◌+◌, ◌<◌, ◌≤◌, ◌++◌, [], ◌∷◌, drop, length, take, IfOk, OnOk, OnErr, slice_get, option_copied};
+
+use cap_text::Name;
+use std::alloc::{AllocError, Global};
+use std::marker::Model;
+use std::mem;
+
+/// Values that can be copied where there is memory.
+pub trait TryCopy {
+    /// An equal value. It is refused for want of memory alone.
+    fn copy(&self) -> Result<Self, AllocError>
+    where
+        Self: Sized,
+        ensures { IfOk result (λ it. it ≡ self.now) };
+}
+
+impl TryCopy for u8 {
+    fn copy(&self) -> Result<u8, AllocError> {
+        Ok(*self)
+    }
+}
+
+impl TryCopy for u64 {
+    fn copy(&self) -> Result<u64, AllocError> {
+        Ok(*self)
+    }
+}
+
+impl TryCopy for Name {
+    fn copy(&self) -> Result<Name, AllocError> {
+        Name::copy(self)
+    }
+}
+
+/// A growing list, which contracts see as the list of its items.
+#[derive(Drop)]
+pub struct Items<T> {
+    items: Vec<T>,
+}
+
+impl<T> Model for Items<T> {
+    ghost use Rattle.std.specs.Prelude.{List};
+
+    ghost Value = { List T };
+
+    ghost view = { λ a. a.items.items };
+}
+
+impl<T> Items<T> {
+    /// No items. It takes no memory.
+    pub fn new(alloc: Global) -> Self
+        ensures { result ≡ [] }
+    {
+        Items {
+            items: Vec::new(alloc),
+        }
+    }
+
+    /// Moves the items out, and leaves none. It takes no memory.
+    pub fn take(&mut self) -> Self
+        ensures items { result ≡ self.old }
+        ensures rest { self.new ≡ [] }
+    {
+        let alloc = *self.items.allocator();
+        mem::replace(self, Items::new(alloc))
+    }
+
+    /// What it takes its memory from.
+    pub fn allocator(&self) -> Global {
+        *self.items.allocator()
+    }
+
+    /// The items, in a vector. It takes no memory.
+    pub fn into_vec(self) -> Vec<T>
+        ensures { result.items ≡ self }
+    {
+        self.items
+    }
+
+    /// How many items there are.
+    pub fn len(&self) -> usize
+        ensures { result ≡ length self.now }
+    {
+        self.items.len()
+    }
+
+    /// The items in order.
+    pub fn as_slice(&self) -> &[T]
+        ensures { result.now ≡ self.now }
+    {
+        self.items.as_slice()
+    }
+
+    /// Adds an item at the end. Where memory is wanting, the items stay as they were.
+    pub fn push(&mut self, x: T) -> Result<(), AllocError>
+    where
+        T: Drop,
+        ensures ok { OnOk result (self.new ≡ self.old ++ x ∷ []) }
+        ensures err { OnErr result (self.new ≡ self.old) }
+    {
+        self.items.push(x)?;
+        Ok(())
+    }
+}
+
+impl<T: Drop> Items<T> {
+    /// Keeps the first n, or all where there are fewer.
+    pub fn truncate(&mut self, n: usize)
+        ensures { self.new ≡ take n self.old }
+    {
+        self.items.truncate(n);
+    }
+
+    /// Leaves the first n out. It costs as much as n times the number of items.
+    pub fn skip(&mut self, n: usize)
+        requires { n ≤ length self.old }
+        ensures { self.new ≡ drop n self.old }
+    {
+        for _ in 0..n {
+            let _ = self.items.remove(0);
+        }
+    }
+}
+
+impl<T: TryCopy + Drop> TryCopy for Items<T> {
+    fn copy(&self) -> Result<Items<T>, AllocError> {
+        let mut all = Items::new(*self.items.allocator());
+        for x in self.items.as_slice() {
+            all.push(x.copy()?)?;
+        }
+        Ok(all)
+    }
+}

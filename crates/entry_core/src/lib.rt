@@ -1,0 +1,37 @@
+//! Requests, what was decided on them, and the log of one copy.
+//!
+//! A request is sealed with all that its verdict looks at, so that it is denied on every log or on none. A log decides
+//! by the objects that its entries make. All of it is this project's profile, after Ceph's placement group logs.
+#![tactic(auto)]
+
+mod decided;
+mod deciding;
+mod entry;
+mod id;
+mod items;
+mod laws;
+mod log;
+mod object_name;
+mod objects;
+mod parts;
+mod reply;
+mod sealed;
+mod texts;
+
+pub use decided::Decided;
+pub use entry::Entry;
+pub use id::Id;
+pub use items::{Items, TryCopy};
+pub use laws::{
+    decision_tells_the_store, listings_are_sorted, others_are_left, refusals_leave_the_store,
+    store_decides, verdict_is_sealed,
+};
+pub use log::Log;
+pub use reply::{Reply, reply_number};
+pub use sealed::{GroupId, Sealed};
+
+/// A growth was refused.
+pub type OutOfMemory = std::alloc::AllocError;
+
+#[cfg(test)]
+mod tests;

@@ -1,0 +1,124 @@
+-- What holds of each group that there can be.
+use Rattle.std.proofs.Common.{ℕ, ◌≡◌, ◌≤◌, Bool, true, false, ◌==◌, List, [], ◌∷◌, ◌++◌, map, length, take, refl, ◌∙◌, ap, subst, if◌then◌else◌}
+use Rattle.std.specs.Prelude.{Option, Some, None, slice_get}
+use Rattle.entry_core.specs.Log.{is_in}
+use Rattle.entry_core.specs.declared.sealed.GroupId.{GroupId}
+use Rattle.peer_core.specs.Steps.{restarted}
+use Rattle.group_core.specs.Types.{Daemon, Body, Interval, Query, Info, Install, Installed, Append, Appended, Request, Reply, NotHere, Party, Osd, Client, Sent}
+use Rattle.group_core.specs.Group.{Group, Event, Submit, Deliver, Lose, Repeat, NewInterval, Restart, Kick, last_set, is_answered, answered, copy_hears, arrives, without, deliver, lose, again, is_submitted, has_all_requests, has_all_intervals, opens, begin, with_up, same_set, group_step, run, start, IsSet, EventFits}
+use Rattle.group_core.specs.Furthest.{furthest}
+use Rattle.group_core.specs.Reached.{IsReached}
+use Rattle.group_core.proofs.Eaches.{Each-append}
+use Rattle.group_core.proofs.Groups.{Good, run_good, start_good, run-append}
+use Rattle.group_core.proofs.Kept.{Kept, run_kept, start_kept}
+use Rattle.group_core.specs.Sane.{AllSane}
+use Rattle.group_core.proofs.SaneGroups.{run_sane, start_sane}
+use Rattle.group_core.proofs.Settles.{Bounded, run_bounded}
+use Rattle.group_core.proofs.FarCopies.{audit_furthest, audit_fits}
+
+-- no event changes the group's least size
+
+abbrev Least : ℕ → Group → Type 0
+Least n g = n ≤ g.min_size
+
+least_if : (n : ℕ) (b : Bool) (x y : Group) → Least n x → Least n y → Least n (if b then x else y)
+least_if n true x y p q = p
+least_if n false x y p q = q
+
+answered_least : (n : ℕ) (g : Group) (b : Body) → Least n g → Least n (answered g b)
+answered_least n g (Reply id reply) is = least_if n (is_answered g.answers id) g (record g { answers = g.answers ++ record { id = id; reply = reply } ∷ [] }) is is
+answered_least n g (Interval sets) is = is
+answered_least n g (Query i) is = is
+answered_least n g (Info i base log) is = is
+answered_least n g (Install i log) is = is
+answered_least n g (Installed i) is = is
+answered_least n g (Append i place s) is = is
+answered_least n g (Appended i place) is = is
+answered_least n g (Request s) is = is
+answered_least n g (NotHere id) is = is
+
+hears_least : (n : ℕ) (g : Group) (m : Sent) (d : ℕ) (found : Option Daemon) → Least n g → Least n (copy_hears g m d found)
+hears_least n g m d None is = is
+hears_least n g m d (Some c) is = is
+
+arrives_least : (n : ℕ) (g : Group) (m : Sent) (to : Party) → Least n g → Least n (arrives g m to)
+arrives_least n g m Client is = answered_least n g m.body is
+arrives_least n g m (Osd d) is = least_if n (is_in g.up d) (copy_hears g m d (slice_get g.copies d)) g (hears_least n g m d (slice_get g.copies d) is) is
+
+step_least : (n : ℕ) (e : Event) (g : Group) → Least n g → Least n (group_step g e)
+step_least n (Submit s) g is = least_if n (is_submitted g.requests s.id) g (if has_all_requests g then g else opens g s) is (least_if n (has_all_requests g) g (opens g s) is is)
+step_least n (Deliver k) g is = go (slice_get g.wire k)
+  where
+    go : (found : Option Sent) → Least n (deliver g k found)
+    go None = is
+    go (Some m) = arrives_least n (without g k) m m.to is
+step_least n (Lose k) g is = go (slice_get g.wire k)
+  where
+    go : (found : Option Sent) → Least n (lose g k found)
+    go None = is
+    go (Some m) = is
+step_least n (Repeat k) g is = go (slice_get g.wire k)
+  where
+    go : (found : Option Sent) → Least n (again g found)
+    go None = is
+    go (Some m) = is
+step_least n (NewInterval acting up) g is = least_if n (same_set acting (last_set g.sets)) (with_up g up) (if has_all_intervals g then g else begin (with_up g up) acting) is
+    (least_if n (has_all_intervals g) g (begin (with_up g up) acting) is is)
+step_least n (Restart d) g is =
+    least_if n (is_in (last_set g.sets) d) (if has_all_intervals g then g else begin (record g { copies = map (λ c. if c.number == d then restarted c else c) g.copies }) (last_set g.sets)) (record g { copies = map (λ c. if c.number == d then restarted c else c) g.copies })
+    (least_if n (has_all_intervals g) g (begin (record g { copies = map (λ c. if c.number == d then restarted c else c) g.copies }) (last_set g.sets)) is is) is
+step_least n Kick g is = is
+
+run_least : (n : ℕ) (es : List Event) (g : Group) → Least n g → Least n (run es g)
+run_least n [] g is = is
+run_least n (e ∷ es) g is = run_least n es (group_step g e) (step_least n e g is)
+
+pub reached_least : (g : Group) → IsReached g → 1 ≤ g.min_size
+reached_least g r = subst (λ v. Least 1 v) r.is (run_least 1 r.events (start r.group r.min_size r.daemons r.acting r.up) r.least)
+
+pub reached_good : (g : Group) → IsReached g → Good g
+reached_good g r = subst Good r.is (run_good r.events (start r.group r.min_size r.daemons r.acting r.up) (start_good r.group r.min_size r.daemons r.acting r.up))
+
+pub reached_kept : (g : Group) → IsReached g → Kept g
+reached_kept g r = subst Kept r.is (run_kept r.events (start r.group r.min_size r.daemons r.acting r.up) (start_good r.group r.min_size r.daemons r.acting r.up) (start_kept r.group r.min_size r.daemons r.acting r.up))
+
+pub reached_sane : (g : Group) → IsReached g → AllSane g
+reached_sane g r = subst AllSane r.is (run_sane r.events (start r.group r.min_size r.daemons r.acting r.up) (start_sane r.group r.min_size r.daemons r.acting r.up))
+
+pub reached_bounded : (g : Group) → IsReached g → Bounded g
+reached_bounded g r = subst Bounded r.is (run_bounded r.group r.min_size r.daemons r.acting r.up r.events r.begins r.fit)
+
+pub reached_audit : (g : Group) → IsReached g → g.audit ≡ take (length g.audit) (furthest g.copies)
+reached_audit g r = audit_furthest g (reached_good g r) (reached_least g r)
+
+pub reached_fits : (g : Group) → IsReached g → length g.audit ≤ length (furthest g.copies)
+reached_fits g r = audit_fits g (reached_good g r) (reached_least g r)
+
+-- the next group is one too
+pub reached_step : (g : Group) (e : Event) → IsReached g → EventFits e → IsReached (group_step g e)
+reached_step g e r fits = record {
+  group = r.group;
+  min_size = r.min_size;
+  daemons = r.daemons;
+  acting = r.acting;
+  up = r.up;
+  events = r.events ++ e ∷ [];
+  least = r.least;
+  begins = r.begins;
+  fit = Each-append EventFits r.events (e ∷ []) r.fit (fits, tt);
+  is = run-append r.events (e ∷ []) (start r.group r.min_size r.daemons r.acting r.up) ∙ ap (λ v. group_step v e) r.is;
+}
+
+pub reached_start : (group : GroupId) (z count : ℕ) (acting up : List ℕ) → 1 ≤ z → IsSet acting → IsReached (start group z count acting up)
+reached_start group z count acting up least fits = record {
+  group = group;
+  min_size = z;
+  daemons = count;
+  acting = acting;
+  up = up;
+  events = [];
+  least = least;
+  begins = fits;
+  fit = tt;
+  is = refl;
+}

@@ -1,0 +1,13 @@
+use Rattle.std.proofs.Common.{◌<◌, length, subst}
+use Rattle.group_core.proofs.Calls.{next_lost, stepped}
+use Rattle.group_core.proofs.group.Group.lose.Goals as goal
+
+pub invariant_of-self : goal.invariant_of-self
+invariant_of-self c =
+    let lt : c.args.k < length c.self.inside.wire.sent = subst (λ l. c.args.k < length l) c.as_slice.ensures c.if-k-as_slice.false in
+    (next_lost c.self.invariant c.args.k c.remove.new.self.sent lt c.remove.ensures).whole
+
+pub returns : goal.returns
+returns c =
+    let lt : c.args.k < length c.self.inside.wire.sent = subst (λ l. c.args.k < length l) c.as_slice.ensures c.if-k-as_slice.false in
+    stepped c.self.view_is (next_lost c.self.invariant c.args.k c.remove.new.self.sent lt c.remove.ensures)

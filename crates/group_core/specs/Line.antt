@@ -1,0 +1,7 @@
+-- Messages on their way, and for how many more there is room.
+use Rattle.std.specs.Prelude.{ℕ, List}
+use Rattle.group_core.specs.Types.{Sent}
+
+pub record Line : Type 0 where
+  pub sent : List Sent
+  pub room : ℕ

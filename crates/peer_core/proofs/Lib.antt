@@ -1,0 +1,8 @@
+pub mod Finding
+pub mod Serving
+pub mod Counting
+pub mod Asking
+pub mod Whole
+pub mod Messages
+mod Passing
+mod Known

@@ -1,0 +1,35 @@
+-- Which copy's log begins an interval, and when it may be chosen.
+use Rattle.std.specs.Prelude.{ℕ, ◌+◌, ◌-◌, Bool, true, ◌==◌, ◌||◌, ◌&&◌, nat_lt, List, [], ◌∷◌, length, take, if◌then◌else◌}
+use Rattle.std.specs.List.{list_any, list_all}
+use Rattle.peer_core.specs.Types.{Informed, Daemon}
+use Rattle.peer_core.specs.Sets.{set_of}
+
+-- the first is the better offer: the greater base, then the longer log, then the smaller number
+abbrev pub is_better : Informed → Informed → Bool
+is_better a b =
+    nat_lt b.base a.base
+    || (a.base == b.base) && (nat_lt (length b.log) (length a.log)
+    || (length a.log == length b.log) && nat_lt a.number b.number)
+
+abbrev pub best : Informed → List Informed → Informed
+best a [] = a
+best a (b ∷ bs) = best (if is_better b a then b else a) bs
+
+-- each of these intervals, from j on, that is at least base and has enough members has one that was heard
+abbrev pub covers : ℕ → ℕ → (ℕ → Bool) → ℕ → List (List ℕ) → Bool
+covers min_size base heard j [] = true
+covers min_size base heard j (members ∷ sets) =
+    (nat_lt j base || nat_lt (length members) min_size || list_any heard members)
+    && covers min_size base heard (j + 1) sets
+
+abbrev pub own_offer : Daemon → Informed
+own_offer c = record { number = c.number; base = c.base; log = c.log }
+
+abbrev pub is_heard : Daemon → List Informed → ℕ → Bool
+is_heard c heard m = (m == c.number) || list_any (λ i. i.number == m) heard
+
+-- every member was heard, and no interval since the greatest base is without a copy that was
+abbrev pub can_choose : Daemon → List Informed → Bool
+can_choose c heard =
+    list_all (is_heard c heard) (set_of c.known c.promise)
+    && covers c.min_size (best (own_offer c) heard).base (is_heard c heard) 1 (take (c.promise - 1) c.known)

@@ -1,0 +1,9 @@
+pub mod Types
+pub mod Sets
+pub mod Decided
+pub mod Choice
+pub mod Steps
+pub mod Serve
+pub mod Copy
+pub mod Parts
+pub mod Waiting

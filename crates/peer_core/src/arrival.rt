@@ -1,0 +1,83 @@
+//! What a message makes of a copy.
+
+use crate::message::{Body, Message, Party, Sent};
+use crate::role::Informed;
+use crate::state::State;
+use entry_core::{Items, Log, OutOfMemory};
+
+impl State {
+    ghost use Rattle.std.specs.Prelude.{◌≡◌, IfOk, OnErr};
+    ghost use Rattle.peer_core.specs.Steps.{still};
+    ghost use Rattle.peer_core.specs.Copy as rules;
+
+    /// A copy is told, by a daemon alone.
+    fn on_told(
+        &mut self,
+        from: Party,
+        n: u64,
+        base: u64,
+        log: Log,
+    ) -> Result<Items<Sent>, OutOfMemory>
+        ensures ok { IfOk result (λ sent. rules.of_daemon from (λ m. rules.info_as self.old.role self.old n (record { number = m; base = base; log = log })) (still self.old) ≡ record { copy = self.new; sent = sent }) }
+        ensures err { OnErr result (self.new ≡ self.old) }
+    {
+        match from {
+            Party::Osd(number) => self.on_info(n, Informed { number, base, log }),
+            Party::Client => Ok(Items::new(self.log.allocator())),
+        }
+    }
+
+    /// A daemon has the chosen log.
+    fn on_installed_by(&mut self, from: Party, n: u64) -> Result<Items<Sent>, OutOfMemory>
+        ensures ok { IfOk result (λ sent. rules.of_daemon from (λ m. rules.installed_as self.old.role self.old n m) (still self.old) ≡ record { copy = self.new; sent = sent }) }
+        ensures err { OnErr result (self.new ≡ self.old) }
+    {
+        match from {
+            Party::Osd(number) => self.on_installed(n, number),
+            Party::Client => Ok(Items::new(self.log.allocator())),
+        }
+    }
+
+    /// A daemon has the entry at a place.
+    fn on_appended_by(
+        &mut self,
+        from: Party,
+        n: u64,
+        place: usize,
+    ) -> Result<Items<Sent>, OutOfMemory>
+        ensures ok { IfOk result (λ sent. rules.of_daemon from (λ m. rules.appended_as self.old.role self.old n place m) (still self.old) ≡ record { copy = self.new; sent = sent }) }
+        ensures err { OnErr result (self.new ≡ self.old) }
+    {
+        match from {
+            Party::Osd(number) => self.on_appended(n, place, number),
+            Party::Client => Ok(Items::new(self.log.allocator())),
+        }
+    }
+
+    /// Takes a message.
+    pub fn on(&mut self, message: Message) -> Result<Items<Sent>, OutOfMemory>
+        ensures ok { IfOk result (λ sent. rules.copy_step self.old message ≡ record { copy = self.new; sent = sent }) }
+        ensures err { OnErr result (self.new ≡ self.old) }
+    {
+        let from = message.from;
+        match message.body {
+            Body::Interval(sets) => self.on_interval(sets),
+            Body::Query { interval } => self.on_query(from, interval),
+            Body::Info {
+                interval,
+                base,
+                log,
+            } => self.on_told(from, interval, base, log),
+            Body::Install { interval, log } => self.on_install(from, interval, log),
+            Body::Installed { interval } => self.on_installed_by(from, interval),
+            Body::Append {
+                interval,
+                place,
+                request,
+            } => self.on_append(from, interval, place, request),
+            Body::Appended { interval, place } => self.on_appended_by(from, interval, place),
+            Body::Request(request) => self.on_request(request),
+            Body::Reply { .. } | Body::NotHere(_) => Ok(Items::new(self.log.allocator())),
+        }
+    }
+}

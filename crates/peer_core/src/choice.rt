@@ -1,0 +1,108 @@
+//! Which copy's log begins an interval.
+
+ghost use Rattle.std.specs.Prelude.{◌≡◌};
+ghost use Rattle.peer_core.specs.Choice.{is_better};
+
+use crate::role::Informed;
+use crate::state::State;
+use entry_core::{Items, Log};
+
+/// Whether an offer is better than the other, which is given by its parts.
+fn is_better(offer: &Informed, number: u8, base: u64, log: &Log) -> bool
+    ensures { result ≡ is_better offer.now (record { number = number; base = base; log = log.now }) }
+{
+    if offer.base != base {
+        return base < offer.base;
+    }
+    if offer.log.len() != log.len() {
+        return log.len() < offer.log.len();
+    }
+    offer.number < number
+}
+
+impl State {
+    ghost use Rattle.std.specs.Prelude.{◌≡◌, ◌-◌, ◌||◌, nat_lt, length, take};
+    ghost use Rattle.std.specs.List.{list_any, list_all};
+    ghost use Rattle.peer_core.specs.Choice.{best, own_offer, is_heard, covers, can_choose};
+    ghost use Rattle.peer_core.specs.Sets.{set_of};
+
+    /// The base and the log of the best offer, this copy's own among them.
+    pub fn chosen<'a>(&'a self, heard: &'a [Informed]) -> (u64, &'a Log)
+        ensures base { result.0 ≡ (best (own_offer self.now) heard.now).base }
+        ensures log { result.1.now ≡ (best (own_offer self.now) heard.now).log }
+    {
+        let mut number = self.number;
+        let mut base = self.base;
+        let mut log = &self.log;
+        for offer in heard {
+            if is_better(offer, number, base, log) {
+                number = offer.number;
+                base = offer.base;
+                log = &offer.log;
+            }
+        }
+        (base, log)
+    }
+
+    fn any_heard(&self, members: &[u8], heard: &[Informed]) -> bool
+        ensures { result ≡ list_any (is_heard self.now heard.now) members.now }
+    {
+        for m in members {
+            if self.is_heard(heard, *m) {
+                return true;
+            }
+        }
+        false
+    }
+
+    fn all_heard(&self, members: &[u8], heard: &[Informed]) -> bool
+        ensures { result ≡ list_all (is_heard self.now heard.now) members.now }
+    {
+        for m in members {
+            if !self.is_heard(heard, *m) {
+                return false;
+            }
+        }
+        true
+    }
+
+    /// The sets before the interval that was promised.
+    fn earlier_sets(&self) -> &[Items<u8>]
+        ensures { result.now ≡ take (self.now.promise - 1) self.now.known }
+    {
+        let sets = self.known.as_slice();
+        let before = self.promise.saturating_sub(1) as usize;
+        if before < sets.len() {
+            &sets[..before]
+        } else {
+            sets
+        }
+    }
+
+    /// Whether interval j can't have taken entries that no copy that was heard has.
+    fn is_covered(&self, j: u64, members: &[u8], base: u64, heard: &[Informed]) -> bool
+        ensures { result ≡ (nat_lt j base || nat_lt (length members.now) self.now.min_size || list_any (is_heard self.now heard.now) members.now) }
+    {
+        j < base || members.len() < self.min_size || self.any_heard(members, heard)
+    }
+
+    fn covers(&self, base: u64, heard: &[Informed]) -> bool
+        ensures { result ≡ covers self.now.min_size base (is_heard self.now heard.now) 1 (take (self.now.promise - 1) self.now.known) }
+    {
+        let mut j = 1;
+        for members in self.earlier_sets() {
+            if !self.is_covered(j, members.as_slice(), base, heard) {
+                return false;
+            }
+            j += 1;
+        }
+        true
+    }
+
+    /// Whether every member was heard, and each earlier interval that the best copy may lack.
+    pub fn can_choose(&self, heard: &[Informed]) -> bool
+        ensures { result ≡ can_choose self.now heard.now }
+    {
+        self.all_heard(self.set(), heard) && self.covers(self.chosen(heard).0, heard)
+    }
+}

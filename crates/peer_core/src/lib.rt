@@ -1,0 +1,20 @@
+//! One daemon's copy of one placement group: a machine that takes one message at a time, and says what is sent.
+#![tactic(auto)]
+
+mod arrival;
+mod choice;
+mod daemon;
+mod members;
+mod message;
+mod peering;
+mod queue;
+mod requests;
+mod role;
+mod serve;
+mod state;
+#[cfg(test)]
+mod tests;
+
+pub use daemon::Daemon;
+pub use message::{Body, Message, Party, Sent};
+pub use role::{Informed, Role};

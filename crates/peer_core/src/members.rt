@@ -1,0 +1,215 @@
+//! The members of sets, and what is sent to them.
+
+ghost use Rattle.std.specs.Prelude.{◌≡◌, ◌==◌, ◌&&◌, ◌++◌, not, map, length, OnOk, IfOk};
+ghost use Rattle.std.specs.List.{list_any};
+ghost use Rattle.entry_core.specs.Log.{is_in};
+ghost use Rattle.peer_core.specs.Sets.{set_of, is_first};
+
+use crate::message::{Body, Party, Sent};
+use crate::role::Informed;
+use crate::state::State;
+use entry_core::{Items, Log, OutOfMemory, Sealed, TryCopy};
+
+/// The numbers that daemons have.
+const DAEMONS: [u8; 16] = [0, 1, 2, 3, 4, 5, 6, 7, 8, 9, 10, 11, 12, 13, 14, 15];
+
+/// Whether a daemon is among these.
+fn has_member(members: &[u8], number: u8) -> bool
+    ensures { result ≡ is_in members.now number }
+{
+    for m in members {
+        if *m == number {
+            return true;
+        }
+    }
+    false
+}
+
+/// Whether a daemon is in one of these sets.
+fn is_in_some(sets: &[Items<u8>], number: u8) -> bool
+    ensures { result ≡ list_any (λ members. is_in members number) sets.now }
+{
+    for members in sets {
+        if has_member(members.as_slice(), number) {
+            return true;
+        }
+    }
+    false
+}
+
+/// The set of an interval, counted from 1.
+pub fn set_of(sets: &[Items<u8>], interval: u64) -> &[u8]
+    ensures { result.now ≡ set_of sets.now interval }
+{
+    let place = interval.saturating_sub(1) as usize;
+    match sets.get(place) {
+        Some(set) => set.as_slice(),
+        None => &[],
+    }
+}
+
+/// Whether a daemon is the first of a set.
+pub fn is_first(set: &[u8], number: u8) -> bool
+    ensures { result ≡ is_first set.now number }
+{
+    match set.first() {
+        Some(first) => *first == number,
+        None => false,
+    }
+}
+
+impl State {
+    ghost use Rattle.std.specs.Prelude.{◌≡◌, ◌==◌, ◌++◌, not, map, filter, length, OnOk};
+    ghost use Rattle.peer_core.specs.Types as types;
+    ghost use Rattle.peer_core.specs.Sets.{set_of, others, all_count, missing, is_asked};
+    ghost use Rattle.peer_core.specs.Choice.{is_heard};
+    ghost use Rattle.peer_core.specs.Steps.{send};
+    ghost use Rattle.peer_core.specs.Serve.{append_to};
+    ghost use Rattle.peer_core.specs.Copy.{unheard};
+
+    /// The set of the interval that was promised.
+    pub fn set(&self) -> &[u8]
+        ensures { result.now ≡ set_of self.now.known self.now.promise }
+    {
+        set_of(self.known.as_slice(), self.promise)
+    }
+
+    /// Whether that set has no other member.
+    pub fn is_alone(&self) -> bool
+        ensures { result ≡ (length (others self.now) == 0) }
+    {
+        for m in self.set() {
+            if *m != self.number {
+                return false;
+            }
+        }
+        true
+    }
+
+    /// Whether each other member of that set counts.
+    pub fn all_count(&self, counted: &[u8]) -> bool
+        ensures { result ≡ all_count self.now counted.now }
+    {
+        for m in self.set() {
+            if *m != self.number && !has_member(counted, *m) {
+                return false;
+            }
+        }
+        true
+    }
+
+    /// Whether it asks this daemon for its copy: another one, of some set.
+    fn asks(&self, number: u8) -> bool
+        ensures { result ≡ is_asked self.now number }
+    {
+        number != self.number && is_in_some(self.known.as_slice(), number)
+    }
+
+    /// Whether this is the daemon itself, or one of the informed.
+    pub fn is_heard(&self, heard: &[Informed], number: u8) -> bool
+        ensures { result ≡ is_heard self.now heard.now number }
+    {
+        if number == self.number {
+            return true;
+        }
+        for informed in heard {
+            if informed.number == number {
+                return true;
+            }
+        }
+        false
+    }
+
+    /// What it sends.
+    pub fn tell(&self, to: Party, body: Body) -> Sent
+        ensures { result ≡ send self.now to body }
+    {
+        Sent {
+            from: Party::Osd(self.number),
+            to,
+            body,
+        }
+    }
+
+    /// Asks those of these daemons that it asks and has not heard for their copies.
+    fn query(
+        &self,
+        daemons: &[u8],
+        heard: &[Informed],
+        sent: &mut Items<Sent>,
+    ) -> Result<(), OutOfMemory>
+        ensures { OnOk result (sent.new ≡ sent.old ++ map (λ d. send self.now (types.Osd d) (types.Query self.now.promise)) (filter (λ d. not (is_heard self.now heard.now d)) (filter (λ d. is_asked self.now d) daemons.now))) }
+    {
+        for d in daemons {
+            if self.asks(*d) && !self.is_heard(heard, *d) {
+                let body = Body::Query {
+                    interval: self.promise,
+                };
+                sent.push(self.tell(Party::Osd(*d), body))?;
+            }
+        }
+        Ok(())
+    }
+
+    /// Asks each daemon of any set that is not heard for its copy.
+    pub fn send_queries(
+        &self,
+        heard: &[Informed],
+        sent: &mut Items<Sent>,
+    ) -> Result<(), OutOfMemory>
+        ensures { OnOk result (sent.new ≡ sent.old ++ map (λ d. send self.now (types.Osd d) (types.Query self.now.promise)) (unheard self.now heard.now)) }
+    {
+        self.query(&DAEMONS, heard, sent)
+    }
+
+    /// A log on its way to a daemon.
+    fn install_for(&self, daemon: u8, log: &Log) -> Result<Sent, OutOfMemory>
+        ensures { IfOk result (λ message. message ≡ send self.now (types.Osd daemon) (types.Install self.now.promise log.now)) }
+    {
+        let body = Body::Install {
+            interval: self.promise,
+            log: log.copy()?,
+        };
+        Ok(self.tell(Party::Osd(daemon), body))
+    }
+
+    /// Sends a log to each other member that does not count yet.
+    pub fn send_install(
+        &self,
+        log: &Log,
+        done: &[u8],
+        sent: &mut Items<Sent>,
+    ) -> Result<(), OutOfMemory>
+        ensures { OnOk result (sent.new ≡ sent.old ++ map (λ m. send self.now (types.Osd m) (types.Install self.now.promise log.now)) (missing self.now done.now)) }
+    {
+        for m in self.set() {
+            if *m != self.number && !has_member(done, *m) {
+                sent.push(self.install_for(*m, log)?)?;
+            }
+        }
+        Ok(())
+    }
+
+    /// Sends the request at a place to each other member that does not count yet.
+    pub fn send_append(
+        &self,
+        place: usize,
+        request: &Sealed,
+        holders: &[u8],
+        sent: &mut Items<Sent>,
+    ) -> Result<(), OutOfMemory>
+        ensures { OnOk result (sent.new ≡ sent.old ++ map (λ m. send self.now (types.Osd m) (types.Append self.now.promise place request.now)) (missing self.now holders.now)) }
+    {
+        for m in self.set() {
+            if *m != self.number && !has_member(holders, *m) {
+                let body = Body::Append {
+                    interval: self.promise,
+                    place,
+                    request: request.copy()?,
+                };
+                sent.push(self.tell(Party::Osd(*m), body))?;
+            }
+        }
+        Ok(())
+    }
+}

@@ -1,0 +1,235 @@
+//! How the members of an interval agree on a log.
+
+use crate::members::{is_first, set_of};
+use crate::message::{Body, Party, Sent};
+use crate::queue::Queue;
+use crate::role::{Informed, Role};
+use crate::serve::complete_each;
+use crate::state::State;
+use entry_core::{Items, Log, OutOfMemory, TryCopy};
+use std::mem;
+
+impl State {
+    ghost use Rattle.std.specs.Prelude.{◌≡◌, ◌==◌, ◌++◌, [], ◌∷◌, true, List, length, IfOk, OnOk, OnErr, None};
+    ghost use Rattle.peer_core.specs.Types as types;
+    ghost use Rattle.peer_core.specs.Sets.{others};
+    ghost use Rattle.peer_core.specs.Serve.{serve};
+    ghost use Rattle.peer_core.specs.Copy.{interval, told, leads, lead, query, info_as, install_comes, installed_as, try_choice, install};
+    ghost use Rattle.peer_core.specs.Parts.{awaits};
+
+    /// Begins its interval with this log, and takes what waits: the set has no other member.
+    fn begin_alone(
+        &mut self,
+        mut log: Log,
+        mut sent: Items<Sent>,
+    ) -> Result<Items<Sent>, OutOfMemory>
+        requires { (length (others self.old) == 0) ≡ true }
+        ensures copy { OnOk result ((serve self.old.waiting (record self.old { base = self.old.promise; log = log; role = types.Active None })).copy ≡ self.new) }
+        ensures sent { IfOk result (λ all. all ≡ sent ++ (serve self.old.waiting (record self.old { base = self.old.promise; log = log; role = types.Active None })).sent) }
+        ensures err { OnErr result (self.new ≡ self.old) }
+    {
+        complete_each(self.number, &self.waiting, &mut log, &mut sent)?;
+        self.base = self.promise;
+        self.log = log;
+        self.become_active();
+        Ok(sent)
+    }
+
+    /// Begins its interval with this log, and sends it to each other member.
+    fn begin_interval(
+        &mut self,
+        log: Log,
+        mut sent: Items<Sent>,
+    ) -> Result<Items<Sent>, OutOfMemory>
+        ensures copy { OnOk result ((install self.old log (others self.old)).copy ≡ self.new) }
+        ensures sent { IfOk result (λ all. all ≡ sent ++ (install self.old log (others self.old)).sent) }
+        ensures err { OnErr result (self.new ≡ self.old) }
+    {
+        if self.is_alone() {
+            return self.begin_alone(log, sent);
+        }
+        self.send_install(&log, &[], &mut sent)?;
+        self.base = self.promise;
+        self.role = Role::Installing(Items::new(log.allocator()));
+        self.log = log;
+        Ok(sent)
+    }
+
+    /// Chooses a log where the copies that were told suffice, and adds to what was sent. It copies the chosen log once more than it sends it.
+    fn try_choice(&mut self, sent: Items<Sent>) -> Result<Items<Sent>, OutOfMemory>
+        ensures copy { (heard : List types.Informed) → self.old.role ≡ types.Peering heard → OnOk result ((try_choice self.old heard).copy ≡ self.new) }
+        ensures sent { (heard : List types.Informed) → self.old.role ≡ types.Peering heard → IfOk result (λ all. all ≡ sent ++ (try_choice self.old heard).sent) }
+        ensures err { OnErr result (self.new ≡ self.old) }
+    {
+        let log = match &self.role {
+            Role::Peering(heard) if self.can_choose(heard.as_slice()) => {
+                self.chosen(heard.as_slice()).1.copy()?
+            }
+            _ => return Ok(sent),
+        };
+        self.begin_interval(log, sent)
+    }
+
+    /// Asks for the copies of its group, and chooses at once where none is needed.
+    fn lead(&mut self) -> Result<Items<Sent>, OutOfMemory>
+        ensures ok { self.old.role ≡ types.Peering [] → IfOk result (λ sent. lead self.old ≡ record { copy = self.new; sent = sent }) }
+        ensures err { OnErr result (self.new ≡ self.old) }
+    {
+        let mut sent = Items::new(self.log.allocator());
+        self.send_queries(&[], &mut sent)?;
+        self.try_choice(sent)
+    }
+
+    /// Leads the last of these sets.
+    fn lead_next(&mut self, sets: Items<Items<u8>>) -> Result<Items<Sent>, OutOfMemory>
+        ensures ok { IfOk result (λ sent. lead (record (told self.old sets) { promise = length sets }) ≡ record { copy = self.new; sent = sent }) }
+        ensures err { OnErr result (self.new ≡ self.old) }
+    {
+        let alloc = self.log.allocator();
+        let promise = mem::replace(&mut self.promise, sets.len() as u64);
+        let known = mem::replace(&mut self.known, sets);
+        let role = mem::replace(&mut self.role, Role::Peering(Items::new(alloc)));
+        let waiting = mem::replace(&mut self.waiting, Queue::new(alloc));
+        match self.lead() {
+            Ok(sent) => Ok(sent),
+            Err(refused) => {
+                self.promise = promise;
+                self.known = known;
+                self.role = role;
+                self.waiting = waiting;
+                Err(refused)
+            }
+        }
+    }
+
+    /// Whether it is to lead the last of these sets, and may.
+    fn leads(&self, sets: &[Items<u8>]) -> bool
+        ensures { result ≡ leads self.now sets.now }
+    {
+        let set = set_of(sets, sets.len() as u64);
+        set.len() >= self.min_size && is_first(set, self.number) && self.promise < sets.len() as u64
+    }
+
+    /// Hears of a new interval. The first member of its set leads it.
+    pub fn on_interval(&mut self, sets: Items<Items<u8>>) -> Result<Items<Sent>, OutOfMemory>
+        ensures ok { IfOk result (λ sent. interval self.old sets ≡ record { copy = self.new; sent = sent }) }
+        ensures err { OnErr result (self.new ≡ self.old) }
+    {
+        let alloc = self.log.allocator();
+        if sets.len() <= self.known.len() {
+            return Ok(Items::new(alloc));
+        }
+        if self.leads(sets.as_slice()) {
+            return self.lead_next(sets);
+        }
+        self.known = sets;
+        self.role = Role::Idle;
+        self.waiting = Queue::new(alloc);
+        Ok(Items::new(alloc))
+    }
+
+    /// Whether it is peering for interval n, and has not heard of this daemon.
+    fn awaits(&self, n: u64, number: u8) -> bool
+        ensures { result ≡ awaits self.now.role self.now n number }
+    {
+        match &self.role {
+            Role::Peering(heard) => self.promise == n && !self.is_heard(heard.as_slice(), number),
+            _ => false,
+        }
+    }
+
+    /// Adds an offer to those that it heard.
+    fn hear(&mut self, offer: Informed) -> Result<(), OutOfMemory>
+        ensures ok { (heard : List types.Informed) → self.old.role ≡ types.Peering heard → OnOk result (self.new ≡ record self.old { role = types.Peering (heard ++ offer ∷ []) }) }
+        ensures err { OnErr result (self.new ≡ self.old) }
+    {
+        match &mut self.role {
+            Role::Peering(heard) => heard.push(offer),
+            _ => Ok(()),
+        }
+    }
+
+    /// Forgets the last offer.
+    fn unhear(&mut self)
+        ensures { (heard : List types.Informed) (offer : types.Informed) → self.old.role ≡ types.Peering (heard ++ offer ∷ []) → self.new ≡ record self.old { role = types.Peering heard } }
+    {
+        if let Role::Peering(heard) = &mut self.role {
+            let count = heard.len().saturating_sub(1);
+            heard.truncate(count);
+        }
+    }
+
+    /// Hears of a copy.
+    pub fn on_info(&mut self, n: u64, offer: Informed) -> Result<Items<Sent>, OutOfMemory>
+        ensures ok { IfOk result (λ sent. info_as self.old.role self.old n offer ≡ record { copy = self.new; sent = sent }) }
+        ensures err { OnErr result (self.new ≡ self.old) }
+    {
+        let sent = Items::new(self.log.allocator());
+        if !self.awaits(n, offer.number) {
+            return Ok(sent);
+        }
+        self.hear(offer)?;
+        match self.try_choice(sent) {
+            Ok(sent) => Ok(sent),
+            Err(refused) => {
+                self.unhear();
+                Err(refused)
+            }
+        }
+    }
+
+    /// Counts a member that has the chosen log. Once all have it, the copy is active and takes what waits.
+    pub fn on_installed(&mut self, n: u64, m: u8) -> Result<Items<Sent>, OutOfMemory>
+        ensures ok { IfOk result (λ sent. installed_as self.old.role self.old n m ≡ record { copy = self.new; sent = sent }) }
+        ensures err { OnErr result (self.new ≡ self.old) }
+    {
+        let sent = Items::new(self.log.allocator());
+        let mut done = match &self.role {
+            Role::Installing(done) if self.promise == n => done.copy()?,
+            _ => return Ok(sent),
+        };
+        done.push(m)?;
+        if self.all_count(done.as_slice()) {
+            return self.serve(sent);
+        }
+        self.role = Role::Installing(done);
+        Ok(sent)
+    }
+
+    /// Tells the asker of this copy, and promises its interval where that is new.
+    pub fn on_query(&mut self, from: Party, n: u64) -> Result<Items<Sent>, OutOfMemory>
+        ensures ok { IfOk result (λ sent. query self.old from n ≡ record { copy = self.new; sent = sent }) }
+        ensures err { OnErr result (self.new ≡ self.old) }
+    {
+        let mut sent = Items::new(self.log.allocator());
+        if n < self.promise {
+            return Ok(sent);
+        }
+        let body = Body::Info {
+            interval: n,
+            base: self.base,
+            log: self.log.copy()?,
+        };
+        sent.push(self.tell(from, body))?;
+        self.hear_of(n);
+        Ok(sent)
+    }
+
+    /// Takes the log that an interval begins with.
+    pub fn on_install(&mut self, from: Party, n: u64, log: Log) -> Result<Items<Sent>, OutOfMemory>
+        ensures ok { IfOk result (λ sent. install_comes self.old from n log ≡ record { copy = self.new; sent = sent }) }
+        ensures err { OnErr result (self.new ≡ self.old) }
+    {
+        let mut sent = Items::new(self.log.allocator());
+        if n < self.promise {
+            return Ok(sent);
+        }
+        sent.push(self.tell(from, Body::Installed { interval: n }))?;
+        self.hear_of(n);
+        if self.base < n {
+            self.base = n;
+            self.log = log;
+        }
+        Ok(sent)
+    }
+}

@@ -1,0 +1,174 @@
+//! How the entries of an interval are decided.
+
+use crate::message::{Body, Party, Sent};
+use crate::role::Role;
+use crate::serve::reply_to;
+use crate::state::State;
+use entry_core::{Items, OutOfMemory, Sealed, TryCopy};
+
+impl State {
+    ghost use Rattle.std.specs.Prelude.{◌≡◌, ◌++◌, ◌∷◌, length, take, ◌-◌, IfOk, OnOk, OnErr};
+    ghost use Rattle.entry_core.specs.Log.{find};
+    ghost use Rattle.peer_core.specs.Types as types;
+    ghost use Rattle.peer_core.specs.Sets.{missing};
+    ghost use Rattle.peer_core.specs.Decided.{last};
+    ghost use Rattle.peer_core.specs.Parts.{replies};
+    ghost use Rattle.peer_core.specs.Serve.{serve};
+    ghost use Rattle.peer_core.specs.Copy as rules;
+
+    /// Decides and keeps the next entry of its interval, and acknowledges each that it has.
+    pub fn on_append(
+        &mut self,
+        from: Party,
+        n: u64,
+        place: usize,
+        request: Sealed,
+    ) -> Result<Items<Sent>, OutOfMemory>
+        ensures ok { IfOk result (λ sent. rules.append self.old from n place request ≡ record { copy = self.new; sent = sent }) }
+        ensures err { OnErr result (self.new ≡ self.old) }
+    {
+        let mut sent = Items::new(self.log.allocator());
+        if self.promise != n || self.base != n {
+            return Ok(sent);
+        }
+        let is_next = self.log.entries().len() + 1 == place && !self.log.contains(request.id());
+        if is_next || place <= self.log.len() {
+            let body = Body::Appended { interval: n, place };
+            sent.push(self.tell(from, body))?;
+        }
+        if is_next {
+            let decided = self.log.decide(&request)?;
+            self.log.push(decided)?;
+        }
+        Ok(sent)
+    }
+
+    /// Answers the last entry's request.
+    #[tactic(auto, using(crate::proofs::Counting::last_get))]
+    fn reply_to_last(&self, sent: &mut Items<Sent>) -> Result<(), OutOfMemory>
+        ensures { OnOk result (sent.new ≡ sent.old ++ replies self.now (last self.now.log)) }
+    {
+        match self.log.last() {
+            Some(entry) => sent.push(reply_to(self.number, &entry.sealed, &entry.reply)?),
+            None => Ok(()),
+        }
+    }
+
+    /// Answers the last entry's request, since all members have it, and takes what waits.
+    fn finish(&mut self) -> Result<Items<Sent>, OutOfMemory>
+        ensures ok { IfOk result (λ sent. rules.complete self.old (last self.old.log) ≡ record { copy = self.new; sent = sent }) }
+        ensures err { OnErr result (self.new ≡ self.old) }
+    {
+        let mut sent = Items::new(self.log.allocator());
+        self.reply_to_last(&mut sent)?;
+        self.serve(sent)
+    }
+
+    /// Counts a member that has the entry in flight. Once all have it, it is answered, and what waits is taken.
+    pub fn on_appended(&mut self, n: u64, place: usize, m: u8) -> Result<Items<Sent>, OutOfMemory>
+        ensures ok { IfOk result (λ sent. rules.appended_as self.old.role self.old n place m ≡ record { copy = self.new; sent = sent }) }
+        ensures err { OnErr result (self.new ≡ self.old) }
+    {
+        let sent = Items::new(self.log.allocator());
+        let mut holders = match &self.role {
+            Role::Active(Some(holders)) if self.promise == n && place == self.log.len() => {
+                holders.copy()?
+            }
+            _ => return Ok(sent),
+        };
+        holders.push(m)?;
+        if self.all_count(holders.as_slice()) {
+            return self.finish();
+        }
+        self.role = Role::Active(Some(holders));
+        Ok(sent)
+    }
+
+    /// Takes a request while nothing is in flight.
+    fn take_request(&mut self, request: Sealed) -> Result<Items<Sent>, OutOfMemory>
+        ensures ok { IfOk result (λ sent. serve (request ∷ self.old.waiting) self.old ≡ record { copy = self.new; sent = sent }) }
+        ensures err { OnErr result (self.new ≡ self.old) }
+    {
+        self.waiting.push_front(request)?;
+        let sent = Items::new(self.log.allocator());
+        match self.serve(sent) {
+            Ok(sent) => Ok(sent),
+            Err(refused) => {
+                self.waiting.skip(1);
+                Err(refused)
+            }
+        }
+    }
+
+    /// Takes a request while the last entry is in flight.
+    #[tactic(auto, using(crate::proofs::Finding::busy_known, crate::proofs::Finding::busy_new))]
+    fn busy_request(&mut self, request: Sealed) -> Result<Items<Sent>, OutOfMemory>
+        ensures ok { IfOk result (λ sent. rules.busy self.old request (find (take (length self.old.log - 1) self.old.log) request.id) ≡ record { copy = self.new; sent = sent }) }
+        ensures err { OnErr result (self.new ≡ self.old) }
+    {
+        let mut sent = Items::new(self.log.allocator());
+        if let Some(reply) = self.log.find_before_last(request.id()) {
+            sent.push(reply_to(self.number, &request, reply)?)?;
+            return Ok(sent);
+        }
+        if !self.log.contains(request.id()) {
+            self.waiting.push_back(request)?;
+        }
+        Ok(sent)
+    }
+
+    /// Takes a request where it leads an interval.
+    pub fn on_request(&mut self, request: Sealed) -> Result<Items<Sent>, OutOfMemory>
+        ensures ok { IfOk result (λ sent. rules.request self.old request ≡ record { copy = self.new; sent = sent }) }
+        ensures err { OnErr result (self.new ≡ self.old) }
+    {
+        let mut sent = Items::new(self.log.allocator());
+        if self.waiting.has(request.id()) {
+            return Ok(sent);
+        }
+        match &self.role {
+            Role::Idle => {
+                let body = Body::NotHere(request.id());
+                sent.push(self.tell(Party::Client, body))?;
+                Ok(sent)
+            }
+            Role::Peering(_) | Role::Installing(_) => {
+                self.waiting.push_back(request)?;
+                Ok(sent)
+            }
+            Role::Active(None) => self.take_request(request),
+            Role::Active(Some(_)) => self.busy_request(request),
+        }
+    }
+
+    /// Sends the last entry's request again.
+    #[tactic(auto, using(crate::proofs::Counting::last_get))]
+    fn send_last(&self, holders: &[u8], sent: &mut Items<Sent>) -> Result<(), OutOfMemory>
+        ensures { OnOk result (sent.new ≡ sent.old ++ rules.append_again self.now (last self.now.log) (missing self.now holders.now)) }
+    {
+        match self.log.last() {
+            Some(entry) => self.send_append(self.log.len(), &entry.sealed, holders, sent),
+            None => Ok(()),
+        }
+    }
+
+    fn send_again(&self, sent: &mut Items<Sent>) -> Result<(), OutOfMemory>
+        ensures { OnOk result (sent.new ≡ sent.old ++ rules.kicked self.now) }
+    {
+        match &self.role {
+            Role::Idle | Role::Active(None) => Ok(()),
+            Role::Peering(heard) => self.send_queries(heard.as_slice(), sent),
+            Role::Installing(done) => self.send_install(&self.log, done.as_slice(), sent),
+            Role::Active(Some(holders)) => self.send_last(holders.as_slice(), sent),
+        }
+    }
+
+    /// Sends again what was not answered.
+    pub fn kick(&self) -> Result<Items<Sent>, OutOfMemory>
+        ensures { IfOk result (λ sent. sent ≡ rules.kicked self.now) }
+    {
+        let mut sent = Items::new(self.log.allocator());
+        self.send_again(&mut sent)?;
+        Ok(sent)
+    }
+}

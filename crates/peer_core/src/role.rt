@@ -1,0 +1,45 @@
+//! What a daemon does for its group.
+
+use entry_core::{Items, Log, OutOfMemory, TryCopy};
+
+/// What another daemon told of its copy.
+#[derive(Drop)]
+pub struct Informed {
+    pub number: u8,
+    pub base: u64,
+    pub log: Log,
+}
+
+/// What a daemon does for its group in the interval that it promised (Ceph Peering, by this project's profile).
+#[derive(Drop)]
+pub enum Role {
+    Idle,
+    /// It asks for copies: the others that told of theirs.
+    Peering(Items<Informed>),
+    /// It sends out the chosen log: the others that have it.
+    Installing(Items<u8>),
+    /// It takes requests. Where its last entry is in flight: the others that have that entry.
+    Active(Option<Items<u8>>),
+}
+
+impl TryCopy for Informed {
+    fn copy(&self) -> Result<Informed, OutOfMemory> {
+        Ok(Informed {
+            number: self.number,
+            base: self.base,
+            log: self.log.copy()?,
+        })
+    }
+}
+
+impl TryCopy for Role {
+    fn copy(&self) -> Result<Role, OutOfMemory> {
+        match self {
+            Role::Idle => Ok(Role::Idle),
+            Role::Peering(informed) => Ok(Role::Peering(informed.copy()?)),
+            Role::Installing(members) => Ok(Role::Installing(members.copy()?)),
+            Role::Active(None) => Ok(Role::Active(None)),
+            Role::Active(Some(holders)) => Ok(Role::Active(Some(holders.copy()?))),
+        }
+    }
+}

@@ -1,0 +1,79 @@
+//! What a daemon has of its group.
+
+ghost use Rattle.std.specs.Prelude.{◌≡◌};
+
+use crate::queue::Queue;
+use crate::role::Role;
+use entry_core::{Items, Log, OutOfMemory, TryCopy};
+use std::alloc::Global;
+
+/// A daemon's copy of a group: the promise, the base and the log, which a restart keeps, and what it does at present.
+#[derive(Drop)]
+pub struct State {
+    pub number: u8,
+    pub min_size: usize,
+    pub promise: u64,
+    pub base: u64,
+    pub log: Log,
+    pub known: Items<Items<u8>>,
+    pub role: Role,
+    pub waiting: Queue,
+}
+
+impl State {
+    ghost use Rattle.std.specs.Prelude.{◌≡◌};
+    ghost use Rattle.peer_core.specs.Steps.{blank, restarted};
+    ghost use Rattle.peer_core.specs.Copy.{promised};
+
+    /// A copy of nothing.
+    pub fn new(alloc: Global, number: u8, min_size: usize) -> State
+        ensures { result ≡ blank min_size number }
+    {
+        State {
+            number,
+            min_size,
+            promise: 0,
+            base: 0,
+            log: Log::new(alloc),
+            known: Items::new(alloc),
+            role: Role::Idle,
+            waiting: Queue::new(alloc),
+        }
+    }
+
+    /// Forgets all but the promise, the base and the log.
+    pub fn restart(&mut self)
+        ensures { self.new ≡ restarted self.old }
+    {
+        let alloc = self.log.allocator();
+        self.known = Items::new(alloc);
+        self.role = Role::Idle;
+        self.waiting = Queue::new(alloc);
+    }
+
+    /// Promises interval n, and drops the role, where n is new.
+    pub fn hear_of(&mut self, n: u64)
+        ensures { self.new ≡ promised self.old n }
+    {
+        if self.promise < n {
+            self.promise = n;
+            self.role = Role::Idle;
+            self.waiting = Queue::new(self.log.allocator());
+        }
+    }
+}
+
+impl TryCopy for State {
+    fn copy(&self) -> Result<State, OutOfMemory> {
+        Ok(State {
+            number: self.number,
+            min_size: self.min_size,
+            promise: self.promise,
+            base: self.base,
+            log: self.log.copy()?,
+            known: self.known.copy()?,
+            role: self.role.copy()?,
+            waiting: self.waiting.copy()?,
+        })
+    }
+}
