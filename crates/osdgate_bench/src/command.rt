@@ -4,6 +4,7 @@ ghost use Rattle.std.specs.Prelude.{◌≤◌};
 
 use crate::expand::add_expansions;
 use crate::fault::Fault;
+use crate::group::add_groups;
 use crate::parse::add_parses;
 use crate::table::Table;
 use crate::vector::add_vectors;
@@ -31,6 +32,7 @@ PART is one of
   parse     reading a capability text
   expand    expanding a list by the built-in profiles
   vector    running a vector of operations on an object
+  group     a request through a group of three daemons, of 1,000 and of 8,000
 ";
 
 /// What is measured.
@@ -40,6 +42,7 @@ enum Part {
     Parse,
     Expand,
     Vector,
+    Group,
 }
 
 fn part_of(word: &str) -> Option<Part> {
@@ -48,6 +51,7 @@ fn part_of(word: &str) -> Option<Part> {
         "parse" => Some(Part::Parse),
         "expand" => Some(Part::Expand),
         "vector" => Some(Part::Vector),
+        "group" => Some(Part::Group),
         _ => None,
     }
 }
@@ -60,6 +64,7 @@ fn table_of<C: Clock>(alloc: Global, clock: &C, part: Part, name: &str) -> Resul
         Part::Parse => add_parses(&mut table, name)?,
         Part::Expand => add_expansions(&mut table, name)?,
         Part::Vector => add_vectors(&mut table, name)?,
+        Part::Group => add_groups(&mut table, name)?,
     }
     Ok(table.into_text()?)
 }

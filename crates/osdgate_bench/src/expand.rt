@@ -25,6 +25,10 @@ impl Work for Expand<'_> {
             Err(_) => Ok(false),
         }
     }
+
+    fn size(&self) -> u64 {
+        1
+    }
 }
 
 /// A list, of which a ticket is made.
@@ -38,6 +42,10 @@ impl Work for MakeTicket<'_> {
             Err(ExpandFault::OutOfMemory) => Err(AllocError),
             Err(_) => Ok(false),
         }
+    }
+
+    fn size(&self) -> u64 {
+        1
     }
 }
 

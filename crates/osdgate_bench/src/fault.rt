@@ -2,6 +2,7 @@
 
 use cap_text::CapFault;
 use grant_core::ExpandFault;
+use object_core::NeedsFault;
 use std::alloc::{AllocError, AllocFailed};
 use std::{fmt, io};
 
@@ -16,6 +17,8 @@ pub(crate) enum Fault {
     Text(CapFault),
     /// A list that is to be measured is not expanded.
     Expansion(ExpandFault),
+    /// A vector that is to be measured is not sealed.
+    Needs(NeedsFault),
 }
 
 impl From<AllocError> for Fault {
@@ -48,6 +51,12 @@ impl From<ExpandFault> for Fault {
     }
 }
 
+impl From<NeedsFault> for Fault {
+    fn from(fault: NeedsFault) -> Fault {
+        Fault::Needs(fault)
+    }
+}
+
 impl fmt::Display for Fault {
     fn fmt<W: fmt::Write>(&self, f: &mut fmt::Formatter<W>) -> fmt::Result {
         match self {
@@ -55,6 +64,7 @@ impl fmt::Display for Fault {
             Fault::Clock => write!(f, "the clock could not be read"),
             Fault::Text(fault) => write!(f, "a text is refused: {fault}"),
             Fault::Expansion(fault) => write!(f, "a list is not expanded: {fault}"),
+            Fault::Needs(fault) => write!(f, "a vector is not sealed: {fault}"),
         }
     }
 }

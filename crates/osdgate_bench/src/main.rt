@@ -7,6 +7,7 @@
 mod command;
 mod expand;
 mod fault;
+mod group;
 mod measure;
 mod parse;
 mod table;

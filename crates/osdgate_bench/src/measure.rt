@@ -21,6 +21,10 @@ pub(crate) trait Work {
     /// Does the work once. The turn picks among the values at hand, so that no call can stand for the next.
     /// The answer is counted.
     fn once(&self, turn: usize) -> Result<bool, OutOfMemory>;
+
+    /// How many calls the work stands for.
+    fn size(&self) -> u64
+        ensures { 0 < result };
 }
 
 /// The times of a piece of work, in tenths of a nanosecond a call, and how many calls answered yes.
@@ -94,7 +98,7 @@ pub(crate) fn measure<C: Clock, W: Work>(clock: &C, work: &W) -> Result<Timing, 
     let mut yes: usize = 0;
     for time in times.iter_mut() {
         let (nanoseconds, answers) = timed_run(clock, work, calls)?;
-        *time = tenths_a_call(nanoseconds, calls);
+        *time = tenths_a_call(nanoseconds, calls) / work.size();
         all = all.saturating_add(calls);
         yes = yes.saturating_add(answers);
     }

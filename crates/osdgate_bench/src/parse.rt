@@ -29,6 +29,10 @@ impl Work for Parse<'_> {
             Err(_) => Ok(false),
         }
     }
+
+    fn size(&self) -> u64 {
+        1
+    }
 }
 
 /// So many grants, each for a pool of its own.

@@ -25,6 +25,10 @@ impl Work for Run {
             Outcome::Failed { .. } => Ok(false),
         }
     }
+
+    fn size(&self) -> u64 {
+        1
+    }
 }
 
 /// The object of these bytes, the first 65,536 of them where there are more.

@@ -176,6 +176,10 @@ impl Work for Judge<'_> {
             Some(place) => Ok(judge(&self.0.ticket, &place.target(), &self.0.needs)),
         }
     }
+
+    fn size(&self) -> u64 {
+        1
+    }
 }
 
 /// The verdict, and the report where it is no.
@@ -198,6 +202,10 @@ impl Work for JudgeAndReport<'_> {
             &self.0.needs,
         )?;
         Ok(lines.lines().is_empty())
+    }
+
+    fn size(&self) -> u64 {
+        1
     }
 }
 
