@@ -4,6 +4,7 @@
 //! by the objects that its entries make. All of it is this project's profile, after Ceph's placement group logs.
 #![tactic(auto)]
 
+mod boxed_log;
 mod decided;
 mod deciding;
 mod entry;
@@ -18,6 +19,7 @@ mod reply;
 mod sealed;
 mod texts;
 
+pub use boxed_log::BoxedLog;
 pub use decided::Decided;
 pub use entry::Entry;
 pub use id::Id;

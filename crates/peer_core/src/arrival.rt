@@ -3,7 +3,7 @@
 use crate::message::{Body, Message, Party, Sent};
 use crate::role::Informed;
 use crate::state::State;
-use entry_core::{Items, Log, OutOfMemory};
+use entry_core::{BoxedLog, Items, OutOfMemory};
 
 impl State {
     ghost use Rattle.std.specs.Prelude.{◌≡◌, IfOk, OnErr};
@@ -16,7 +16,7 @@ impl State {
         from: Party,
         n: u64,
         base: u64,
-        log: Log,
+        log: BoxedLog,
     ) -> Result<Items<Sent>, OutOfMemory>
         ensures ok { IfOk result (λ sent. rules.of_daemon from (λ m. rules.info_as self.old.role self.old n (record { number = m; base = base; log = log })) (still self.old) ≡ record { copy = self.new; sent = sent }) }
         ensures err { OnErr result (self.new ≡ self.old) }

@@ -14,8 +14,8 @@ fn is_better(offer: &Informed, number: u8, base: u64, log: &Log) -> bool
     if offer.base != base {
         return base < offer.base;
     }
-    if offer.log.len() != log.len() {
-        return log.len() < offer.log.len();
+    if offer.log.as_log().len() != log.len() {
+        return log.len() < offer.log.as_log().len();
     }
     offer.number < number
 }
@@ -38,7 +38,7 @@ impl State {
             if is_better(offer, number, base, log) {
                 number = offer.number;
                 base = offer.base;
-                log = &offer.log;
+                log = offer.log.as_log();
             }
         }
         (base, log)

@@ -8,7 +8,7 @@ ghost use Rattle.peer_core.specs.Sets.{set_of, is_first};
 use crate::message::{Body, Party, Sent};
 use crate::role::Informed;
 use crate::state::State;
-use entry_core::{Items, Log, OutOfMemory, Sealed, TryCopy};
+use entry_core::{BoxedLog, Items, Log, OutOfMemory, Sealed, TryCopy};
 
 /// The numbers that daemons have.
 const DAEMONS: [u8; 16] = [0, 1, 2, 3, 4, 5, 6, 7, 8, 9, 10, 11, 12, 13, 14, 15];
@@ -168,7 +168,7 @@ impl State {
     {
         let body = Body::Install {
             interval: self.promise,
-            log: log.copy()?,
+            log: BoxedLog::new(log.copy()?)?,
         };
         Ok(self.tell(Party::Osd(daemon), body))
     }

@@ -1,6 +1,6 @@
 //! What daemons and the client send to one another.
 
-use entry_core::{Id, Items, Log, OutOfMemory, Reply, Sealed, TryCopy};
+use entry_core::{BoxedLog, Id, Items, OutOfMemory, Reply, Sealed, TryCopy};
 
 /// Who sends or receives.
 #[derive(Clone, Copy, Debug, PartialEq, Eq)]
@@ -24,12 +24,12 @@ pub enum Body {
     Info {
         interval: u64,
         base: u64,
-        log: Log,
+        log: BoxedLog,
     },
     /// The log that an interval begins with.
     Install {
         interval: u64,
-        log: Log,
+        log: BoxedLog,
     },
     /// The answer to `Install`.
     Installed {

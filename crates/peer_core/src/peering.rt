@@ -6,7 +6,7 @@ use crate::queue::Queue;
 use crate::role::{Informed, Role};
 use crate::serve::complete_each;
 use crate::state::State;
-use entry_core::{Items, Log, OutOfMemory, TryCopy};
+use entry_core::{BoxedLog, Items, Log, OutOfMemory, TryCopy};
 use std::mem;
 
 impl State {
@@ -208,7 +208,7 @@ impl State {
         let body = Body::Info {
             interval: n,
             base: self.base,
-            log: self.log.copy()?,
+            log: BoxedLog::new(self.log.copy()?)?,
         };
         sent.push(self.tell(from, body))?;
         self.hear_of(n);
@@ -216,7 +216,7 @@ impl State {
     }
 
     /// Takes the log that an interval begins with.
-    pub fn on_install(&mut self, from: Party, n: u64, log: Log) -> Result<Items<Sent>, OutOfMemory>
+    pub fn on_install(&mut self, from: Party, n: u64, log: BoxedLog) -> Result<Items<Sent>, OutOfMemory>
         ensures ok { IfOk result (λ sent. install_comes self.old from n log ≡ record { copy = self.new; sent = sent }) }
         ensures err { OnErr result (self.new ≡ self.old) }
     {
@@ -228,7 +228,7 @@ impl State {
         self.hear_of(n);
         if self.base < n {
             self.base = n;
-            self.log = log;
+            self.log = log.into_inner();
         }
         Ok(sent)
     }

@@ -1,13 +1,13 @@
 //! What a daemon does for its group.
 
-use entry_core::{Items, Log, OutOfMemory, TryCopy};
+use entry_core::{BoxedLog, Items, OutOfMemory, TryCopy};
 
 /// What another daemon told of its copy.
 #[derive(Drop)]
 pub struct Informed {
     pub number: u8,
     pub base: u64,
-    pub log: Log,
+    pub log: BoxedLog,
 }
 
 /// What a daemon does for its group in the interval that it promised (Ceph Peering, by this project's profile).

@@ -1,6 +1,6 @@
 use super::*;
 use cap_text::{Name, Tags};
-use entry_core::{Id, Items, Log, OutOfMemory, Sealed, TryCopy};
+use entry_core::{BoxedLog, Id, Items, OutOfMemory, Sealed, TryCopy};
 use map_core::PoolView;
 use std::alloc::Global;
 use std::process::Abort;
@@ -65,7 +65,7 @@ fn sets(alloc: Global, count: usize, members: &[u8]) -> Result<Items<Items<u8>>,
 }
 
 // The log of entries that these requests became.
-fn log(alloc: Global, numbers: &[u32]) -> Result<Log, OutOfMemory> {
+fn log(alloc: Global, numbers: &[u32]) -> Result<BoxedLog, OutOfMemory> {
     let mut one = Daemon::new(alloc, 9, 1);
     one.on(Message {
         from: CLIENT,
@@ -77,7 +77,7 @@ fn log(alloc: Global, numbers: &[u32]) -> Result<Log, OutOfMemory> {
             body: Body::Request(request(alloc, *n)?),
         })?;
     }
-    one.log().copy()
+    BoxedLog::new(one.log().copy()?)
 }
 
 fn body(alloc: Global, says: Says) -> Result<Body, OutOfMemory> {
