@@ -55,12 +55,16 @@ impl Objects {
         self.map.get(name)
     }
 
-    /// Puts the object of a name.
-    pub(crate) fn put(&mut self, name: ObjectName, object: Arc<Object>) -> Result<(), OutOfMemory>
-        ensures ok { OnOk result (self.new ≡ insert self.old name (arc_value object)) }
+    /// Puts the object of a name. The name is copied where it is new.
+    pub(crate) fn put(&mut self, name: &ObjectName, object: Arc<Object>) -> Result<(), OutOfMemory>
+        ensures ok { OnOk result (self.new ≡ insert self.old name.now (arc_value object)) }
         ensures err { OnErr result (self.new ≡ self.old) }
     {
-        self.map.insert(name, object)?;
+        if let Some(kept) = self.map.get_mut(name) {
+            *kept = object;
+            return Ok(());
+        }
+        self.map.insert(name.clone()?, object)?;
         Ok(())
     }
 
@@ -78,7 +82,7 @@ impl Objects {
     {
         match left {
             Left::Kept => Ok(()),
-            Left::Became(Some(object)) => self.put(name.clone()?, object),
+            Left::Became(Some(object)) => self.put(name, object),
             Left::Became(None) => {
                 self.take_out(name);
                 Ok(())

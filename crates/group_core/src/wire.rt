@@ -7,6 +7,9 @@ use peer_core::Sent;
 use std::alloc::Global;
 use std::marker::Model;
 
+/// How many messages that were taken away may stand in front of a short wire.
+const MOST_PASSED: usize = 32;
+
 /// Messages in order of sending. The first is taken away at once: it stays in front, and is dropped later with others.
 #[derive(Drop)]
 pub(crate) struct Wire {
@@ -77,9 +80,7 @@ impl Wire {
             return;
         }
         self.passed += 1;
-        if self.passed > self.sent.len() / 2 {
-            self.drop_passed();
-        }
+        self.drop_passed();
     }
 
     /// Takes the last message away, if there is one.
@@ -92,10 +93,13 @@ impl Wire {
         }
     }
 
-    /// Drops what was passed.
+    /// Drops what was passed, once it is enough to be worth it.
     fn drop_passed(&mut self)
         ensures { self.new.sent ≡ self.old.sent }
     {
+        if self.passed < MOST_PASSED || self.passed <= self.sent.len() / 2 {
+            return;
+        }
         let left = self.sent.len() - self.passed;
         self.sent.rotate_left(self.passed);
         self.sent.truncate(left);
