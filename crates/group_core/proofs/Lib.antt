@@ -19,6 +19,7 @@ pub mod Replies
 pub mod Kept
 pub mod Refusals
 pub mod Settles
+pub mod Sends
 pub mod Fronts
 pub mod Opens
 pub mod Submits

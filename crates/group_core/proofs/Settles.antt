@@ -26,7 +26,7 @@ use Rattle.group_core.proofs.Refusals.{deliver_sets, run_sets, start_sets}
 
 -- lengths
 
-filter-short : {X : Type 0} (f : X → Bool) (xs : List X) → length (filter f xs) ≤ length xs
+pub filter-short : {X : Type 0} (f : X → Bool) (xs : List X) → length (filter f xs) ≤ length xs
 filter-short f [] = omega arith
 filter-short f (x ∷ xs) = go (f x) (filter-short f xs)
   where
@@ -102,13 +102,18 @@ try_choice_budget c heard few = go (can_choose c heard)
     go true = install_budget c (best (own_offer c) heard).log (others c) few few
     go false = omega arith
 
-lead_lowers : (c : Daemon) (sets : List (List ℕ)) → length (set_of sets (length sets)) ≤ 5 → c.number < 16 → leads c sets ≡ true → Lowers 39 c (lead (record (told c sets) { promise = length sets }))
-lead_lowers c sets fits small all =
-    let c' : Daemon = record (told c sets) { promise = length sets } in
+-- the first of a set has at most four others
+pub leads_few : (c : Daemon) (sets : List (List ℕ)) → length (set_of sets (length sets)) ≤ 5 → leads c sets ≡ true → length (others (record (told c sets) { promise = length sets })) ≤ 4
+leads_few c sets fits all =
     let parts = and_parts (not (nat_lt (length (set_of sets (length sets))) c.min_size) && is_first (set_of sets (length sets)) c.number) (nat_lt c.promise (length sets)) all in
     let two = and_parts (not (nat_lt (length (set_of sets (length sets))) c.min_size)) (is_first (set_of sets (length sets)) c.number) parts.0 in
     let short = first_other c.number (set_of sets (length sets)) two.1 in
-    let few : length (others c') ≤ 4 = omega arith in
+    omega arith
+
+lead_lowers : (c : Daemon) (sets : List (List ℕ)) → length (set_of sets (length sets)) ≤ 5 → c.number < 16 → leads c sets ≡ true → Lowers 39 c (lead (record (told c sets) { promise = length sets }))
+lead_lowers c sets fits small all =
+    let c' : Daemon = record (told c sets) { promise = length sets } in
+    let few : length (others c') ≤ 4 = leads_few c sets fits all in
     let most : Serves 8 (try_choice c' []) = try_choice_budget c' [] few in
     let asks : length (asked c') ≤ 15 = asked_few c' small in
     let query : sent_budget (queries c') ≡ 2 * length (asked c') = sent_budget-queries c (length sets) (asked c') in
@@ -124,7 +129,7 @@ interval_lowers c sets fits small = by_test 39 c (nat_lt (length c.known) (lengt
     go false e = omega arith
 
 -- a copy with a role has at most four others in its set
-abbrev Few : Role → Daemon → Type 0
+abbrev pub Few : Role → Daemon → Type 0
 Few Idle c = Unit {0}
 Few (Peering heard) c = length (others c) ≤ 4
 Few (Installing done) c = length (others c) ≤ 4
@@ -167,7 +172,7 @@ appended_lowers Idle c n place m is few = omega arith
 appended_lowers (Peering heard) c n place m is few = omega arith
 appended_lowers (Installing done) c n place m is few = omega arith
 
-abbrev SetFits : Body → Type 0
+abbrev pub SetFits : Body → Type 0
 SetFits (Interval sets) = length (set_of sets (length sets)) ≤ 5
 SetFits (Query n) = Unit {0}
 SetFits (Info n base log) = Unit {0}
@@ -210,7 +215,7 @@ few_leads z sets d c number known leads each =
     let fits : length (set_of c.known c.promise) ≤ 5 = subst (λ l. length l ≤ 5) (sym read) (small_set sets c.promise each) in
     omega arith
 
-few_as : (z : ℕ) (sets : List (List ℕ)) (p : ℕ → ℕ) (h : History) (d : ℕ) (c : Daemon) (r : Role) → StateOk z sets p h d c → RoleOk z sets p h d c r → Each IsSet sets → Few r c
+pub few_as : (z : ℕ) (sets : List (List ℕ)) (p : ℕ → ℕ) (h : History) (d : ℕ) (c : Daemon) (r : Role) → StateOk z sets p h d c → RoleOk z sets p h d c r → Each IsSet sets → Few r c
 few_as z sets p h d c Idle state ok each = tt
 few_as z sets p h d c (Peering heard) state ok each = few_leads z sets d c state.number state.known ok.leads each
 few_as z sets p h d c (Installing done) state ok each = few_leads z sets d c state.number state.known ok.owns.leads each
@@ -220,7 +225,7 @@ known_fits : (sets known : List (List ℕ)) → IsKnown sets known → Each IsSe
 known_fits sets [] is each = omega arith
 known_fits sets (k ∷ ks) is each = subst (λ l. length l ≤ 5) (sym (is.same (length (k ∷ ks)) (omega arith) (omega arith))) (small_set sets (length (k ∷ ks)) each)
 
-body_fits : (sets : List (List ℕ)) (p : ℕ → ℕ) (h : History) (from : Party) (b : Body) → BodyOk sets p h from b → Each IsSet sets → SetFits b
+pub body_fits : (sets : List (List ℕ)) (p : ℕ → ℕ) (h : History) (from : Party) (b : Body) → BodyOk sets p h from b → Each IsSet sets → SetFits b
 body_fits sets p h from (Interval known) ok each = known_fits sets known ok each
 body_fits sets p h from (Query n) ok each = tt
 body_fits sets p h from (Info n base log) ok each = tt
@@ -451,45 +456,3 @@ pub settle_more : (n : ℕ) (g : Group) → Bounded g → budget g ≤ n → set
 settle_more n g ok le =
     let done : (settle (budget g) g).wire ≡ [] = settle_done (budget g) g ok (omega arith) in
     settle-add (budget g) (n - budget g) n g (omega arith) ∙ settle_idle (n - budget g) (settle (budget g) g) (ap (λ ms. slice_get ms 0) done)
-
--- how many messages one step sends
-
-sent_length : (ms : List Sent) → length ms ≤ sent_budget ms
-sent_length [] = omega arith
-sent_length (m ∷ ms) = (let some = body_positive m.body in let rest = sent_length ms in omega arith)
-
-role_small : (r : Role) → role_budget r ≤ 8
-role_small Idle = omega arith
-role_small (Peering heard) = omega arith
-role_small (Installing done) = omega arith
-role_small (Active None) = omega arith
-role_small (Active (Some holders)) = omega arith
-
-body_small : (b : Body) → body_budget b ≤ 39
-body_small (Interval sets) = omega arith
-body_small (Query n) = omega arith
-body_small (Info n base log) = omega arith
-body_small (Install n log) = omega arith
-body_small (Installed n) = omega arith
-body_small (Append n place s) = omega arith
-body_small (Appended n place) = omega arith
-body_small (Request s) = omega arith
-body_small (Reply id reply) = omega arith
-body_small (NotHere id) = omega arith
-
-pub sent_few : (g : Group) → Bounded g → (k d : ℕ) (m : Sent) (c : Daemon) → slice_get g.wire k ≡ Some m → slice_get g.copies d ≡ Some c →
-    length (copy_step c (record { from = m.from; body = m.body })).sent ≤ 9 * length c.waiting + 46
-sent_few g ok k d m c here found =
-    let s : Stepped = copy_step c (record { from = m.from; body = m.body }) in
-    let good : Good g = ok.good in
-    let copy = good.copies d c found in
-    let below = get-below g.copies d c found in
-    let count = ok.count in
-    let small : c.number < 16 = omega (arith, copy.state.number) in
-    let of_sent = Each-get (SentOk g.sets good.promise good.h) g.wire k m good.wire here in
-    let low : copy_budget s.copy + sent_budget s.sent + 1 ≤ copy_budget c + body_budget m.body =
-    comes_lowers m.body c m.from (few_as g.min_size g.sets good.promise good.h d c c.role copy.state copy.role ok.sets) small (body_fits g.sets good.promise good.h m.from m.body of_sent ok.sets) in
-    let long = sent_length s.sent in
-    let by_role = role_small c.role in
-    let by_body = body_small m.body in
-    omega arith

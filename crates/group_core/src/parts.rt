@@ -186,20 +186,13 @@ fn hear(answers: &mut Answers, body: &Body) -> Result<(), OutOfMemory>
     }
 }
 
-/// For how many messages there has to be room where so many requests wait.
-fn room_for(waiting: usize) -> Result<usize, OutOfMemory>
-    ensures { IfOk result (λ room. room ≡ 9 * waiting + 46) }
-{
-    match waiting.checked_mul(9) {
-        Some(nine) => nine.checked_add(46).ok_or(AllocError),
-        None => Err(AllocError),
-    }
-}
+/// The most messages that a copy sends at once, besides one for each request that waits.
+const MOST_SENT: usize = 20;
 
 /// Takes the message at place k to a copy.
 pub(crate) fn reach(wire: &mut Wire, copy: &mut Daemon, k: usize) -> Result<(), OutOfMemory>
     requires here { k < length wire.old.sent }
-    requires few { (m : types.Sent) → slice_get wire.old.sent k ≡ Some m → length (copy_step copy.old (record { from = m.from; body = m.body })).sent ≤ 9 * length copy.old.waiting + 46 }
+    requires few { (m : types.Sent) → slice_get wire.old.sent k ≡ Some m → length (copy_step copy.old (record { from = m.from; body = m.body })).sent ≤ length copy.old.waiting + 20 }
     ensures copy_ok { OnOk result ((m : types.Sent) → slice_get wire.old.sent k ≡ Some m → copy.new ≡ (copy_step copy.old (record { from = m.from; body = m.body })).copy) }
     ensures wire_ok { OnOk result ((m : types.Sent) → slice_get wire.old.sent k ≡ Some m → wire.new.sent ≡ remove wire.old.sent k ++ (copy_step copy.old (record { from = m.from; body = m.body })).sent) }
     ensures copy_err { OnErr result (copy.new ≡ copy.old) }
@@ -212,7 +205,8 @@ pub(crate) fn reach(wire: &mut Wire, copy: &mut Daemon, k: usize) -> Result<(), 
         },
         None => return Err(AllocError),
     };
-    wire.reserve(room_for(copy.waiting_count())?)?;
+    let most = copy.waiting_count().checked_add(MOST_SENT).ok_or(AllocError)?;
+    wire.reserve(most)?;
     let sent = copy.on(message)?;
     wire.append(sent.into_vec());
     wire.remove(k);

@@ -4,7 +4,7 @@ use Rattle.entry_core.specs.Log.{is_in}
 use Rattle.group_core.specs.Types.{Osd}
 use Rattle.group_core.proofs.Calls.{get_below, get_or_some, next_swallowed, next_heard, stepped}
 use Rattle.group_core.proofs.Reached.{reached_bounded}
-use Rattle.group_core.proofs.Settles.{sent_few}
+use Rattle.group_core.proofs.Sends.{sent_few}
 use Rattle.group_core.proofs.group.Group.reach_daemon.Goals as goal
 
 pub invariant_of-self : goal.invariant_of-self
