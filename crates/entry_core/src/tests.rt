@@ -2,7 +2,7 @@
 
 ghost use Rattle.std.specs.Prelude.{◌≤◌, IfOk};
 
-use crate::{Entry, Id, Items, Log, OutOfMemory, Reply, Sealed, TryCopy, reply_number};
+use crate::{BoxedLog, Entry, Id, Items, Log, OutOfMemory, Reply, Sealed, TryCopy, reply_number};
 use cap_text::{Access, AllowGrant, Flags, Name, Tags};
 use grant_core::Path;
 use map_core::PoolView;
@@ -301,6 +301,20 @@ fn entries_are_found(rt: HostRuntime) -> Result<(), Fail> {
         Some(entry) => assert!(rt; entry.sealed.id() == Id::new(1, 2)),
         None => assert!(rt; false),
     }
+    Ok(())
+}
+
+#[test]
+fn a_log_goes_to_the_heap_and_back(rt: HostRuntime) -> Result<(), Fail> {
+    let alloc = rt.alloc();
+    let mut log = Log::new(alloc);
+    let all = ticket(alloc, true, true, false)?;
+    let first = one(alloc, 1, all, "x", append(alloc, "a")?)?;
+    add(&mut log, &first)?;
+    let boxed = BoxedLog::new(log)?;
+    assert!(rt; boxed.as_log().contains(Id::new(1, 1)));
+    let copy = boxed.copy()?.into_inner();
+    assert!(rt; copy.len() == 1 && boxed.into_inner().len() == 1);
     Ok(())
 }
 
