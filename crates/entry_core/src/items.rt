@@ -1,11 +1,10 @@
 //! Lists of values that can be copied.
 
-ghost use Rattle.std.specs.Prelude.{◌≡◌, ◌+◌, ◌<◌, ◌≤◌, ◌++◌, [], ◌∷◌, drop, length, take, IfOk, OnOk, OnErr, slice_get, option_copied};
+ghost use Rattle.std.specs.Prelude.{◌≡◌, ◌++◌, [], ◌∷◌, length, take, IfOk, OnOk, OnErr};
 
 use cap_text::Name;
 use std::alloc::{AllocError, Global};
 use std::marker::Model;
-use std::mem;
 
 /// Values that can be copied where there is memory.
 pub trait TryCopy {
@@ -58,15 +57,6 @@ impl<T> Items<T> {
         }
     }
 
-    /// Moves the items out, and leaves none. It takes no memory.
-    pub fn take(&mut self) -> Self
-        ensures items { result ≡ self.old }
-        ensures rest { self.new ≡ [] }
-    {
-        let alloc = *self.items.allocator();
-        mem::replace(self, Items::new(alloc))
-    }
-
     /// What it takes its memory from.
     pub fn allocator(&self) -> Global {
         *self.items.allocator()
@@ -111,16 +101,6 @@ impl<T: Drop> Items<T> {
         ensures { self.new ≡ take n self.old }
     {
         self.items.truncate(n);
-    }
-
-    /// Leaves the first n out. It costs as much as n times the number of items.
-    pub fn skip(&mut self, n: usize)
-        requires { n ≤ length self.old }
-        ensures { self.new ≡ drop n self.old }
-    {
-        for _ in 0..n {
-            let _ = self.items.remove(0);
-        }
     }
 }
 

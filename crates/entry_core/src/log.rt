@@ -17,7 +17,6 @@ use crate::sealed::Sealed;
 use std::alloc::{AllocError, Global};
 use std::collections::HashMap;
 use std::marker::Model;
-use std::mem;
 
 /// The entries that one copy of a group holds, in order, with the objects that they make. Contracts see the entries.
 ///
@@ -139,15 +138,6 @@ impl Log {
         self.objects.change(entry.sealed.name(), left)?;
         append(&mut self.entries, &mut self.index, entry);
         Ok(())
-    }
-
-    /// Moves the log out, and leaves an empty one. It takes no memory.
-    pub fn take(&mut self) -> Log
-        ensures log { result ≡ self.old }
-        ensures left { self.new ≡ [] }
-    {
-        let alloc = self.allocator();
-        mem::replace(self, Log::new(alloc))
     }
 }
 

@@ -289,15 +289,13 @@ fn entries_are_found(rt: HostRuntime) -> Result<(), Fail> {
     assert!(rt; log.find_before_last(Id::new(1, 1)).is_some());
     assert!(rt; log.find_before_last(Id::new(1, 2)).is_none());
     let copy = log.copy()?;
-    let taken = log.take();
-    assert!(rt; log.len() == 0 && !log.contains(Id::new(1, 1)));
-    for log in [&copy, &taken] {
+    for log in [&copy, &log] {
         assert!(rt; log.len() == 2 && gives(log.find(Id::new(1, 2)), "a"));
         let again = one(alloc, 3, ticket(alloc, true, true, false)?, "x", read())?;
         let decided = log.decide(&again)?;
         assert!(rt; gives(Some(&decided.entry().reply), "a"));
     }
-    match taken.last() {
+    match copy.last() {
         Some(entry) => assert!(rt; entry.sealed.id() == Id::new(1, 2)),
         None => assert!(rt; false),
     }
@@ -397,12 +395,9 @@ fn items_are_a_list(rt: HostRuntime) -> Result<(), Fail> {
     for item in [4u64, 5, 6] {
         items.push(item)?;
     }
-    if items.len() >= 1 {
-        items.skip(1);
-    }
-    items.truncate(1);
     let copy = items.copy()?;
-    assert!(rt; items.take().as_slice() == [5u64].as_slice() && items.len() == 0);
-    assert!(rt; copy.as_slice() == [5u64].as_slice());
+    items.truncate(1);
+    assert!(rt; items.as_slice() == [4u64].as_slice() && items.len() == 1);
+    assert!(rt; copy.into_vec().as_slice() == [4u64, 5, 6].as_slice());
     Ok(())
 }
