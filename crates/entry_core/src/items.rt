@@ -106,10 +106,10 @@ impl<T: Drop> Items<T> {
 
 impl<T: TryCopy + Drop> TryCopy for Items<T> {
     fn copy(&self) -> Result<Items<T>, AllocError> {
-        let mut all = Items::new(*self.items.allocator());
+        let mut all = Vec::with_capacity(*self.items.allocator(), self.items.len())?;
         for x in self.items.as_slice() {
             all.push(x.copy()?)?;
         }
-        Ok(all)
+        Ok(Items { items: all })
     }
 }

@@ -51,7 +51,10 @@ impl Attributes {
     pub fn copy(&self) -> Result<Attributes, OutOfMemory>
         ensures { IfOk result (λ attributes. attributes ≡ self.now) }
     {
-        let mut attributes = Vec::new(*self.attributes.allocator());
+        let mut attributes = Vec::with_capacity(
+            *self.attributes.allocator(),
+            self.attributes.len(),
+        )?;
         for attribute in self.as_slice() {
             attributes.push((attribute.0.copy()?, attribute.1.copy()?))?;
         }

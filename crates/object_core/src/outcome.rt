@@ -72,7 +72,7 @@ impl Outputs {
     pub fn copy(&self) -> Result<Outputs, OutOfMemory>
         ensures { IfOk result (λ outputs. outputs ≡ self.now) }
     {
-        let mut outputs = Vec::new(*self.outputs.allocator());
+        let mut outputs = Vec::with_capacity(*self.outputs.allocator(), self.outputs.len())?;
         for output in self.as_slice() {
             outputs.push(output.copy()?)?;
         }

@@ -87,7 +87,7 @@ pub fn run_vector(
     ensures kept { list_all only_looks ops.now ≡ true → IfOk result KeepsObject }
 {
     let mut change = Change::Kept;
-    let mut outputs = Vec::new(alloc);
+    let mut outputs = Vec::with_capacity(alloc, ops.len())?;
     for (i, op) in ops.iter().enumerate() {
         match step(alloc, object, change, op)? {
             Err(number) => {

@@ -90,7 +90,7 @@ impl Calls {
     pub fn copy(&self) -> Result<Calls, OutOfMemory>
         ensures { IfOk result (λ calls. calls ≡ self.now) }
     {
-        let mut calls = Vec::new(*self.calls.allocator());
+        let mut calls = Vec::with_capacity(*self.calls.allocator(), self.calls.len())?;
         for call in self.as_slice() {
             calls.push(call.copy()?)?;
         }

@@ -66,7 +66,7 @@ impl Ticket {
     pub fn copy(&self) -> Result<Ticket, OutOfMemory>
         ensures { IfOk result (λ ticket. ticket ≡ self.now) }
     {
-        let mut grants = Vec::new(*self.grants.allocator());
+        let mut grants = Vec::with_capacity(*self.grants.allocator(), self.grants.len())?;
         for entry in self.grants() {
             grants.push((entry.0.copy()?, entry.1.copy()?))?;
         }
@@ -93,7 +93,7 @@ impl Report {
     pub fn copy(&self) -> Result<Report, OutOfMemory>
         ensures { IfOk result (λ report. report ≡ self.now) }
     {
-        let mut lines = Vec::new(*self.lines.allocator());
+        let mut lines = Vec::with_capacity(*self.lines.allocator(), self.lines.len())?;
         for line in self.lines() {
             lines.push((line.0.copy()?, line.1))?;
         }
