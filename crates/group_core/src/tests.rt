@@ -11,11 +11,12 @@ use std::alloc::Global;
 use std::test::Fail;
 use verdict_core::{Condition, Ticket};
 
-// What is asked of the object `x`.
+// What is asked of the object `x`: one operation, or an append and a read in one vector.
 #[derive(Clone, Copy)]
 enum Work {
     Append,
     Read,
+    AppendRead,
     Stat,
     Add,
     Get,
@@ -60,12 +61,13 @@ enum Step {
     Open(u32),
     Denied(u32, Condition),
     Gives(u32, &'static str),
+    GivesTwo(u32, &'static str, &'static str),
     Fails(u32, u32),
 }
 
 use Step::{
-    Ask, Audit, Deliver, Denied, Doubled, Fails, Gives, Kick, Lose, Missing, Move, Open, Repeat,
-    Restart, Settle, SettleAll, Unreachable, Wire,
+    Ask, Audit, Deliver, Denied, Doubled, Fails, Gives, GivesTwo, Kick, Lose, Missing, Move, Open,
+    Repeat, Restart, Settle, SettleAll, Unreachable, Wire,
 };
 
 fn ticket(alloc: Global, may: May) -> Result<Ticket, OutOfMemory> {
@@ -99,9 +101,13 @@ fn call(alloc: Global, method: &str, input: &str) -> Result<Op, OutOfMemory> {
     })
 }
 
+// The first operation of this work.
 fn op(alloc: Global, work: Work) -> Result<Op, OutOfMemory> {
     match work {
-        Work::Append => Ok(Op::Append(Bytes::from_slice(alloc, "a".as_bytes())?)),
+        Work::Append | Work::AppendRead => Ok(Op::Append(Bytes::from_slice(
+            alloc,
+            "a".as_bytes(),
+        )?)),
         Work::Read => Ok(Op::Read {
             offset: 0,
             length: 0,
@@ -110,6 +116,16 @@ fn op(alloc: Global, work: Work) -> Result<Op, OutOfMemory> {
         Work::Add => call(alloc, "add", "1"),
         Work::Get => call(alloc, "get", ""),
     }
+}
+
+// The operations of this work, in order.
+fn ops(alloc: Global, work: Work) -> Result<Vec<Op>, OutOfMemory> {
+    let mut ops = Vec::new(alloc);
+    ops.push(op(alloc, work)?)?;
+    if matches!(work, Work::AppendRead) {
+        ops.push(op(alloc, Work::Read)?)?;
+    }
+    Ok(ops)
 }
 
 fn view(alloc: Global) -> Result<PoolView, OutOfMemory>
@@ -126,8 +142,7 @@ fn view(alloc: Global) -> Result<PoolView, OutOfMemory>
 }
 
 fn request(alloc: Global, number: u32, may: May, work: Work) -> Result<Sealed, NeedsFault> {
-    let mut ops = Vec::new(alloc);
-    ops.push(op(alloc, work)?)?;
+    let ops = ops(alloc, work)?;
     let ticket = ticket(alloc, may)?;
     let namespace = Name::new(alloc, "")?;
     let object = Name::new(alloc, "x")?;
@@ -211,15 +226,20 @@ fn denies(reply: Option<&Reply>, condition: Condition) -> bool {
     }
 }
 
-// Whether a reply has just this one output.
-fn gives(reply: Option<&Reply>, output: &str) -> bool {
-    match reply {
-        Some(Reply::Done(outputs)) => match outputs.as_slice() {
-            [only] => only.as_slice() == output.as_bytes(),
-            _ => false,
-        },
-        _ => false,
+// Whether a reply has just these outputs.
+fn gives(reply: Option<&Reply>, outputs: &[&str]) -> bool {
+    let Some(Reply::Done(given)) = reply else {
+        return false;
+    };
+    if given.as_slice().len() != outputs.len() {
+        return false;
     }
+    for (bytes, output) in given.as_slice().iter().zip(outputs) {
+        if bytes.as_slice() != output.as_bytes() {
+            return false;
+        }
+    }
+    true
 }
 
 // Whether the requests of these numbers were decided, in this order.
@@ -243,7 +263,10 @@ fn sees(group: &Group, step: Step) -> bool {
         Audit(numbers) => has_decided(group, numbers),
         Open(number) => group.answer(Id::new(1, number)).is_none(),
         Denied(number, condition) => denies(group.answer(Id::new(1, number)), condition),
-        Gives(number, output) => gives(group.answer(Id::new(1, number)), output),
+        Gives(number, output) => gives(group.answer(Id::new(1, number)), &[output]),
+        GivesTwo(number, first, second) => {
+            gives(group.answer(Id::new(1, number)), &[first, second])
+        }
         Fails(number, error) => match group.answer(Id::new(1, number)) {
             Some(Reply::Failed { place, number }) => *place == 1 && *number == error,
             _ => false,
@@ -376,6 +399,25 @@ fn denials_tell_nothing_of_the_object(rt: HostRuntime) -> Result<(), Fail> {
         Fails(3, 2),
         Gives(4, ""),
         Denied(5, Condition::Read),
+    ];
+    assert_eq!(&rt; run_from(rt.alloc(), 2, Who::Three, &steps)?, 11);
+    Ok(())
+}
+
+#[test]
+fn a_denied_vector_of_two_operations(rt: HostRuntime) -> Result<(), Fail> {
+    let steps = [
+        Ask(1, May::Read, Work::AppendRead),
+        Ask(2, May::All, Work::Append),
+        Ask(3, May::Read, Work::AppendRead),
+        Ask(4, May::Read, Work::Read),
+        Ask(5, May::All, Work::AppendRead),
+        Settle(41),
+        Denied(1, Condition::Write),
+        Denied(3, Condition::Write),
+        Gives(4, "a"),
+        GivesTwo(5, "", "aa"),
+        Audit(&[1, 2, 3, 4, 5]),
     ];
     assert_eq!(&rt; run_from(rt.alloc(), 2, Who::Three, &steps)?, 11);
     Ok(())
