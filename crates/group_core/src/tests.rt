@@ -45,6 +45,7 @@ enum Who {
 #[derive(Clone, Copy)]
 enum Step {
     Ask(u32, May, Work),
+    TakeBack(u32),
     Deliver(usize),
     Lose(usize),
     Repeat(usize),
@@ -56,6 +57,9 @@ enum Step {
     Missing(usize),
     Unreachable(usize),
     Doubled(u32),
+    Named(&'static str, u32),
+    Has(u32),
+    Lacks(u32),
     Wire(usize),
     Audit(&'static [u32]),
     Open(u32),
@@ -66,8 +70,8 @@ enum Step {
 }
 
 use Step::{
-    Ask, Audit, Deliver, Denied, Doubled, Fails, Gives, GivesTwo, Kick, Lose, Missing, Move, Open,
-    Repeat, Restart, Settle, SettleAll, Unreachable, Wire,
+    Ask, Audit, Deliver, Denied, Doubled, Fails, Gives, GivesTwo, Has, Kick, Lacks, Lose, Missing,
+    Move, Named, Open, Repeat, Restart, Settle, SettleAll, TakeBack, Unreachable, Wire,
 };
 
 fn ticket(alloc: Global, may: May) -> Result<Ticket, OutOfMemory> {
@@ -259,6 +263,11 @@ fn has_decided(group: &Group, numbers: &[u32]) -> bool {
 // Whether a group looks as a step says. One that asks for no look does.
 fn sees(group: &Group, step: Step) -> bool {
     match step {
+        Named(pool, number) => {
+            group.group().pool.as_str() == pool && group.group().number == number
+        }
+        Has(number) => group.has(Id::new(1, number)),
+        Lacks(number) => !group.has(Id::new(1, number)),
         Wire(count) => group.wire().len() == count,
         Audit(numbers) => has_decided(group, numbers),
         Open(number) => group.answer(Id::new(1, number)).is_none(),
@@ -303,12 +312,28 @@ fn passes(group: &mut Group, step: Step) -> bool {
     }
 }
 
+// Submits a request, and takes it back at once where it was accepted. Says whether it was.
+fn submits_and_takes_back(group: &mut Group, request: Sealed) -> bool {
+    group.keeps_promises();
+    match group.submit(request) {
+        Ok(()) => {
+            group.take_back();
+            true
+        }
+        Err(_) => false,
+    }
+}
+
 // Whether a request is accepted, or refused as it must be.
 fn asks(alloc: Global, group: &mut Group, step: Step) -> Result<bool, NeedsFault> {
     match step {
         Ask(number, may, work) => {
             let request = request(alloc, number, may, work)?;
             Ok(group.submit(request).is_ok())
+        }
+        TakeBack(number) => {
+            let request = request(alloc, number, May::All, Work::Append)?;
+            Ok(submits_and_takes_back(group, request))
         }
         Doubled(number) => {
             let request = request(alloc, number, May::All, Work::Read)?;
@@ -401,6 +426,42 @@ fn denials_tell_nothing_of_the_object(rt: HostRuntime) -> Result<(), Fail> {
         Denied(5, Condition::Read),
     ];
     assert_eq!(&rt; run_from(rt.alloc(), 2, Who::Three, &steps)?, 11);
+    Ok(())
+}
+
+#[test]
+fn a_request_taken_back(rt: HostRuntime) -> Result<(), Fail> {
+    let steps = [
+        Named("data", 5),
+        Settle(11),
+        Ask(1, May::All, Work::Append),
+        Has(1),
+        Wire(1),
+        TakeBack(2),
+        Lacks(2),
+        Has(1),
+        Wire(1),
+        Ask(2, May::All, Work::AppendRead),
+        Has(2),
+        Wire(2),
+        Settle(12),
+        GivesTwo(2, "", "aa"),
+        Audit(&[1, 2]),
+    ];
+    assert_eq!(&rt; run_from(rt.alloc(), 2, Who::Three, &steps)?, 15);
+    let sent_to_nobody = [
+        Move(Who::Nobody, Who::Three),
+        Wire(3),
+        Ask(1, May::All, Work::Append),
+        TakeBack(2),
+        Has(1),
+        Lacks(2),
+        Wire(3),
+        Move(Who::Three, Who::Three),
+        SettleAll,
+        Audit(&[1]),
+    ];
+    assert_eq!(&rt; run_from(rt.alloc(), 2, Who::Three, &sent_to_nobody)?, 10);
     Ok(())
 }
 
