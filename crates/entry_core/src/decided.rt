@@ -1,7 +1,7 @@
 //! What was decided on a request, before it stands in a log.
 
 ghost use Rattle.std.specs.Prelude.{◌≡◌};
-ghost use Rattle.entry_core.specs.Stored.{decided_of, change_of};
+ghost use Rattle.entry_core.specs.Stored.{decided_of};
 
 use crate::entry::Entry;
 use object_core::Object;

@@ -1,6 +1,6 @@
 //! The names of objects.
 
-ghost use Rattle.std.specs.Prelude.{◌≡◌, IfOk};
+ghost use Rattle.std.specs.Prelude.{◌≡◌};
 ghost use Rattle.std.specs.Cmp.{partial_equiv_from_equiv};
 ghost use Rattle.entry_core.specs.Names.{is_same, is_same_equiv, hash_of, hashes_alike};
 

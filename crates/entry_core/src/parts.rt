@@ -1,7 +1,6 @@
 //! The parts of a sealed request.
 
-ghost use Rattle.std.specs.Prelude.{◌≡◌, IfOk, option_copied};
-ghost use Rattle.verdict_core.specs.Verdict.{is_allowed, report_of};
+ghost use Rattle.std.specs.Prelude.{◌≡◌, option_copied};
 ghost use Rattle.entry_core.specs.Sealing.{ops_in, place_in};
 
 use crate::id::Id;

@@ -1,6 +1,6 @@
 //! Lists of grants are expanded.
 
-ghost use Rattle.std.specs.Prelude.{◌≡◌, ◌≤◌, ◌+◌, ◌*◌, ◌++◌, length, map, take, IfOk};
+ghost use Rattle.std.specs.Prelude.{◌≡◌, ◌≤◌, ◌+◌, ◌++◌, length, map, take, IfOk};
 ghost use Rattle.grant_core.specs.Flat.{filled, filled_use, flat, under};
 ghost use Rattle.grant_core.specs.Found.{parts_before};
 ghost use Rattle.grant_core.specs.Refusal.{expand_refusal, RefusedFirst};

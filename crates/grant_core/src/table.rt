@@ -1,8 +1,8 @@
 //! The table of profiles.
 
-ghost use Rattle.std.specs.Prelude.{◌≡◌, ◌+◌, ◌<◌, ◌≤◌, ◌++◌, [], ◌∷◌, length, reverse, OnOk, OnErr, MatchOption, false};
+ghost use Rattle.std.specs.Prelude.{◌≡◌, ◌+◌, ◌<◌, ◌≤◌, ◌++◌, [], ◌∷◌, length, OnOk, OnErr, MatchOption, false};
 ghost use Rattle.cap_text.specs.declared.grant.ProfileUse.{ProfileUse};
-ghost use Rattle.grant_core.specs.Flat.{flat, numbered, parts_of};
+ghost use Rattle.grant_core.specs.Flat.{flat};
 ghost use Rattle.grant_core.specs.Found.{IsFound, parts_before};
 ghost use Rattle.grant_core.specs.Refusal.{add_refusal, RefusedFirst};
 ghost use Rattle.grant_core.specs.Refusal as spec;

@@ -1,6 +1,6 @@
 //! The answers that reached the client.
 
-ghost use Rattle.std.specs.Prelude.{◌≡◌, ◌+◌, ◌<◌, ◌≤◌, ◌++◌, [], ◌∷◌, false, length, OnOk, OnErr, option_copied};
+ghost use Rattle.std.specs.Prelude.{◌≡◌, ◌+◌, ◌<◌, ◌++◌, [], ◌∷◌, false, OnOk, OnErr, option_copied};
 ghost use Rattle.group_core.specs.Group.{is_answered, answer_of};
 
 use crate::at::at;

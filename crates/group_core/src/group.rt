@@ -1,6 +1,6 @@
 //! One placement group: its copies, the messages among them, its intervals, its requests and its answers.
 
-ghost use Rattle.std.specs.Prelude.{ℕ, ◌≡◌, ◌≤◌, ◌<◌, ◌+◌, length, IfOk, OnOk, OnErr, option_copied};
+ghost use Rattle.std.specs.Prelude.{◌≡◌, ◌≤◌, ◌<◌, length, IfOk, OnOk, OnErr, option_copied};
 ghost use Rattle.group_core.specs.Group.{start, is_submitted, answer_of, has_all_requests, has_all_intervals, IsSet};
 
 use crate::answers::Answers;
@@ -111,7 +111,7 @@ impl Group {
 }
 
 impl Group {
-    ghost use Rattle.std.specs.Prelude.{◌≡◌, ◌≤◌, ◌<◌, ℕ, length, IfOk, OnOk, OnErr, Some, slice_get, true};
+    ghost use Rattle.std.specs.Prelude.{◌≡◌, ◌≤◌, ◌<◌, length, IfOk, OnOk, OnErr, Some, slice_get, true};
     ghost use Rattle.group_core.specs.Group.{start, IsSet, Submit, Deliver, Lose, Repeat, NewInterval, Restart, Kick};
     ghost use Rattle.group_core.specs.Group.{group_step};
     ghost use Rattle.group_core.specs.Types as types;
@@ -293,7 +293,7 @@ impl Group {
 }
 
 impl Group {
-    ghost use Rattle.std.specs.Prelude.{◌≡◌, ◌≤◌, ℕ, IfOk, length, map, true};
+    ghost use Rattle.std.specs.Prelude.{◌≡◌, ◌≤◌, IfOk, length, map, true};
     ghost use Rattle.entry_core.specs.Log.{Legal};
     ghost use Rattle.entry_core.specs.Request as request;
     ghost use Rattle.group_core.specs.Group as definition;

@@ -1,7 +1,6 @@
 //! The ids of requests in an order, and where each stands.
 
-ghost use Rattle.std.specs.Prelude.{◌≡◌, ◌+◌, ◌-◌, ◌<◌, ◌≤◌, ◌++◌, [], ◌∷◌, false, length, take, OnOk, OnErr, IfOk};
-ghost use Rattle.entry_core.specs.Log.{is_in};
+ghost use Rattle.std.specs.Prelude.{◌≡◌, ◌+◌, ◌-◌, ◌<◌, ◌++◌, [], ◌∷◌, length, take, OnOk, OnErr};
 ghost use Rattle.group_core.specs.Places.{place_of};
 
 use entry_core::{Id, Items, OutOfMemory, TryCopy};

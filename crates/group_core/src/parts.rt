@@ -1,6 +1,6 @@
 //! What one event does to the parts of a group. Where memory is refused, each function leaves them as they were.
 
-ghost use Rattle.std.specs.Prelude.{◌≡◌, ◌≤◌, ◌<◌, ◌+◌, ◌*◌, ◌∷◌, [], ◌++◌, ◌==◌, ◌&&◌, not, false, List, length, map, take, remove, IfOk, OnOk, OnErr, slice_get, Some, if◌then◌else◌};
+ghost use Rattle.std.specs.Prelude.{◌≡◌, ◌≤◌, ◌<◌, ◌+◌, ◌*◌, ◌∷◌, [], ◌++◌, ◌==◌, ◌&&◌, not, false, length, map, take, remove, IfOk, OnOk, OnErr, slice_get, Some, if◌then◌else◌};
 ghost use Rattle.peer_core.specs.Steps.{blank, restarted};
 ghost use Rattle.peer_core.specs.Sets.{daemons};
 ghost use Rattle.peer_core.specs.Copy.{copy_step};

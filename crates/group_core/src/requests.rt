@@ -1,6 +1,6 @@
 //! The requests that were submitted to a group.
 
-ghost use Rattle.std.specs.Prelude.{◌≡◌, ◌+◌, ◌-◌, ◌<◌, ◌≤◌, ◌++◌, [], ◌∷◌, false, length, take, OnOk, OnErr};
+ghost use Rattle.std.specs.Prelude.{◌≡◌, ◌+◌, ◌-◌, ◌<◌, ◌++◌, [], ◌∷◌, false, length, take, OnOk, OnErr};
 ghost use Rattle.group_core.specs.Group.{is_submitted};
 
 use crate::ids::Ids;

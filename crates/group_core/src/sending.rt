@@ -1,6 +1,6 @@
 //! What a group itself sends: news of intervals, and requests.
 
-ghost use Rattle.std.specs.Prelude.{◌≡◌, ◌∷◌, [], ◌++◌, IfOk, slice_index_or, List};
+ghost use Rattle.std.specs.Prelude.{◌≡◌, ◌∷◌, [], IfOk};
 ghost use Rattle.group_core.specs.Types.{Request};
 ghost use Rattle.group_core.specs.Group.{tell, tell_first, last_set, announced, resent, first_again, same_set};
 ghost use Rattle.entry_core.specs.Log.{is_in};

@@ -1,6 +1,6 @@
 //! The cluster map.
 
-ghost use Rattle.std.specs.Prelude.{◌≡◌, ◌≤◌, ◌++◌, [], ◌∷◌, OnOk, OnErr, IfOk, Some, None, Option, option_copied, All, IsOkAnd};
+ghost use Rattle.std.specs.Prelude.{◌≡◌, ◌≤◌, ◌++◌, [], ◌∷◌, OnOk, OnErr, IfOk, Some, None, Option, All, IsOkAnd};
 ghost use Rattle.std.specs.Option.{option_to_list};
 ghost use Rattle.map_core.specs.Map.{epoch_of, map_of, after};
 ghost use Rattle.map_core.specs.Map as spec;

@@ -1,7 +1,7 @@
 //! Objects.
 
 ghost use Rattle.std.specs.Prelude.{◌≡◌, ◌≤◌, IfOk, length};
-ghost use Rattle.object_core.specs.Content.{Content, AreAttributes, empty};
+ghost use Rattle.object_core.specs.Content.{Content, empty};
 
 use crate::attributes::Attributes;
 use crate::bytes::Bytes;

@@ -1,8 +1,8 @@
 //! The texts that the program prints.
 
-ghost use Rattle.std.specs.Prelude.{◌≡◌, ◌++◌, codes, string_bytes, OnOk, Some};
+ghost use Rattle.std.specs.Prelude.{◌≡◌, ◌++◌, string_bytes, OnOk};
 ghost use Rattle.std.specs.List.{flat_map};
-ghost use Rattle.osdgate.specs.Text.{condition_text, report_line, refused_text};
+ghost use Rattle.osdgate.specs.Text.{condition_text, report_line};
 
 use cap_text::OutOfMemory;
 use grant_core::Path;

@@ -1,6 +1,6 @@
 //! The text of a table.
 
-ghost use Rattle.std.specs.Prelude.{◌≡◌, ◌-◌, ◌++◌, IfOk, OnOk, codes, length, string_bytes};
+ghost use Rattle.std.specs.Prelude.{◌≡◌, ◌-◌, ◌++◌, IfOk, OnOk, string_bytes};
 ghost use Rattle.osdgate_bench.specs.Text.{blanks, line_text, name_column, number_column, tenths_text};
 
 use cap_text::OutOfMemory;

@@ -1,6 +1,6 @@
 //! What it costs to run a vector of operations on an object.
 
-ghost use Rattle.std.specs.Prelude.{◌≤◌, length};
+ghost use Rattle.std.specs.Prelude.{length};
 
 use crate::fault::Fault;
 use crate::measure::Work;

@@ -24,7 +24,6 @@ impl State {
     ghost use Rattle.std.specs.Prelude.{◌≡◌, ◌-◌, ◌||◌, nat_lt, length, take};
     ghost use Rattle.std.specs.List.{list_any, list_all};
     ghost use Rattle.peer_core.specs.Choice.{best, own_offer, is_heard, covers, can_choose};
-    ghost use Rattle.peer_core.specs.Sets.{set_of};
 
     /// The base and the log of the best offer, this copy's own among them.
     pub fn chosen<'a>(&'a self, heard: &'a [Informed]) -> (u64, &'a Log)

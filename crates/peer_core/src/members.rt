@@ -64,7 +64,6 @@ impl State {
     ghost use Rattle.peer_core.specs.Sets.{set_of, others, all_count, missing, is_asked};
     ghost use Rattle.peer_core.specs.Choice.{is_heard};
     ghost use Rattle.peer_core.specs.Steps.{send};
-    ghost use Rattle.peer_core.specs.Serve.{append_to};
     ghost use Rattle.peer_core.specs.Copy.{unheard};
 
     /// The set of the interval that was promised.

@@ -2,7 +2,7 @@
 //!
 //! Source of the hash: Fowler, Noll and Vo, "The FNV Non-Cryptographic Hash Algorithm".
 
-ghost use Rattle.std.specs.Prelude.{◌≡◌, ◌≤◌, ◌<◌, ℕ, ◌++◌, ◌∷◌, fold, length, slice_index};
+ghost use Rattle.std.specs.Prelude.{◌≡◌, ◌≤◌, ◌<◌, ℕ, fold, length, slice_index};
 ghost use Rattle.std.specs.Fmt.{decimal};
 ghost use Rattle.place_core.specs.Place as spec;
 ghost use Rattle.place_core.specs.Place.{fnv, fnv_step, rank_of};

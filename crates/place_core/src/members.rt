@@ -1,6 +1,6 @@
 //! Acting sets.
 
-ghost use Rattle.std.specs.Prelude.{◌≡◌, ◌≤◌, ◌≢◌, length, take, min, AllPairs, IfOk, Contains, IsTrue, ◌↔◌, IsSome, IfSome, ◌==◌};
+ghost use Rattle.std.specs.Prelude.{◌≡◌, ◌≤◌, ◌≢◌, length, min, AllPairs, IfOk, ◌↔◌, IsSome, IfSome, ◌==◌};
 ghost use Rattle.std.specs.List.{list_any};
 ghost use Rattle.std.specs.Str.{bytes_eq};
 ghost use Rattle.place_core.specs.Place.{IsActing, acting_of, numbers_of};
