@@ -57,11 +57,15 @@ enum Step {
     Missing(usize),
     Unreachable(usize),
     Doubled(u32),
+    Refused(u32),
+    Stuck(u8),
     Named(&'static str, u32),
     Has(u32),
     Lacks(u32),
     Wire(usize),
+    IsFull(bool, bool),
     Audit(&'static [u32]),
+    Audited(usize),
     Open(u32),
     Denied(u32, Condition),
     Gives(u32, &'static str),
@@ -70,8 +74,9 @@ enum Step {
 }
 
 use Step::{
-    Ask, Audit, Deliver, Denied, Doubled, Fails, Gives, GivesTwo, Has, Kick, Lacks, Lose, Missing,
-    Move, Named, Open, Repeat, Restart, Settle, SettleAll, TakeBack, Unreachable, Wire,
+    Ask, Audit, Audited, Deliver, Denied, Doubled, Fails, Gives, GivesTwo, Has, IsFull, Kick,
+    Lacks, Lose, Missing, Move, Named, Open, Refused, Repeat, Restart, Settle, SettleAll, Stuck,
+    TakeBack, Unreachable, Wire,
 };
 
 fn ticket(alloc: Global, may: May) -> Result<Ticket, OutOfMemory> {
@@ -269,6 +274,9 @@ fn sees(group: &Group, step: Step) -> bool {
         Has(number) => group.has(Id::new(1, number)),
         Lacks(number) => !group.has(Id::new(1, number)),
         Wire(count) => group.wire().len() == count,
+        IsFull(requests, intervals) => {
+            group.is_full_of_requests() == requests && group.is_full_of_intervals() == intervals
+        }
         Audit(numbers) => has_decided(group, numbers),
         Open(number) => group.answer(Id::new(1, number)).is_none(),
         Denied(number, condition) => denies(group.answer(Id::new(1, number)), condition),
@@ -284,7 +292,7 @@ fn sees(group: &Group, step: Step) -> bool {
     }
 }
 
-// Whether a move, a restart or a kick is accepted.
+// Whether a move, a restart or a kick is accepted, or refused as it must be.
 fn changes(alloc: Global, group: &mut Group, step: Step) -> Result<bool, OutOfMemory> {
     match step {
         Move(acting, up) => {
@@ -293,9 +301,11 @@ fn changes(alloc: Global, group: &mut Group, step: Step) -> Result<bool, OutOfMe
             Ok(group.new_interval(acting, up).is_ok())
         }
         Restart(daemon) => Ok(group.restart(daemon).is_ok()),
+        Stuck(daemon) => Ok(matches!(group.restart(daemon), Err(GroupFault::Full))),
         Kick => Ok(group.kick().is_ok()),
         Settle(count) => Ok(matches!(group.settle(), Ok(delivered) if delivered == count)),
         SettleAll => Ok(group.settle().is_ok()),
+        Audited(count) => Ok(group.audit()?.len() == count),
         _ => Ok(true),
     }
 }
@@ -338,6 +348,10 @@ fn asks(alloc: Global, group: &mut Group, step: Step) -> Result<bool, NeedsFault
         Doubled(number) => {
             let request = request(alloc, number, May::All, Work::Read)?;
             Ok(matches!(group.submit(request), Err(GroupFault::Doubled)))
+        }
+        Refused(number) => {
+            let request = request(alloc, number, May::All, Work::Read)?;
+            Ok(matches!(group.submit(request), Err(GroupFault::Full)))
         }
         _ => Ok(true),
     }
@@ -634,45 +648,81 @@ fn filled(alloc: Global, count: u32) -> Result<Group, NeedsFault> {
     Ok(group)
 }
 
-#[test]
-fn a_group_fills(rt: HostRuntime) -> Result<(), Fail> {
-    let mut group = filled(rt.alloc(), 16384)?;
-    assert!(&rt; group.is_full_of_requests() && !group.is_full_of_intervals());
-    let request = request(rt.alloc(), 16384, May::All, Work::Read)?;
-    assert!(&rt; matches!(group.submit(request), Err(GroupFault::Full)));
-    assert_eq!(&rt; run(rt.alloc(), &mut group, &[Doubled(3)])?, 1);
-    Ok(())
+// How many of these steps a group of nobody takes, to which so many requests were submitted.
+fn run_filled(alloc: Global, count: u32, steps: &[Step]) -> Result<usize, NeedsFault> {
+    let mut group = filled(alloc, count)?;
+    run(alloc, &mut group, steps)
 }
 
 #[test]
-fn intervals_fill(rt: HostRuntime) -> Result<(), Fail> {
-    let mut group = filled(rt.alloc(), 0)?;
+fn a_group_fills(rt: HostRuntime) -> Result<(), Fail> {
+    let steps = [IsFull(true, false), Refused(16384), Doubled(3)];
+    assert_eq!(&rt; run_filled(rt.alloc(), 16384, &steps)?, 3);
+    Ok(())
+}
+
+// A group of nobody that moved so often to daemon 0 and back.
+fn moved(alloc: Global, times: usize) -> Result<Group, NeedsFault> {
     let there_and_back = [
         Move(Who::Zero, Who::Zero),
         Lose(0),
         Move(Who::Nobody, Who::Zero),
     ];
-    for _ in 0..511 {
-        assert_eq!(&rt; run(rt.alloc(), &mut group, &there_and_back)?, 3);
+    let mut group = filled(alloc, 0)?;
+    for _ in 0..times {
+        run(alloc, &mut group, &there_and_back)?;
     }
-    assert_eq!(&rt;
-        run(rt.alloc(), &mut group, &[Move(Who::Zero, Who::Zero)])?,
-        1
-    );
-    assert!(&rt; group.is_full_of_intervals());
-    assert!(&rt; matches!(group.restart(0), Err(GroupFault::Full)));
+    Ok(group)
+}
+
+// How many of these steps a group takes that moved so often.
+fn run_moved(alloc: Global, times: usize, steps: &[Step]) -> Result<usize, NeedsFault> {
+    let mut group = moved(alloc, times)?;
+    run(alloc, &mut group, steps)
+}
+
+#[test]
+fn intervals_fill(rt: HostRuntime) -> Result<(), Fail> {
+    let steps = [
+        IsFull(false, false),
+        Wire(0),
+        Move(Who::Zero, Who::Zero),
+        IsFull(false, true),
+        Stuck(0),
+    ];
+    assert_eq!(&rt; run_moved(rt.alloc(), 511, &steps)?, 5);
     Ok(())
+}
+
+// Whether a group takes all of these steps.
+fn goes(alloc: Global, group: &mut Group, steps: &[Step]) -> Result<bool, NeedsFault> {
+    Ok(run(alloc, group, steps)? == steps.len())
+}
+
+// Whether a copy takes the first steps, then its group the second ones, and then the copy the third.
+fn take_turns(
+    alloc: Global,
+    copy: &mut Group,
+    group: &mut Group,
+    steps: [&[Step]; 3],
+) -> Result<bool, NeedsFault> {
+    let [first, second, third] = steps;
+    Ok(goes(alloc, copy, first)? && goes(alloc, group, second)? && goes(alloc, copy, third)?)
+}
+
+// The same, of a group of nobody to which one request was submitted.
+fn run_apart(alloc: Global, steps: [&[Step]; 3]) -> Result<bool, NeedsFault> {
+    let mut group = filled(alloc, 1)?;
+    let mut copy = group.copy()?;
+    take_turns(alloc, &mut copy, &mut group, steps)
 }
 
 #[test]
 fn a_copy_goes_its_own_way(rt: HostRuntime) -> Result<(), Fail> {
-    let alloc = rt.alloc();
-    let mut group = filled(alloc, 1)?;
-    let steps = [Move(Who::Three, Who::Three), SettleAll, Audit(&[0])];
-    let mut copy = group.copy()?;
-    assert_eq!(&rt; run(alloc, &mut copy, &steps)?, 3);
-    assert_eq!(&rt; run(alloc, &mut group, &[Open(0), Audit(&[])])?, 2);
-    assert_eq!(&rt; copy.audit()?.len(), 1);
+    let copied = [Move(Who::Three, Who::Three), SettleAll, Audit(&[0])];
+    let own = [Open(0), Audit(&[]), Ask(1, May::All, Work::Append)];
+    let more = [Audited(1), Lacks(1)];
+    assert!(&rt; run_apart(rt.alloc(), [&copied, &own, &more])?);
     Ok(())
 }
 
