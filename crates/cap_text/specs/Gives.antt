@@ -11,3 +11,11 @@ Gives (Err k) r = r ≡ Err k
 
 abbrev pub GivesTo : {A : Type 0} → Result A FaultKind → A → Type 0
 GivesTo r x = Gives r (Ok x)
+
+abbrev pub leaving : {A B : Type 0} → Result A FaultKind → B → Result B FaultKind
+leaving (Ok u) x = Ok x
+leaving (Err k) x = Err k
+
+-- what the code leaves in a place is this, unless memory ran out
+abbrev pub GivesIn : {A B : Type 0} → Result A FaultKind → B → Result B FaultKind → Type 0
+GivesIn r x e = Gives (leaving r x) e

@@ -1,15 +1,18 @@
-//! Drafts of grants, names and parts of tags on the heap, so that a place of the grammar is small.
+//! What was read of the grant that a text is in.
 
-ghost use Rattle.std.specs.Prelude.{◌≡◌, None, Some, IfOk};
-ghost use Rattle.cap_text.specs.Gives.{Gives};
-ghost use Rattle.cap_text.specs.Machine.{fresh, grant_of, wants_access, with_access};
+ghost use Rattle.std.specs.Prelude.{◌≡◌, ◌∷◌, ◌++◌, [], None, Some};
+ghost use Rattle.cap_text.specs.Gives.{GivesIn};
+ghost use Rattle.cap_text.specs.Machine.{ended, fresh, grant_of, wants_access, with_access};
+ghost use Rattle.cap_text.specs.Sheet.{empty_allow};
 ghost use Rattle.cap_text.specs.declared.place.Head.TheVariants as heads;
 
-use crate::fault::{FaultKind, OutOfMemory};
+use crate::fault::FaultKind;
 use crate::grant::{Access, AllowGrant, Grant, NsMatch, Part, ProfileUse, Tag};
 use crate::name::Name;
+use crate::state::Grants;
 use std::alloc::Global;
 use std::marker::Model;
+use std::mem;
 
 /// What a draft is of.
 #[derive(Debug, Drop)]
@@ -22,181 +25,151 @@ pub enum Kind {
     Profile(Name),
 }
 
-/// A draft in the form of the grant that it becomes. Its access counts only where the kind says so.
+fn no_name(alloc: Global) -> Name {
+    Name::from_string(String::new(alloc))
+}
+
+fn empty_allow() -> AllowGrant
+    ensures { result ≡ empty_allow }
+{
+    AllowGrant {
+        access: Access::All,
+        pool: None,
+        namespace: None,
+        prefix: None,
+        tag: None,
+    }
+}
+
+/// A draft in the form of the grant that it becomes, and a word and a key that belong to a clause which is not whole.
+/// Its access counts only where the kind says so.
+///
+/// A text has one, which is filled in place and emptied into the list at the end of each grant.
 #[derive(Debug, Drop)]
 pub struct Sheet {
-    pub kind: Kind,
-    pub grant: AllowGrant,
+    kind: Kind,
+    grant: AllowGrant,
+    word: Name,
+    key: Part,
 }
 
-/// A draft that stays at one place on the heap while it is filled, which contracts see as the draft.
-#[derive(Debug, Drop)]
-pub struct BoxedDraft {
-    sheet: Box<Sheet>,
+impl Model for Sheet {
+    ghost use Rattle.cap_text.specs.declared.place.Page.{Page};
+    ghost use Rattle.cap_text.specs.Sheet.{page_of};
+
+    ghost Value = { Page };
+
+    ghost view = { λ s. page_of s.kind s.grant s.word s.key };
 }
 
-impl Model for BoxedDraft {
-    ghost use Rattle.cap_text.specs.declared.place.Draft.{Draft};
-    ghost use Rattle.cap_text.specs.Sheet.{draft_of};
+impl Sheet {
+    /// An `allow` with nothing behind it, and no word.
+    pub fn new(alloc: Global) -> Sheet {
+        Sheet {
+            kind: Kind::Open,
+            grant: empty_allow(),
+            word: no_name(alloc),
+            key: Part::Any,
+        }
+    }
 
-    ghost Value = { Draft };
-
-    ghost view = { λ b. draft_of b.sheet.value };
-}
-
-impl BoxedDraft {
-    /// An `allow` with nothing behind it.
-    pub fn new(alloc: Global) -> Result<BoxedDraft, OutOfMemory>
-        ensures { IfOk result (λ draft. draft ≡ fresh (heads.Allow None)) }
+    /// Makes it an `allow` with nothing behind it.
+    pub fn clear(&mut self)
+        ensures { self.new.draft ≡ fresh (heads.Allow None) }
     {
-        let grant = AllowGrant {
-            access: Access::All,
-            pool: None,
-            namespace: None,
-            prefix: None,
-            tag: None,
-        };
-        let kind = Kind::Open;
-        Ok(BoxedDraft {
-            sheet: Box::new(alloc, Sheet { kind, grant })?,
-        })
+        self.kind = Kind::Open;
+        self.grant.pool = None;
+        self.grant.namespace = None;
+        self.grant.prefix = None;
+        self.grant.tag = None;
     }
 
     /// Whether it is an `allow` whose access is still due.
     pub fn wants_access(&self) -> bool
-        ensures { result ≡ wants_access self.now.head }
+        ensures { result ≡ wants_access self.now.draft.head }
     {
-        matches!(self.sheet.kind, Kind::Open)
+        matches!(self.kind, Kind::Open)
     }
 
-    pub fn with_access(mut self, access: Access) -> BoxedDraft
-        ensures { result ≡ with_access self access }
+    pub fn set_access(&mut self, access: Access)
+        ensures { self.new.draft ≡ with_access self.old.draft access }
     {
-        self.sheet.grant.access = access;
-        self.sheet.kind = Kind::Allow;
-        self
+        self.grant.access = access;
+        self.kind = Kind::Allow;
     }
 
-    pub fn with_profile(mut self, name: Name) -> BoxedDraft
-        ensures { result ≡ record self { head = heads.Profile name } }
+    pub fn set_profile(&mut self, name: Name)
+        ensures { self.new.draft ≡ record self.old.draft { head = heads.Profile name } }
     {
-        self.sheet.kind = Kind::Profile(name);
-        self
+        self.kind = Kind::Profile(name);
     }
 
-    pub fn with_pool(mut self, pool: Name) -> BoxedDraft
-        ensures { result ≡ record self { pool = Some pool } }
+    pub fn set_pool(&mut self, pool: Name)
+        ensures { self.new.draft ≡ record self.old.draft { pool = Some pool } }
     {
-        self.sheet.grant.pool = Some(pool);
-        self
+        self.grant.pool = Some(pool);
     }
 
-    pub fn with_namespace(mut self, namespace: NsMatch) -> BoxedDraft
-        ensures { result ≡ record self { namespace = Some namespace } }
+    pub fn set_namespace(&mut self, namespace: NsMatch)
+        ensures { self.new.draft ≡ record self.old.draft { namespace = Some namespace } }
     {
-        self.sheet.grant.namespace = Some(namespace);
-        self
+        self.grant.namespace = Some(namespace);
     }
 
-    pub fn with_prefix(mut self, prefix: Name) -> BoxedDraft
-        ensures { result ≡ record self { prefix = Some prefix } }
+    pub fn set_prefix(&mut self, prefix: Name)
+        ensures { self.new.draft ≡ record self.old.draft { prefix = Some prefix } }
     {
-        self.sheet.grant.prefix = Some(prefix);
-        self
+        self.grant.prefix = Some(prefix);
     }
 
-    pub fn with_tag(mut self, tag: Tag) -> BoxedDraft
-        ensures { result ≡ record self { tag = Some tag } }
+    pub fn set_tag(&mut self, tag: Tag)
+        ensures { self.new.draft ≡ record self.old.draft { tag = Some tag } }
     {
-        self.sheet.grant.tag = Some(tag);
-        self
+        self.grant.tag = Some(tag);
     }
 
-    /// The grant, where its access is there.
-    pub fn into_grant(self) -> Result<Grant, FaultKind>
-        ensures { Gives result (grant_of self) }
+    /// Holds a word that belongs to a clause which is not whole.
+    pub fn hold_word(&mut self, word: Name)
+        ensures { self.new ≡ record self.old { word = word } }
     {
-        let BoxedDraft { sheet } = self;
-        let Sheet { kind, grant } = Box::into_inner(sheet);
-        match kind {
+        self.word = word;
+    }
+
+    /// Holds the key of a tag.
+    pub fn hold_key(&mut self, key: Part)
+        ensures { self.new ≡ record self.old { key = key } }
+    {
+        self.key = key;
+    }
+
+    /// The word that it holds, for good.
+    pub fn take_word(&mut self, alloc: Global) -> Name
+        ensures word { result ≡ self.old.word }
+        ensures others { (self.new.draft ≡ self.old.draft) × (self.new.key ≡ self.old.key) }
+    {
+        mem::replace(&mut self.word, no_name(alloc))
+    }
+
+    /// The key that it holds, for good.
+    pub fn take_key(&mut self) -> Part
+        ensures key { result ≡ self.old.key }
+        ensures others { (self.new.draft ≡ self.old.draft) × (self.new.word ≡ self.old.word) }
+    {
+        mem::replace(&mut self.key, Part::Any)
+    }
+
+    /// Puts the grant behind the others, where its access is there.
+    pub fn end_in(&mut self, done: &mut Grants) -> Result<(), FaultKind>
+        ensures { GivesIn result done.new (ended done.old (grant_of self.old.draft)) }
+    {
+        match mem::replace(&mut self.kind, Kind::Open) {
             Kind::Open => Err(FaultKind::BadAccess),
-            Kind::Allow => Ok(Grant::Allow(grant)),
-            Kind::Profile(name) => {
-                let AllowGrant {
-                    pool,
-                    namespace,
-                    ..
-                } = grant;
-                Ok(Grant::Profile(ProfileUse {
-                    name,
-                    pool,
-                    namespace,
-                }))
-            }
+            Kind::Allow => done.push(Grant::Allow(mem::replace(&mut self.grant, empty_allow()))),
+            Kind::Profile(name) => done.push(Grant::Profile(ProfileUse {
+                name,
+                pool: self.grant.pool.take(),
+                namespace: self.grant.namespace.take(),
+            })),
         }
-    }
-}
-
-/// A name on the heap, which contracts see as the name.
-#[derive(Debug, Drop)]
-pub struct BoxedName {
-    name: Box<Name>,
-}
-
-impl Model for BoxedName {
-    ghost use Rattle.std.specs.Prelude.{List, ℕ};
-
-    ghost Value = { List ℕ };
-
-    ghost view = { λ b. b.name.value };
-}
-
-impl BoxedName {
-    pub fn new(alloc: Global, name: Name) -> Result<BoxedName, OutOfMemory>
-        ensures { IfOk result (λ boxed. boxed ≡ name) }
-    {
-        Ok(BoxedName {
-            name: Box::new(alloc, name)?,
-        })
-    }
-
-    /// The name, for good.
-    pub fn into_inner(self) -> Name
-        ensures { result ≡ self }
-    {
-        let BoxedName { name } = self;
-        Box::into_inner(name)
-    }
-}
-
-/// A part of a tag on the heap, which contracts see as the part.
-#[derive(Debug, Drop)]
-pub struct BoxedPart {
-    part: Box<Part>,
-}
-
-impl Model for BoxedPart {
-    ghost use Rattle.cap_text.specs.declared.grant.Part.{Part};
-
-    ghost Value = { Part };
-
-    ghost view = { λ b. b.part.value };
-}
-
-impl BoxedPart {
-    pub fn new(alloc: Global, part: Part) -> Result<BoxedPart, OutOfMemory>
-        ensures { IfOk result (λ boxed. boxed ≡ part) }
-    {
-        Ok(BoxedPart {
-            part: Box::new(alloc, part)?,
-        })
-    }
-
-    /// The part, for good.
-    pub fn into_inner(self) -> Part
-        ensures { result ≡ self }
-    {
-        let BoxedPart { part } = self;
-        Box::into_inner(part)
     }
 }

@@ -3,15 +3,17 @@
 ghost use Rattle.std.specs.Prelude.{◌≡◌};
 ghost use Rattle.cap_text.specs.Grammar.{namespace_of, part_of};
 ghost use Rattle.cap_text.specs.declared.grant.Access.TheVariants as accesses;
-ghost use Rattle.cap_text.specs.Gives.{Gives, GivesTo};
-ghost use Rattle.cap_text.specs.Machine.{after_access, accessed, clause_word, access_word, clauses, letters_step, class_read_word, class_read_step, method_step, value_of, value_step, filled, namespace_place, namespace_step, namespace_word_step, part_at, key_step, key_value_step, start_step, step, close};
+ghost use Rattle.cap_text.specs.Gives.{Gives, GivesIn, GivesTo};
+ghost use Rattle.cap_text.specs.Sheet.{GivesAt, place_at};
+ghost use Rattle.cap_text.specs.Machine.{after_access, accessed, clause_word, access_word, clauses, letters_step, class_read_word, class_read_step, method_step, value_of, value_step, filled, namespace_place, namespace_step, namespace_word_step, part_at, key_step, key_value_step, start_step, step, close, ended};
 
-use crate::draft::{BoxedDraft, BoxedName, BoxedPart};
+use crate::draft::Sheet;
 use crate::fault::FaultKind;
-use crate::grant::{Access, Flags, Grant, NsMatch, Part, Tag};
+use crate::grant::{Access, Flags, NsMatch, Part, Tag};
 use crate::keyword::{Keyword, keyword_of};
 use crate::name::Name;
-use crate::place::{ClauseSet, Place, Slot};
+use crate::place::{ClauseSet, Next, Slot};
+use crate::state::Grants;
 use crate::token::Token;
 use std::alloc::Global;
 
@@ -43,14 +45,15 @@ fn after_access(may: ClauseSet) -> ClauseSet
     if may.pool { may } else { NO_MORE }
 }
 
-fn accessed(may: ClauseSet, draft: BoxedDraft, access: Access) -> Place
-    ensures { result ≡ accessed may draft access }
+fn accessed(may: ClauseSet, sheet: &mut Sheet, access: Access) -> Next
+    ensures { place_at result sheet.new ≡ accessed may sheet.old.draft access }
 {
-    Place::Clauses(after_access(may), draft.with_access(access))
+    sheet.set_access(access);
+    Next::Clauses(after_access(may))
 }
 
-fn access_word(may: ClauseSet, draft: BoxedDraft, keyword: Keyword) -> Result<Place, FaultKind>
-    ensures { Gives result (access_word may draft keyword) }
+fn access_word(may: ClauseSet, sheet: &mut Sheet, keyword: Keyword) -> Result<Next, FaultKind>
+    ensures { GivesAt result sheet.new (access_word may sheet.old.draft keyword) }
 {
     let none = Flags {
         read: false,
@@ -59,8 +62,8 @@ fn access_word(may: ClauseSet, draft: BoxedDraft, keyword: Keyword) -> Result<Pl
         class_write: false,
     };
     match keyword {
-        Keyword::All => Ok(accessed(may, draft, Access::All)),
-        Keyword::Class => Ok(Place::Value(Slot::Class, may, draft)),
+        Keyword::All => Ok(accessed(may, sheet, Access::All)),
+        Keyword::Class => Ok(Next::Value(Slot::Class, may)),
         Keyword::Letters(read, write, execute) => {
             let flags = Flags {
                 read,
@@ -68,17 +71,17 @@ fn access_word(may: ClauseSet, draft: BoxedDraft, keyword: Keyword) -> Result<Pl
                 class_read: execute,
                 class_write: execute,
             };
-            Ok(Place::Letters(flags, may, draft))
+            Ok(Next::Letters(flags, may))
         }
         Keyword::ClassRead => {
             let class_read = true;
-            Ok(Place::ClassRead(Flags { class_read, ..none }, may, draft))
+            Ok(Next::ClassRead(Flags { class_read, ..none }, may))
         }
         Keyword::ClassWrite => {
             let class_write = true;
             Ok(accessed(
                 may,
-                draft,
+                sheet,
                 Access::Flags(Flags {
                     class_write,
                     ..none
@@ -89,31 +92,31 @@ fn access_word(may: ClauseSet, draft: BoxedDraft, keyword: Keyword) -> Result<Pl
     }
 }
 
-fn clause_word(may: ClauseSet, draft: BoxedDraft, keyword: Keyword) -> Result<Place, FaultKind>
-    ensures { Gives result (clause_word may draft keyword) }
+fn clause_word(may: ClauseSet, sheet: &mut Sheet, keyword: Keyword) -> Result<Next, FaultKind>
+    ensures { GivesAt result sheet.new (clause_word may sheet.old.draft keyword) }
 {
     match keyword {
-        Keyword::Pool if may.pool => Ok(Place::Assigned(Slot::Pool, may, draft)),
-        Keyword::Namespace if may.namespace => Ok(Place::Namespace(may, draft)),
-        Keyword::ObjectPrefix if may.prefix => Ok(Place::Value(Slot::Prefix, may, draft)),
-        Keyword::Tag if may.tag => Ok(Place::Value(Slot::Application, may, draft)),
+        Keyword::Pool if may.pool => Ok(Next::Assigned(Slot::Pool, may)),
+        Keyword::Namespace if may.namespace => Ok(Next::Namespace(may)),
+        Keyword::ObjectPrefix if may.prefix => Ok(Next::Value(Slot::Prefix, may)),
+        Keyword::Tag if may.tag => Ok(Next::Value(Slot::Application, may)),
         Keyword::Pool | Keyword::Namespace | Keyword::ObjectPrefix | Keyword::Tag => {
             Err(FaultKind::BadMatch)
         }
         Keyword::Network => Err(FaultKind::NetworkClause),
-        _ if draft.wants_access() => access_word(may, draft, keyword),
+        _ if sheet.wants_access() => access_word(may, sheet, keyword),
         _ => Err(FaultKind::UnknownWord),
     }
 }
 
 #[inline(never)]
-fn clauses(may: ClauseSet, draft: BoxedDraft, token: &Token<'_>) -> Result<Place, FaultKind>
-    ensures { Gives result (clauses may draft token.now) }
+fn clauses(may: ClauseSet, sheet: &mut Sheet, token: &Token<'_>) -> Result<Next, FaultKind>
+    ensures { GivesAt result sheet.new (clauses may sheet.old.draft token.now) }
 {
     match token {
-        Token::Word(word) => clause_word(may, draft, keyword_of(word.as_str())),
-        Token::Star(_) if draft.wants_access() => Ok(accessed(may, draft, Access::All)),
-        _ if draft.wants_access() => Err(FaultKind::BadAccess),
+        Token::Word(word) => clause_word(may, sheet, keyword_of(word.as_str())),
+        Token::Star(_) if sheet.wants_access() => Ok(accessed(may, sheet, Access::All)),
+        _ if sheet.wants_access() => Err(FaultKind::BadAccess),
         _ => Err(FaultKind::UnknownWord),
     }
 }
@@ -122,25 +125,24 @@ fn clauses(may: ClauseSet, draft: BoxedDraft, token: &Token<'_>) -> Result<Place
 fn letters(
     flags: Flags,
     may: ClauseSet,
-    draft: BoxedDraft,
+    sheet: &mut Sheet,
     token: &Token<'_>,
-) -> Result<Place, FaultKind>
-    ensures { Gives result (letters_step flags may draft token.now) }
+) -> Result<Next, FaultKind>
+    ensures { GivesAt result sheet.new (letters_step flags may sheet.old.draft token.now) }
 {
     match token {
         Token::Word(word) => match keyword_of(word.as_str()) {
             Keyword::ClassRead => {
                 let class_read = true;
-                Ok(Place::ClassRead(
+                Ok(Next::ClassRead(
                     Flags {
                         class_read,
                         ..flags
                     },
                     may,
-                    draft,
                 ))
             }
-            keyword => class_read_word(flags, may, draft, keyword),
+            keyword => class_read_word(flags, may, sheet, keyword),
         },
         _ => Err(FaultKind::UnknownWord),
     }
@@ -149,17 +151,17 @@ fn letters(
 fn class_read_word(
     flags: Flags,
     may: ClauseSet,
-    draft: BoxedDraft,
+    sheet: &mut Sheet,
     keyword: Keyword,
-) -> Result<Place, FaultKind>
-    ensures { Gives result (class_read_word flags may draft keyword) }
+) -> Result<Next, FaultKind>
+    ensures { GivesAt result sheet.new (class_read_word flags may sheet.old.draft keyword) }
 {
     match keyword {
         Keyword::ClassWrite => {
             let class_write = true;
             Ok(accessed(
                 may,
-                draft,
+                sheet,
                 Access::Flags(Flags {
                     class_write,
                     ..flags
@@ -167,8 +169,8 @@ fn class_read_word(
             ))
         }
         keyword => {
-            let draft = draft.with_access(Access::Flags(flags));
-            clause_word(after_access(may), draft, keyword)
+            sheet.set_access(Access::Flags(flags));
+            clause_word(after_access(may), sheet, keyword)
         }
     }
 }
@@ -177,13 +179,13 @@ fn class_read_word(
 fn class_read(
     flags: Flags,
     may: ClauseSet,
-    draft: BoxedDraft,
+    sheet: &mut Sheet,
     token: &Token<'_>,
-) -> Result<Place, FaultKind>
-    ensures { Gives result (class_read_step flags may draft token.now) }
+) -> Result<Next, FaultKind>
+    ensures { GivesAt result sheet.new (class_read_step flags may sheet.old.draft token.now) }
 {
     match token {
-        Token::Word(word) => class_read_word(flags, may, draft, keyword_of(word.as_str())),
+        Token::Word(word) => class_read_word(flags, may, sheet, keyword_of(word.as_str())),
         _ => Err(FaultKind::UnknownWord),
     }
 }
@@ -203,14 +205,13 @@ fn class_of(class: Name, method: Option<Name>) -> Access
 #[inline(never)]
 fn method(
     alloc: Global,
-    class: BoxedName,
     may: ClauseSet,
-    draft: BoxedDraft,
+    sheet: &mut Sheet,
     token: &Token<'_>,
-) -> Result<Place, FaultKind>
-    ensures { Gives result (method_step class may draft token.now) }
+) -> Result<Next, FaultKind>
+    ensures { GivesAt result sheet.new (method_step sheet.old.word may sheet.old.draft token.now) }
 {
-    let class = class.into_inner();
+    let class = sheet.take_word(alloc);
     match token {
         Token::Word(word) => match keyword_of(word.as_str()) {
             keyword @ (Keyword::Pool
@@ -218,12 +219,12 @@ fn method(
             | Keyword::ObjectPrefix
             | Keyword::Tag
             | Keyword::Network) => {
-                let draft = draft.with_access(class_of(class, None));
-                clause_word(after_access(may), draft, keyword)
+                sheet.set_access(class_of(class, None));
+                clause_word(after_access(may), sheet, keyword)
             }
             _ => {
                 let method = name_of(alloc, word.as_str())?;
-                Ok(accessed(may, draft, class_of(class, Some(method))))
+                Ok(accessed(may, sheet, class_of(class, Some(method))))
             }
         },
         Token::Quoted(quoted) => {
@@ -231,7 +232,7 @@ fn method(
                 return Err(FaultKind::BadWord);
             }
             let method = name_of(alloc, quoted.as_str())?;
-            Ok(accessed(may, draft, class_of(class, Some(method))))
+            Ok(accessed(may, sheet, class_of(class, Some(method))))
         }
         _ => Err(FaultKind::UnknownWord),
     }
@@ -247,29 +248,35 @@ fn value(alloc: Global, token: &Token<'_>) -> Result<Name, FaultKind>
     }
 }
 
-/// The place behind a value.
-fn filled(
-    alloc: Global,
-    slot: Slot,
-    may: ClauseSet,
-    draft: BoxedDraft,
-    value: Name,
-) -> Result<Place, FaultKind>
-    ensures { GivesTo result (filled slot may draft value) }
+/// Writes a value into the sheet, and answers what may come behind it.
+fn filled(slot: Slot, may: ClauseSet, sheet: &mut Sheet, value: Name) -> Next
+    ensures { place_at result sheet.new ≡ filled slot may sheet.old.draft value }
 {
     match slot {
-        Slot::Profile => Ok(Place::Clauses(may, draft.with_profile(value))),
-        Slot::Class => Ok(Place::Method(BoxedName::new(alloc, value)?, may, draft)),
+        Slot::Profile => {
+            sheet.set_profile(value);
+            Next::Clauses(may)
+        }
+        Slot::Class => {
+            sheet.hold_word(value);
+            Next::Method(may)
+        }
         Slot::Pool => {
-            let may = ClauseSet {
+            sheet.set_pool(value);
+            Next::Clauses(ClauseSet {
                 pool: false,
                 tag: false,
                 ..may
-            };
-            Ok(Place::Clauses(may, draft.with_pool(value)))
+            })
         }
-        Slot::Prefix => Ok(Place::Clauses(NO_MORE, draft.with_prefix(value))),
-        Slot::Application => Ok(Place::Key(BoxedName::new(alloc, value)?, draft)),
+        Slot::Prefix => {
+            sheet.set_prefix(value);
+            Next::Clauses(NO_MORE)
+        }
+        Slot::Application => {
+            sheet.hold_word(value);
+            Next::Key
+        }
     }
 }
 
@@ -278,13 +285,13 @@ fn filled_by(
     alloc: Global,
     slot: Slot,
     may: ClauseSet,
-    draft: BoxedDraft,
+    sheet: &mut Sheet,
     token: &Token<'_>,
-) -> Result<Place, FaultKind>
-    ensures { Gives result (value_step slot may draft token.now) }
+) -> Result<Next, FaultKind>
+    ensures { GivesAt result sheet.new (value_step slot may sheet.old.draft token.now) }
 {
     let value = value(alloc, token)?;
-    filled(alloc, slot, may, draft, value)
+    Ok(filled(slot, may, sheet, value))
 }
 
 fn namespace_of(alloc: Global, text: &str) -> Result<NsMatch, FaultKind>
@@ -298,38 +305,38 @@ fn namespace_of(alloc: Global, text: &str) -> Result<NsMatch, FaultKind>
     Ok(NsMatch::Prefix(name_of(alloc, front)?))
 }
 
-fn in_namespace(may: ClauseSet, draft: BoxedDraft, namespace: NsMatch) -> Place
-    ensures { result ≡ namespace_place may draft namespace }
+fn in_namespace(may: ClauseSet, sheet: &mut Sheet, namespace: NsMatch) -> Next
+    ensures { place_at result sheet.new ≡ namespace_place may sheet.old.draft namespace }
 {
-    let may = ClauseSet {
+    sheet.set_namespace(namespace);
+    Next::Clauses(ClauseSet {
         pool: false,
         namespace: false,
         ..may
-    };
-    Place::Clauses(may, draft.with_namespace(namespace))
+    })
 }
 
 #[inline(never)]
 fn namespace(
     alloc: Global,
     may: ClauseSet,
-    draft: BoxedDraft,
+    sheet: &mut Sheet,
     token: &Token<'_>,
-) -> Result<Place, FaultKind>
-    ensures { Gives result (namespace_step may draft token.now) }
+) -> Result<Next, FaultKind>
+    ensures { GivesAt result sheet.new (namespace_step may sheet.old.draft token.now) }
 {
     match token {
         Token::Word(word) => {
-            let name = name_of(alloc, word.as_str())?;
-            Ok(Place::NamespaceWord(BoxedName::new(alloc, name)?, may, draft))
+            sheet.hold_word(name_of(alloc, word.as_str())?);
+            Ok(Next::NamespaceWord(may))
         }
         Token::Quoted(quoted) => {
             let namespace = namespace_of(alloc, quoted.as_str())?;
-            Ok(in_namespace(may, draft, namespace))
+            Ok(in_namespace(may, sheet, namespace))
         }
         Token::Star(_) => {
             let namespace = NsMatch::Prefix(name_of(alloc, "")?);
-            Ok(in_namespace(may, draft, namespace))
+            Ok(in_namespace(may, sheet, namespace))
         }
         _ => Err(FaultKind::BadWord),
     }
@@ -337,24 +344,24 @@ fn namespace(
 
 #[inline(never)]
 fn behind_namespace(
-    name: BoxedName,
+    alloc: Global,
     may: ClauseSet,
-    draft: BoxedDraft,
+    sheet: &mut Sheet,
     token: &Token<'_>,
-) -> Result<Place, FaultKind>
-    ensures { Gives result (namespace_word_step name may draft token.now) }
+) -> Result<Next, FaultKind>
+    ensures { GivesAt result sheet.new (namespace_word_step sheet.old.word may sheet.old.draft token.now) }
 {
-    let name = name.into_inner();
+    let name = sheet.take_word(alloc);
     match token {
-        Token::Star(true) => Ok(in_namespace(may, draft, NsMatch::Prefix(name))),
+        Token::Star(true) => Ok(in_namespace(may, sheet, NsMatch::Prefix(name))),
         token => {
-            let draft = draft.with_namespace(NsMatch::Exact(name));
+            sheet.set_namespace(NsMatch::Exact(name));
             let may = ClauseSet {
                 pool: false,
                 namespace: false,
                 ..may
             };
-            clauses(may, draft, token)
+            clauses(may, sheet, token)
         }
     }
 }
@@ -383,108 +390,109 @@ fn part(alloc: Global, token: &Token<'_>) -> Result<Part, FaultKind>
 }
 
 #[inline(never)]
-fn key(
-    alloc: Global,
-    application: BoxedName,
-    draft: BoxedDraft,
-    token: &Token<'_>,
-) -> Result<Place, FaultKind>
-    ensures { Gives result (key_step application draft token.now) }
+fn key(alloc: Global, sheet: &mut Sheet, token: &Token<'_>) -> Result<Next, FaultKind>
+    ensures { GivesAt result sheet.new (key_step sheet.old.word sheet.old.draft token.now) }
 {
-    let key = part(alloc, token)?;
-    Ok(Place::KeyEquals(application, BoxedPart::new(alloc, key)?, draft))
+    sheet.hold_key(part(alloc, token)?);
+    Ok(Next::KeyEquals)
 }
 
 #[inline(never)]
-fn key_value(
-    alloc: Global,
-    application: BoxedName,
-    key: BoxedPart,
-    draft: BoxedDraft,
-    token: &Token<'_>,
-) -> Result<Place, FaultKind>
-    ensures { Gives result (key_value_step application key draft token.now) }
+fn key_value(alloc: Global, sheet: &mut Sheet, token: &Token<'_>) -> Result<Next, FaultKind>
+    ensures { GivesAt result sheet.new (key_value_step sheet.old.word sheet.old.key sheet.old.draft token.now) }
 {
     let value = part(alloc, token)?;
     let tag = Tag {
-        application: application.into_inner(),
-        key: key.into_inner(),
+        application: sheet.take_word(alloc),
+        key: sheet.take_key(),
         value,
     };
-    Ok(Place::Clauses(NO_MORE, draft.with_tag(tag)))
+    sheet.set_tag(tag);
+    Ok(Next::Clauses(NO_MORE))
 }
 
 #[inline(never)]
-fn start(alloc: Global, token: &Token<'_>) -> Result<Place, FaultKind>
-    ensures { Gives result (start_step token.now) }
+fn start(sheet: &mut Sheet, token: &Token<'_>) -> Result<Next, FaultKind>
+    ensures { GivesAt result sheet.new (start_step token.now) }
 {
+    sheet.clear();
     match token {
         Token::Word(word) => match keyword_of(word.as_str()) {
-            Keyword::Allow => Ok(Place::Clauses(EVERY, BoxedDraft::new(alloc)?)),
-            Keyword::Profile => {
-                let draft = BoxedDraft::new(alloc)?;
-                Ok(Place::Assigned(Slot::Profile, OF_PROFILE, draft))
-            }
+            Keyword::Allow => Ok(Next::Clauses(EVERY)),
+            Keyword::Profile => Ok(Next::Assigned(Slot::Profile, OF_PROFILE)),
             _ => Err(FaultKind::UnknownWord),
         },
         _ => Err(FaultKind::UnknownWord),
     }
 }
 
-/// The place behind a token that is no separator.
+/// What may come behind a token that is no separator.
 ///
 /// What it calls is never inlined: it would set all their places to zero at each token.
 #[tactic(auto, unfolding(crate::specs::Machine::step))]
-pub(crate) fn step(alloc: Global, place: Place, token: &Token<'_>) -> Result<Place, FaultKind>
-    ensures { Gives result (step place token.now) }
+pub(crate) fn step(
+    alloc: Global,
+    next: Next,
+    sheet: &mut Sheet,
+    token: &Token<'_>,
+) -> Result<Next, FaultKind>
+    ensures { GivesAt result sheet.new (step (place_at next sheet.old) token.now) }
 {
-    match place {
-        Place::Start | Place::Separator => start(alloc, token),
-        Place::Clauses(may, draft) => clauses(may, draft, token),
-        Place::Letters(flags, may, draft) => letters(flags, may, draft, token),
-        Place::ClassRead(flags, may, draft) => class_read(flags, may, draft, token),
-        Place::Method(class, may, draft) => method(alloc, class, may, draft, token),
-        Place::Assigned(slot, may, draft) => match token {
-            Token::Equals => Ok(Place::Value(slot, may, draft)),
-            token => filled_by(alloc, slot, may, draft, token),
+    match next {
+        Next::Start | Next::Separator => start(sheet, token),
+        Next::Clauses(may) => clauses(may, sheet, token),
+        Next::Letters(flags, may) => letters(flags, may, sheet, token),
+        Next::ClassRead(flags, may) => class_read(flags, may, sheet, token),
+        Next::Method(may) => method(alloc, may, sheet, token),
+        Next::Assigned(slot, may) => match token {
+            Token::Equals => Ok(Next::Value(slot, may)),
+            token => filled_by(alloc, slot, may, sheet, token),
         },
-        Place::Value(slot, may, draft) => filled_by(alloc, slot, may, draft, token),
-        Place::Namespace(may, draft) => match token {
-            Token::Equals => Ok(Place::NamespaceEquals(may, draft)),
-            token => namespace(alloc, may, draft, token),
+        Next::Value(slot, may) => filled_by(alloc, slot, may, sheet, token),
+        Next::Namespace(may) => match token {
+            Token::Equals => Ok(Next::NamespaceEquals(may)),
+            token => namespace(alloc, may, sheet, token),
         },
-        Place::NamespaceEquals(may, draft) => namespace(alloc, may, draft, token),
-        Place::NamespaceWord(name, may, draft) => behind_namespace(name, may, draft, token),
-        Place::Key(application, draft) => key(alloc, application, draft, token),
-        Place::KeyEquals(application, key, draft) => match token {
-            Token::Equals => Ok(Place::KeyValue(application, key, draft)),
+        Next::NamespaceEquals(may) => namespace(alloc, may, sheet, token),
+        Next::NamespaceWord(may) => behind_namespace(alloc, may, sheet, token),
+        Next::Key => key(alloc, sheet, token),
+        Next::KeyEquals => match token {
+            Token::Equals => Ok(Next::KeyValue),
             _ => Err(FaultKind::BadMatch),
         },
-        Place::KeyValue(application, key, draft) => {
-            key_value(alloc, application, key, draft, token)
-        }
+        Next::KeyValue => key_value(alloc, sheet, token),
     }
 }
 
-/// The grant that is whole at a place.
-pub(crate) fn close(place: Place) -> Result<Grant, FaultKind>
-    ensures { Gives result (close place) }
+/// Puts the grant that is whole here behind the others. It is not inlined, since room for a grant would be made at
+/// each token then.
+#[inline(never)]
+pub(crate) fn close(
+    alloc: Global,
+    next: Next,
+    sheet: &mut Sheet,
+    done: &mut Grants,
+) -> Result<(), FaultKind>
+    ensures { GivesIn result done.new (ended done.old (close (place_at next sheet.old))) }
 {
-    match place {
-        Place::Clauses(_, draft) => draft.into_grant(),
-        Place::Letters(flags, _, draft) | Place::ClassRead(flags, _, draft) => {
-            draft.with_access(Access::Flags(flags)).into_grant()
+    match next {
+        Next::Clauses(_) => sheet.end_in(done),
+        Next::Letters(flags, _) | Next::ClassRead(flags, _) => {
+            sheet.set_access(Access::Flags(flags));
+            sheet.end_in(done)
         }
-        Place::Method(class, _, draft) => draft
-            .with_access(class_of(class.into_inner(), None))
-            .into_grant(),
-        Place::NamespaceWord(name, _, draft) => {
-            draft
-                .with_namespace(NsMatch::Exact(name.into_inner()))
-                .into_grant()
+        Next::Method(_) => {
+            let class = sheet.take_word(alloc);
+            sheet.set_access(class_of(class, None));
+            sheet.end_in(done)
         }
-        Place::Start | Place::Separator => Err(FaultKind::UnknownWord),
-        Place::KeyEquals(_, _, _) => Err(FaultKind::BadMatch),
+        Next::NamespaceWord(_) => {
+            let name = sheet.take_word(alloc);
+            sheet.set_namespace(NsMatch::Exact(name));
+            sheet.end_in(done)
+        }
+        Next::Start | Next::Separator => Err(FaultKind::UnknownWord),
+        Next::KeyEquals => Err(FaultKind::BadMatch),
         _ => Err(FaultKind::BadWord),
     }
 }

@@ -3,18 +3,13 @@
 ghost use Rattle.std.specs.Prelude.{◌≡◌, ◌≤◌, ◌∷◌, ◌++◌, [], List, IfOk, IfErr, length};
 ghost use Rattle.cap_text.specs.declared.grant.Grant.{Grant};
 ghost use Rattle.cap_text.specs.Grammar.{Spells, AtMostOneList};
-ghost use Rattle.cap_text.specs.Gives.{Gives};
-ghost use Rattle.cap_text.specs.Machine.{advance, after_grant, close, finish, placed};
+ghost use Rattle.cap_text.specs.Machine.{placed};
 ghost use Rattle.cap_text.specs.Faults.{OrMemory, IsFirstFault};
 
 use crate::caps::CapList;
 use crate::fault::{CapFault, FaultKind};
-use crate::grant::Grant;
 use crate::lexer::look;
-use crate::machine::{close, step};
-use crate::place::Place;
-use crate::state::{Grants, State};
-use crate::token::Token;
+use crate::state::Reading;
 use std::alloc::Global;
 
 /// The most bytes that a text may have.
@@ -22,48 +17,6 @@ const LONGEST: usize = 4096;
 
 /// The most grants that a text may spell.
 const MOST_GRANTS: usize = 64;
-
-/// Puts the grant that a separator ends behind the others. It is not inlined, since room for a grant would be
-/// made at each token then.
-#[inline(never)]
-fn end_grant(state: State) -> Result<State, FaultKind>
-    ensures { Gives result (after_grant state.done (close state.place)) }
-{
-    let done = state.done;
-    let grant = close(state.place)?;
-    let done = done.with(grant)?;
-    Ok(State {
-        done,
-        place: Place::Separator,
-    })
-}
-
-fn advance(alloc: Global, state: State, token: &Token<'_>) -> Result<State, FaultKind>
-    ensures { Gives result (advance state token.now) }
-{
-    match token {
-        Token::Comma | Token::Semicolon => end_grant(state),
-        token => {
-            let done = state.done;
-            let place = step(alloc, state.place, token)?;
-            Ok(State { done, place })
-        }
-    }
-}
-
-#[inline(never)]
-fn finish(state: State) -> Result<Grants, FaultKind>
-    ensures { Gives result (finish state) }
-{
-    let done = state.done;
-    match state.place {
-        Place::Start => Ok(done),
-        place => {
-            let grant = close(place)?;
-            done.with(grant)
-        }
-    }
-}
 
 /// For how many grants room is made at first, by the text's length in bytes. It says nothing else.
 fn first_room(length: usize) -> usize
@@ -94,29 +47,26 @@ pub fn parse(alloc: Global, text: &str) -> Result<CapList, CapFault>
     if text.len() > LONGEST {
         return Err(fault(FaultKind::TooLong, 0));
     }
-    let mut state = State {
-        done: Grants::with_room(alloc, first_room(text.len()))?,
-        place: Place::Start,
-    };
+    let mut state = Reading::new(alloc, first_room(text.len()))?;
     let mut rest = text;
     let mut behind_word = false;
     'tokens: loop {
         let (start, found) = look(rest, behind_word);
         let at = text.len() - start.len();
         if start.is_empty() {
-            return match finish(state) {
+            return match state.finish(alloc) {
                 Ok(grants) => Ok(CapList::from_vec(grants.into_vec())),
                 Err(kind) => Err(fault(kind, at)),
             };
         }
-        if state.done.len() == MOST_GRANTS {
+        if state.len() == MOST_GRANTS {
             return Err(fault(FaultKind::TooManyGrants, at));
         }
         match found {
             Some((token, after)) => {
                 behind_word = token.is_word();
-                match advance(alloc, state, &token) {
-                    Ok(next) => state = next,
+                match state.advance(alloc, &token) {
+                    Ok(()) => {}
                     Err(kind) => return Err(fault(kind, at)),
                 }
                 rest = after;

@@ -1,7 +1,6 @@
 //! Where in the grammar a text has come to.
 
-use crate::draft::{BoxedDraft, BoxedName, BoxedPart};
-use crate::grant::{Access, Flags, NsMatch, Tag};
+use crate::grant::{Access, Flags, NsMatch, Part, Tag};
 use crate::name::Name;
 
 /// The clauses that may still come in a grant.
@@ -30,6 +29,14 @@ pub struct Draft {
     pub tag: Option<Tag>,
 }
 
+/// What was read of a grant, with a word or a key that belongs to a clause which is not whole, as contracts see it.
+#[derive(Debug, Drop)]
+pub struct Page {
+    pub draft: Draft,
+    pub word: Name,
+    pub key: Part,
+}
+
 /// What a value is for.
 #[derive(Clone, Copy, Debug, PartialEq, Eq)]
 pub enum Slot {
@@ -40,35 +47,54 @@ pub enum Slot {
     Application,
 }
 
-/// What may come next. What it carries is on the heap, so that a place is small and a step moves little.
+/// What may come next, and what was read of the next grant, as contracts see it.
 #[derive(Debug, Drop)]
 pub enum Place {
+    Start,
+    Separator,
+    Clauses(ClauseSet, Draft),
+    Letters(Flags, ClauseSet, Draft),
+    ClassRead(Flags, ClauseSet, Draft),
+    Method(Name, ClauseSet, Draft),
+    Assigned(Slot, ClauseSet, Draft),
+    Value(Slot, ClauseSet, Draft),
+    Namespace(ClauseSet, Draft),
+    NamespaceEquals(ClauseSet, Draft),
+    NamespaceWord(Name, ClauseSet, Draft),
+    Key(Name, Draft),
+    KeyEquals(Name, Part, Draft),
+    KeyValue(Name, Part, Draft),
+}
+
+/// What may come next. It is small, since a step moves it; what was read stays in the sheet.
+#[derive(Clone, Copy, Debug, PartialEq, Eq)]
+pub enum Next {
     /// The first grant, or the end of an empty text.
     Start,
     /// A grant, behind a separator.
     Separator,
     /// A clause, the access where it is still due, or the end of the grant.
-    Clauses(ClauseSet, BoxedDraft),
+    Clauses(ClauseSet),
     /// `class-read` or `class-write` behind the letters, or what follows the access.
-    Letters(Flags, ClauseSet, BoxedDraft),
+    Letters(Flags, ClauseSet),
     /// `class-write` behind `class-read`, or what follows the access.
-    ClassRead(Flags, ClauseSet, BoxedDraft),
-    /// The method of this class, or what follows the access.
-    Method(BoxedName, ClauseSet, BoxedDraft),
+    ClassRead(Flags, ClauseSet),
+    /// The method of the class that the sheet holds, or what follows the access.
+    Method(ClauseSet),
     /// `=`, or the value.
-    Assigned(Slot, ClauseSet, BoxedDraft),
+    Assigned(Slot, ClauseSet),
     /// The value.
-    Value(Slot, ClauseSet, BoxedDraft),
+    Value(Slot, ClauseSet),
     /// `=`, or the namespace.
-    Namespace(ClauseSet, BoxedDraft),
+    Namespace(ClauseSet),
     /// The namespace.
-    NamespaceEquals(ClauseSet, BoxedDraft),
-    /// A star directly behind this word of a namespace, or what follows the clause.
-    NamespaceWord(BoxedName, ClauseSet, BoxedDraft),
-    /// The key of this application's tag.
-    Key(BoxedName, BoxedDraft),
-    /// The `=` behind the key.
-    KeyEquals(BoxedName, BoxedPart, BoxedDraft),
+    NamespaceEquals(ClauseSet),
+    /// A star directly behind the word of a namespace that the sheet holds, or what follows the clause.
+    NamespaceWord(ClauseSet),
+    /// The key of a tag, whose application the sheet holds.
+    Key,
+    /// The `=` behind the key, which the sheet holds too.
+    KeyEquals,
     /// The value of the key.
-    KeyValue(BoxedName, BoxedPart, BoxedDraft),
+    KeyValue,
 }

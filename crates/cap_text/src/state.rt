@@ -1,11 +1,16 @@
 //! What was read of a text.
 
-ghost use Rattle.std.specs.Prelude.{◌≡◌, ◌∷◌, ◌++◌, [], List, length, IfOk};
-ghost use Rattle.cap_text.specs.Gives.{GivesTo};
+ghost use Rattle.std.specs.Prelude.{◌≡◌, ◌∷◌, ◌++◌, [], List, length, IfOk, Ok};
+ghost use Rattle.cap_text.specs.Gives.{Gives, GivesIn};
+ghost use Rattle.cap_text.specs.Machine.{advance, finish};
+ghost use Rattle.cap_text.specs.Sheet.{nothing_read};
 
+use crate::draft::Sheet;
 use crate::fault::{FaultKind, OutOfMemory};
 use crate::grant::Grant;
-use crate::place::Place;
+use crate::machine::{close, step};
+use crate::place::{Next, Place};
+use crate::token::Token;
 use std::alloc::Global;
 use std::marker::Model;
 
@@ -40,12 +45,11 @@ impl Grants {
         self.items.len()
     }
 
-    pub fn with(self, grant: Grant) -> Result<Grants, FaultKind>
-        ensures { GivesTo result (self ++ grant ∷ []) }
+    pub fn push(&mut self, grant: Grant) -> Result<(), FaultKind>
+        ensures { GivesIn result self.new (Ok (self.old ++ grant ∷ [])) }
     {
-        let mut items = self.items;
-        items.push(grant)?;
-        Ok(Grants { items })
+        self.items.push(grant)?;
+        Ok(())
     }
 
     pub fn into_vec(self) -> Vec<Grant>
@@ -56,9 +60,79 @@ impl Grants {
     }
 }
 
-/// The grants that are whole, and the place in the next one.
+/// The grants that are whole, and the place in the next one, as contracts see them.
 #[derive(Debug, Drop)]
 pub struct State {
     pub done: Grants,
     pub place: Place,
+}
+
+/// The grants that are whole, what was read of the next one, and what may come next.
+#[derive(Debug, Drop)]
+pub struct Reading {
+    done: Grants,
+    sheet: Sheet,
+    next: Next,
+}
+
+impl Model for Reading {
+    ghost use Rattle.cap_text.specs.declared.state.State.{State};
+    ghost use Rattle.cap_text.specs.Sheet.{state_of};
+
+    ghost Value = { State };
+
+    ghost view = { λ r. state_of r.done r.sheet r.next };
+}
+
+impl Reading {
+    /// Nothing was read, and there is room for so many grants.
+    pub fn new(alloc: Global, count: usize) -> Result<Reading, OutOfMemory>
+        ensures { IfOk result (λ reading. reading ≡ nothing_read) }
+    {
+        Ok(Reading {
+            done: Grants::with_room(alloc, count)?,
+            sheet: Sheet::new(alloc),
+            next: Next::Start,
+        })
+    }
+
+    /// How many grants are whole.
+    pub fn len(&self) -> usize
+        ensures { result ≡ length self.now.done }
+    {
+        self.done.len()
+    }
+
+    /// Reads a token.
+    pub fn advance(&mut self, alloc: Global, token: &Token<'_>) -> Result<(), FaultKind>
+        ensures { GivesIn result self.new (advance self.old token.now) }
+    {
+        match token {
+            Token::Comma | Token::Semicolon => {
+                close(alloc, self.next, &mut self.sheet, &mut self.done)?;
+                self.next = Next::Separator;
+            }
+            token => self.next = step(alloc, self.next, &mut self.sheet, token)?,
+        }
+        Ok(())
+    }
+
+    /// The grants of a text that ends here.
+    #[inline(never)]
+    pub fn finish(self, alloc: Global) -> Result<Grants, FaultKind>
+        ensures { Gives result (finish self) }
+    {
+        let Reading {
+            mut done,
+            mut sheet,
+            next,
+        } = self;
+        match next {
+            Next::Start => Ok(done),
+            next => {
+                close(alloc, next, &mut sheet, &mut done)?;
+                Ok(done)
+            }
+        }
+    }
 }

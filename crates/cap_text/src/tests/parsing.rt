@@ -167,6 +167,29 @@ fn spells_these_lists(rt: HostRuntime) -> Result<(), Fail> {
 }
 
 #[test]
+fn a_grant_keeps_nothing_of_the_one_before(rt: HostRuntime) -> Result<(), Fail> {
+    let rows = [
+        (
+            "allow r pool=a namespace=b object_prefix c, allow w, allow x tag d e=f, allow r",
+            "r|a|=b|c|-;w|-|-|-|-;kl|-|-|-|d e:f;r|-|-|-|-;",
+        ),
+        (
+            "profile a pool=b namespace=c, profile d, allow class e f, allow class g",
+            "profile a|b|=c;profile d|-|-;class e f|-|-|-|-;class g -|-|-|-|-;",
+        ),
+        (
+            "allow r namespace=a tag b c=d, allow w tag e *=f, allow x namespace=*",
+            "r|-|=a|-|b c:d;w|-|-|-|e ANY:f;kl|-|^|-|-;",
+        ),
+    ];
+    for (text, want) in rows {
+        let got = outcome(rt.alloc(), text)?;
+        assert_eq!(rt; got.as_str(), want, "{text}");
+    }
+    Ok(())
+}
+
+#[test]
 fn tells_the_first_fault(rt: HostRuntime) -> Result<(), Fail> {
     let rows = [
         ("deny r", "C3 UnknownWord at 0"),

@@ -79,7 +79,7 @@ tokens-preserved c =
     let one = rw c.in-Some.is at c.look-found.ensures.token in
     let shorter = one_shorter c.tokens.behind_word c.tokens.rest.now c.in-Some.token c.in-Some.after.now one in
     let u : IsUtf8 c.in-Some.after.now = one_utf8 c.tokens.behind_word c.tokens.rest.now c.in-Some.token c.in-Some.after.now one c.tokens.invariant.0 in
-    (u, omega (arith, shorter, c.tokens.invariant.1), c.tokens.invariant.2, (i.0 ++ c.in-Some.token ∷ [], rw c.is_word-behind_word.ensures (goes_on c.args.text.now c.tokens.rest.now c.tokens.behind_word c.tokens.state i.0 i.1 c.in-Some.token c.in-Some.after.now c.in-Ok-advance.next (λ z. c.if-len-eq-MOST_GRANTS.false (c.len.ensures ∙ z)) one c.in-Ok-advance.ensures)))
+    (u, omega (arith, shorter, c.tokens.invariant.1), c.tokens.invariant.2, (i.0 ++ c.in-Some.token ∷ [], rw c.is_word-behind_word.ensures (goes_on c.args.text.now c.tokens.rest.now c.tokens.behind_word c.tokens.state i.0 i.1 c.in-Some.token c.in-Some.after.now c.advance.new.self (λ z. c.if-len-eq-MOST_GRANTS.false (c.len.ensures ∙ z)) one (rw c.in-Ok-advance.is at c.advance.ensures))))
 
 pub returns-in-None-clause-none : goal.returns-in-None-clause-none
 returns-in-None-clause-none c =
