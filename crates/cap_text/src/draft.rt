@@ -1,6 +1,6 @@
 //! What was read of the grant that a text is in.
 
-ghost use Rattle.std.specs.Prelude.{◌≡◌, ◌∷◌, ◌++◌, [], None, Some};
+ghost use Rattle.std.specs.Prelude.{◌≡◌, None, Some};
 ghost use Rattle.cap_text.specs.Gives.{GivesIn};
 ghost use Rattle.cap_text.specs.Machine.{ended, fresh, grant_of, wants_access, with_access};
 ghost use Rattle.cap_text.specs.Sheet.{empty_allow};

@@ -2,7 +2,7 @@
 //!
 //! Their forms are those of the Ceph manual's User Management chapter, "Authorization capabilities".
 
-ghost use Rattle.std.specs.Prelude.{◌≡◌, ◌≤◌, length, IfOk};
+ghost use Rattle.std.specs.Prelude.{◌≡◌, IfOk};
 
 use crate::fault::OutOfMemory;
 use crate::name::{Name, copy_name};

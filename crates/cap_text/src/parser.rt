@@ -1,6 +1,6 @@
 //! Reads capability texts.
 
-ghost use Rattle.std.specs.Prelude.{◌≡◌, ◌≤◌, ◌∷◌, ◌++◌, [], List, IfOk, IfErr, length};
+ghost use Rattle.std.specs.Prelude.{◌≡◌, ◌≤◌, List, IfOk, IfErr, length};
 ghost use Rattle.cap_text.specs.declared.grant.Grant.{Grant};
 ghost use Rattle.cap_text.specs.Grammar.{Spells, AtMostOneList};
 ghost use Rattle.cap_text.specs.Machine.{placed};

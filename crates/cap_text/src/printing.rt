@@ -5,7 +5,7 @@ ghost use Rattle.std.specs.List.{list_all, list_any, flat_map};
 ghost use Rattle.cap_text.specs.Bytes.{is_word_byte};
 ghost use Rattle.cap_text.specs.Words.{keyword_of};
 ghost use Rattle.cap_text.specs.Grammar.{begins_clause, Spells};
-ghost use Rattle.cap_text.specs.Printed.{quote_for, quoted, printed_value, printed_method, printed_namespace, printed_part, class_word, printed_access, printed_pool, printed_namespaces, printed_prefix, printed_tag, printed_allow, printed_profile, printed_grant, printed};
+ghost use Rattle.cap_text.specs.Printed.{quote_for, quoted, printed_value, printed_method, printed_namespace, printed_part, printed_access, printed_pool, printed_namespaces, printed_prefix, printed_tag, printed_allow, printed_profile, printed_grant, printed};
 
 use crate::bytes::is_word_byte;
 use crate::caps::CapList;

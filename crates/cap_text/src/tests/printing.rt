@@ -1,7 +1,7 @@
 //! Worked examples of printed lists.
 
 ghost use Rattle.std.specs.Prelude.{◌≡◌, ◌&&◌, true, Some, None};
-ghost use Rattle.cap_text.specs.Spellable.{is_spellable, is_access, is_value, none_or, is_namespace, is_part};
+ghost use Rattle.cap_text.specs.Spellable.{is_spellable, is_access, is_value, is_namespace, is_part};
 
 use crate::caps::CapList;
 use crate::fault::OutOfMemory;
