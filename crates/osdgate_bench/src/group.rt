@@ -65,7 +65,7 @@ fn all(alloc: Global) -> Result<Ticket, OutOfMemory> {
         prefix: None,
         tag: None,
     };
-    let mut grants = Vec::new(alloc);
+    let mut grants = Vec::with_capacity(alloc, 1)?;
     grants.push((Path::of(alloc, &[1])?, grant))?;
     Ok(Ticket::from_vec(grants))
 }
@@ -80,7 +80,7 @@ fn request(alloc: Global, number: u32, name: &str) -> Result<Sealed, Fault> {
         min_size: 2,
         tags: Tags::from_vec(Vec::new(alloc)),
     };
-    let mut ops = Vec::new(alloc);
+    let mut ops = Vec::with_capacity(alloc, 1)?;
     ops.push(Op::WriteFull(Bytes::from_slice(alloc, name.as_bytes())?))?;
     let object = format!(in alloc; "{name}.{}", number % 64)?;
     let sealed = Sealed::vector(
@@ -97,7 +97,7 @@ fn request(alloc: Global, number: u32, name: &str) -> Result<Sealed, Fault> {
 }
 
 fn through_a_group(alloc: Global, count: u32, name: &str) -> Result<Settling, Fault> {
-    let mut requests = Vec::new(alloc);
+    let mut requests = Vec::with_capacity(alloc, count as usize)?;
     for number in 0..count {
         requests.push(request(alloc, number, name)?)?;
     }

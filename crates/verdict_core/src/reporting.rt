@@ -41,7 +41,7 @@ pub fn report(
     ensures report { IfOk result (λ report. report ≡ report_of ticket.now target.now needs.now) }
     ensures paths { IfOk result (λ report. map (λ line. line.0) report ≡ map (λ entry. entry.0) ticket.now) }
 {
-    let mut lines = Vec::with_capacity(alloc, ticket.grants().len())?;
+    let mut lines = Vec::new(alloc);
     for entry in ticket.grants() {
         let condition = first_failure(&entry.1, target, needs);
         push_line(&mut lines, &entry.0, condition)?;
