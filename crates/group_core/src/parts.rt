@@ -205,7 +205,10 @@ pub(crate) fn reach(wire: &mut Wire, copy: &mut Daemon, k: usize) -> Result<(), 
         },
         None => return Err(AllocError),
     };
-    let most = copy.waiting_count().checked_add(MOST_SENT).ok_or(AllocError)?;
+    let most = copy
+        .waiting_count()
+        .checked_add(MOST_SENT)
+        .ok_or(AllocError)?;
     wire.reserve(most)?;
     let sent = copy.on(message)?;
     wire.append(sent.into_vec());

@@ -216,7 +216,12 @@ impl State {
     }
 
     /// Takes the log that an interval begins with.
-    pub fn on_install(&mut self, from: Party, n: u64, log: BoxedLog) -> Result<Items<Sent>, OutOfMemory>
+    pub fn on_install(
+        &mut self,
+        from: Party,
+        n: u64,
+        log: BoxedLog,
+    ) -> Result<Items<Sent>, OutOfMemory>
         ensures ok { IfOk result (λ sent. install_comes self.old from n log ≡ record { copy = self.new; sent = sent }) }
         ensures err { OnErr result (self.new ≡ self.old) }
     {
