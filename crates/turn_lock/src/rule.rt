@@ -1,6 +1,6 @@
 //! The rule of the table under a lock, and what each atomic step on it tells the seat that makes
 //! it.
-use crate::meaning::Recorded;
+use crate::locked_value::Recorded;
 use atomic_table::{Join, Play, Split, TableRule};
 use std::collections::LinkedList;
 use std::marker::{Brand, PhantomData};
