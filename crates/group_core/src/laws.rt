@@ -18,7 +18,7 @@ ghost use Rattle.group_core.specs.Quiet.{IsQuiet, IsServed, made_by, deliveries_
 ghost use Rattle.group_core.specs.Calm.{OnlyCalm, IsSmall, IsUnserved, IsCalm, IsCalmGroup, unserved_cost, log_of, answer_with, all_taken};
 ghost use Rattle.group_core.specs.Budget.{Lowers, budget, settled_group, settle_count};
 ghost use Rattle.group_core.specs.Recovery.{LiesWithin, ActsWithin, IsReady, is_ready, lost_all, IsLoss, Recovers};
-ghost use Rattle.group_core.specs.Rows.{IsLostReply, IsLate, IsHalfDone, IsCounted, IsKickedAwake, IsServedCalmly};
+ghost use Rattle.group_core.specs.Rows.{IsLostReply, IsLate, IsHalfDone, IsCounted, IsRecovered, IsServedCalmly};
 
 /// Whatever was decided stands at the beginning of every log that is chosen later.
 pub fn decided_entries_stay()
@@ -32,7 +32,7 @@ pub fn worked_cases()
     ensures late { (group : GroupId) (s : Sealed) → IsLate group s }
     ensures half_done { (group : GroupId) (s : Sealed) → IsHalfDone group s }
     ensures counted { (group : GroupId) (s : Sealed) → IsCounted group s }
-    ensures kicked { (group : GroupId) (s : Sealed) → IsKickedAwake group s }
+    ensures recovered { (group : GroupId) (s : Sealed) → IsRecovered group s }
     ensures calm { (group : GroupId) (s : Sealed) → IsServedCalmly group s }
 {}
 
