@@ -23,7 +23,8 @@ use Rattle.group_core.proofs.Settles.{Bounded, run_bounded, settle_done}
 use Rattle.group_core.proofs.QuietStates.{Due}
 use Rattle.group_core.proofs.QuietSteps.{IsIdle}
 use Rattle.group_core.proofs.CalmOrders.{InOrder, settled_order}
-use Rattle.group_core.proofs.QuietRuns.{take_few, start_due, due_opens, Ran, ran, Ended, ends}
+use Rattle.group_core.proofs.CalmRuns.{Ran, ran}
+use Rattle.group_core.proofs.QuietRuns.{take_few, start_due, due_opens, counted, Ended, ends}
 
 pub calm_fits : (acting : List ℕ) → IsSet acting → (e : Event) → IsCalm acting e → EventFits e
 calm_fits acting set (Submit s) fits = tt
@@ -99,8 +100,8 @@ module _ (z p : ℕ) (os : List ℕ) (once : is_distinct (p ∷ os) ≡ true) (e
   counts group count up events quiet fits =
       let g : Group = run events (start group z count (p ∷ os) up) in
       let open_due : Due z p os (start group z count (p ∷ os) up) (5 * length os + 1) = start_due z p os once enough few group count up quiet.exist quiet.live in
-      let r : Ran z p os once enough few (start group z count (p ∷ os) up) g (5 * length os + 1) (deliveries_made events (start group z count (p ∷ os) up)) =
-      ran z p os once enough few events (start group z count (p ∷ os) up) (5 * length os + 1) fits open_due in
+      let r : Ran (2 * length os + 2) (Due z p os) (start group z count (p ∷ os) up) g (5 * length os + 1) (deliveries_made events (start group z count (p ∷ os) up)) =
+      ran (p ∷ os) (2 * length os + 2) (Due z p os) (counted z p os once enough few) events (start group z count (p ∷ os) up) (5 * length os + 1) fits open_due in
       let each : Each EventFits events = Each-weaker (IsCalm (p ∷ os)) EventFits (calm_fits (p ∷ os) quiet.set) events fits in
       let t : Total z p os once g r.left = totals g r.left r.now (run_bounded group z count (p ∷ os) up events quiet.set each) in
       let cost : 2 * length (p ∷ os) ≡ 2 * length os + 2 = omega arith in

@@ -14,7 +14,7 @@ ghost use Rattle.group_core.specs.Calm.{IsSmall, IsCalm, IsCalmGroup, unserved_c
 ghost use Rattle.group_core.specs.Budget.{settled_group, settle_count};
 ghost use Rattle.group_core.specs.Recovery.{IsReady, is_ready, lost_all, IsLoss, Recovers};
 ghost use Rattle.group_core.specs.Laws.{OnlyAdds, AnswersAreDecided, SettlingEnds, OneEntryIsOpen, ServesInTime, made_so_far, DecidesInOrder, AnswersNothing, KeepsCount, IsReachedWithin};
-ghost use Rattle.group_core.specs.Rows.{IsLostReply, IsLate, IsHalfDone, IsCounted, IsKickedAwake, IsServedCalmly};
+ghost use Rattle.group_core.specs.Rows.{IsLostReply, IsLate, IsHalfDone, IsCounted, IsRecovered, IsServedCalmly};
 
 /// Whatever is submitted, delivered, lost, repeated, moved, restarted or kicked, in whatever order, only adds: what was
 /// decided is one growing list, and each answer stands.
@@ -112,6 +112,6 @@ pub fn worked_cases()
     ensures late { (group : GroupId) (s : Sealed) → IsLate group s }
     ensures half_done { (group : GroupId) (s : Sealed) → IsHalfDone group s }
     ensures counted { (group : GroupId) (s : Sealed) → IsCounted group s }
-    ensures kicked { (group : GroupId) (s : Sealed) → IsKickedAwake group s }
+    ensures recovered { (group : GroupId) (s : Sealed) → IsRecovered group s }
     ensures calm { (group : GroupId) (s : Sealed) → IsServedCalmly group s }
 {}
