@@ -10,8 +10,8 @@ use Rattle.object_core.specs.declared.op.Op.{Op}
 use Rattle.entry_core.specs.Request.{Sealed, Work, Vector, Listing, place_of, needs_for}
 use Rattle.entry_core.specs.Store.{Store, ObjectName, name_cmp, with_object}
 use Rattle.entry_core.specs.Names.{name_cmp_total, is_same-ties, same_from_is_same}
-use Rattle.entry_core.specs.Deciding.{store_of, step, stepped, answered, ran, performed, answer_on, decision_on, is_allowed_sealed, name_of}
-use Rattle.entry_core.specs.Laws.{is_denied, is_done, changed, VerdictIsSealed, RefusalsLeaveTheStore, OthersAreLeft, StoreDecides, DecisionTellsTheStore}
+use Rattle.entry_core.specs.Deciding.{store_of, step, stepped, answered, ran, performed, answer_on, is_allowed_sealed, name_of}
+use Rattle.entry_core.specs.Laws.{is_denied, is_done, changed, VerdictIsSealed, RefusalsLeaveTheStore, OthersAreLeft, DecisionTellsTheStore}
 use Rattle.entry_core.specs.Log.{decide}
 use Rattle.entry_core.specs.declared.reply.Reply.{Reply}
 use Rattle.entry_core.specs.declared.reply.Reply.TheVariants.{Denied, Done, Failed, Names}
@@ -65,9 +65,6 @@ other_step store s Listing r q h = refl
 
 pub others_are_left : OthersAreLeft
 others_are_left log e q h = ap (λ s. get s q) (store_push log e) ∙ other_step (store_of log) e.sealed e.sealed.work e.reply q h
-
-pub store_decides : StoreDecides
-store_decides a b s h = ap (λ store. decision_on store s) h
 
 ran_step : (store : Store) (s : Sealed) (object : List ℕ) (ops : List Op) (r : Run) → effect (get store (name_of s)) ops ≡ r → stepped store s (Vector object ops) (ran r).reply ≡ changed store (name_of s) (ran r).change
 ran_step store s object ops (Ok done) h = ap (λ t. with_object store (name_of s) (left_by (get store (name_of s)) t)) h

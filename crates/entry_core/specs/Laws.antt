@@ -1,5 +1,5 @@
 -- Laws of deciding.
-use Rattle.std.specs.Prelude.{◌≡◌, Bool, true, false, not, List, [], ◌∷◌, ◌++◌}
+use Rattle.std.specs.Prelude.{◌≡◌, ℕ, Some, Bool, true, false, not, List, [], ◌∷◌, ◌++◌}
 use Rattle.std.specs.List.Sorted.{IsStrictlySortedBy}
 use Rattle.std.specs.FinMap.{get}
 use Rattle.verdict_core.specs.Verdict.{report_of}
@@ -8,7 +8,7 @@ use Rattle.object_core.specs.declared.outcome.Change.TheVariants.{Kept, Became}
 use Rattle.entry_core.specs.Request.{Sealed, place_of, needs_for}
 use Rattle.entry_core.specs.Store.{Store, ObjectName, bytes_cmp, with_object}
 use Rattle.entry_core.specs.Deciding.{store_of, is_allowed_sealed, name_of, names_in}
-use Rattle.entry_core.specs.Log.{decision, decide}
+use Rattle.entry_core.specs.Log.{decision, decide, find, Legal}
 use Rattle.entry_core.specs.declared.reply.Reply.{Reply}
 use Rattle.entry_core.specs.declared.reply.Reply.TheVariants.{Denied, Done, Failed, Names}
 use Rattle.entry_core.specs.declared.entry.Entry.{Entry}
@@ -37,9 +37,17 @@ RefusalsLeaveTheStore = (log : List Entry) (e : Entry) → is_done e.reply ≡ f
 abbrev pub OthersAreLeft : Type 0
 OthersAreLeft = (log : List Entry) (e : Entry) (name : ObjectName) → (name ≡ name_of e.sealed → ⊥) → get (store_of (log ++ e ∷ [])) name ≡ get (store_of log) name
 
--- logs that make the same store decide the same
-abbrev pub StoreDecides : Type 0
-StoreDecides = (a b : List Entry) (s : Sealed) → store_of a ≡ store_of b → decision a s ≡ decision b s
+-- an entry of this number in a log, decided on the entries before it
+pub record StandsIn (log : List Entry) (id : ℕ) (e : Entry) : Type 0 where
+  pub before : List Entry
+  pub behind : List Entry
+  pub whole : before ++ e ∷ behind ≡ log
+  pub decided : e ≡ decide before e.sealed
+  pub number : e.sealed.id ≡ id
+
+-- in a legal log an entry that is found stands so
+abbrev pub FindTells : Type 0
+FindTells = (log : List Entry) (id : ℕ) (e : Entry) → Legal log → find log id ≡ Some e → StandsIn log id e
 
 -- a store after a change of one object
 abbrev pub changed : Store → ObjectName → Change → Store

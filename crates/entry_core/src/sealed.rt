@@ -1,6 +1,6 @@
 //! Requests, sealed with the ticket and the map that they are decided by.
 
-ghost use Rattle.std.specs.Prelude.{◌≡◌, ◌≤◌, false, IfOk, option_copied};
+ghost use Rattle.std.specs.Prelude.{◌≡◌, ◌≤◌, false, IfOk, IfSome, None, option_copied};
 ghost use Rattle.verdict_core.specs.Verdict.{report_of};
 ghost use Rattle.object_core.specs.Faults.{RefusedFirst};
 ghost use Rattle.object_core.specs.Needs.{needs_fault};
@@ -167,9 +167,10 @@ impl Sealed {
         &self.parts.name.namespace
     }
 
-    /// The operations, where it is a vector.
+    /// The operations, where it is a vector: such as `needs_of` takes.
     pub fn ops(&self) -> Option<&[Op]>
-        ensures { option_copied result ≡ sealing.ops_of self.now.work }
+        ensures value { option_copied result ≡ sealing.ops_of self.now.work }
+        ensures sound { IfSome result (λ ops. needs_fault ops.now ≡ None) }
     {
         ops_of(&self.parts)
     }
