@@ -1,2 +1,4 @@
 pub mod Place
+pub mod Ticket
 pub mod Verdict
+pub mod Text
