@@ -2,14 +2,14 @@ ghost use Rattle.std.specs.Prelude.{◌≤◌, IfOk};
 ghost use Rattle.group_core.specs.Group.{IsSet};
 
 use super::*;
-use cap_text::{Access, AllowGrant, Flags, Name, Tags};
+use cap_text::{Name, Tags, parse};
 use entry_core::{GroupId, Id, Items, OutOfMemory, Reply, Sealed, TryCopy};
-use grant_core::Path;
+use grant_core::{ProfileTable, expand};
 use map_core::PoolView;
 use object_core::{Bytes, NeedsFault, Op};
 use std::alloc::Global;
 use std::test::Fail;
-use verdict_core::{Condition, Ticket};
+use verdict_core::{Condition, IndexedTicket, Ticket};
 
 // What is asked of the object `x`: one operation, or an append and a read in one vector.
 #[derive(Clone, Copy)]
@@ -79,24 +79,19 @@ use Step::{
     TakeBack, Unreachable, Wire,
 };
 
-fn ticket(alloc: Global, may: May) -> Result<Ticket, OutOfMemory> {
-    let all = matches!(may, May::All);
-    let flags = Flags {
-        read: all || matches!(may, May::Read),
-        write: all || matches!(may, May::Write),
-        class_read: all,
-        class_write: all,
+fn ticket(alloc: Global, may: May) -> Result<IndexedTicket, OutOfMemory> {
+    let text = match may {
+        May::Read => "allow r",
+        May::Write => "allow w",
+        May::All => "allow rwx",
     };
-    let grant = AllowGrant {
-        access: Access::Flags(flags),
-        pool: None,
-        namespace: None,
-        prefix: None,
-        tag: None,
+    let Ok(list) = parse(alloc, text) else {
+        return Err(OutOfMemory);
     };
-    let mut grants = Vec::new(alloc);
-    grants.push((Path::of(alloc, &[1])?, grant))?;
-    Ok(Ticket::from_vec(grants))
+    let Ok(tree) = expand(alloc, &ProfileTable::builtin(alloc)?, &list) else {
+        return Err(OutOfMemory);
+    };
+    IndexedTicket::of(Ticket::of(alloc, &tree, None)?).map_err(|refused| refused.1)
 }
 
 fn call(alloc: Global, method: &str, input: &str) -> Result<Op, OutOfMemory> {
@@ -157,7 +152,7 @@ fn request(alloc: Global, number: u32, may: May, work: Work) -> Result<Sealed, N
     let object = Name::new(alloc, "x")?;
     let view = view(alloc)?;
     let id = Id::new(1, number);
-    Sealed::vector(alloc, id, ticket, view, 5, namespace, object, ops)
+    Sealed::vector(alloc, id, ticket, 0, view, 5, namespace, object, ops)
 }
 
 fn zero(alloc: Global) -> Result<Items<u8>, OutOfMemory>
