@@ -3,10 +3,9 @@
 ghost use Rattle.std.specs.Prelude.{◌≡◌, ◌≤◌, false, map, length, IfOk, IfErr};
 ghost use Rattle.verdict_core.specs.Verdict.{is_allowed, report_of};
 
-use crate::judging;
-use crate::reporting;
 use crate::request::{Needs, Target};
 use crate::ticket::{Report, Ticket};
+use crate::{judging, reporting};
 use cap_text::{AllowGrant, OutOfMemory};
 use grant_core::Path;
 use std::alloc::Global;

@@ -26,7 +26,7 @@ fn is_covered(
 }
 
 /// Whether some grant is usable.
-fn has_usable(grants: &[(Path, AllowGrant)], target: &Target<'_>, needs: &Needs) -> bool
+pub(crate) fn has_usable(grants: &[(Path, AllowGrant)], target: &Target<'_>, needs: &Needs) -> bool
     ensures { result ≡ list_any (λ entry. spec.is_usable entry.1 target.now needs.now) grants.now }
 {
     grants

@@ -8,6 +8,7 @@
 mod indexed;
 mod judging;
 mod matching;
+mod places;
 mod reporting;
 mod request;
 mod ticket;
