@@ -95,6 +95,11 @@ impl Ticket {
         }
     }
 
+    /// Where its grants are kept.
+    pub(crate) fn allocator(&self) -> Global {
+        *self.grants.allocator()
+    }
+
     /// An equal ticket.
     pub fn copy(&self) -> Result<Ticket, OutOfMemory>
         ensures { IfOk result (λ ticket. ticket ≡ self.now) }
