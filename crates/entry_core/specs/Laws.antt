@@ -25,9 +25,9 @@ is_done (Done outputs) = true
 is_done (Failed place number) = false
 is_done (Names names) = false
 
--- on every log a request is denied just where its own ticket, place and needs are not allowed, and by their report
+-- on every log a request is denied just where its own ticket, place, needs and tick are not allowed, and by their report
 abbrev pub VerdictIsSealed : Type 0
-VerdictIsSealed = (log : List Entry) (s : Sealed) → (is_denied (decide log s).reply ≡ not (is_allowed_sealed s)) × (is_allowed_sealed s ≡ false → (decide log s).reply ≡ Denied (report_of s.ticket (place_of s) (needs_for s.work)))
+VerdictIsSealed = (log : List Entry) (s : Sealed) → (is_denied (decide log s).reply ≡ not (is_allowed_sealed s)) × (is_allowed_sealed s ≡ false → (decide log s).reply ≡ Denied (report_of s.ticket (place_of s) (needs_for s.work) s.tick))
 
 -- an entry that was denied, that failed or that lists names leaves all objects as they were
 abbrev pub RefusalsLeaveTheStore : Type 0
