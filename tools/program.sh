@@ -3,7 +3,7 @@
 #
 # A caller sets `top` (the repository) and `name` (the program's crate).
 
-# The proved build, as `rt run` leaves it, and the quick build, as `rt try` links it, and a lock of its making.
+# The proved build, as `rt run` leaves it, and the quick build, as `rt try` links it.
 proved="$top/crates/$name/out/$name"
 quick="$top/out/quick/$name"
 
@@ -26,14 +26,23 @@ crates_of() {
     for crate in $order; do echo "$crate"; done
 }
 
-# The build is there, and none of what it was made of is newer.
+# A build is there, and nothing that it was made of is newer: the files of these folders of each crate below it.
 is_fresh() {
-    [ -x "$1" ] || return 1
-    local crate folders=("$top/crates.txt")
+    local build="$1" crate part made_of=("$top/crates.txt")
+    shift
+    [ -x "$build" ] || return 1
     for crate in $(crates_of "$name"); do
-        folders+=("$top/crates/$crate/src" "$top/crates/$crate/specs" "$top/crates/$crate/proofs")
+        for part in "$@"; do made_of+=("$top/crates/$crate/$part"); done
     done
-    [ -z "$(find "${folders[@]}" -newer "$1" 2>/dev/null | head -n 1)" ]
+    [ -z "$(find "${made_of[@]}" -newer "$build" 2>/dev/null | head -n 1)" ]
+}
+
+is_proved() {
+    is_fresh "$proved" src specs proofs
+}
+
+has_quick() {
+    is_fresh "$quick" src
 }
 
 # Runs a command whose lines go to a log, and says each minute that it goes on.
@@ -89,7 +98,7 @@ build_quick() {
     mkdir -p "$top/out/quick"
     (
         flock 9
-        is_fresh "$quick" || python3 "$top/tools/keep_quick_build.py" "$top/crates/$name" "$quick" >&2
+        has_quick || python3 "$top/tools/keep_quick_build.py" "$top/crates/$name" "$quick" >&2
     ) 9>"$quick.lock"
 }
 
@@ -116,8 +125,8 @@ answer() {
         prove
         exit
     fi
-    if is_fresh "$proved"; then exec "$proved" "$@"; fi
+    if is_proved; then exec "$proved" "$@"; fi
     say "this answer comes from a quick build, which is not proved; ./$name --prove makes the proved one${note:-}"
-    if is_fresh "$quick" || build_quick; then exec "$quick" "$@"; fi
+    if has_quick || build_quick; then exec "$quick" "$@"; fi
     try_once "$@"
 }

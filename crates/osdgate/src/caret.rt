@@ -50,7 +50,7 @@ fn push_blanks(line: &mut Vec<u8>, count: usize) -> Result<(), OutOfMemory>
 
 /// A text as it is shown, and below it a caret under the byte at this place, or behind the text where no
 /// byte stands there. Both lines end with a line feed.
-fn pointed_text(alloc: Global, text: &str, place: usize) -> Result<Vec<u8>, OutOfMemory>
+pub fn pointed_text(alloc: Global, text: &str, place: usize) -> Result<Vec<u8>, OutOfMemory>
     ensures { IfOk result (λ lines. lines.items ≡ pointed_text text.now place) }
 {
     let (before, behind) = cut(text.as_bytes(), place);
