@@ -2,7 +2,7 @@
 
 `rt try` compiles and links a program that is not proved, runs it in a folder of its own below TMPDIR, and removes that
 folder. While it runs here, on the word --help, what it has linked gets a second name, KEPT. Exit status: 0 where KEPT
-is there and answers --help as it did under `rt try`, else 1.
+is there and can be run, else 1.
 """
 import os
 import shutil
@@ -35,6 +35,12 @@ def keep(room, kept):
     return False
 
 
+def starts(program):
+    """Whether it can be run from here, and ends by itself."""
+    how = {"stdin": subprocess.DEVNULL, "capture_output": True, "timeout": 60}
+    return subprocess.run([program, "--help"], **how).returncode in (0, 1, 2)
+
+
 def main(crate, kept):
     name = os.path.basename(crate)
     begun = time.time()
@@ -63,8 +69,7 @@ def main(crate, kept):
                 sys.stderr.write(said.read() if ran.returncode else "")
             return 1
         os.chmod(made, 0o755)
-        help_text = subprocess.run([made, "--help"], capture_output=True, text=True, timeout=60)
-        if help_text.returncode or f"Usage: {name}" not in help_text.stdout:
+        if not starts(made):
             return 1
         os.utime(made, (begun, begun))
         os.replace(made, kept)

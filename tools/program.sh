@@ -1,7 +1,7 @@
 # Functions of the scripts osdgate and osdgate_bench. Each answers by the proved build of its program where that is
 # there and no source of it was changed since, and else by the toolchain's quick build, and says so.
 #
-# A caller sets `top` (the repository) and `name` (the program's crate).
+# A caller sets `top` (the repository) and `name` (the program's crate), and may set `note`, more words on a quick build.
 
 # The proved build, as `rt run` leaves it, and the quick build, as `rt try` links it.
 proved="$top/crates/$name/out/$name"
@@ -66,22 +66,23 @@ run_with_minutes() {
     return "$status"
 }
 
+# Becomes a command in a crate's folder: for a subshell.
 in_crate() {
-    cd "$top/crates/$1" && shift && "$@"
+    cd "$top/crates/$1" && shift && exec "$@"
 }
 
 # Proves each crate that the program stands on, the lowest first, and the program, and builds it.
 prove() {
-    local crate count number=0 begun=$SECONDS log stamp what verb
+    local crate count number=0 begun=$SECONDS log stamp what command
     log="$(mktemp)" stamp="$(mktemp)"
     count="$(crates_of "$name" | wc -l)"
     for crate in $(crates_of "$name"); do
         number=$((number + 1))
         what="proving $crate, crate $number of $count"
         say "$what, $(((SECONDS - begun) / 60)) minutes so far"
-        verb=(rt lib)
-        if [ "$crate" = "$name" ]; then verb=(rt run -- --help); fi
-        if ! run_with_minutes "$log" "$what" "$begun" in_crate "$crate" "${verb[@]}"; then
+        command=(rt lib)
+        if [ "$crate" = "$name" ]; then command=(rt run -- --help); fi
+        if ! run_with_minutes "$log" "$what" "$begun" in_crate "$crate" "${command[@]}"; then
             cat "$log" >&2
             rm -f "$log" "$stamp"
             say "$crate is not proved"
@@ -121,12 +122,14 @@ try_once() {
 
 # The program's answer on these words, or with the one word --prove its proof.
 answer() {
+    local made_now
     if [ "$#" = 1 ] && [ "$1" = --prove ]; then
         prove
         exit
     fi
     if is_proved; then exec "$proved" "$@"; fi
-    say "this answer comes from a quick build, which is not proved; ./$name --prove makes the proved one${note:-}"
+    has_quick || made_now=" and is made now, in about a minute"
+    say "this answer comes from a quick build, which is not proved${made_now:-}; ./$name --prove makes the proved one${note:-}"
     if has_quick || build_quick; then exec "$quick" "$@"; fi
     try_once "$@"
 }
