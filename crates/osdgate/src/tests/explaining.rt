@@ -73,19 +73,32 @@ fn faults_are_pointed_at(rt: HostRuntime) -> Result<(), Fail> {
         ("allow\tr\nw", "refused C3 UnknownWord at 8\n", LINES),
         ("allow r pool=", "refused C6 BadWord at 13\n", ENDS),
     ] {
-        for words in [
-            ["osdgate", "explain", "--caps", caps].as_slice(),
-            [
-                "osdgate", "verdict", "--caps", caps, "--pool", "data", "--object", "x",
-            ]
-            .as_slice(),
-        ] {
-            let (out, err, status) = streams(alloc, words)?;
-            assert_eq!(rt; out.as_str(), text);
-            assert_eq!(rt; err.as_str(), pointed, "{text}");
-            assert_eq!(rt; status, 1);
-        }
+        let words = ["osdgate", "explain", "--caps", caps];
+        let (out, err, status) = streams(alloc, words.as_slice())?;
+        assert_eq!(rt; out.as_str(), text);
+        assert_eq!(rt; err.as_str(), pointed, "{text}");
+        assert_eq!(rt; status, 1);
     }
+    Ok(())
+}
+
+const REFUSED_VERDICT: &[&str] = &[
+    "osdgate",
+    "verdict",
+    "--caps",
+    "allow rw network 10.0.0.0/8",
+    "--pool",
+    "data",
+    "--object",
+    "x",
+];
+
+#[test]
+fn a_refused_verdict_points_too(rt: HostRuntime) -> Result<(), Fail> {
+    let (out, err, status) = streams(rt.alloc(), REFUSED_VERDICT)?;
+    assert_eq!(rt; out.as_str(), "refused C7 NetworkClause at 9\n");
+    assert_eq!(rt; err.as_str(), NETWORK);
+    assert_eq!(rt; status, 1);
     Ok(())
 }
 
