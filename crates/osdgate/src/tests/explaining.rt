@@ -76,7 +76,7 @@ fn faults_are_pointed_at(rt: HostRuntime) -> Result<(), Fail> {
         let words = ["osdgate", "explain", "--caps", caps];
         let (out, err, status) = streams(alloc, words.as_slice())?;
         assert_eq!(rt; out.as_str(), text);
-        assert_eq!(rt; err.as_str(), pointed, "{text}");
+        assert_eq!(rt; err.as_str(), pointed);
         assert_eq!(rt; status, 1);
     }
     Ok(())
