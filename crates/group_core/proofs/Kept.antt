@@ -16,6 +16,7 @@ use Rattle.group_core.specs.Types.{Role, Idle, Peering, Installing, Active, Daem
 use Rattle.group_core.specs.Each.{Each}
 use Rattle.group_core.specs.History.{Begins}
 use Rattle.group_core.specs.Asked.{IsAsked, InLog, InRole, InCopy, InBody, AllAsked, IsReplied, InReply}
+use Rattle.group_core.proofs.Clients.{Takes, run_holds}
 use Rattle.group_core.proofs.Eaches.{Each-append, Each-push, Each-remove, Each-set, Each-get, Each-map, Each-map_all, Each-take, Each-weaker}
 use Rattle.group_core.proofs.Logs.{LegalFrom-front}
 use Rattle.group_core.proofs.Invariant.{SentOk}
@@ -404,56 +405,24 @@ module _ (id : ℕ) (reply : Outcome) where
       go true here rest = here
       go false there rest = rest there
 
-  has_if : (b : Bool) (x y : Group) → Has x → Has y → Has (if b then x else y)
-  has_if true x y p q = p
-  has_if false x y p q = q
+  abbrev Standing : Event → Type 0
+  Standing = Takes (λ requests answers. answer_of answers id ≡ Some reply) (λ requests answers a is. has-push answers a is)
 
-  answered_has : (g : Group) (b : Body) → Has g → Has (answered g b)
-  answered_has g (Reply i r) is = has_if (is_answered g.answers i) g (record g { answers = g.answers ++ record { id = i; reply = r } ∷ [] }) is (has-push g.answers (record { id = i; reply = r }) is)
-  answered_has g (Interval sets) is = is
-  answered_has g (Query n) is = is
-  answered_has g (Info n base log) is = is
-  answered_has g (Install n log) is = is
-  answered_has g (Installed n) is = is
-  answered_has g (Append n place s) is = is
-  answered_has g (Appended n place) is = is
-  answered_has g (Request s) is = is
-  answered_has g (NotHere i) is = is
+  stands : (e : Event) → Standing e
+  stands (Submit s) = λ requests answers is. is
+  stands (Deliver k) = tt
+  stands (Lose k) = tt
+  stands (Repeat k) = tt
+  stands (NewInterval acting up) = tt
+  stands (Restart d) = tt
+  stands Kick = tt
 
-  hears_has : (g : Group) (m : Sent) (d : ℕ) (found : Option Daemon) → Has g → Has (copy_hears g m d found)
-  hears_has g m d None is = is
-  hears_has g m d (Some c) is = is
-
-  arrives_has : (g : Group) (m : Sent) (to : Party) → Has g → Has (arrives g m to)
-  arrives_has g m Client is = answered_has g m.body is
-  arrives_has g m (Osd d) is = has_if (is_in g.up d) (copy_hears g m d (slice_get g.copies d)) g (hears_has g m d (slice_get g.copies d) is) is
-
-  step_has : (e : Event) (g : Group) → Has g → Has (group_step g e)
-  step_has (Submit s) g is = has_if (is_submitted g.requests s.id) g (if has_all_requests g then g else opens g s) is (has_if (has_all_requests g) g (opens g s) is is)
-  step_has (Deliver k) g is = go (slice_get g.wire k)
-    where
-      go : (found : Option Sent) → Has (deliver g k found)
-      go None = is
-      go (Some m) = arrives_has (without g k) m m.to is
-  step_has (Lose k) g is = go (slice_get g.wire k)
-    where
-      go : (found : Option Sent) → Has (lose g k found)
-      go None = is
-      go (Some m) = is
-  step_has (Repeat k) g is = go (slice_get g.wire k)
-    where
-      go : (found : Option Sent) → Has (again g found)
-      go None = is
-      go (Some m) = is
-  step_has (NewInterval acting up) g is = has_if (same_set acting (last_set g.sets)) (with_up g up) (if has_all_intervals g then g else begin (with_up g up) acting) is
-      (has_if (has_all_intervals g) g (begin (with_up g up) acting) is is)
-  step_has (Restart d) g is = has_if (is_in (last_set g.sets) d) (if has_all_intervals g then g else begin (record g { copies = map (λ c. if c.number == d then restarted c else c) g.copies }) (last_set g.sets)) (record g { copies = map (λ c. if c.number == d then restarted c else c) g.copies })
-      (has_if (has_all_intervals g) g (begin (record g { copies = map (λ c. if c.number == d then restarted c else c) g.copies }) (last_set g.sets)) is is) is
-  step_has Kick g is = is
+  all_stand : (es : List Event) → Each Standing es
+  all_stand [] = tt
+  all_stand (e ∷ es) = (stands e, all_stand es)
 
   run_has : (es : List Event) (g : Group) → Has g → Has (run es g)
-  run_has [] g is = is
-  run_has (e ∷ es) g is = run_has es (group_step g e) (step_has e g is)
+  run_has es g is = run_holds (λ requests answers. answer_of answers id ≡ Some reply) (λ requests answers a is. has-push answers a is) es g (all_stand es) is
 
   pub answer_stands : (es fs : List Event) (g : Group) → Has (run es g) → Has (run (es ++ fs) g)
   answer_stands es fs g is = subst (λ v. Has v) (sym (run-append es fs g)) (run_has fs (run es g) is)
