@@ -1,5 +1,5 @@
 -- Refusals put together, over plain variables.
-use Rattle.std.proofs.Common.{◌≡◌, ℕ, ◌<◌, List, length, nat_le, not, Bool, true, false, cond, Option, None, Some, Result, Ok, Err, IfOk, refl, sym, subst, arith, unwrap_or}
+use Rattle.std.proofs.Common.{◌≡◌, ℕ, ◌<◌, List, [], length, nat_le, not, Bool, true, false, cond, Option, None, Some, Result, Ok, Err, IfOk, refl, sym, ap, subst, arith, unwrap_or}
 use Rattle.std.proofs.lemmas.Bool.Decides.{nat_tests}
 use Rattle.cap_text.specs.declared.fault.CapFault.{CapFault}
 use Rattle.cap_text.specs.declared.fault.FaultKind.{FaultKind}
@@ -12,9 +12,10 @@ use Rattle.grant_core.specs.declared.fault.ExpandFault.TheVariants as expansion
 use Rattle.grant_core.specs.Flat.{Table, Flat}
 use Rattle.grant_core.specs.Refusal.{expand_refusal}
 use Rattle.auth_db.specs.declared.fault.AuthFault.{AuthFault}
-use Rattle.auth_db.specs.declared.fault.AuthFault.TheVariants.{BadName, Exists, NoEntity, Limit}
+use Rattle.auth_db.specs.declared.fault.AuthFault.TheVariants.{BadName, Exists, NoEntity, Limit, BadCaps}
 use Rattle.auth_db.specs.declared.caps.Caps.{Caps}
-use Rattle.auth_db.specs.Texts.{SpellsNothing, IsTicket, IsTicketOf}
+use Rattle.verdict_core.specs.Ticket.{Ticket}
+use Rattle.auth_db.specs.Texts.{SpellsNothing, IsTicket, ComesTo, has_long_text, too_long}
 use Rattle.auth_db.specs.Users.{Users, has_user}
 use Rattle.auth_db.specs.Names.{is_user_name}
 use Rattle.auth_db.specs.Refusals.{TextRefuses, fault_of_kind, profile_fault, add_refusal, caps_refusal, long_refusal}
@@ -72,12 +73,37 @@ there_by false false rest h = absurd (cc)
 pub known_name : (users : Users) (name : List ℕ) (caps : Caps) → caps_refusal users name caps ≡ None → has_user users name ≡ true
 known_name users name caps h = there_by (not (is_user_name name)) (has_user users name) (long_refusal caps) h
 
+passed : (test : Bool) (fault : AuthFault) (rest : Option AuthFault) → cond test (Some fault) rest ≡ None → (test ≡ false) × (rest ≡ None)
+passed true fault rest h = absurd (cc)
+passed false fault rest h = (refl, h)
+
+not_false : (b : Bool) → not b ≡ false → b ≡ true
+not_false true h = refl
+not_false false h = absurd (cc)
+
+-- a user who may be added has a user's name, and no text that is too long
+pub added_user : (users : Users) (name : List ℕ) (caps : Caps) → add_refusal users name caps ≡ None → (is_user_name name ≡ true) × (has_long_text caps ≡ false)
+added_user users name caps h =
+    let named = passed (not (is_user_name name)) BadName _ h in
+    let fresh = passed (has_user users name) Exists _ named.1 in
+    let room = passed (nat_le 1024 (length users)) Limit _ fresh.1 in
+    (not_false (is_user_name name) named.0, (passed (has_long_text caps) (BadCaps too_long) None room.1).0)
+
+-- so does one whose texts may be changed
+pub changed_user : (users : Users) (name : List ℕ) (caps : Caps) → caps_refusal users name caps ≡ None → (is_user_name name ≡ true) × (has_long_text caps ≡ false)
+changed_user users name caps h =
+    let named = passed (not (is_user_name name)) BadName _ h in
+    let there = passed (not (has_user users name)) NoEntity _ named.1 in
+    (not_false (is_user_name name) named.0, (passed (has_long_text caps) (BadCaps too_long) None there.1).0)
+
 -- ---- the ticket of a text that is there
 
-is_ticket : (table : Table) (osd : Option (List ℕ)) (text read : List ℕ) (tree ticket : Flat) → osd ≡ Some text → read ≡ text → IsTicketOf table read tree → ticket ≡ tree → IsTicket table osd ticket
-is_ticket table osd text read tree ticket some same of is = rw some (subst (λ u. IsTicketOf table u ticket) same (subst (IsTicketOf table read) (sym is) of))
+is_ticket : (table : Table) (osd : Option (List ℕ)) (text read : List ℕ) (tree : Flat) (until : Option ℕ) (ticket : Ticket) → osd ≡ Some text → read ≡ text → ComesTo table read tree
+    → ticket ≡ record { grants = tree; until = until } → IsTicket table osd until ticket
+is_ticket table osd text read tree until ticket some same of is =
+    rw some (subst (λ u. ComesTo table u ticket.grants) same (subst (ComesTo table read) (sym (ap (λ (t : Ticket). t.grants) is)) of), ap (λ (t : Ticket). t.until) is)
 
-pub ticket_of : {E : Type 0} (table : Table) (osd : Option (List ℕ)) (text read : List ℕ) (tree : Flat) (result : Result Flat E) → osd ≡ Some text → read ≡ text → IsTicketOf table read tree
-    → IfOk result (λ ticket. ticket ≡ tree) → IfOk result (λ ticket. IsTicket table osd ticket)
-ticket_of table osd text read tree (Ok ticket) some same of is = is_ticket table osd text read tree ticket some same of is
-ticket_of table osd text read tree (Err e) some same of is = is
+pub ticket_of : {E : Type 0} (table : Table) (osd : Option (List ℕ)) (text read : List ℕ) (tree : Flat) (until : Option ℕ) (result : Result Ticket E) → osd ≡ Some text → read ≡ text → ComesTo table read tree
+    → IfOk result (λ ticket. ticket ≡ record { grants = tree; until = until }) → IfOk result (λ ticket. IsTicket table osd until ticket)
+ticket_of table osd text read tree until (Ok ticket) some same of is = is_ticket table osd text read tree until ticket some same of is
+ticket_of table osd text read tree until (Err e) some same of is = is

@@ -8,6 +8,7 @@ use Rattle.cap_text.specs.Grammar.{Spells}
 use Rattle.cap_text.specs.Faults.{IsFirstFault}
 use Rattle.grant_core.specs.Flat.{Table, Flat, flat}
 use Rattle.grant_core.specs.Refusal.{expand_refusal}
+use Rattle.verdict_core.specs.Ticket.{Ticket}
 use Rattle.auth_db.specs.declared.caps.Caps.{Caps}
 
 -- ---- all four texts
@@ -44,17 +45,18 @@ abbrev pub IsGoodText : Table → List ℕ → Type 0
 IsGoodText table text = (grants : List Grant) × Spells text grants × (expand_refusal table grants ≡ None)
 
 -- the grants that the text comes to with the table, each with its path
-abbrev pub IsTicketOf : Table → List ℕ → Flat → Type 0
-IsTicketOf table text ticket = (grants : List Grant) × Spells text grants × (ticket ≡ flat table grants)
+abbrev pub ComesTo : Table → List ℕ → Flat → Type 0
+ComesTo table text tree = (grants : List Grant) × Spells text grants × (tree ≡ flat table grants)
 
 -- a user may go without an osd text
 abbrev pub IsGood : Table → Option (List ℕ) → Type 0
 IsGood table None = Unit {0}
 IsGood table (Some text) = IsGoodText table text
 
-abbrev pub IsTicket : Table → Option (List ℕ) → Flat → Type 0
-IsTicket table None ticket = ticket ≡ []
-IsTicket table (Some text) ticket = IsTicketOf table text ticket
+-- what an osd text gives, until the end that was asked for
+abbrev pub IsTicket : Table → Option (List ℕ) → Option ℕ → Ticket → Type 0
+IsTicket table None until ticket = ticket ≡ record { grants = []; until = until }
+IsTicket table (Some text) until ticket = ComesTo table text ticket.grants × (ticket.until ≡ until)
 
 abbrev pub SpellsNothing : List ℕ → Type 0
 SpellsNothing text = (grants : List Grant) → Spells text grants → ⊥

@@ -1,13 +1,15 @@
 -- Users by their names, and the commands that change them: those of Ceph User Management.
-use Rattle.std.specs.Prelude.{◌≡◌, ℕ, ◌≤◌, List, [], ◌∷◌, ◌++◌, Bool, if◌then◌else◌, Option, Some, length, is_some, fold}
+use Rattle.std.specs.Prelude.{◌≡◌, ℕ, ◌≤◌, List, [], ◌∷◌, ◌++◌, Bool, true, false, if◌then◌else◌, Option, Some, length, is_some, fold}
 use Rattle.std.specs.List.{All}
 use Rattle.std.specs.Ordering.{nat_cmp}
 use Rattle.std.specs.Cmp.Lexicographic.{slice_cmp}
 use Rattle.std.specs.BTreeMap.{insert_entry, is_at}
-use Rattle.std.specs.Map.{lookup, remove_entry, values_of}
-use Rattle.grant_core.specs.Flat.{Table, Flat}
+use Rattle.std.specs.Map.{lookup, remove_entry, keys_of, values_of}
+use Rattle.grant_core.specs.Flat.{Table}
+use Rattle.verdict_core.specs.Ticket.{Ticket}
 use Rattle.auth_db.specs.declared.caps.Caps.{Caps}
-use Rattle.auth_db.specs.Texts.{IsGood, IsTicket}
+use Rattle.auth_db.specs.Names.{is_user_name}
+use Rattle.auth_db.specs.Texts.{IsGood, IsTicket, has_long_text}
 
 -- users by their names' bytes, each with its texts
 abbrev pub Users : Type 0
@@ -59,11 +61,16 @@ GoesByStep = (commands : List Command) (command : Command) → users_after (comm
 abbrev pub after : Database → Command → Database
 after database command = record { table = database.table; users = user_step database.users command }
 
--- at most 1,024 users, whose osd texts are good
+-- the osd text is good, and no text is longer than 4,096 bytes
+abbrev pub IsStored : Table → Caps → Type 0
+IsStored table caps = IsGood table caps.osd × (has_long_text caps ≡ false)
+
+-- at most 1,024 users, whose names are users' names, and whose texts may be stored
 pub record IsKept (table : Table) (users : Users) : Type 0 where
   pub few : length users ≤ 1024
-  pub good : All (λ (caps : Caps). IsGood table caps.osd) (values_of users)
+  pub named : All (λ (name : List ℕ). is_user_name name ≡ true) (keys_of users)
+  pub stored : All (IsStored table) (values_of users)
 
--- what the user's osd text comes to
-abbrev pub HasTicket : Database → List ℕ → Flat → Type 0
-HasTicket database name ticket = (caps : Caps) × (user_at database.users name ≡ Some caps) × IsTicket database.table caps.osd ticket
+-- what the user's osd text comes to, until the end that was asked for
+abbrev pub HasTicket : Database → List ℕ → Option ℕ → Ticket → Type 0
+HasTicket database name until ticket = (caps : Caps) × (user_at database.users name ≡ Some caps) × IsTicket database.table caps.osd until ticket

@@ -1,14 +1,16 @@
 //! The users and their commands.
 
-ghost use Rattle.std.specs.Prelude.{◌≡◌, ◌≤◌, [], IfOk, IfErr, OnOk, OnErr, IfSome, IsNone, length};
+ghost use Rattle.std.specs.Prelude.{◌≡◌, ◌≤◌, [], true, false, IfOk, IfErr, OnOk, OnErr, IfSome, IsNone, length};
 ghost use Rattle.std.specs.List.Sorted.{IsStrictlySortedBy};
-ghost use Rattle.std.specs.Map.{keys_of};
+ghost use Rattle.std.specs.List.{All};
+ghost use Rattle.std.specs.Map.{keys_of, values_of};
 ghost use Rattle.std.specs.Ordering.{nat_cmp};
 ghost use Rattle.std.specs.Cmp.Lexicographic.{slice_cmp};
 ghost use Rattle.auth_db.specs.Entries.{users_of};
 ghost use Rattle.auth_db.specs.Refusals.{again, Judged, RefusedExactly, RefusedFirst};
 ghost use Rattle.auth_db.specs.Refusals as spec;
-ghost use Rattle.auth_db.specs.Texts.{IsGood};
+ghost use Rattle.auth_db.specs.Names.{is_user_name};
+ghost use Rattle.auth_db.specs.Texts.{IsGood, has_long_text};
 ghost use Rattle.auth_db.specs.Users.{user_at, users_after, after, Add, GetOrCreate, SetCaps, Delete, GoesByStep, HasTicket};
 
 use crate::caps::Caps;
@@ -37,8 +39,9 @@ pub enum Creation {
 
 /// The users, at most 1,024, each with its texts, and the profiles that osd texts may use.
 ///
-/// Contracts see the table of profiles and the list of the users by their names' bytes. The osd text of each user
-/// spells a list of grants that is expanded with the table. Names are found by search.
+/// Contracts see the table of profiles and the list of the users by their names' bytes. Each name is a user's name, no
+/// text has more than 4,096 bytes, and the osd text of each user spells a list of grants that is expanded with the
+/// table. Names are found by search.
 #[derive(Drop)]
 pub struct AuthDb {
     alloc: Global,
@@ -152,6 +155,7 @@ impl AuthDb {
     pub fn get(&self, name: &str) -> Result<&Caps, AuthFault>
         ensures found { IfOk result (λ caps. user_at self.now.users name.now ≡ Some caps.now) }
         ensures good { IfOk result (λ caps. IsGood self.now.table caps.now.osd) }
+        ensures short { IfOk result (λ caps. has_long_text caps.now ≡ false) }
         ensures refused { RefusedExactly (spec.known_refusal self.now.users name.now) result }
     {
         if !is_user_name(name) {
@@ -168,6 +172,8 @@ impl AuthDb {
         ensures names { IfOk result (λ names. names.items ≡ keys_of self.now.users) }
         ensures sorted { IsStrictlySortedBy (slice_cmp nat_cmp) (keys_of self.now.users) }
         ensures few { length self.now.users ≤ 1024 }
+        ensures named { All (λ name. is_user_name name ≡ true) (keys_of self.now.users) }
+        ensures short { All (λ caps. has_long_text caps ≡ false) (values_of self.now.users) }
         ensures refused { IfErr result (λ fault. fault ≡ AuthFault.OutOfMemory) }
     {
         match names(self.alloc, &self.users) {
@@ -176,11 +182,12 @@ impl AuthDb {
         }
     }
 
-    /// The ticket of a user: what its osd text comes to with the table, and nothing without one.
+    /// The ticket of a user, until a tick or for ever: what its osd text comes to with the table, and no grant
+    /// without one.
     ///
     /// It is refused by A1 where the name is none, by A3 where there is no such user, and by A7 for want of memory.
-    pub fn ticket(&self, name: &str) -> Result<Ticket, AuthFault>
-        ensures ticket { IfOk result (λ ticket. HasTicket self.now name.now ticket) }
+    pub fn ticket(&self, name: &str, until: Option<u64>) -> Result<Ticket, AuthFault>
+        ensures ticket { IfOk result (λ ticket. HasTicket self.now name.now until ticket) }
         ensures refused { RefusedFirst (spec.known_refusal self.now.users name.now) result }
     {
         if !is_user_name(name) {
@@ -188,7 +195,7 @@ impl AuthDb {
         }
         match find(&self.users, name) {
             None => Err(AuthFault::NoEntity),
-            Some(caps) => match osd_ticket(self.alloc, &self.table, &caps.osd) {
+            Some(caps) => match osd_ticket(self.alloc, &self.table, &caps.osd, until) {
                 Ok(ticket) => Ok(ticket),
                 Err(_) => Err(AuthFault::OutOfMemory),
             },

@@ -2,7 +2,7 @@
 
 ghost use Rattle.std.specs.Prelude.{◌≡◌, IfOk, IfErr, OnOk};
 ghost use Rattle.auth_db.specs.Refusals as spec;
-ghost use Rattle.auth_db.specs.Texts.{IsGood, IsGoodText, IsTicket, IsTicketOf};
+ghost use Rattle.auth_db.specs.Texts.{IsGood, IsGoodText, IsTicket, ComesTo};
 ghost use Rattle.auth_db.specs.Refusals.{TextRefuses, OsdRefuses};
 
 use crate::fault::AuthFault;
@@ -14,7 +14,7 @@ use verdict_core::Ticket;
 /// What an osd text comes to with a table.
 fn expand_text(alloc: Global, table: &ProfileTable, text: &str) -> Result<GrantTree, AuthFault>
     ensures good { OnOk result (IsGoodText table.now text.now) }
-    ensures tree { IfOk result (λ tree. IsTicketOf table.now text.now tree) }
+    ensures tree { IfOk result (λ tree. ComesTo table.now text.now tree) }
     ensures refused { IfErr result (λ fault. TextRefuses table.now text.now fault) }
 {
     match parse(alloc, text) {
@@ -64,19 +64,21 @@ pub(crate) fn check_osd(
     }
 }
 
-/// The ticket of a stored osd text. Such a text is good, so that only memory can be wanting.
+/// The ticket of a stored osd text, until a tick or for ever. Such a text is good, so that only memory can be
+/// wanting.
 pub(crate) fn osd_ticket(
     alloc: Global,
     table: &ProfileTable,
     osd: &Option<Name>,
+    until: Option<u64>,
 ) -> Result<Ticket, OutOfMemory>
-    ensures { IfOk result (λ ticket. IsTicket table.now osd.now ticket) }
+    ensures { IfOk result (λ ticket. IsTicket table.now osd.now until ticket) }
 {
     match osd {
-        None => Ok(Ticket::from_vec(Vec::new(alloc))),
+        None => Ok(Ticket::empty(alloc, until)),
         Some(text) => match expand_text(alloc, table, text.as_str()) {
             Err(_) => Err(AllocError),
-            Ok(tree) => Ticket::of(alloc, &tree),
+            Ok(tree) => Ticket::of(alloc, &tree, until),
         },
     }
 }

@@ -44,8 +44,8 @@ fn a_user_is_made_found_changed_and_removed(rt: HostRuntime) -> Result<(), Fail>
         }
         Err(_) => assert!(rt; false),
     }
-    match users.ticket(user) {
-        Ok(ticket) => assert!(rt; ticket.grants().len() == 1),
+    match users.ticket(user, Some(7)) {
+        Ok(ticket) => assert!(rt; ticket.grants().len() == 1 && ticket.is_expired(7)),
         Err(_) => assert!(rt; false),
     }
     match users.list() {

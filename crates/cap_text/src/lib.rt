@@ -25,7 +25,7 @@ pub use grant::{Access, AllowGrant, Flags, Grant, NsMatch, Part, ProfileUse, Tag
 pub use keyword::Keyword;
 pub use name::{Name, copy_name};
 pub use parser::{parse, spells_at_most_one};
-pub use printing::print;
+pub use printing::{print, push_allow};
 pub use spellable::{spellable_is_spelled, spelled_is_spellable};
 pub use tags::{AppTags, Pairs, Tags};
 pub use token::{Piece, Token};

@@ -49,7 +49,8 @@ fn push_grant(text: &mut String, grant: &Grant) -> Result<(), OutOfMemory>
     }
 }
 
-fn push_allow(text: &mut String, grant: &AllowGrant) -> Result<(), OutOfMemory>
+/// Adds an allowing grant's printed form to a text, as it stands in a printed list.
+pub fn push_allow(text: &mut String, grant: &AllowGrant) -> Result<(), OutOfMemory>
     ensures { OnOk result (string_bytes text.new ≡ string_bytes text.old ++ printed_allow grant.now) }
 {
     text.push_str("allow ")?;

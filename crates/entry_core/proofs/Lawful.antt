@@ -10,8 +10,8 @@ use Rattle.object_core.specs.declared.op.Op.{Op}
 use Rattle.entry_core.specs.Request.{Sealed, Work, Vector, Listing, place_of, needs_for}
 use Rattle.entry_core.specs.Store.{Store, ObjectName, name_cmp, with_object}
 use Rattle.entry_core.specs.Names.{name_cmp_total, is_same-ties, same_from_is_same}
-use Rattle.entry_core.specs.Deciding.{store_of, step, stepped, answered, ran, performed, answer_on, decision_on, is_allowed_sealed, name_of}
-use Rattle.entry_core.specs.Laws.{is_denied, is_done, changed, VerdictIsSealed, RefusalsLeaveTheStore, OthersAreLeft, StoreDecides, DecisionTellsTheStore}
+use Rattle.entry_core.specs.Deciding.{store_of, step, stepped, answered, ran, performed, answer_on, is_allowed_sealed, name_of}
+use Rattle.entry_core.specs.Laws.{is_denied, is_done, changed, VerdictIsSealed, RefusalsLeaveTheStore, OthersAreLeft, DecisionTellsTheStore}
 use Rattle.entry_core.specs.Log.{decide}
 use Rattle.entry_core.specs.declared.reply.Reply.{Reply}
 use Rattle.entry_core.specs.declared.reply.Reply.TheVariants.{Denied, Done, Failed, Names}
@@ -36,7 +36,7 @@ judged false store s report h = (h, λ e. refl)
 
 pub verdict_is_sealed : VerdictIsSealed
 unfolding answer_on
-verdict_is_sealed log s = judged (is_allowed_sealed s) (store_of log) s (Denied (report_of s.ticket (place_of s) (needs_for s.work))) refl
+verdict_is_sealed log s = judged (is_allowed_sealed s) (store_of log) s (Denied (report_of s.ticket (place_of s) (needs_for s.work) s.tick)) refl
 
 refused_step : (store : Store) (s : Sealed) (w : Work) (r : Reply) → is_done r ≡ false → stepped store s w r ≡ store
 refused_step store s (Vector object ops) (Denied report) h = refl
@@ -66,9 +66,6 @@ other_step store s Listing r q h = refl
 pub others_are_left : OthersAreLeft
 others_are_left log e q h = ap (λ s. get s q) (store_push log e) ∙ other_step (store_of log) e.sealed e.sealed.work e.reply q h
 
-pub store_decides : StoreDecides
-store_decides a b s h = ap (λ store. decision_on store s) h
-
 ran_step : (store : Store) (s : Sealed) (object : List ℕ) (ops : List Op) (r : Run) → effect (get store (name_of s)) ops ≡ r → stepped store s (Vector object ops) (ran r).reply ≡ changed store (name_of s) (ran r).change
 ran_step store s object ops (Ok done) h = ap (λ t. with_object store (name_of s) (left_by (get store (name_of s)) t)) h
 ran_step store s object ops (Err fault) h = refl
@@ -84,7 +81,7 @@ judged_step false store s report h = refused_step store s s.work report h
 
 answer_step : (store : Store) (s : Sealed) → stepped store s s.work (answer_on store s).reply ≡ changed store (name_of s) (answer_on store s).change
 unfolding answer_on
-answer_step store s = judged_step (is_allowed_sealed s) store s (Denied (report_of s.ticket (place_of s) (needs_for s.work))) refl
+answer_step store s = judged_step (is_allowed_sealed s) store s (Denied (report_of s.ticket (place_of s) (needs_for s.work) s.tick)) refl
 
 pub decision_tells_the_store : DecisionTellsTheStore
 decision_tells_the_store log s = store_push log (decide log s) ∙ answer_step (store_of log) s

@@ -49,15 +49,15 @@ abbrev pub performed : Store → Sealed → Work → Answer
 performed store s (Vector object ops) = ran (effect (get store (name_of s)) ops)
 performed store s Listing = answered (Names (names_in store s))
 
--- whether its ticket allows a request: no object is looked at
+-- whether its ticket allows a request at the tick of its submission: no object is looked at
 abbrev pub is_allowed_sealed : Sealed → Bool
-is_allowed_sealed s = is_allowed s.ticket (place_of s) (needs_for s.work)
+is_allowed_sealed s = is_allowed s.ticket (place_of s) (needs_for s.work) s.tick
 
 -- a denied request performs nothing
 unfoldable pub answer_on : Store → Sealed → Answer
 answer_on store s =
     if is_allowed_sealed s then performed store s s.work
-    else answered (Denied (report_of s.ticket (place_of s) (needs_for s.work)))
+    else answered (Denied (report_of s.ticket (place_of s) (needs_for s.work) s.tick))
 
 -- the request with its answer
 abbrev pub with_answer : Sealed → Answer → Decision

@@ -1,5 +1,5 @@
 -- Laws of deciding.
-use Rattle.std.specs.Prelude.{◌≡◌, Bool, true, false, not, List, [], ◌∷◌, ◌++◌}
+use Rattle.std.specs.Prelude.{◌≡◌, ℕ, Some, Bool, true, false, not, List, [], ◌∷◌, ◌++◌}
 use Rattle.std.specs.List.Sorted.{IsStrictlySortedBy}
 use Rattle.std.specs.FinMap.{get}
 use Rattle.verdict_core.specs.Verdict.{report_of}
@@ -8,7 +8,7 @@ use Rattle.object_core.specs.declared.outcome.Change.TheVariants.{Kept, Became}
 use Rattle.entry_core.specs.Request.{Sealed, place_of, needs_for}
 use Rattle.entry_core.specs.Store.{Store, ObjectName, bytes_cmp, with_object}
 use Rattle.entry_core.specs.Deciding.{store_of, is_allowed_sealed, name_of, names_in}
-use Rattle.entry_core.specs.Log.{decision, decide}
+use Rattle.entry_core.specs.Log.{decision, decide, find, Legal}
 use Rattle.entry_core.specs.declared.reply.Reply.{Reply}
 use Rattle.entry_core.specs.declared.reply.Reply.TheVariants.{Denied, Done, Failed, Names}
 use Rattle.entry_core.specs.declared.entry.Entry.{Entry}
@@ -25,9 +25,9 @@ is_done (Done outputs) = true
 is_done (Failed place number) = false
 is_done (Names names) = false
 
--- on every log a request is denied just where its own ticket, place and needs are not allowed, and by their report
+-- on every log a request is denied just where its own ticket, place, needs and tick are not allowed, and by their report
 abbrev pub VerdictIsSealed : Type 0
-VerdictIsSealed = (log : List Entry) (s : Sealed) → (is_denied (decide log s).reply ≡ not (is_allowed_sealed s)) × (is_allowed_sealed s ≡ false → (decide log s).reply ≡ Denied (report_of s.ticket (place_of s) (needs_for s.work)))
+VerdictIsSealed = (log : List Entry) (s : Sealed) → (is_denied (decide log s).reply ≡ not (is_allowed_sealed s)) × (is_allowed_sealed s ≡ false → (decide log s).reply ≡ Denied (report_of s.ticket (place_of s) (needs_for s.work) s.tick))
 
 -- an entry that was denied, that failed or that lists names leaves all objects as they were
 abbrev pub RefusalsLeaveTheStore : Type 0
@@ -37,9 +37,17 @@ RefusalsLeaveTheStore = (log : List Entry) (e : Entry) → is_done e.reply ≡ f
 abbrev pub OthersAreLeft : Type 0
 OthersAreLeft = (log : List Entry) (e : Entry) (name : ObjectName) → (name ≡ name_of e.sealed → ⊥) → get (store_of (log ++ e ∷ [])) name ≡ get (store_of log) name
 
--- logs that make the same store decide the same
-abbrev pub StoreDecides : Type 0
-StoreDecides = (a b : List Entry) (s : Sealed) → store_of a ≡ store_of b → decision a s ≡ decision b s
+-- an entry of this number in a log, decided on the entries before it
+pub record StandsIn (log : List Entry) (id : ℕ) (e : Entry) : Type 0 where
+  pub before : List Entry
+  pub behind : List Entry
+  pub whole : before ++ e ∷ behind ≡ log
+  pub decided : e ≡ decide before e.sealed
+  pub number : e.sealed.id ≡ id
+
+-- in a legal log an entry that is found stands so
+abbrev pub FindTells : Type 0
+FindTells = (log : List Entry) (id : ℕ) (e : Entry) → Legal log → find log id ≡ Some e → StandsIn log id e
 
 -- a store after a change of one object
 abbrev pub changed : Store → ObjectName → Change → Store

@@ -1,6 +1,7 @@
 pub mod Deciding
 pub mod Inside
 pub mod Laws
+pub mod Locality
 pub mod Log
 pub mod Names
 pub mod Replies

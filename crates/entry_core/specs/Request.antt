@@ -1,7 +1,7 @@
 -- Requests, with all that they are decided by. Source: this project's profile, after the object operations of RADOS.
 use Rattle.std.specs.Prelude.{◌≡◌, ℕ, List, [], true, false, None}
-use Rattle.cap_text.specs.declared.grant.AllowGrant.{AllowGrant}
 use Rattle.verdict_core.specs.Place.{Place}
+use Rattle.verdict_core.specs.Ticket.{Ticket}
 use Rattle.verdict_core.specs.declared.request.Needs.{Needs}
 use Rattle.map_core.specs.declared.pool.PoolView.{PoolView}
 use Rattle.object_core.specs.declared.op.Op.{Op}
@@ -14,7 +14,8 @@ pub data Work : Type 0 where
 
 pub record Sealed : Type 0 where
   pub id : ℕ  -- the session times 2 ^ 32, and the number in it
-  pub ticket : List (List ℕ × AllowGrant)  -- the grants of who asks, each with its path
+  pub ticket : Ticket  -- what who asks may do, and until when
+  pub tick : ℕ  -- when it was submitted, which a resend keeps
   pub view : PoolView  -- the pool as the asker saw it
   pub group : ℕ  -- the number of the placement group in the pool
   pub namespace : List ℕ

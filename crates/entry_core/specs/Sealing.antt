@@ -12,7 +12,7 @@ work_in name (task.Vector ops) = Vector name ops.items
 work_in name task.Listing = Listing
 
 abbrev pub sealed_of : Parts → Sealed
-sealed_of p = record { id = p.id; ticket = p.ticket; view = p.view; group = p.group; namespace = p.name.namespace; work = work_in p.name.name p.task }
+sealed_of p = record { id = p.id; ticket = p.ticket; tick = p.tick; view = p.view; group = p.group; namespace = p.name.namespace; work = work_in p.name.name p.task }
 
 -- a listing has no name
 abbrev pub IsNamed : List ℕ → Task → Type 0

@@ -1,8 +1,9 @@
 //! Laws of deciding, each the contract of a function that does nothing.
 
-ghost use Rattle.entry_core.specs.Laws.{VerdictIsSealed, RefusalsLeaveTheStore, OthersAreLeft, StoreDecides, DecisionTellsTheStore, ListingsAreSorted};
+ghost use Rattle.entry_core.specs.Laws.{VerdictIsSealed, RefusalsLeaveTheStore, OthersAreLeft, FindTells, DecisionTellsTheStore, ListingsAreSorted};
+ghost use Rattle.entry_core.specs.Locality.{SealedDecideAlike};
 
-/// On every log a request is denied just where its own ticket, place and needs are not allowed, and with their report.
+/// On every log a request is denied just where its own ticket, place, needs and tick are not allowed, and with their report.
 pub fn verdict_is_sealed()
     ensures { VerdictIsSealed }
 {}
@@ -17,9 +18,15 @@ pub fn others_are_left()
     ensures { OthersAreLeft }
 {}
 
-/// A log decides by its own store: logs that make the same objects decide the same.
-pub fn store_decides()
-    ensures { StoreDecides }
+/// What a group decides hangs on its own objects alone: stores that agree on the objects of a pool whose names hash to a group
+/// decide alike each request that is sealed for the group.
+pub fn groups_decide_apart()
+    ensures { SealedDecideAlike }
+{}
+
+/// In a legal log an entry that is found under an id is of that id, and was decided on the entries before it.
+pub fn find_tells()
+    ensures { FindTells }
 {}
 
 /// A decision, once it stands in the log, changes the objects as it says.

@@ -20,20 +20,18 @@ mod sealed;
 mod texts;
 
 pub use boxed_log::BoxedLog;
+pub use cap_text::OutOfMemory;
 pub use decided::Decided;
 pub use entry::Entry;
 pub use id::Id;
 pub use items::{Items, TryCopy};
 pub use laws::{
-    decision_tells_the_store, listings_are_sorted, others_are_left, refusals_leave_the_store,
-    store_decides, verdict_is_sealed,
+    decision_tells_the_store, find_tells, groups_decide_apart, listings_are_sorted, others_are_left,
+    refusals_leave_the_store, verdict_is_sealed,
 };
 pub use log::Log;
 pub use reply::{Reply, reply_number};
 pub use sealed::{GroupId, Sealed};
-
-/// A growth was refused.
-pub type OutOfMemory = std::alloc::AllocError;
 
 #[cfg(test)]
 mod tests;

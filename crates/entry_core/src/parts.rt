@@ -7,7 +7,7 @@ use crate::id::Id;
 use crate::object_name::ObjectName;
 use map_core::PoolView;
 use object_core::Op;
-use verdict_core::{Needs, Target, Ticket};
+use verdict_core::{IndexedTicket, Needs, Target};
 
 /// What is asked.
 #[derive(Drop)]
@@ -22,7 +22,8 @@ pub(crate) enum Task {
 #[derive(Drop)]
 pub(crate) struct Parts {
     pub(crate) id: Id,
-    pub(crate) ticket: Ticket,
+    pub(crate) ticket: IndexedTicket,
+    pub(crate) tick: u64,
     pub(crate) view: PoolView,
     pub(crate) group: u32,
     pub(crate) name: ObjectName,

@@ -1,6 +1,6 @@
 //! Requests, sealed with the ticket and the map that they are decided by.
 
-ghost use Rattle.std.specs.Prelude.{◌≡◌, ◌≤◌, false, IfOk, option_copied};
+ghost use Rattle.std.specs.Prelude.{◌≡◌, ◌≤◌, false, IfOk, IfSome, None, option_copied};
 ghost use Rattle.verdict_core.specs.Verdict.{report_of};
 ghost use Rattle.object_core.specs.Faults.{RefusedFirst};
 ghost use Rattle.object_core.specs.Needs.{needs_fault};
@@ -19,7 +19,7 @@ use place_core::group_of;
 use std::alloc::{AllocError, Global};
 use std::marker::Model;
 use std::sync::Arc;
-use verdict_core::{Calls, Needs, Report, Ticket, judge, report};
+use verdict_core::{Calls, IndexedTicket, Needs, Report};
 
 /// Which placement group: its pool, and its number there, from 0 on.
 #[derive(Debug, Drop)]
@@ -37,7 +37,8 @@ impl TryCopy for GroupId {
     }
 }
 
-/// A request with all that it is decided by: who asks, the pool as the asker saw it, and what is asked.
+/// A request with all that it is decided by: who asks, the pool as the asker saw it, what is asked, and the tick
+/// of its submission, by which a resend is judged too.
 ///
 /// It holds no vector that has a fault of needs, and its pool has a group. Its copies share their parts.
 #[derive(Drop)]
@@ -66,7 +67,8 @@ impl Sealed {
     pub fn vector(
         alloc: Global,
         id: Id,
-        ticket: Ticket,
+        ticket: IndexedTicket,
+        tick: u64,
         view: PoolView,
         group: u32,
         namespace: Name,
@@ -76,7 +78,7 @@ impl Sealed {
         requires { 1 ≤ view.pg_num }
         ensures refused { RefusedFirst (needs_fault ops.items) result }
         ensures sealed { IfOk result (λ s. s
-            ≡ record { id = id; ticket = ticket; view = view; group = group; namespace = namespace; work = Vector object ops.items }) }
+            ≡ record { id = id; ticket = ticket; tick = tick; view = view; group = group; namespace = namespace; work = Vector object ops.items }) }
     {
         let needs = needs_of(alloc, ops.as_slice())?;
         let name = ObjectName {
@@ -87,6 +89,7 @@ impl Sealed {
         let parts = Parts {
             id,
             ticket,
+            tick,
             view,
             group,
             name,
@@ -102,14 +105,15 @@ impl Sealed {
     pub fn listing(
         alloc: Global,
         id: Id,
-        ticket: Ticket,
+        ticket: IndexedTicket,
+        tick: u64,
         view: PoolView,
         group: u32,
         namespace: Name,
     ) -> Result<Sealed, OutOfMemory>
         requires { 1 ≤ view.pg_num }
         ensures { IfOk result (λ s. s
-            ≡ record { id = id; ticket = ticket; view = view; group = group; namespace = namespace; work = Listing }) }
+            ≡ record { id = id; ticket = ticket; tick = tick; view = view; group = group; namespace = namespace; work = Listing }) }
     {
         let name = ObjectName {
             pool: view.pool.copy()?,
@@ -119,6 +123,7 @@ impl Sealed {
         let parts = Parts {
             id,
             ticket,
+            tick,
             view,
             group,
             name,
@@ -167,28 +172,33 @@ impl Sealed {
         &self.parts.name.namespace
     }
 
-    /// The operations, where it is a vector.
+    /// The operations, where it is a vector: such as `needs_of` takes.
     pub fn ops(&self) -> Option<&[Op]>
-        ensures { option_copied result ≡ sealing.ops_of self.now.work }
+        ensures value { option_copied result ≡ sealing.ops_of self.now.work }
+        ensures sound { IfSome result (λ ops. needs_fault ops.now ≡ None) }
     {
         ops_of(&self.parts)
     }
 
-    /// Whether the ticket allows it. It takes no memory.
+    /// Whether the ticket allows it at its tick. It takes no memory.
     pub fn is_allowed(&self) -> bool
         ensures { result ≡ is_allowed_sealed self.now }
     {
         let parts: &Parts = &self.parts;
-        judge(&parts.ticket, &target_of(parts), &parts.needs)
+        parts
+            .ticket
+            .judge(&target_of(parts), &parts.needs, parts.tick)
     }
 
     /// Why it is not allowed.
     pub(crate) fn report(&self, alloc: Global) -> Result<Report, OutOfMemory>
         requires { is_allowed_sealed self.now ≡ false }
-        ensures { IfOk result (λ r. r ≡ report_of self.now.ticket (place_of self.now) (needs_for self.now.work)) }
+        ensures { IfOk result (λ r. r ≡ report_of self.now.ticket (place_of self.now) (needs_for self.now.work) self.now.tick) }
     {
         let parts: &Parts = &self.parts;
-        report(alloc, &parts.ticket, &target_of(parts), &parts.needs)
+        parts
+            .ticket
+            .report(alloc, &target_of(parts), &parts.needs, parts.tick)
     }
 
     /// Whether its listing has an object of this name.

@@ -3,14 +3,17 @@
 ghost use Rattle.std.specs.Prelude.{◌≤◌, IfOk};
 
 use crate::{BoxedLog, Entry, Id, Items, Log, OutOfMemory, Reply, Sealed, TryCopy, reply_number};
-use cap_text::{Access, AllowGrant, Flags, Name, Tags};
-use grant_core::Path;
+use cap_text::{Name, Tags, parse};
+use grant_core::{ProfileTable, expand};
 use map_core::PoolView;
 use object_core::{Bytes, NeedsFault, Op};
 use std::alloc::Global;
 use std::process::Abort;
 use std::test::Fail;
-use verdict_core::{Condition, Ticket};
+use verdict_core::{Condition, IndexedTicket, Ticket};
+
+/// When each request is submitted.
+const TICK: u64 = 9;
 
 /// Names of objects, and those of the namespace without a name that each of four groups has, in order.
 const NAMES: [&str; 10] = ["pear", "x", "e", "z", "c", "apple", "b", "ab", "d", "a"];
@@ -22,23 +25,29 @@ const LISTED: [&[&str]; 4] = [
     &["c"],
 ];
 
-/// The ticket of the one grant `allow` with these flags.
-fn ticket(alloc: Global, read: bool, write: bool, class: bool) -> Result<Ticket, OutOfMemory> {
-    let grant = AllowGrant {
-        access: Access::Flags(Flags {
-            read,
-            write,
-            class_read: class,
-            class_write: class,
-        }),
-        pool: None,
-        namespace: None,
-        prefix: None,
-        tag: None,
-    };
-    let mut grants = Vec::new(alloc);
-    grants.push((Path::of(alloc, &[1])?, grant))?;
-    Ok(Ticket::from_vec(grants))
+/// The ticket of the one grant `allow` with these letters, until a tick or for ever.
+fn ticket_until(
+    alloc: Global,
+    read: bool,
+    write: bool,
+    class: bool,
+    until: Option<u64>,
+) -> Result<IndexedTicket, Fail> {
+    let mut text = String::from_str(alloc, "allow ")?;
+    text.push_str(if read { "r" } else { "" })?;
+    text.push_str(if write { "w" } else { "" })?;
+    text.push_str(if class { "x" } else { "" })?;
+    let list = parse(alloc, text.as_str()).map_err(|_| "a text that spells no list")?;
+    let tree = expand(alloc, &ProfileTable::builtin(alloc)?, &list).map_err(
+        |_| "a list that is not expanded",
+    )?;
+    let ticket = Ticket::of(alloc, &tree, until)?;
+    Ok(IndexedTicket::of(ticket).map_err(|_| "no room for an index")?)
+}
+
+/// The same for ever.
+fn ticket(alloc: Global, read: bool, write: bool, class: bool) -> Result<IndexedTicket, Fail> {
+    ticket_until(alloc, read, write, class, None)
 }
 
 /// A pool of four groups.
@@ -79,22 +88,29 @@ fn call(alloc: Global, class: &str, method: &str, input: &str) -> Result<Op, Out
 }
 
 /// A vector of one operation on an object of the namespace without a name.
-fn one(alloc: Global, number: u32, ticket: Ticket, object: &str, op: Op) -> Result<Sealed, Fail> {
+fn one(
+    alloc: Global,
+    number: u32,
+    ticket: IndexedTicket,
+    object: &str,
+    op: Op,
+) -> Result<Sealed, Fail> {
     let mut ops = Vec::new(alloc);
     ops.push(op)?;
     let id = Id::new(1, number);
     let view = view(alloc)?;
     let namespace = Name::new(alloc, "")?;
     let object = Name::new(alloc, object)?;
-    Ok(Sealed::vector(alloc, id, ticket, view, 0, namespace, object, ops)?)
+    Ok(Sealed::vector(alloc, id, ticket, TICK, view, 0, namespace, object, ops)?)
 }
 
-fn listing(alloc: Global, number: u32, group: u32, all: Ticket) -> Result<Sealed, Fail> {
+fn listing(alloc: Global, number: u32, group: u32, all: IndexedTicket) -> Result<Sealed, Fail> {
     let namespace = Name::new(alloc, "")?;
     Ok(Sealed::listing(
         alloc,
         Id::new(2, number),
         all,
+        TICK,
         view(alloc)?,
         group,
         namespace,
@@ -367,6 +383,7 @@ fn fault(alloc: Global, appends: u32, method: Option<&str>) -> Result<Option<Nee
         alloc,
         Id::new(1, 1),
         all,
+        TICK,
         view(alloc)?,
         0,
         namespace,
@@ -399,5 +416,19 @@ fn items_are_a_list(rt: HostRuntime) -> Result<(), Fail> {
     items.truncate(1);
     assert!(rt; items.as_slice() == [4u64].as_slice() && items.len() == 1);
     assert!(rt; copy.into_vec().as_slice() == [4u64, 5, 6].as_slice());
+    Ok(())
+}
+
+#[test]
+fn a_ticket_is_judged_at_the_tick_of_submission(rt: HostRuntime) -> Result<(), Fail> {
+    let alloc = rt.alloc();
+    let mut log = Log::new(alloc);
+    let over = ticket_until(alloc, true, true, false, Some(TICK))?;
+    add(&mut log, &one(alloc, 1, over, "x", read())?)?;
+    assert!(rt; denies(log.find(Id::new(1, 1)), Condition::Expired));
+    let good = ticket_until(alloc, true, true, false, Some(TICK + 1))?;
+    let appended = one(alloc, 2, good, "x", append(alloc, "a")?)?;
+    add(&mut log, &appended.copy()?)?;
+    assert!(rt; number(log.find(Id::new(1, 2))) == Some(0));
     Ok(())
 }

@@ -14,6 +14,7 @@ use Rattle.group_core.specs.Asked.{IsReplied}
 use Rattle.group_core.specs.Budget.{budget, settled_group, settle_count}
 use Rattle.group_core.specs.Quiet.{IsQuiet, IsServed, deliveries_made, opening_cost, request_cost}
 use Rattle.group_core.specs.Calm.{IsCalm, OnlyCalm, log_of, answer_with}
+use Rattle.group_core.specs.Laws.{DecidesInOrder}
 use Rattle.group_core.proofs.Eaches.{Each-push, Each-weaker}
 use Rattle.group_core.proofs.Groups.{Good, run_good, start_good, replicated, audit_legal, run-append}
 use Rattle.group_core.proofs.Kept.{Kept, run_kept, start_kept, answer_replied}
@@ -151,13 +152,7 @@ calm_at_most group z count acting up events quiet fits =
 
 -- the same, with the requests as they were before it settled
 
-pub record Ordered (g : Group) : Type 0 where
-  pub order : map (λ e. e.sealed) (settled_group g).audit ≡ g.requests
-  pub decided : (settled_group g).audit ≡ log_of g.requests
-  pub answers : (settled_group g).answers ≡ map answer_with (log_of g.requests)
-  pub answered : (id : ℕ) → answer_of (settled_group g).answers id ≡ reply_in (log_of g.requests) id
-
-pub calm_order : (group : GroupId) (z count : ℕ) (acting up : List ℕ) (events : List Event) → IsQuiet z count acting up → OnlyCalm acting events → Ordered (run events (start group z count acting up))
+pub calm_order : (group : GroupId) (z count : ℕ) (acting up : List ℕ) (events : List Event) → IsQuiet z count acting up → OnlyCalm acting events → DecidesInOrder (run events (start group z count acting up))
 calm_order group z count acting up events quiet fits =
     let c : Counted group z count acting up events = calm_counts group z count acting up events quiet fits in
     let o : InOrder (settled_group (run events (start group z count acting up))) = c.in_order in

@@ -1,5 +1,5 @@
 -- What accepted commands keep.
-use Rattle.std.proofs.Common.{◌≡◌, ℕ, zero, suc, ◌+◌, ◌<◌, ◌≤◌, List, [], ◌∷◌, ◌++◌, length, take, fold, Bool, true, false, not, ◌||◌, ◌&&◌, cond, Option, None, All, nat_le, refl, sym, ap, ◌∙◌, arith, subst}
+use Rattle.std.proofs.Common.{◌≡◌, ℕ, zero, suc, ◌+◌, ◌<◌, ◌≤◌, List, [], ◌∷◌, ◌++◌, length, take, fold, Bool, true, false, not, ◌||◌, ◌&&◌, cond, None, All, nat_le, refl, ◌∙◌, arith, subst}
 use Rattle.std.proofs.lemmas.Bool.Decides.{nat_tests}
 use Rattle.std.proofs.lemmas.List.Elements.{All-nil, All-cons, All-head, All-tail, All-push}
 use Rattle.map_core.specs.State.{MapState}
@@ -24,11 +24,11 @@ pub all_fail : (tests : List (Bool × MapFault)) → first_of tests ≡ None →
 all_fail [] h = tt
 all_fail (test ∷ tests) h = fail_by test.0 test.1 tests (all_fail tests) h
 
-or_right : (a b : Bool) → (a || b) ≡ false → b ≡ false
+pub or_right : (a b : Bool) → (a || b) ≡ false → b ≡ false
 or_right true b h = absurd (cc)
 or_right false b h = h
 
-or_left : (a b : Bool) → (a || b) ≡ false → a ≡ false
+pub or_left : (a b : Bool) → (a || b) ≡ false → a ≡ false
 or_left true b h = absurd (cc)
 or_left false b h = refl
 

@@ -1,5 +1,5 @@
 -- The kept parts are the map after the commands.
-use Rattle.std.proofs.Common.{◌≡◌, ◌≢◌, ℕ, ◌+◌, ◌<◌, ◌≤◌, arith, List, [], ◌∷◌, ◌++◌, Bool, Option, None, Some, Result, Ok, Err, length, take, fold, unwrap_or, is_some, not, ◌||◌, ◌==◌, ◌-◌, nat_lt, true, false, All, IfOk, IsErrAnd, refl, sym, ap, ◌∙◌, subst}
+use Rattle.std.proofs.Common.{◌≡◌, ◌≢◌, ℕ, ◌+◌, ◌≤◌, arith, List, [], ◌∷◌, ◌++◌, Bool, Option, None, Some, Result, Ok, Err, length, take, fold, unwrap_or, is_some, not, ◌||◌, ◌==◌, ◌-◌, nat_lt, true, false, All, IfOk, IsErrAnd, refl, sym, ap, ◌∙◌, subst}
 use Rattle.std.proofs.lemmas.List.Sums.{fold_push}
 use Rattle.std.proofs.lemmas.List.Elements.{All-same}
 use Rattle.std.proofs.lemmas.Result.{IfOk-weaker}
@@ -23,7 +23,7 @@ use Rattle.map_core.specs.declared.pool.Pool.{Pool}
 use Rattle.map_core.specs.declared.command.MapCommand.{MapCommand}
 use Rattle.map_core.specs.declared.fault.MapFault.{MapFault}
 
-daemons_stay : (state : MapState) (commands : List MapCommand) → (fold after state commands).daemons ≡ state.daemons
+pub daemons_stay : (state : MapState) (commands : List MapCommand) → (fold after state commands).daemons ≡ state.daemons
 daemons_stay state [] = refl
 daemons_stay state (command ∷ commands) = daemons_stay (after state command) commands
 

@@ -3,3 +3,5 @@ pub mod FirstPlaces
 pub mod OnePool
 pub mod IntervalLists
 pub mod Current
+pub mod Daemons
+pub mod Kept

@@ -1,8 +1,10 @@
 pub mod Inside
 pub mod Intervals
+pub mod Laws
 pub mod Limits
 pub mod Map
 pub mod Refusal
 pub mod Replay
+pub mod Sets
 pub mod State
 pub mod Printed

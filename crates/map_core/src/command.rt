@@ -1,6 +1,10 @@
 //! Commands that change the map.
 
-use cap_text::Name;
+ghost use Rattle.std.specs.Prelude.{◌≡◌, ◌↔◌, IfOk, IsTrue};
+ghost use Rattle.map_core.specs.State.{Begins};
+
+use cap_text::{Name, OutOfMemory};
+use std::alloc::Global;
 
 /// A change of the map. An accepted one raises the epoch by 1.
 ///
@@ -38,4 +42,142 @@ pub enum MapCommand {
     OsdDown(u8),
     /// A daemon that is up begins anew. The map stays, but for its epoch.
     OsdRestart(u8),
+}
+
+impl MapCommand {
+    /// An equal command.
+    pub fn copy(&self) -> Result<MapCommand, OutOfMemory>
+        ensures { IfOk result (λ command. command ≡ self.now) }
+    {
+        Ok(match self {
+            MapCommand::PoolCreate {
+                name,
+                pg_num,
+                size,
+                min_size,
+            } => MapCommand::PoolCreate {
+                name: name.copy()?,
+                pg_num: *pg_num,
+                size: *size,
+                min_size: *min_size,
+            },
+            MapCommand::AppEnable { pool, app } => MapCommand::AppEnable {
+                pool: pool.copy()?,
+                app: app.copy()?,
+            },
+            MapCommand::AppSet {
+                pool,
+                app,
+                key,
+                value,
+            } => MapCommand::AppSet {
+                pool: pool.copy()?,
+                app: app.copy()?,
+                key: key.copy()?,
+                value: value.copy()?,
+            },
+            MapCommand::AppRm { pool, app, key } => MapCommand::AppRm {
+                pool: pool.copy()?,
+                app: app.copy()?,
+                key: key.copy()?,
+            },
+            MapCommand::OsdUp(daemon) => MapCommand::OsdUp(*daemon),
+            MapCommand::OsdDown(daemon) => MapCommand::OsdDown(*daemon),
+            MapCommand::OsdRestart(daemon) => MapCommand::OsdRestart(*daemon),
+        })
+    }
+
+    /// Whether two commands are equal.
+    pub fn equals(&self, other: &MapCommand) -> bool
+        ensures { IsTrue result ↔ (self.now ≡ other.now) }
+    {
+        match (self, other) {
+            (
+                MapCommand::PoolCreate {
+                    name,
+                    pg_num,
+                    size,
+                    min_size,
+                },
+                MapCommand::PoolCreate {
+                    name: other_name,
+                    pg_num: other_pg_num,
+                    size: other_size,
+                    min_size: other_min_size,
+                },
+            ) => {
+                name.equals(other_name)
+                    && *pg_num == *other_pg_num
+                    && *size == *other_size
+                    && *min_size == *other_min_size
+            }
+            (
+                MapCommand::AppEnable { pool, app },
+                MapCommand::AppEnable {
+                    pool: other_pool,
+                    app: other_app,
+                },
+            ) => pool.equals(other_pool) && app.equals(other_app),
+            (
+                MapCommand::AppSet {
+                    pool,
+                    app,
+                    key,
+                    value,
+                },
+                MapCommand::AppSet {
+                    pool: other_pool,
+                    app: other_app,
+                    key: other_key,
+                    value: other_value,
+                },
+            ) => {
+                pool.equals(other_pool)
+                    && app.equals(other_app)
+                    && key.equals(other_key)
+                    && value.equals(other_value)
+            }
+            (
+                MapCommand::AppRm { pool, app, key },
+                MapCommand::AppRm {
+                    pool: other_pool,
+                    app: other_app,
+                    key: other_key,
+                },
+            ) => pool.equals(other_pool) && app.equals(other_app) && key.equals(other_key),
+            (MapCommand::OsdUp(daemon), MapCommand::OsdUp(other)) => *daemon == *other,
+            (MapCommand::OsdDown(daemon), MapCommand::OsdDown(other)) => *daemon == *other,
+            (MapCommand::OsdRestart(daemon), MapCommand::OsdRestart(other)) => *daemon == *other,
+            _ => false,
+        }
+    }
+}
+
+// Equal commands.
+pub(crate) fn copy_commands(
+    alloc: Global,
+    commands: &[MapCommand],
+) -> Result<Vec<MapCommand>, OutOfMemory>
+    ensures { IfOk result (λ copy. copy.items ≡ commands.now) }
+{
+    let mut all = Vec::with_capacity(alloc, commands.len())?;
+    for command in commands {
+        all.push(command.copy()?)?;
+    }
+    Ok(all)
+}
+
+// Whether commands begin with others.
+pub(crate) fn begin_with(commands: &[MapCommand], front: &[MapCommand]) -> bool
+    ensures { IsTrue result ↔ Begins commands.now front.now }
+{
+    if front.len() > commands.len() {
+        return false;
+    }
+    for place in 0..front.len() {
+        if !commands[place].equals(&front[place]) {
+            return false;
+        }
+    }
+    true
 }

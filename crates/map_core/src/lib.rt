@@ -6,6 +6,7 @@
 mod command;
 mod edits;
 mod fault;
+mod laws;
 mod map;
 mod pool;
 mod refusals;
@@ -17,5 +18,6 @@ mod tests;
 pub use cap_text::OutOfMemory;
 pub use command::MapCommand;
 pub use fault::MapFault;
+pub use laws::{intervals_follow_the_sets, pools_differ, pools_stay, sets_are_acting};
 pub use map::ClusterMap;
 pub use pool::{Epoch, Pool, PoolView};

@@ -1,6 +1,6 @@
 //! The cluster map.
 
-ghost use Rattle.std.specs.Prelude.{◌≡◌, ◌≤◌, ◌++◌, [], ◌∷◌, OnOk, OnErr, IfOk, Some, None, Option, All, IsOkAnd};
+ghost use Rattle.std.specs.Prelude.{◌≡◌, ◌≤◌, ◌++◌, [], ◌∷◌, OnOk, OnErr, IfOk, Some, None, Option, All, IsOkAnd, IfSome, IsTrue, ◌↔◌};
 ghost use Rattle.std.specs.Option.{option_to_list};
 ghost use Rattle.map_core.specs.Map.{epoch_of, map_of, after};
 ghost use Rattle.map_core.specs.Map as spec;
@@ -9,15 +9,17 @@ ghost use Rattle.map_core.specs.Refusal as tests;
 ghost use Rattle.map_core.specs.Intervals.{set_of, intervals_of};
 ghost use Rattle.map_core.specs.Intervals as intervals;
 ghost use Rattle.map_core.specs.Limits.{IsAccepted, IsPool, HasLimits};
+ghost use Rattle.map_core.specs.Sets.{IsSetOf};
+ghost use Rattle.map_core.specs.State.{GoesOn};
 
-use crate::command::MapCommand;
+use crate::command::{MapCommand, begin_with, copy_commands};
 use crate::edits::change_pools;
 use crate::fault::MapFault;
-use crate::pool::{Epoch, Pool, PoolView};
+use crate::pool::{Epoch, Pool, PoolView, copy_pools};
 use crate::refusals::{acting_refusal, is_word, refusal};
 use crate::replay::{view_now, view_then};
 use crate::sets::{set_of_size, size_after, size_in};
-use cap_text::Name;
+use cap_text::{Name, OutOfMemory};
 use place_core::{ActingSet, DaemonSet};
 use std::alloc::Global;
 use std::marker::Model;
@@ -125,6 +127,27 @@ impl ClusterMap {
         }
     }
 
+    /// An equal map.
+    pub fn copy(&self) -> Result<ClusterMap, OutOfMemory>
+        ensures { IfOk result (λ map. map ≡ self.now) }
+    {
+        let alloc = *self.commands.allocator();
+        Ok(ClusterMap {
+            daemons: self.daemons,
+            commands: copy_commands(alloc, self.commands.as_slice())?,
+            pools: copy_pools(alloc, self.pools.as_slice())?,
+            up: self.up,
+        })
+    }
+
+    /// Whether the map is of as many daemons as an earlier one, and its commands begin with all of that one's. It takes no memory.
+    pub fn goes_on_from(&self, earlier: &ClusterMap) -> bool
+        ensures { IsTrue result ↔ GoesOn self.now earlier.now }
+    {
+        earlier.daemons == self.daemons
+            && begin_with(self.commands.as_slice(), earlier.commands.as_slice())
+    }
+
     /// The pool of this name as it was at an epoch.
     ///
     /// At the present epoch it is copied. For an earlier one the commands up to it are gone through, and those on this pool are done again.
@@ -149,6 +172,7 @@ impl ClusterMap {
     /// The acting set of a group at the present epoch, in order.
     pub fn acting(&self, pool: &Name, group: u32) -> Result<Vec<u8>, MapFault>
         ensures members { IfOk result (λ members. set_of (map_of self.now) pool.now group ≡ Some members.items) }
+        ensures ranked { IfOk result (λ members. IsSetOf (map_of self.now) pool.now group members.items) }
         ensures refused { RefusedFirst (tests.acting_refusal self.now pool.now group) MapFault.OutOfMemory result }
     {
         if let Some(fault) = acting_refusal(self.pools.as_slice(), pool, group) {
@@ -166,7 +190,8 @@ impl ClusterMap {
 
     /// The acting set of a group of a pool, or `None` where there is no such pool. It takes no memory.
     pub fn acting_set(&self, pool: &Name, group: u32) -> Option<ActingSet>
-        ensures { result ≡ set_of (map_of self.now) pool.now group }
+        ensures members { result ≡ set_of (map_of self.now) pool.now group }
+        ensures ranked { IfSome result (IsSetOf (map_of self.now) pool.now group) }
     {
         match size_in(self.pools.as_slice(), pool) {
             None => None,
@@ -191,7 +216,8 @@ impl ClusterMap {
         group: u32,
     ) -> Option<ActingSet>
         requires { tests.refusal (map_of self.now) (epoch_of self.now) command.now ≡ None }
-        ensures { result ≡ set_of (after (map_of self.now) command.now) pool.now group }
+        ensures members { result ≡ set_of (after (map_of self.now) command.now) pool.now group }
+        ensures ranked { IfSome result (IsSetOf (after (map_of self.now) command.now) pool.now group) }
     {
         let mut next = self.up;
         change_up(&mut next, command);
@@ -204,8 +230,9 @@ impl ClusterMap {
     /// The acting set with which a command that nothing refuses begins an interval of a group, if it begins one. It takes no memory.
     pub fn interval_after(&self, command: &MapCommand, pool: &Name, group: u32) -> Option<ActingSet>
         requires { tests.refusal (map_of self.now) (epoch_of self.now) command.now ≡ None }
-        ensures { intervals_of (record self.now { commands = self.now.commands ++ command.now ∷ [] }) pool.now group
+        ensures interval { intervals_of (record self.now { commands = self.now.commands ++ command.now ∷ [] }) pool.now group
             ≡ intervals_of self.now pool.now group ++ option_to_list result }
+        ensures ranked { IfSome result (IsSetOf (after (map_of self.now) command.now) pool.now group) }
     {
         let old = self.acting_set(pool, group);
         let new = self.acting_set_after(command, pool, group);

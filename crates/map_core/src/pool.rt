@@ -3,6 +3,7 @@
 ghost use Rattle.std.specs.Prelude.{◌≡◌, IfOk};
 
 use cap_text::{Name, OutOfMemory, Tags};
+use std::alloc::Global;
 
 /// The number of a state of the map, from 1 on, at most 65,535.
 pub type Epoch = u32;
@@ -52,6 +53,19 @@ impl PoolView {
 impl Pool {
     ghost use Rattle.map_core.specs.Map.{view_of};
 
+    // An equal pool.
+    pub(crate) fn copy(&self) -> Result<Pool, OutOfMemory>
+        ensures { IfOk result (λ pool. pool ≡ self.now) }
+    {
+        Ok(Pool {
+            name: self.name.copy()?,
+            pg_num: self.pg_num,
+            size: self.size,
+            min_size: self.min_size,
+            tags: self.tags.copy()?,
+        })
+    }
+
     // The view of this pool.
     pub(crate) fn into_view(self, epoch: Epoch) -> PoolView
         ensures { result ≡ view_of epoch self }
@@ -86,4 +100,15 @@ impl Pool {
             tags: self.tags.copy()?,
         })
     }
+}
+
+// Equal pools.
+pub(crate) fn copy_pools(alloc: Global, pools: &[Pool]) -> Result<Vec<Pool>, OutOfMemory>
+    ensures { IfOk result (λ copy. copy.items ≡ pools.now) }
+{
+    let mut all = Vec::with_capacity(alloc, pools.len())?;
+    for pool in pools {
+        all.push(pool.copy()?)?;
+    }
+    Ok(all)
 }

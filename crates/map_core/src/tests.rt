@@ -190,3 +190,22 @@ fn faults_print_their_number_and_name(rt: HostRuntime) -> Result<(), Fail> {
     }
     Ok(())
 }
+
+#[test]
+fn a_map_goes_on_from_its_copy(rt: HostRuntime) -> Result<(), Fail> {
+    let alloc = rt.alloc();
+    let mut map = ClusterMap::new(alloc, 3)?;
+    let create = command(alloc, "create", ["data", "", ""], [2, 3, 2])?;
+    let enable = command(alloc, "enable", ["app", "", ""], [0, 0, 0])?;
+    let _ = map.apply(create.copy()?)?;
+    let earlier = map.copy()?;
+    let mut other = map.copy()?;
+    let _ = map.apply(enable)?;
+    let _ = other.apply(MapCommand::OsdDown(2))?;
+    assert!(rt; map.goes_on_from(&earlier) && other.goes_on_from(&earlier));
+    assert!(rt; !earlier.goes_on_from(&map) && !other.goes_on_from(&map));
+    assert!(rt; !map.goes_on_from(&ClusterMap::new(alloc, 4)?));
+    assert_eq!(rt; other.pools().len(), 1);
+    assert!(rt; !other.up().has(2) && earlier.up().has(2));
+    Ok(())
+}

@@ -1,3 +1,4 @@
+pub mod AttributeNames
 pub mod CallList
 pub mod Lengths
 pub mod Numbers

@@ -1,6 +1,6 @@
 -- What an object holds, and its limits. Source: RADOS objects, which have bytes and named attributes; the
 -- limits are this project's profile.
-use Rattle.std.specs.Prelude.{ℕ, ◌<◌, ◌≤◌, List, [], ◌∷◌, ◌++◌, Bool, ◌||◌, Option, is_some, length, nat_lt, find, position, All, slice_set, remove}
+use Rattle.std.specs.Prelude.{ℕ, ◌<◌, ◌≤◌, List, [], ◌∷◌, ◌++◌, Bool, ◌||◌, Option, is_some, length, nat_lt, find, position, All, AllPairs, ◌≢◌, slice_set, remove}
 use Rattle.std.specs.Option.{option_map, option_map_or}
 use Rattle.std.specs.Str.{bytes_eq}
 
@@ -15,10 +15,11 @@ pub record IsAttribute (attribute : List ℕ × List ℕ) : Type 0 where
   pub short_name : length attribute.0 ≤ 64
   pub short_value : length attribute.1 ≤ 1024
 
--- at most 16 attributes
+-- at most 16 attributes, whose names differ
 pub record AreAttributes (attributes : List (List ℕ × List ℕ)) : Type 0 where
   pub few : length attributes ≤ 16
   pub each : All IsAttribute attributes
+  pub distinct : AllPairs (λ a b. a.0 ≢ b.0) attributes
 
 -- the place of the attribute of a name
 abbrev pub place_of : List ℕ → List (List ℕ × List ℕ) → Option ℕ

@@ -3,6 +3,7 @@ pub mod Content
 pub mod Digits
 pub mod Effect
 pub mod Faults
+pub mod Laws
 pub mod Needs
 pub mod Number
 pub mod Told

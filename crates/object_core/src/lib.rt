@@ -10,6 +10,7 @@ mod calling;
 mod changing;
 mod class;
 mod errors;
+mod laws;
 mod looking;
 mod needs;
 mod number;
@@ -20,6 +21,7 @@ mod running;
 
 pub use attributes::Attributes;
 pub use bytes::Bytes;
+pub use laws::removed_is_gone;
 pub use needs::{NeedsFault, needs_of};
 pub use object::Object;
 pub use op::Op;

@@ -1,2 +1,4 @@
 pub mod Text
 pub mod Answer
+pub mod Explain
+pub mod Caret

@@ -2,6 +2,8 @@
 
 ghost use Rattle.std.specs.Prelude.{◌≤◌};
 
+use crate::caret::point_at_fault;
+use crate::explain::explain_text;
 use crate::verdict::verdict_text;
 use cap_text::{AppTags, Name, OutOfMemory, Pairs, Tags};
 use clap::{Arg, ArgAction, ArgMatches, Command, Error};
@@ -21,6 +23,13 @@ const BAD_COMMAND_LINE: u8 = 2;
 const BAD_TAG: &str = "osdgate: a tag with a `:` needs a `=` behind it\n";
 
 const TAG_HELP: &str = "An application of the pool, and a pair under it";
+
+const VERSION: &str = "0.1.0";
+
+const VERDICT_EXAMPLE: &str =
+    "Example: osdgate verdict --caps 'allow rw pool=data' --pool data --object x --read --write";
+
+const EXPLAIN_EXAMPLE: &str = "Example: osdgate explain --caps 'profile rbd pool=vms'";
 
 /// An option whose value is taken as it is, also where it begins with a dash.
 fn text_option<'a>(alloc: Global, name: &'a str, value: &'a str, help: &'a str) -> Arg<'a> {
@@ -55,6 +64,7 @@ fn verdict_command<'a>(alloc: Global) -> Result<Command<'a>, AllocError> {
         .help("A class method that the request calls");
     Command::new(alloc, "verdict")
         .about("Tells whether a capability text allows a request, and why not")
+        .after_help(VERDICT_EXAMPLE)
         .arg(caps)?
         .arg(pool)?
         .arg(object)?
@@ -65,12 +75,22 @@ fn verdict_command<'a>(alloc: Global) -> Result<Command<'a>, AllocError> {
         .arg(calls)
 }
 
+fn explain_command<'a>(alloc: Global) -> Result<Command<'a>, AllocError> {
+    Command::new(alloc, "explain")
+        .about("Prints the canonical form of a capability text, and the grants that it comes to")
+        .after_help(EXPLAIN_EXAMPLE)
+        .arg(text_option(alloc, "caps", "TEXT", "The capability text").required(true))
+}
+
 fn whole_command<'a>(alloc: Global) -> Result<Command<'a>, AllocError> {
     Command::new(alloc, "osdgate")
         .about("The access gate of a replicated object store")
+        .version(VERSION)
+        .after_help(VERDICT_EXAMPLE)
         .subcommand_required(true)
         .disable_help_subcommand(true)
-        .subcommand(verdict_command(alloc)?)
+        .subcommand(verdict_command(alloc)?)?
+        .subcommand(explain_command(alloc)?)
 }
 
 /// An application tag: a text is cut at its first `:`, and what is behind it at its first `=`. A text with a
@@ -125,7 +145,7 @@ fn answer_verdict(alloc: Global, matches: &ArgMatches<'_>) -> Result<Option<Stri
             calls.push(call_of(alloc, word)?)?;
         }
     }
-    let caps = matches.get_str("caps").unwrap_or("");
+    let caps = caps_of(matches);
     let reads = matches.get_flag("read");
     let writes = matches.get_flag("write");
     verdict_text(alloc, caps, &target, reads, writes, calls.as_slice()).map(Some)
@@ -163,23 +183,33 @@ fn finish<O: Write, E: Write>(
     FAULT
 }
 
-/// What the words ask for, or why they are no command line.
-fn answer<S: AsStr>(
+/// What the words ask for, and the capability text that they give; or why they are no command line.
+fn answer<'a, S: AsStr>(
     alloc: Global,
-    words: &[S],
-) -> Result<Result<Option<String>, OutOfMemory>, Error> {
+    words: &'a [S],
+) -> Result<(Result<Option<String>, OutOfMemory>, &'a str), Error> {
     let matches = whole_command(alloc)?.try_get_matches_from(words)?;
     match matches.subcommand() {
-        Some(("verdict", inner)) => Ok(answer_verdict(alloc, inner)),
-        _ => Ok(Ok(None)),
+        Some(("verdict", inner)) => Ok((answer_verdict(alloc, inner), caps_of(inner))),
+        Some(("explain", inner)) => {
+            let caps = caps_of(inner);
+            Ok((explain_text(alloc, caps).map(Some), caps))
+        }
+        _ => Ok((Ok(None), "")),
     }
+}
+
+/// The capability text of a command.
+fn caps_of<'a>(matches: &ArgMatches<'a>) -> &'a str {
+    matches.get_str("caps").unwrap_or("")
 }
 
 /// Runs the program on the words of its command line, the first of which is the program's own name, and
 /// answers its exit status: 0 where it is done, 1 where a fault was answered or the answer could not be
 /// written, 2 where the words are no command line.
 ///
-/// Answers, and the help that was asked for, go to `out`, and what is wrong with a command line to `err`.
+/// Answers, and the help that was asked for, go to `out`, and what is wrong with a command line to `err`. Where a
+/// capability text has a fault, the text and a caret under the fault's byte go to `err` as well.
 pub fn run_command<S: AsStr, R: Read, O: Write, E: Write>(
     alloc: Global,
     words: &[S],
@@ -190,7 +220,13 @@ pub fn run_command<S: AsStr, R: Read, O: Write, E: Write>(
     ensures { result ≤ 2 }
 {
     match answer(alloc, words) {
-        Ok(text) => finish(text, out, err),
+        Ok((text, caps)) => {
+            let status = finish(text, out, err);
+            if status == FAULT {
+                point_at_fault(alloc, caps, err);
+            }
+            status
+        }
         Err(error) => {
             if error.use_stderr() {
                 let _ = write!(err, "{error}");

@@ -1,7 +1,9 @@
 //! The program `osdgate`: verdicts of a replicated object store's access gate, on the command line.
 #![tactic(auto)]
 
+mod caret;
 mod command;
+mod explain;
 mod text;
 mod verdict;
 

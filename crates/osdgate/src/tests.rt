@@ -1,5 +1,7 @@
 //! The program, run on words.
 
+mod explaining;
+
 use crate::command::run_command;
 use std::alloc::Global;
 use std::io;

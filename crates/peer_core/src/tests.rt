@@ -5,7 +5,7 @@ use map_core::PoolView;
 use std::alloc::Global;
 use std::process::Abort;
 use std::test::Fail;
-use verdict_core::Ticket;
+use verdict_core::{IndexedTicket, Ticket};
 
 // What a message says, in short: a log is given by the numbers of its requests.
 #[derive(Clone, Copy)]
@@ -46,9 +46,9 @@ fn request(alloc: Global, number: u32) -> Result<Sealed, OutOfMemory> {
         min_size: 2,
         tags: Tags::from_vec(Vec::new(alloc)),
     };
-    let ticket = Ticket::from_vec(Vec::new(alloc));
+    let ticket = IndexedTicket::of(Ticket::empty(alloc, None)).map_err(|refused| refused.1)?;
     let namespace = Name::new(alloc, "")?;
-    Sealed::listing(alloc, Id::new(1, number), ticket, view, 0, namespace)
+    Sealed::listing(alloc, Id::new(1, number), ticket, 0, view, 0, namespace)
 }
 
 // Sets of intervals, each of which has the same members.

@@ -1,6 +1,7 @@
 pub mod Counts
 pub mod Hashes
 pub mod Keys
+pub mod Counted
 pub mod Numbers
 pub mod Padding
 pub mod Ranks

@@ -1,5 +1,5 @@
 -- Where objects and groups are placed.
-use Rattle.std.specs.Prelude.{◌≡◌, ℕ, ◌*◌, ◌%◌, ◌^◌, ◌<◌, List, ◌∷◌, ◌++◌, length, min, bit_xor, fold, filter, count_by, Contains, All, AllPairs, ◌⊎◌, Bool, Option, slice_index_or, false, ◌||◌, ◌&&◌, ◌==◌, nat_lt}
+use Rattle.std.specs.Prelude.{◌≡◌, ℕ, ◌*◌, ◌%◌, ◌^◌, ◌<◌, ◌≤◌, ◌≢◌, List, ◌∷◌, ◌++◌, length, min, bit_xor, fold, filter, count_by, Contains, All, AllPairs, ◌⊎◌, Bool, Option, slice_index_or, false, ◌||◌, ◌&&◌, ◌==◌, nat_lt}
 use Rattle.std.specs.List.{find, filter_map, range_with_len}
 use Rattle.std.specs.Fmt.{decimal}
 
@@ -29,6 +29,12 @@ pub record IsActing (pool : List ℕ) (group : ℕ) (up : List ℕ) (size : ℕ)
   pub from_up : All (Contains up) members
   pub in_order : AllPairs (Before pool group) members
   pub left_out : All (λ d. Contains members d ⊎ All (λ m. Before pool group m d) members) up
+
+-- at most five daemons, each once, and each of them up
+pub record IsActingSet (up members : List ℕ) : Type 0 where
+  pub few : length members ≤ 5
+  pub distinct : AllPairs (λ a b. a ≢ b) members
+  pub from_up : All (Contains up) members
 
 -- whether a group has the first daemon before the second
 unfoldable pub is_before : List ℕ → ℕ → ℕ → ℕ → Bool

@@ -1,9 +1,10 @@
 //! Sets of daemons.
 
-ghost use Rattle.std.specs.Prelude.{◌≡◌, ◌≤◌, ◌<◌, length, slice_index_or, slice_set, take, false, All, map, nat_lt};
+ghost use Rattle.std.specs.Prelude.{◌≡◌, ◌≤◌, ◌<◌, length, slice_index_or, slice_set, take, false, All, AllPairs, ◌≢◌, IfOk, map, nat_lt};
 ghost use Rattle.std.specs.List.{range_with_len};
 ghost use Rattle.place_core.specs.Place.{numbers_of};
 
+use std::alloc::{AllocError, Global};
 use std::marker::Model;
 
 /// A set of the daemons numbered 0 to 15, which contracts see as 16 flags, one at each number.
@@ -55,8 +56,8 @@ impl DaemonSet {
         }
     }
 
-    // Writes the numbers of the daemons to the front of `numbers`, from the smallest on, and answers how many they are.
-    pub(crate) fn numbers(&self, numbers: &mut [u8; 16]) -> usize
+    /// Writes the numbers of the daemons to the front of `numbers`, from the smallest on, and answers how many they are. It takes no memory.
+    pub fn numbers(&self, numbers: &mut [u8; 16]) -> usize
         ensures few { result ≤ 16 }
         ensures list { take result numbers.new ≡ numbers_of self.now }
         ensures small { All (λ d. d < 16) (numbers_of self.now) }
@@ -69,5 +70,16 @@ impl DaemonSet {
             }
         }
         count
+    }
+
+    /// The numbers of the daemons, from the smallest on.
+    pub fn to_vec(&self, alloc: Global) -> Result<Vec<u8>, AllocError>
+        ensures list { IfOk result (λ v. v.items ≡ numbers_of self.now) }
+        ensures small { All (λ d. d < 16) (numbers_of self.now) }
+        ensures distinct { AllPairs (λ a b. a ≢ b) (numbers_of self.now) }
+    {
+        let mut numbers = [0; 16];
+        let count = self.numbers(&mut numbers);
+        Vec::from_slice(alloc, &numbers[..count])
     }
 }

@@ -3,6 +3,7 @@
 
 mod daemons;
 mod hashing;
+mod laws;
 mod members;
 mod ranking;
 #[cfg(test)]
@@ -10,5 +11,6 @@ mod tests;
 
 pub use daemons::DaemonSet;
 pub use hashing::{group_of, hash};
+pub use laws::{acting_is_a_set, acting_is_the_ranking, daemons_are_sixteen};
 pub use members::{ActingSet, acting, acting_set};
 pub use std::alloc::AllocError as OutOfMemory;

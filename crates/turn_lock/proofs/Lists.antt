@@ -4,13 +4,13 @@ use mathlib.Core.Option.{some, some-injective, some-ne-none}
 use lib.ListN.{get_elem?}
 use Rattle.std.proofs.lemmas.List.{append_assoc, append-nil}
 use Rattle.atomic_table.specs.Table.{rest}
-use Rattle.turn_lock.specs.declared.board.Made.{Made}
-use Rattle.turn_lock.specs.declared.board.View.{View}
+use Rattle.turn_lock.specs.declared.rule.Made.{Made}
+use Rattle.turn_lock.specs.declared.rule.View.{View}
 use Rattle.turn_lock.specs.Tales.{StartsWith, made, made_by}
 use Rattle.turn_lock.specs.Turning.{total_draws}
 
 module _ {X : Type 0} where
-  -- a place that has taken one slot has no other
+  -- a token that has taken one slot has no other
   pub held_alone : {V : Type 0} → (me : V × List (ℕ × X)) (view : V) (one : ℕ × X) → me ≡ (view, one ∷ []) → me.1 ≡ one ∷ rest me.1
   held_alone {V} me view one is = let held : me.1 ≡ one ∷ [] = ap (λ (m : V × List (ℕ × X)). m.1) is in held ∙ ap (λ l. one ∷ rest l) (sym held)
 

@@ -2,8 +2,8 @@
 use Rattle.std.specs.Prelude.{◌≡◌, ℕ, List, [], Option}
 use Rattle.atomic_table.specs.Seated.{TableId}
 use Rattle.atomic_table.specs.declared.shared.Seat.{Seat}
-use Rattle.turn_lock.specs.declared.board.Made.{Made}
-use Rattle.turn_lock.specs.declared.board.View.{View}
+use Rattle.turn_lock.specs.declared.rule.Made.{Made}
+use Rattle.turn_lock.specs.declared.rule.View.{View}
 use Rattle.turn_lock.specs.Tales.{made_by}
 
 -- A lock: which one it is, and the state that its value began with

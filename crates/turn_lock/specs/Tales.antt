@@ -1,6 +1,6 @@
 -- Lists of turns.
 use Rattle.std.specs.Prelude.{◌≡◌, ℕ, ◌==◌, if◌then◌else◌, nat_le, List, [], ◌∷◌, ◌++◌, map, fold, length}
-use Rattle.turn_lock.specs.declared.board.Made.{Made}
+use Rattle.turn_lock.specs.declared.rule.Made.{Made}
 
 -- the list begins with what was seen
 abbrev pub StartsWith : {X : Type 0} → List X → List X → Type 0

@@ -1,6 +1,6 @@
 -- What a turn does, and what a lock holds at its end.
 use Rattle.std.specs.Prelude.{◌≡◌, List, [], ◌∷◌, ◌++◌}
-use Rattle.turn_lock.specs.declared.board.Made.{Made}
+use Rattle.turn_lock.specs.declared.rule.Made.{Made}
 use Rattle.turn_lock.specs.Seats.{Seated}
 use Rattle.turn_lock.specs.Tales.{StartsWith, made, made_by, state_after}
 

@@ -4,10 +4,10 @@ use mathlib.Core.Option.{some}
 use mathlib.Core.Option as maybe
 use lib.ListN.{get_elem?}
 use Rattle.atomic_table.specs.Table.{State, Me, Step}
-use Rattle.turn_lock.specs.declared.board.Made.{Made}
-use Rattle.turn_lock.specs.declared.board.View.{View}
-use Rattle.turn_lock.specs.declared.board.Stage.{Stage}
-use Rattle.turn_lock.specs.declared.board.Stage.TheVariants.{Spent, Away, Waiting, Turn}
+use Rattle.turn_lock.specs.declared.rule.Made.{Made}
+use Rattle.turn_lock.specs.declared.rule.View.{View}
+use Rattle.turn_lock.specs.declared.rule.Stage.{Stage}
+use Rattle.turn_lock.specs.declared.rule.Stage.TheVariants.{Spent, Away, Waiting, Turn}
 use Rattle.turn_lock.specs.Tales.{StartsWith, longer, made, made_by, state_after}
 
 -- the last number that a word holds

@@ -20,8 +20,8 @@
 //!   out in `run`.
 //! - A [`Seat`] is the right to take turns. It has a number, by which the list tells whose entry is
 //!   whose. Clauses see a seat as the beginning of the list that it has *seen* and the entries that
-//!   are *its own*. `split` makes a second seat that has seen as much and made nothing, `join` lets
-//!   one seat see all that two had seen. Neither takes memory or waits.
+//!   are *its own*. `split` and `split_off` make a second seat that has seen as much and made nothing, `join`
+//!   lets one seat see all that two had seen. Neither takes memory or waits.
 //!
 //! # What is promised
 //!
@@ -41,9 +41,9 @@
 //! promise holds if they return. A step that takes a turn of the same lock, or two threads that
 //! each take one lock inside a step of the other's, wait for ever. A step that never returns leaves
 //! the lock taken. Numbers are `u64`s, and the last one is never drawn: each seat may draw so many,
-//! and one with none left waits for ever. The seats of `new` share them evenly, a seat that is
-//! split off gets 2^32 of those of the other, or half where that is less, and a seat that is joined
-//! hands over what it has.
+//! and one with none left waits for ever. The seats of `new` share them evenly, `split` gives
+//! a new seat 2^32 of those of the other, or half where that is less, `split_off` as many as it is
+//! asked for, and a seat that is joined hands over what it has.
 //!
 //! # The atomic steps
 //!
@@ -69,14 +69,14 @@
 //! seat whose turn it is.
 #![tactic(auto)]
 
-mod board;
 mod lock;
-mod meaning;
+mod locked_value;
+mod rule;
 #[cfg(test)]
 mod tests;
 mod turnstile;
 
-pub use board::{Made, Stage, View};
 pub use lock::{Seat, TurnLock};
-pub use meaning::{Recorded, Step};
+pub use locked_value::{Recorded, Step};
+pub use rule::{Made, Stage, View};
 pub use std::alloc::AllocError as OutOfMemory;

@@ -5,8 +5,8 @@ ghost use Rattle.turn_lock.specs.Tales.{StartsWith, longer};
 ghost use Rattle.turn_lock.specs.Turned.{Turned, Closes};
 
 use crate::OutOfMemory;
-use crate::meaning::{Recorded, Step};
-use crate::turnstile::{Place, Turnstile};
+use crate::locked_value::{Recorded, Step};
+use crate::turnstile::{Token, Turnstile};
 use std::alloc::Global;
 use std::marker::Model;
 use std::sync::Wait;
@@ -40,20 +40,20 @@ impl<T: Recorded> Model for TurnLock<T> {
 /// and its entries stay.
 #[derive(Drop)]
 pub struct Seat<T: Recorded> {
-    place: Place<T>,
+    token: Token<T>,
     draws: u64,
 }
 
 impl<T: Recorded> Model for Seat<T> {
     ghost use Rattle.std.specs.Prelude.{◌≡◌, []};
-    ghost use Rattle.turn_lock.specs.declared.board.Stage.TheVariants.{Away};
+    ghost use Rattle.turn_lock.specs.declared.rule.Stage.TheVariants.{Away};
     ghost use Rattle.turn_lock.specs.Seats.{Seated, HasItsOwn, seated};
 
     ghost Value = { Seated T.Entry };
 
-    ghost view = { λ s. seated s.place };
+    ghost view = { λ s. seated s.token };
 
-    ghost invariant = { λ s. (s.place.me.0.stage ≡ Away) × (s.place.me.0.told ≡ []) × (s.place.me.0.draws ≡ s.draws) × (s.place.me.1 ≡ []) × HasItsOwn (seated s.place) };
+    ghost invariant = { λ s. (s.token.me.0.stage ≡ Away) × (s.token.me.0.told ≡ []) × (s.token.me.0.draws ≡ s.draws) × (s.token.me.1 ≡ []) × HasItsOwn (seated s.token) };
 }
 
 fn wait_for_ever<R: Wait>(rt: &R)
@@ -70,9 +70,9 @@ impl<T: Recorded> TurnLock<T> {
         ensures ok { IfOk result (λ r. (r.0.first ≡ T.state value) × IsNewSeatOf r.0 r.1) }
         ensures err { IfErr result (λ x. x ≡ value) }
     {
-        let (turnstile, place) = Turnstile::new(alloc, value)?;
+        let (turnstile, token) = Turnstile::new(alloc, value)?;
         let seat = Seat {
-            place,
+            token,
             draws: u64::MAX,
         };
         Ok((TurnLock { turnstile }, seat))
@@ -131,7 +131,7 @@ impl<T: Recorded> TurnLock<T> {
         if seat.draws == 0 {
             wait_for_ever(rt);
         }
-        let answer = self.turnstile.turn(rt, &mut seat.place, step);
+        let answer = self.turnstile.turn(rt, &mut seat.token, step);
         seat.draws -= 1;
         answer
     }
@@ -148,35 +148,39 @@ impl<T: Recorded> TurnLock<T> {
         ensures { Closes T.after self.first (T.state result) seat }
     {
         let TurnLock { turnstile } = self;
-        let Seat { place, draws } = seat;
+        let Seat { token, draws } = seat;
         if draws == 0 {
             wait_for_ever(rt);
         }
-        turnstile.close(rt, place)
+        turnstile.close(rt, token)
     }
 }
 
 impl<T: Recorded> Seat<T> {
-    // A new seat, which may draw so many of the numbers that this one may, or all where there are
-    // fewer.
-    fn split_off(&mut self, lock: &TurnLock<T>, most: u64) -> Seat<T>
+    /// A new seat of the lock, which has seen what this one has, and made nothing. It gets `most` of
+    /// the numbers that this one may still draw, or all where they are fewer.
+    ///
+    /// With it numbers are shared evenly: of a seat made by [`TurnLock::new`] with N seats beside it,
+    /// each of k parts is `u64::MAX / N / k`. A seat that gave all its numbers away waits for ever in
+    /// its next turn. It takes no memory, and waits for nobody.
+    pub fn split_off(&mut self, lock: &TurnLock<T>, most: u64) -> Seat<T>
         requires { IsSeatOf lock.now self.old }
         ensures same { self.new ≡ self.old }
         ensures new { IsSeatOf lock.now result × (result.seen ≡ self.old.seen) × (result.mine ≡ []) }
         ensures own { HasItsOwn self.new × HasItsOwn result }
     {
         let part = self.draws.min(most);
-        let place = lock.turnstile.split(&mut self.place, part);
+        let token = lock.turnstile.split(&mut self.token, part);
         self.draws -= part;
-        Seat { place, draws: part }
+        Seat { token, draws: part }
     }
 
     /// A new seat of the lock, which has seen what this one has, and made nothing.
     ///
     /// It gets 2^32 of the numbers that this one may draw, or half where that is less: enough for a
     /// seat that only carries to another what this one has seen, or that takes turns for a while. A
-    /// seat for a long life is best made by [`TurnLock::new`]. It takes no memory, and waits for
-    /// nobody.
+    /// seat for a long life is made by [`TurnLock::new`] or [`Seat::split_off`]. It takes no memory,
+    /// and waits for nobody.
     pub fn split(&mut self, lock: &TurnLock<T>) -> Seat<T>
         requires { IsSeatOf lock.now self.old }
         ensures same { self.new ≡ self.old }
@@ -199,8 +203,8 @@ impl<T: Recorded> Seat<T> {
         ensures begins { StartsWith self.new.seen self.old.seen × StartsWith self.new.seen other.seen }
         ensures own { HasItsOwn self.new }
     {
-        let Seat { place, draws } = other;
-        lock.turnstile.join(&mut self.place, place);
+        let Seat { token, draws } = other;
+        lock.turnstile.join(&mut self.token, token);
         self.draws = self.draws.saturating_add(draws);
     }
 }

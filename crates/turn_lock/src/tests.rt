@@ -150,7 +150,7 @@ fn add_in_two_threads<R: Threads + Wait + Sync>(
     first
 }
 
-// A split seat has seen what the first had, and a join has seen what both had.
+// A split seat has seen what the first had, and a join has seen what both had. The third may draw one number.
 fn split_and_join<R: Wait>(
     rt: &R,
     lock: &TurnLock<Tally>,
@@ -162,7 +162,7 @@ fn split_and_join<R: Wait>(
 {
     lock.turn(rt, first, Add(1));
     let mut second = first.split(lock);
-    let mut third = second.split(lock);
+    let mut third = second.split_off(lock, 1);
     let by_third = lock.turn(rt, &mut third, Look);
     lock.turn(rt, &mut second, Add(2));
     second.join(lock, third);

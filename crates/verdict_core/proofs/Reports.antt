@@ -1,7 +1,7 @@
 -- Of a denied request each grant has a condition that it fails.
 use Rattle.std.proofs.Common.{◌≡◌, ℕ, suc, ◌+◌, ◌<◌, List, [], ◌∷◌, ◌++◌, Bool, true, false, not, ◌&&◌, ◌||◌, cond, Option, None, Some, length, get_or, take, slice_get, map, refl, sym, ap, ◌∙◌}
 use Rattle.std.specs.Option.{option_map, option_to_list}
-use Rattle.std.specs.List.{list_all, cons_option}
+use Rattle.std.specs.List.{list_all, cons_option, filter_map}
 use Rattle.std.proofs.lemmas.Bool.{false≢true}
 use Rattle.std.proofs.lemmas.Grind.{take_at_read}
 use Rattle.std.proofs.lemmas.List.Elements.{filter_map-append}
@@ -9,20 +9,21 @@ use Rattle.std.proofs.lemmas.Map.Keys.{any_passes_from_place}
 use Rattle.cap_text.specs.declared.grant.AllowGrant.{AllowGrant}
 use Rattle.cap_text.specs.declared.grant.Access.{Access}
 use Rattle.verdict_core.specs.Place.{Place}
+use Rattle.verdict_core.specs.Ticket.{Ticket}
 use Rattle.verdict_core.specs.declared.request.Needs.{Needs}
 use Rattle.verdict_core.specs.declared.request.ClassCall.{ClassCall}
 use Rattle.verdict_core.specs.declared.request.Condition.{Condition}
 use Rattle.verdict_core.specs.declared.request.Condition.TheVariants as why
-use Rattle.verdict_core.specs.Verdict.{names, matches_namespace, matches_tag, matches_prefix, can_read, can_write, first_failure, unless, uncovered_from, covers, is_covered, is_usable, is_allowed, report_of}
+use Rattle.verdict_core.specs.Verdict.{names, matches_namespace, matches_tag, matches_prefix, can_read, can_write, grant_failure, first_failure, line_of, unless, uncovered_from, covers, is_covered, is_usable, is_expired, grants_allow, is_allowed, report_of}
 
--- a grant's line, if it has one
-abbrev pub line_of : List ℕ × AllowGrant → Place → Needs → Option (List ℕ × Condition)
-line_of entry place needs = option_map (λ condition. (entry.0, condition)) (first_failure entry.1 place needs)
+-- the lines of the grants
+abbrev pub lines_of : List (List ℕ × AllowGrant) → Bool → Place → Needs → List (List ℕ × Condition)
+lines_of grants expired place needs = filter_map (line_of expired place needs) grants
 
-pub report_of-more : (es : List (List ℕ × AllowGrant)) (i : ℕ) (d : List ℕ × AllowGrant) (place : Place) (needs : Needs) → i < length es
-    → report_of (take (i + 1) es) place needs ≡ report_of (take i es) place needs ++ option_to_list (line_of (get_or es i d) place needs)
-report_of-more es i d place needs h =
-    ap (λ l. report_of l place needs) ((take_at_read es i d h).1) ∙ filter_map-append (λ entry. line_of entry place needs) (take i es) (get_or es i d ∷ []) ∙ ap (λ l. report_of (take i es) place needs ++ l) (one (line_of (get_or es i d) place needs))
+pub lines_of-more : (es : List (List ℕ × AllowGrant)) (i : ℕ) (d : List ℕ × AllowGrant) (expired : Bool) (place : Place) (needs : Needs) → i < length es
+    → lines_of (take (i + 1) es) expired place needs ≡ lines_of (take i es) expired place needs ++ option_to_list (line_of expired place needs (get_or es i d))
+lines_of-more es i d expired place needs h =
+    ap (λ l. lines_of l expired place needs) ((take_at_read es i d h).1) ∙ filter_map-append (line_of expired place needs) (take i es) (get_or es i d ∷ []) ∙ ap (λ l. lines_of (take i es) expired place needs ++ l) (one (line_of expired place needs (get_or es i d)))
   where
     one : (o : Option (List ℕ × Condition)) → cons_option o [] ≡ option_to_list o
     one None = refl
@@ -43,7 +44,7 @@ all_covered number access [] h = refl
 all_covered number access (call ∷ calls) h = all_covered_by (covers access call) number access calls h (all_covered (number + 1) access calls)
 
 -- a grant that fails no condition is usable, and covers each call
-pub blameless : (g : AllowGrant) (place : Place) (needs : Needs) → first_failure g place needs ≡ None → (is_usable g place needs ≡ true) × (list_all (covers g.access) needs.calls ≡ true)
+pub blameless : (g : AllowGrant) (place : Place) (needs : Needs) → grant_failure g place needs ≡ None → (is_usable g place needs ≡ true) × (list_all (covers g.access) needs.calls ≡ true)
 blameless g place needs h =
     let pool = unless_none (names g.pool place.pool) why.Pool _ h in
     let namespace = unless_none (matches_namespace g.namespace place.namespace) why.Namespace _ pool.1 in
@@ -66,14 +67,20 @@ covered_by grants place needs i entry at useful (call ∷ calls) h =
     and_true true b e = (refl, e)
     and_true false b e = absurd (false≢true e)
 
--- where a request is denied, each grant fails a condition
-pub blamed : (grants : List (List ℕ × AllowGrant)) (place : Place) (needs : Needs) → is_allowed grants place needs ≡ false
-    → (i : ℕ) (entry : List ℕ × AllowGrant) → slice_get grants i ≡ Some entry → first_failure entry.1 place needs ≡ None → ⊥
+-- where the grants deny a request, each grant fails a condition
+blamed : (grants : List (List ℕ × AllowGrant)) (place : Place) (needs : Needs) → grants_allow grants place needs ≡ false
+    → (i : ℕ) (entry : List ℕ × AllowGrant) → slice_get grants i ≡ Some entry → grant_failure entry.1 place needs ≡ None → ⊥
 blamed grants place needs denied i entry at none =
     let free = blameless entry.1 place needs none in
     let some = any_passes_from_place (λ e. is_usable e.1 place needs) grants i entry at free.0 in
     let each = covered_by grants place needs i entry at free.0 needs.calls free.1 in
     false≢true (sym denied ∙ rw (some, each))
+
+-- so it does where the ticket denies it
+blamed_at : (expired : Bool) (grants : List (List ℕ × AllowGrant)) (place : Place) (needs : Needs) → (not expired && grants_allow grants place needs) ≡ false
+    → (i : ℕ) (entry : List ℕ × AllowGrant) → slice_get grants i ≡ Some entry → first_failure expired entry.1 place needs ≡ None → ⊥
+blamed_at true grants place needs denied i entry at none = absurd (cc)
+blamed_at false grants place needs denied i entry at none = blamed grants place needs denied i entry at none
 
 paths_by : (o : Option Condition) (path : List ℕ) (lines : List (List ℕ × Condition)) (paths : List (List ℕ)) → (o ≡ None → ⊥) → map (λ line. line.0) lines ≡ paths
     → map (λ line. line.0) (cons_option (option_map (λ condition. (path, condition)) o) lines) ≡ path ∷ paths
@@ -81,19 +88,20 @@ paths_by None path lines paths some rest = absurd (some refl)
 paths_by (Some condition) path lines paths some rest = ap (λ l. path ∷ l) rest
 
 -- so the report has the paths of all grants
-paths_from : (es : List (List ℕ × AllowGrant)) (place : Place) (needs : Needs) → ((i : ℕ) (entry : List ℕ × AllowGrant) → slice_get es i ≡ Some entry → first_failure entry.1 place needs ≡ None → ⊥)
-    → map (λ line. line.0) (report_of es place needs) ≡ map (λ entry. entry.0) es
-paths_from [] place needs h = refl
-paths_from (e ∷ es) place needs h =
-    paths_by (first_failure e.1 place needs) e.0 _ _ (h 0 e refl) (paths_from es place needs (λ i entry at none. h (suc i) entry at none))
+paths_from : (es : List (List ℕ × AllowGrant)) (expired : Bool) (place : Place) (needs : Needs) → ((i : ℕ) (entry : List ℕ × AllowGrant) → slice_get es i ≡ Some entry → first_failure expired entry.1 place needs ≡ None → ⊥)
+    → map (λ line. line.0) (lines_of es expired place needs) ≡ map (λ entry. entry.0) es
+paths_from [] expired place needs h = refl
+paths_from (e ∷ es) expired place needs h =
+    paths_by (first_failure expired e.1 place needs) e.0 _ _ (h 0 e refl) (paths_from es expired place needs (λ i entry at none. h (suc i) entry at none))
 
-pub paths-report_of : (grants : List (List ℕ × AllowGrant)) (place : Place) (needs : Needs) → is_allowed grants place needs ≡ false → map (λ line. line.0) (report_of grants place needs) ≡ map (λ entry. entry.0) grants
-paths-report_of grants place needs denied = paths_from grants place needs (blamed grants place needs denied)
+pub paths-report_of : (ticket : Ticket) (place : Place) (needs : Needs) (tick : ℕ) → is_allowed ticket place needs tick ≡ false → map (λ line. line.0) (report_of ticket place needs tick) ≡ map (λ entry. entry.0) ticket.grants
+paths-report_of ticket place needs tick denied =
+    paths_from ticket.grants (is_expired ticket.until tick) place needs (blamed_at (is_expired ticket.until tick) ticket.grants place needs denied)
 
 -- one more line, step by step
-pub report_of_step : (es : List (List ℕ × AllowGrant)) (i : ℕ) (entry : List ℕ × AllowGrant) (place : Place) (needs : Needs) (condition : Option Condition) (lines new : List (List ℕ × Condition))
-    → i < length es → entry ≡ get_or es i entry → condition ≡ first_failure entry.1 place needs → lines ≡ report_of (take i es) place needs
-    → new ≡ lines ++ option_to_list (option_map (λ why. (entry.0, why)) condition) → new ≡ report_of (take (i + 1) es) place needs
-report_of_step es i entry place needs condition lines new h at is so_far pushed =
+pub lines_of_step : (es : List (List ℕ × AllowGrant)) (i : ℕ) (entry : List ℕ × AllowGrant) (expired : Bool) (place : Place) (needs : Needs) (condition : Option Condition) (lines new : List (List ℕ × Condition))
+    → i < length es → entry ≡ get_or es i entry → condition ≡ first_failure expired entry.1 place needs → lines ≡ lines_of (take i es) expired place needs
+    → new ≡ lines ++ option_to_list (option_map (λ why. (entry.0, why)) condition) → new ≡ lines_of (take (i + 1) es) expired place needs
+lines_of_step es i entry expired place needs condition lines new h at is so_far pushed =
     pushed ∙ (λ k. so_far k ++ option_to_list (option_map (λ why. (entry.0, why)) (is k)))
-    ∙ ap (λ e. report_of (take i es) place needs ++ option_to_list (line_of e place needs)) at ∙ sym (report_of-more es i entry place needs h)
+    ∙ ap (λ e. lines_of (take i es) expired place needs ++ option_to_list (line_of expired place needs e)) at ∙ sym (lines_of-more es i entry expired place needs h)

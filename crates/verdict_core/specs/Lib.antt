@@ -1,2 +1,5 @@
 pub mod Place
+pub mod Ticket
 pub mod Verdict
+pub mod Text
+pub mod Places

@@ -1,7 +1,7 @@
 -- When a request is allowed, and why it is not.
 -- Sources: Ceph User Management, "Authorization capabilities", for what a grant asks for and gives;
 -- reports, and what a tag's any stands for, are this project's profile.
-use Rattle.std.specs.Prelude.{ℕ, ◌+◌, List, [], ◌∷◌, Bool, true, false, not, ◌&&◌, ◌||◌, if◌then◌else◌, Option, None, Some, nat_eq}
+use Rattle.std.specs.Prelude.{ℕ, ◌+◌, List, [], ◌∷◌, Bool, true, false, not, ◌&&◌, ◌||◌, if◌then◌else◌, Option, None, Some, nat_eq, nat_le}
 use Rattle.std.specs.Option.{option_map_or, option_map}
 use Rattle.std.specs.List.{list_any, list_all, filter_map, starts_with}
 use Rattle.std.specs.Str.{bytes_eq}
@@ -19,6 +19,7 @@ use Rattle.verdict_core.specs.declared.request.ClassCall.{ClassCall}
 use Rattle.verdict_core.specs.declared.request.Condition.{Condition}
 use Rattle.verdict_core.specs.declared.request.Condition.TheVariants as why
 use Rattle.verdict_core.specs.Place.{Place}
+use Rattle.verdict_core.specs.Ticket.{Ticket}
 
 -- no name, or this one
 abbrev pub names : Option (List ℕ) → List ℕ → Bool
@@ -82,9 +83,18 @@ covers (Flags flags) call = call.listed && (not call.class_reads || flags.class_
 abbrev pub is_covered : List (List ℕ × AllowGrant) → Place → Needs → ClassCall → Bool
 is_covered grants place needs call = list_any (λ entry. is_usable entry.1 place needs && covers entry.1.access call) grants
 
--- some grant is usable, and each call is covered by some usable grant
-abbrev pub is_allowed : List (List ℕ × AllowGrant) → Place → Needs → Bool
-is_allowed grants place needs = list_any (λ entry. is_usable entry.1 place needs) grants && list_all (is_covered grants place needs) needs.calls
+-- what a list of grants allows: some grant is usable, and each call is covered by some usable grant
+abbrev pub grants_allow : List (List ℕ × AllowGrant) → Place → Needs → Bool
+grants_allow grants place needs = list_any (λ entry. is_usable entry.1 place needs) grants && list_all (is_covered grants place needs) needs.calls
+
+-- whether a ticket with this end is expired: it ends, and the tick is not before that
+abbrev pub is_expired : Option ℕ → ℕ → Bool
+is_expired None tick = false
+is_expired (Some until) tick = nat_le until tick
+
+-- the ticket is not expired, and its grants allow the request
+abbrev pub is_allowed : Ticket → Place → Needs → ℕ → Bool
+is_allowed ticket place needs tick = not (is_expired ticket.until tick) && grants_allow ticket.grants place needs
 
 -- the first call that an access does not cover, by its number
 abbrev pub uncovered_from : ℕ → Access → List ClassCall → Option Condition
@@ -96,8 +106,8 @@ abbrev pub unless : Bool → Condition → Option Condition → Option Condition
 unless holds condition later = if holds then later else Some condition
 
 -- the first condition of a grant that a request fails
-abbrev pub first_failure : AllowGrant → Place → Needs → Option Condition
-first_failure g place needs =
+abbrev pub grant_failure : AllowGrant → Place → Needs → Option Condition
+grant_failure g place needs =
     unless (names g.pool place.pool) why.Pool
     (unless (matches_namespace g.namespace place.namespace) why.Namespace
     (unless (matches_tag g.tag place.tags) why.Tag
@@ -106,6 +116,14 @@ first_failure g place needs =
     (unless (not needs.writes || can_write g.access) why.Write
     (uncovered_from 1 g.access needs.calls))))))
 
+-- the same of a grant of a ticket, which may be expired
+abbrev pub first_failure : Bool → AllowGrant → Place → Needs → Option Condition
+first_failure expired g place needs = unless (not expired) why.Expired (grant_failure g place needs)
+
+-- a grant's path with the first condition that the request fails
+abbrev pub line_of : Bool → Place → Needs → List ℕ × AllowGrant → Option (List ℕ × Condition)
+line_of expired place needs entry = option_map (λ condition. (entry.0, condition)) (first_failure expired entry.1 place needs)
+
 -- each grant's path with the first condition that the request fails
-abbrev pub report_of : List (List ℕ × AllowGrant) → Place → Needs → List (List ℕ × Condition)
-report_of grants place needs = filter_map (λ entry. option_map (λ condition. (entry.0, condition)) (first_failure entry.1 place needs)) grants
+abbrev pub report_of : Ticket → Place → Needs → ℕ → List (List ℕ × Condition)
+report_of ticket place needs tick = filter_map (line_of (is_expired ticket.until tick) place needs) ticket.grants

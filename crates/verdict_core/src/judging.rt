@@ -8,42 +8,58 @@ ghost use Rattle.verdict_core.specs.Verdict as spec;
 use crate::matching::{allows, is_usable};
 use crate::request::{ClassCall, Needs, Target};
 use crate::ticket::Ticket;
+use cap_text::AllowGrant;
+use grant_core::Path;
 
 /// Whether some usable grant covers a call.
-fn is_covered(ticket: &Ticket, target: &Target<'_>, needs: &Needs, call: &ClassCall) -> bool
-    ensures { result ≡ spec.is_covered ticket.now target.now needs.now call.now }
+fn is_covered(
+    grants: &[(Path, AllowGrant)],
+    target: &Target<'_>,
+    needs: &Needs,
+    call: &ClassCall,
+) -> bool
+    ensures { result ≡ spec.is_covered grants.now target.now needs.now call.now }
 {
-    ticket
-        .grants()
+    grants
         .iter()
         .any(|entry| allows(&entry.1, target, needs, call))
 }
 
 /// Whether some grant is usable.
-fn has_usable(ticket: &Ticket, target: &Target<'_>, needs: &Needs) -> bool
-    ensures { result ≡ list_any (λ entry. spec.is_usable entry.1 target.now needs.now) ticket.now }
+pub(crate) fn has_usable(grants: &[(Path, AllowGrant)], target: &Target<'_>, needs: &Needs) -> bool
+    ensures { result ≡ list_any (λ entry. spec.is_usable entry.1 target.now needs.now) grants.now }
 {
-    ticket
-        .grants()
+    grants
         .iter()
         .any(|entry| is_usable(&entry.1, target, needs))
 }
 
 /// Whether each call is covered.
-fn are_covered(ticket: &Ticket, target: &Target<'_>, needs: &Needs) -> bool
-    ensures { result ≡ list_all (spec.is_covered ticket.now target.now needs.now) needs.now.calls }
+fn are_covered(grants: &[(Path, AllowGrant)], target: &Target<'_>, needs: &Needs) -> bool
+    ensures { result ≡ list_all (spec.is_covered grants.now target.now needs.now) needs.now.calls }
 {
     needs
         .calls
         .as_slice()
         .iter()
-        .all(|call| is_covered(ticket, target, needs, call))
+        .all(|call| is_covered(grants, target, needs, call))
 }
 
-/// Whether the ticket allows a request: one grant gives all its reads and writes, and each of its calls is
-/// covered by such a grant. It takes no memory and copies nothing.
-pub fn judge(ticket: &Ticket, target: &Target<'_>, needs: &Needs) -> bool
-    ensures { result ≡ is_allowed ticket.now target.now needs.now }
+/// Whether the grants allow a request, whatever the time.
+pub(crate) fn grants_allow(
+    grants: &[(Path, AllowGrant)],
+    target: &Target<'_>,
+    needs: &Needs,
+) -> bool
+    ensures { result ≡ spec.grants_allow grants.now target.now needs.now }
 {
-    has_usable(ticket, target, needs) && are_covered(ticket, target, needs)
+    has_usable(grants, target, needs) && are_covered(grants, target, needs)
+}
+
+/// Whether the ticket allows a request at a tick: the ticket is not expired, one grant gives all the reads
+/// and writes, and each of the calls is covered by such a grant. It takes no memory and copies nothing.
+pub fn judge(ticket: &Ticket, target: &Target<'_>, needs: &Needs, tick: u64) -> bool
+    ensures { result ≡ is_allowed ticket.now target.now needs.now tick }
+{
+    !ticket.is_expired(tick) && grants_allow(ticket.grants(), target, needs)
 }

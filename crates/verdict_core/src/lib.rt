@@ -5,12 +5,15 @@
 //! by grants which do so, is how Ceph's daemons decide. Reports are this project's profile.
 #![tactic(auto)]
 
+mod indexed;
 mod judging;
 mod matching;
+mod places;
 mod reporting;
 mod request;
 mod ticket;
 
+pub use indexed::IndexedTicket;
 pub use judging::judge;
 pub use reporting::report;
 pub use request::{Calls, ClassCall, Condition, Needs, Target};

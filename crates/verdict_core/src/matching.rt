@@ -121,14 +121,21 @@ pub(crate) fn can_write(access: &Access) -> bool
     }
 }
 
-/// Whether a grant speaks of the place, and reads and writes as far as the request does.
-pub(crate) fn is_usable(grant: &AllowGrant, target: &Target<'_>, needs: &Needs) -> bool
-    ensures { result ≡ spec.is_usable grant.now target.now needs.now }
+/// Whether a grant speaks of the place.
+pub(crate) fn matches(grant: &AllowGrant, target: &Target<'_>) -> bool
+    ensures { result ≡ spec.matches grant.now target.now }
 {
     names(&grant.pool, target.pool)
         && matches_namespace(&grant.namespace, target.namespace)
         && matches_tag(&grant.tag, target.tags)
         && matches_prefix(&grant.prefix, target.object)
+}
+
+/// Whether a grant speaks of the place, and reads and writes as far as the request does.
+pub(crate) fn is_usable(grant: &AllowGrant, target: &Target<'_>, needs: &Needs) -> bool
+    ensures { result ≡ spec.is_usable grant.now target.now needs.now }
+{
+    matches(grant, target)
         && (!needs.reads || can_read(&grant.access))
         && (!needs.writes || can_write(&grant.access))
 }
@@ -175,12 +182,8 @@ fn uncovered(access: &Access, calls: &[ClassCall]) -> Option<Condition>
 }
 
 /// The first condition of a grant that a request fails.
-pub(crate) fn first_failure(
-    grant: &AllowGrant,
-    target: &Target<'_>,
-    needs: &Needs,
-) -> Option<Condition>
-    ensures { result ≡ spec.first_failure grant.now target.now needs.now }
+fn grant_failure(grant: &AllowGrant, target: &Target<'_>, needs: &Needs) -> Option<Condition>
+    ensures { result ≡ spec.grant_failure grant.now target.now needs.now }
 {
     if !names(&grant.pool, target.pool) {
         return Some(Condition::Pool);
@@ -201,4 +204,19 @@ pub(crate) fn first_failure(
         return Some(Condition::Write);
     }
     uncovered(&grant.access, needs.calls.as_slice())
+}
+
+/// The same of a grant of a ticket, which may be expired.
+pub(crate) fn first_failure(
+    expired: bool,
+    grant: &AllowGrant,
+    target: &Target<'_>,
+    needs: &Needs,
+) -> Option<Condition>
+    ensures { result ≡ spec.first_failure expired grant.now target.now needs.now }
+{
+    if expired {
+        return Some(Condition::Expired);
+    }
+    grant_failure(grant, target, needs)
 }

@@ -29,22 +29,24 @@ fn push_line(
     }
 }
 
-/// Why a denied request is denied: a line for each grant, in the ticket's order, with the first condition of
-/// the grant that the request fails. No object is looked at.
+/// Why a request that is denied at a tick is denied: a line for each grant, in the ticket's order, with the
+/// first condition of the grant that the request fails. No object is looked at.
 pub fn report(
     alloc: Global,
     ticket: &Ticket,
     target: &Target<'_>,
     needs: &Needs,
+    tick: u64,
 ) -> Result<Report, OutOfMemory>
-    requires { is_allowed ticket.now target.now needs.now ≡ false }
-    ensures report { IfOk result (λ report. report ≡ report_of ticket.now target.now needs.now) }
-    ensures paths { IfOk result (λ report. map (λ line. line.0) report ≡ map (λ entry. entry.0) ticket.now) }
+    requires { is_allowed ticket.now target.now needs.now tick ≡ false }
+    ensures report { IfOk result (λ report. report ≡ report_of ticket.now target.now needs.now tick) }
+    ensures paths { IfOk result (λ report. map (λ line. line.0) report ≡ map (λ entry. entry.0) ticket.now.grants) }
 {
+    let expired = ticket.is_expired(tick);
     let mut lines = Vec::new(alloc);
     for entry in ticket.grants() {
-        let condition = first_failure(&entry.1, target, needs);
+        let condition = first_failure(expired, &entry.1, target, needs);
         push_line(&mut lines, &entry.0, condition)?;
     }
-    Ok(Report::from_vec(lines))
+    Ok(Report::new(lines))
 }

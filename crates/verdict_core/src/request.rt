@@ -1,8 +1,10 @@
 //! What a request asks for, and where.
 
-ghost use Rattle.std.specs.Prelude.{◌≡◌, IfOk};
+ghost use Rattle.std.specs.Prelude.{◌≡◌, IfOk, Some};
+ghost use Rattle.verdict_core.specs.Text.{condition_text};
 
 use cap_text::{Name, OutOfMemory, Tags};
+use std::fmt;
 use std::marker::Model;
 
 /// Where a request goes: an object of a namespace in a pool, and the pool's application tags.
@@ -59,8 +61,12 @@ impl Model for Calls {
 }
 
 /// A condition of a grant that a request may fail, in the order in which they are looked at.
+///
+/// It prints as its word, such as `namespace` or `call 2`.
 #[derive(Clone, Copy, Debug, PartialEq, Eq)]
 pub enum Condition {
+    /// The ticket's time is over.
+    Expired,
     Pool,
     Namespace,
     Tag,
@@ -69,6 +75,23 @@ pub enum Condition {
     Write,
     /// The first call that the grant does not cover, counted from 1 among the calls.
     Call(usize),
+}
+
+impl fmt::Display for Condition {
+    ghost output = { λ condition. Some (condition_text condition) };
+
+    fn fmt<W: fmt::Write>(&self, f: &mut fmt::Formatter<W>) -> fmt::Result {
+        match self {
+            Condition::Expired => write!(f, "expired"),
+            Condition::Pool => write!(f, "pool"),
+            Condition::Namespace => write!(f, "namespace"),
+            Condition::Tag => write!(f, "tag"),
+            Condition::Prefix => write!(f, "prefix"),
+            Condition::Read => write!(f, "read"),
+            Condition::Write => write!(f, "write"),
+            Condition::Call(number) => write!(f, "call {number}"),
+        }
+    }
 }
 
 impl Calls {

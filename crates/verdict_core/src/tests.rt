@@ -2,49 +2,19 @@ use crate::judging::judge;
 use crate::reporting::report;
 use crate::request::{Calls, ClassCall, Condition, Needs, Target};
 use crate::ticket::Ticket;
-use cap_text::{
-    Access, AllowGrant, AppTags, Flags, Name, NsMatch, OutOfMemory, Pairs, Part, Tag, Tags, parse,
-};
-use grant_core::{Path, ProfileTable, expand};
+use cap_text::{AppTags, Name, OutOfMemory, Pairs, Tags, parse};
+use grant_core::{ProfileTable, expand};
 use std::alloc::Global;
 use std::fmt::Write;
 use std::test::Fail;
 
-fn flags(read: bool, write: bool, class_read: bool, class_write: bool) -> Access {
-    Access::Flags(Flags {
-        read,
-        write,
-        class_read,
-        class_write,
-    })
-}
-
-fn allow(access: Access) -> AllowGrant {
-    AllowGrant {
-        access,
-        pool: None,
-        namespace: None,
-        prefix: None,
-        tag: None,
-    }
-}
-
-fn class(alloc: Global, name: &str) -> Result<AllowGrant, OutOfMemory> {
-    Ok(allow(Access::Class {
-        class: Name::new(alloc, name)?,
-        method: None,
-    }))
-}
-
-/// The ticket of a list of grants without profiles.
-fn ticket_of(alloc: Global, grants: Vec<AllowGrant>) -> Result<Ticket, OutOfMemory> {
-    let mut entries = Vec::new(alloc);
-    let mut place = 0usize;
-    for grant in grants {
-        place = place.saturating_add(1);
-        entries.push((Path::of(alloc, &[place])?, grant))?;
-    }
-    Ok(Ticket::from_vec(entries))
+/// The ticket of a capability text.
+fn ticket(alloc: Global, text: &str, until: Option<u64>) -> Result<Ticket, Fail> {
+    let list = parse(alloc, text).map_err(|_| "a text that spells no list")?;
+    let tree = expand(alloc, &ProfileTable::builtin(alloc)?, &list).map_err(
+        |_| "a list that is not expanded",
+    )?;
+    Ok(Ticket::of(alloc, &tree, until)?)
 }
 
 fn needs(reads: bool, writes: bool, calls: Vec<ClassCall>) -> Needs {
@@ -71,43 +41,42 @@ fn reading_call(
     })
 }
 
-/// The conditions of the report of a denied request.
-fn conditions(
+/// What a ticket answers: nothing where it allows the request, else the report's text behind a word.
+fn answer(
     alloc: Global,
     ticket: &Ticket,
     target: &Target<'_>,
     needs: &Needs,
-) -> Result<Vec<Condition>, OutOfMemory> {
-    let mut found = Vec::new(alloc);
-    if !judge(ticket, target, needs) {
-        for line in report(alloc, ticket, target, needs)?.lines() {
-            found.push(line.1)?;
-        }
+    tick: u64,
+) -> Result<String, Fail> {
+    if judge(ticket, target, needs, tick) {
+        return Ok(String::new(alloc));
     }
-    Ok(found)
+    let lines = report(alloc, ticket, target, needs, tick)?.copy()?;
+    Ok(format!(in alloc; "deny\n{lines}")?)
+}
+
+/// The object x of a pool.
+fn object<'a>(pool: &'a str, namespace: &'a str, tags: &'a Tags) -> Target<'a> {
+    Target {
+        pool,
+        tags,
+        namespace,
+        object: "x",
+    }
 }
 
 #[test]
 fn no_single_grant_reads_and_writes(rt: HostRuntime) -> Result<(), Fail> {
     let alloc = rt.alloc();
     let tags = Tags::from_vec(Vec::new(alloc));
-    let target = Target {
-        pool: "data",
-        tags: &tags,
-        namespace: "",
-        object: "x",
-    };
-    let read = allow(flags(true, false, false, false));
-    let write = allow(flags(false, true, false, false));
-    let ticket = ticket_of(alloc, vec![in alloc; read, write]?)?;
+    let target = object("data", "", &tags);
+    let two = ticket(alloc, "allow r, allow w", None)?;
     let both = needs(true, true, Vec::new(alloc));
-    let found = conditions(alloc, &ticket, &target, &both)?;
-    assert_eq!(rt;
-        found.as_slice(),
-        [Condition::Write, Condition::Read].as_slice()
-    );
+    let text = answer(alloc, &two, &target, &both, 0)?;
+    assert_eq!(rt; text.as_str(), "deny\n1 write\n2 read\n");
     let reads = needs(true, false, Vec::new(alloc));
-    assert!(rt; judge(&ticket, &target, &reads));
+    assert!(rt; judge(&two, &target, &reads, u64::MAX));
     Ok(())
 }
 
@@ -115,27 +84,22 @@ fn no_single_grant_reads_and_writes(rt: HostRuntime) -> Result<(), Fail> {
 fn calls_of_two_classes(rt: HostRuntime) -> Result<(), Fail> {
     let alloc = rt.alloc();
     let tags = Tags::from_vec(Vec::new(alloc));
-    let target = Target {
-        pool: "data",
-        tags: &tags,
-        namespace: "",
-        object: "x",
-    };
+    let target = object("data", "", &tags);
     let get = reading_call(alloc, "counter", "get", true)?;
     let peek = reading_call(alloc, "vault", "peek", false)?;
     let calls = needs(false, false, vec![in alloc; get, peek]?);
-    let each = ticket_of(
-        alloc,
-        vec![in alloc; class(alloc, "counter")?, class(alloc, "vault")?]?,
-    )?;
-    assert!(rt; judge(&each, &target, &calls));
-    for grant in [
-        class(alloc, "counter")?,
-        allow(flags(false, false, true, true)),
+    for (caps, text) in [
+        ("allow class counter, allow class vault", ""),
+        ("allow class counter", "deny\n1 call 2\n"),
+        ("allow x", "deny\n1 call 2\n"),
+        ("allow class counter get, allow *", ""),
+        (
+            "allow class counter reset, allow x",
+            "deny\n1 call 1\n2 call 2\n",
+        ),
     ] {
-        let alone = ticket_of(alloc, vec![in alloc; grant]?)?;
-        let found = conditions(alloc, &alone, &target, &calls)?;
-        assert_eq!(rt; found.as_slice(), [Condition::Call(2)].as_slice());
+        let found = answer(alloc, &ticket(alloc, caps, None)?, &target, &calls, 0)?;
+        assert_eq!(rt; found.as_str(), text, "{caps}");
     }
     Ok(())
 }
@@ -144,35 +108,18 @@ fn calls_of_two_classes(rt: HostRuntime) -> Result<(), Fail> {
 fn namespaces_exact_and_by_prefix(rt: HostRuntime) -> Result<(), Fail> {
     let alloc = rt.alloc();
     let tags = Tags::from_vec(Vec::new(alloc));
-    let mut empty = allow(flags(true, false, false, false));
-    empty.namespace = Some(NsMatch::Exact(Name::new(alloc, "")?));
-    let mut front = allow(flags(true, false, false, false));
-    front.namespace = Some(NsMatch::Prefix(Name::new(alloc, "ab")?));
-    let ticket = ticket_of(alloc, vec![in alloc; empty, front]?)?;
+    let two = ticket(alloc, "allow r namespace='', allow r namespace=ab*", None)?;
     let reads = needs(true, false, Vec::new(alloc));
-    for (namespace, allowed) in [("", true), ("ab", true), ("abc", true), ("a", false)] {
-        let target = Target {
-            pool: "data",
-            tags: &tags,
-            namespace,
-            object: "x",
-        };
-        assert_eq!(rt; judge(&ticket, &target, &reads), allowed, "{namespace}");
-        let found = conditions(alloc, &ticket, &target, &reads)?;
-        assert_eq!(rt; found.len(), if allowed { 0 } else { 2 });
+    for (namespace, text) in [
+        ("", ""),
+        ("ab", ""),
+        ("abc", ""),
+        ("a", "deny\n1 namespace\n2 namespace\n"),
+    ] {
+        let found = answer(alloc, &two, &object("data", namespace, &tags), &reads, 0)?;
+        assert_eq!(rt; found.as_str(), text, "{namespace}");
     }
     Ok(())
-}
-
-/// A tag of the application cephfs with any value.
-fn cephfs(alloc: Global, key: Part) -> Result<AllowGrant, OutOfMemory> {
-    let mut grant = allow(flags(true, true, false, false));
-    grant.tag = Some(Tag {
-        application: Name::new(alloc, "cephfs")?,
-        key,
-        value: Part::Any,
-    });
-    Ok(grant)
 }
 
 #[test]
@@ -183,19 +130,15 @@ fn tags_without_pairs(rt: HostRuntime) -> Result<(), Fail> {
         pairs: Pairs::from_vec(Vec::new(alloc)),
     };
     let tags = Tags::from_vec(vec![in alloc; application]?);
-    let target = Target {
-        pool: "data",
-        tags: &tags,
-        namespace: "",
-        object: "x",
-    };
+    let target = object("data", "", &tags);
     let both = needs(true, true, Vec::new(alloc));
-    let any = ticket_of(alloc, vec![in alloc; cephfs(alloc, Part::Any)?]?)?;
-    assert!(rt; judge(&any, &target, &both));
-    let key = Part::Is(Name::new(alloc, "data")?);
-    let keyed = ticket_of(alloc, vec![in alloc; cephfs(alloc, key)?]?)?;
-    let found = conditions(alloc, &keyed, &target, &both)?;
-    assert_eq!(rt; found.as_slice(), [Condition::Tag].as_slice());
+    for (caps, text) in [
+        ("allow rw tag cephfs *=*", ""),
+        ("allow rw tag cephfs data=*", "deny\n1 tag\n"),
+    ] {
+        let found = answer(alloc, &ticket(alloc, caps, None)?, &target, &both, 0)?;
+        assert_eq!(rt; found.as_str(), text, "{caps}");
+    }
     Ok(())
 }
 
@@ -203,44 +146,56 @@ fn tags_without_pairs(rt: HostRuntime) -> Result<(), Fail> {
 fn class_read_by_prefix(rt: HostRuntime) -> Result<(), Fail> {
     let alloc = rt.alloc();
     let tags = Tags::from_vec(Vec::new(alloc));
-    let mut children = allow(flags(false, false, true, false));
-    children.prefix = Some(Name::new(alloc, "rbd_children")?);
-    let mut images = allow(flags(true, true, true, true));
-    images.pool = Some(Name::new(alloc, "images")?);
-    let ticket = ticket_of(alloc, vec![in alloc; children, images]?)?;
-    let vms = Target {
+    let caps = "allow class-read object_prefix rbd_children, allow rwx pool=images";
+    let both = ticket(alloc, caps, None)?;
+    let children = Target {
         pool: "vms",
         tags: &tags,
         namespace: "",
         object: "rbd_children",
     };
     let get = reading_call(alloc, "counter", "get", true)?;
-    assert!(rt; judge(&ticket, &vms, &needs(false, false, vec![in alloc; get]?)));
-    let found = conditions(alloc, &ticket, &vms, &needs(true, false, Vec::new(alloc)))?;
-    assert_eq!(rt;
-        found.as_slice(),
-        [Condition::Read, Condition::Pool].as_slice()
-    );
-    let image = Target {
-        pool: "images",
-        tags: &tags,
-        namespace: "",
-        object: "x",
-    };
-    assert!(rt; judge(&ticket, &image, &needs(false, true, Vec::new(alloc))));
+    let call = needs(false, false, vec![in alloc; get]?);
+    assert!(rt; judge(&both, &children, &call, 0));
+    let reads = needs(true, false, Vec::new(alloc));
+    let text = answer(alloc, &both, &children, &reads, 0)?;
+    assert_eq!(rt; text.as_str(), "deny\n1 read\n2 pool\n");
+    let writes = needs(false, true, Vec::new(alloc));
+    assert!(rt; judge(&both, &object("images", "", &tags), &writes, 0));
     Ok(())
 }
 
 #[test]
 fn tickets_of_expanded_lists(rt: HostRuntime) -> Result<(), Fail> {
     let alloc = rt.alloc();
-    let list = parse(alloc, "allow r, profile rbd pool=vms")?;
-    let tree = expand(alloc, &ProfileTable::builtin(alloc)?, &list)?;
-    let ticket = Ticket::of(alloc, &tree)?.copy()?;
+    let both = ticket(alloc, "allow r, profile rbd pool=vms", Some(7))?.copy()?;
     let mut paths = String::new(alloc);
-    for entry in ticket.grants() {
+    for entry in both.grants() {
         write!(paths, "{} ", entry.0)?;
     }
     assert_eq!(rt; paths.as_str(), "1 2.1.1 2.2 ");
+    assert_eq!(rt; both.until(), Some(7));
+    Ok(())
+}
+
+#[test]
+fn tickets_expire(rt: HostRuntime) -> Result<(), Fail> {
+    let alloc = rt.alloc();
+    let tags = Tags::from_vec(Vec::new(alloc));
+    let reads = needs(true, false, Vec::new(alloc));
+    let one = ticket(alloc, "allow r pool=data", Some(10))?;
+    for (pool, tick, text) in [
+        ("data", 9, ""),
+        ("data", 10, "deny\n1 expired\n"),
+        ("data", u64::MAX, "deny\n1 expired\n"),
+        ("other", 9, "deny\n1 pool\n"),
+        ("other", 10, "deny\n1 expired\n"),
+    ] {
+        let found = answer(alloc, &one, &object(pool, "", &tags), &reads, tick)?;
+        assert_eq!(rt; found.as_str(), text, "{pool} {tick}");
+    }
+    let none = Ticket::empty(alloc, Some(0));
+    let found = answer(alloc, &none, &object("data", "", &tags), &reads, 0)?;
+    assert_eq!(rt; found.as_str(), "deny\n");
     Ok(())
 }

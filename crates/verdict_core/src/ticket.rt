@@ -1,29 +1,40 @@
 //! Tickets and reports.
 
-ghost use Rattle.std.specs.Prelude.{◌≡◌, IfOk};
+ghost use Rattle.std.specs.Prelude.{◌≡◌, ◌≤◌, [], length, Some, IfOk};
+ghost use Rattle.verdict_core.specs.Text.{report_text};
+ghost use Rattle.verdict_core.specs.Verdict as spec;
 
 use crate::request::Condition;
 use cap_text::{AllowGrant, OutOfMemory};
 use grant_core::{GrantTree, Path};
 use std::alloc::Global;
+use std::fmt;
 use std::marker::Model;
 
-/// The grants of an entity with their paths, which contracts see as the list of them.
+/// The grants of an entity with their paths, at most 256, and until when they hold.
+///
+/// It is expired at each tick from `until` on, and never where there is none. What a tick is its user
+/// decides: this project's profile has numbers that the caller hands in.
 #[derive(Debug, Drop)]
 pub struct Ticket {
     grants: Vec<(Path, AllowGrant)>,
+    until: Option<u64>,
 }
 
 impl Model for Ticket {
-    ghost use Rattle.std.specs.Prelude.{List, ℕ};
-    ghost use Rattle.cap_text.specs.declared.grant.AllowGrant.{AllowGrant};
+    ghost use Rattle.std.specs.Prelude.{length, ◌≤◌};
+    ghost use Rattle.verdict_core.specs.Ticket as seen;
 
-    ghost Value = { List (List ℕ × AllowGrant) };
+    ghost Value = { seen.Ticket };
 
-    ghost view = { λ t. t.grants.items };
+    ghost view = { λ t. record { grants = t.grants.items; until = t.until } };
+
+    ghost invariant = { λ t. length t.grants.items ≤ 256 };
 }
 
 /// Why a request is denied: for each grant its path and the first condition that the request fails.
+///
+/// It prints a line `PATH CONDITION` for each, in the ticket's order, and each line ends with a line feed.
 #[derive(Debug, Drop)]
 pub struct Report {
     lines: Vec<(Path, Condition)>,
@@ -39,27 +50,54 @@ impl Model for Report {
 }
 
 impl Ticket {
-    /// The ticket of an expanded list: its grants, each with its path.
-    pub fn of(alloc: Global, tree: &GrantTree) -> Result<Ticket, OutOfMemory>
-        ensures { IfOk result (λ ticket. ticket ≡ tree.now) }
+    /// The ticket of an expanded list: its grants, each with its path, until a tick or for ever.
+    pub fn of(alloc: Global, tree: &GrantTree, until: Option<u64>) -> Result<Ticket, OutOfMemory>
+        ensures { IfOk result (λ ticket. ticket ≡ record { grants = tree.now; until = until }) }
     {
         Ok(Ticket {
             grants: tree.flat(alloc)?,
+            until,
         })
     }
 
-    /// The ticket of these grants. It takes no memory.
-    pub fn from_vec(grants: Vec<(Path, AllowGrant)>) -> Ticket
-        ensures { result ≡ grants.items }
+    /// The ticket without grants, which allows nothing. It takes no memory.
+    pub fn empty(alloc: Global, until: Option<u64>) -> Ticket
+        ensures { result ≡ record { grants = []; until = until } }
     {
-        Ticket { grants }
+        Ticket {
+            grants: Vec::new(alloc),
+            until,
+        }
     }
 
     /// Its grants in order, each with its path.
     pub fn grants(&self) -> &[(Path, AllowGrant)]
-        ensures { result.now ≡ self.now }
+        ensures grants { result.now ≡ self.now.grants }
+        ensures few { length result.now ≤ 256 }
     {
         self.grants.as_slice()
+    }
+
+    /// The first tick at which it is expired, if there is one.
+    pub fn until(&self) -> Option<u64>
+        ensures { result ≡ self.now.until }
+    {
+        self.until
+    }
+
+    /// Whether it is expired at a tick.
+    pub fn is_expired(&self, tick: u64) -> bool
+        ensures { result ≡ spec.is_expired self.now.until tick }
+    {
+        match self.until {
+            None => false,
+            Some(until) => until <= tick,
+        }
+    }
+
+    /// Where its grants are kept.
+    pub(crate) fn allocator(&self) -> Global {
+        *self.grants.allocator()
     }
 
     /// An equal ticket.
@@ -70,13 +108,16 @@ impl Ticket {
         for entry in self.grants() {
             grants.push((entry.0.copy()?, entry.1.copy()?))?;
         }
-        Ok(Ticket { grants })
+        Ok(Ticket {
+            grants,
+            until: self.until,
+        })
     }
 }
 
 impl Report {
     /// The report of these lines. It takes no memory.
-    pub fn from_vec(lines: Vec<(Path, Condition)>) -> Report
+    pub(crate) fn new(lines: Vec<(Path, Condition)>) -> Report
         ensures { result ≡ lines.items }
     {
         Report { lines }
@@ -98,5 +139,18 @@ impl Report {
             lines.push((line.0.copy()?, line.1))?;
         }
         Ok(Report { lines })
+    }
+}
+
+impl fmt::Display for Report {
+    ghost output = { λ report. Some (report_text report) };
+
+    fn fmt<W: fmt::Write>(&self, f: &mut fmt::Formatter<W>) -> fmt::Result {
+        for line in self.lines() {
+            let path = &line.0;
+            let condition = line.1;
+            write!(f, "{path} {condition}\n")?;
+        }
+        Ok(())
     }
 }

@@ -2,13 +2,13 @@
 
 ghost use Rattle.std.specs.Prelude.{◌≤◌, IfOk};
 
-use cap_text::{Access, AllowGrant, Flags, Name, Tags};
+use cap_text::{Name, Tags, parse};
 use entry_core::{Id, OutOfMemory, Sealed};
-use grant_core::Path;
+use grant_core::{ProfileTable, expand};
 use map_core::PoolView;
 use object_core::{Bytes, NeedsFault, Op};
 use std::alloc::Global;
-use verdict_core::Ticket;
+use verdict_core::{IndexedTicket, Ticket};
 
 // What is asked of the object `x`: one operation, or an append of `a` and a read in one vector.
 #[derive(Clone, Copy)]
@@ -29,24 +29,19 @@ pub(super) enum May {
     All,
 }
 
-fn ticket(alloc: Global, may: May) -> Result<Ticket, OutOfMemory> {
-    let all = matches!(may, May::All);
-    let flags = Flags {
-        read: all || matches!(may, May::Read),
-        write: all || matches!(may, May::Write),
-        class_read: all,
-        class_write: all,
+fn ticket(alloc: Global, may: May) -> Result<IndexedTicket, OutOfMemory> {
+    let text = match may {
+        May::Read => "allow r",
+        May::Write => "allow w",
+        May::All => "allow rwx",
     };
-    let grant = AllowGrant {
-        access: Access::Flags(flags),
-        pool: None,
-        namespace: None,
-        prefix: None,
-        tag: None,
+    let Ok(list) = parse(alloc, text) else {
+        return Err(OutOfMemory);
     };
-    let mut grants = Vec::new(alloc);
-    grants.push((Path::of(alloc, &[1])?, grant))?;
-    Ok(Ticket::from_vec(grants))
+    let Ok(tree) = expand(alloc, &ProfileTable::builtin(alloc)?, &list) else {
+        return Err(OutOfMemory);
+    };
+    IndexedTicket::of(Ticket::of(alloc, &tree, None)?).map_err(|refused| refused.1)
 }
 
 fn call(alloc: Global, method: &str, input: &str) -> Result<Op, OutOfMemory> {
@@ -114,5 +109,5 @@ pub(super) fn request(
     let object = Name::new(alloc, "x")?;
     let view = view(alloc)?;
     let id = Id::new(1, number);
-    Sealed::vector(alloc, id, ticket, view, 5, namespace, object, ops)
+    Sealed::vector(alloc, id, ticket, 0, view, 5, namespace, object, ops)
 }

@@ -1,7 +1,7 @@
 use Rattle.std.proofs.Common.{rules, ◌≡◌, ◌+◌, ◌<◌, ◌≤◌, ◌^◌, ◌↔◌, List, [], ◌∷◌, ◌++◌, ℕ, Bool, true, false, cond, min, IsTrue, length, fold, sym, ap, ◌∙◌, refl, arith, subst}
 use Rattle.std.proofs.lemmas.Bool.Decides.{nat_tests}
 use Rattle.std.proofs.Math.Nat.{min-le_right}
-use Rattle.turn_lock.specs.declared.board.Made.{Made}
+use Rattle.turn_lock.specs.declared.rule.Made.{Made}
 use Rattle.turn_lock.specs.declared.tests.Tally.{Tally}
 use Rattle.turn_lock.specs.declared.tests.Change.{Change}
 use Rattle.turn_lock.specs.declared.tests.Change.TheVariants.{Added, Idle, Looked}

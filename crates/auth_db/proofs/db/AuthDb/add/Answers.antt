@@ -1,7 +1,7 @@
 use Rattle.std.proofs.Common.{◌≡◌, None}
 use Rattle.auth_db.specs.Entries.{users_of}
 use Rattle.auth_db.specs.Refusals.{add_refusal}
-use Rattle.auth_db.proofs.Judging.{fresh_name, has_room}
+use Rattle.auth_db.proofs.Judging.{fresh_name, has_room, added_user}
 use Rattle.auth_db.proofs.Kept.{kept_new}
 use Rattle.auth_db.proofs.db.AuthDb.add.Goals as goal
 
@@ -9,5 +9,5 @@ pub invariant_of-self-2 : goal.invariant_of-self-2
 invariant_of-self-2 c =
     let users = users_of c.self.inside.users.entries in
     let accepted : add_refusal users c.args.name.now c.args.caps ≡ None = cc c.in_default.ensures in
-    kept_new c.self.inside.table users (users_of c.put.new.users.entries) c.args.name.now c.args.caps c.self.invariant c.in_default-check_osd.ensures.good c.in_ok-put.ensures.ok c.in_ok-put.ensures.len
+    kept_new c.self.inside.table users (users_of c.put.new.users.entries) c.args.name.now c.args.caps c.self.invariant (added_user users c.args.name.now c.args.caps accepted).0 (c.in_default-check_osd.ensures.good, (added_user users c.args.name.now c.args.caps accepted).1) c.in_ok-put.ensures.ok c.in_ok-put.ensures.len
     (fresh_name users c.args.name.now c.args.caps accepted) (has_room users c.args.name.now c.args.caps accepted)

@@ -1,5 +1,7 @@
 use Rattle.std.proofs.Common.{sym, ◌∙◌}
 use Rattle.map_core.proofs.Current.{limits_now, limits_then, set_after_is, set_after_is_none}
+use Rattle.map_core.proofs.Daemons.{set_shown_after}
+use Rattle.map_core.specs.Inside.{history_of}
 use Rattle.map_core.proofs.map.ClusterMap.acting_set_after.Goals as goal
 
 pub size_after-requires-clause-now : goal.size_after-requires-clause-now
@@ -10,12 +12,16 @@ size_after-requires-clause-then c =
     limits_then c.args.self.now c.self.inside.daemons c.self.inside.commands.items c.self.inside.pools.items c.as_slice.result.now c.self.inside.up c.args.command.now
     c.self.invariant.accepted c.self.view_is c.self.invariant.pools c.self.invariant.up c.as_slice.ensures.value c.requires
 
-pub returns-in-None : goal.returns-in-None
-returns-in-None c =
+pub returns-in-None-clause-members : goal.returns-in-None-clause-members
+returns-in-None-clause-members c =
     sym (set_after_is_none c.args.self.now c.self.inside.daemons c.self.inside.commands.items c.self.inside.pools.items c.as_slice.result.now c.self.inside.up c.args.command.now c.args.pool.now c.args.group
     c.self.view_is c.self.invariant.pools c.self.invariant.up c.as_slice.ensures.value (sym c.size_after.ensures.value ∙ c.in-None.is))
 
-pub returns-in-Some : goal.returns-in-Some
-returns-in-Some c =
+pub returns-in-Some-clause-members : goal.returns-in-Some-clause-members
+returns-in-Some-clause-members c =
     sym (set_after_is c.args.self.now c.self.inside.daemons c.self.inside.commands.items c.self.inside.pools.items c.as_slice.result.now c.self.inside.up c.change_up.new.up c.args.command.now c.args.pool.now c.args.group c.in-Some.size c.set_of_size.result
     c.self.view_is c.self.invariant.pools c.self.invariant.up c.as_slice.ensures.value c.change_up.ensures (sym c.size_after.ensures.value ∙ c.in-Some.is) c.set_of_size.ensures)
+
+pub returns-in-Some-clause-ranked : goal.returns-in-Some-clause-ranked
+returns-in-Some-clause-ranked c =
+    set_shown_after (history_of c.self.inside) c.args.self.now c.args.command.now c.args.pool.now c.args.group c.set_of_size.result c.self.invariant.accepted c.self.view_is c.requires (sym (returns-in-Some-clause-members c))

@@ -1,5 +1,5 @@
 use Rattle.std.proofs.Common.{rules, ap, ◌∙◌, sym}
-use Rattle.turn_lock.specs.declared.board.Stage.TheVariants.{Waiting}
+use Rattle.turn_lock.specs.declared.rule.Stage.TheVariants.{Waiting}
 use Rattle.turn_lock.proofs.Keeps.{looks}
 use Rattle.turn_lock.proofs.turnstile.Turnstile.look_as.Goals as goal
 

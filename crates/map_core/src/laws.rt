@@ -1,0 +1,29 @@
+//! Laws of the map, each the contract of a function that does nothing.
+
+ghost use Rattle.map_core.specs.Laws.{SetsAreActing, UpAreThere, PoolsDiffer, PoolsAreFew, PoolsStay, ViewsAreOfPools, CommandsBeginIntervals, PresentSetIsLast, OthersLeaveSets};
+
+/// On every map a group's acting set is that of its ranking: at most five daemons, each once, each of them up and one that there is.
+pub fn sets_are_acting()
+    ensures sets { SetsAreActing }
+    ensures up { UpAreThere }
+{}
+
+/// No two pools have one name, and there are at most 32.
+pub fn pools_differ()
+    ensures differ { PoolsDiffer }
+    ensures few { PoolsAreFew }
+{}
+
+/// A pool keeps its groups and the sizes of its sets for good, and a view of any epoch shows them.
+pub fn pools_stay()
+    ensures stay { PoolsStay }
+    ensures views { ViewsAreOfPools }
+{}
+
+/// A command begins at most one interval of a group; the present acting set is that of the last; and commands that move no
+/// daemon leave the sets.
+pub fn intervals_follow_the_sets()
+    ensures one { CommandsBeginIntervals }
+    ensures last { PresentSetIsLast }
+    ensures others { OthersLeaveSets }
+{}

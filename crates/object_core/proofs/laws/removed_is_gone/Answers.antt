@@ -1,0 +1,5 @@
+use Rattle.object_core.proofs.AttributeNames.{removed_is_gone as law}
+use Rattle.object_core.proofs.laws.removed_is_gone.Goals as goal
+
+pub returns : goal.returns
+returns c = law

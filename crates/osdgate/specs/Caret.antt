@@ -1,0 +1,20 @@
+-- How the place of a fault is shown under its text (this project's profile). Every line ends with byte 10.
+use Rattle.std.specs.Prelude.{ℕ, ◌+◌, ◌/◌, ◌%◌, ◌&&◌, List, [], ◌∷◌, ◌++◌, codes, length, take, replicate, flat_map, nat_le, nat_lt, if◌then◌else◌}
+
+-- 0 to 9 and a to f
+abbrev pub hex_digit : ℕ → ℕ
+hex_digit n = if nat_lt n 10 then 48 + n else 87 + n
+
+-- bytes 32 to 126 as they are; any other as \x and its two hexadecimal digits
+abbrev pub shown_byte : ℕ → List ℕ
+shown_byte b =
+    if nat_le 32 b && nat_le b 126 then b ∷ [] else codes "\\x" ++ (hex_digit (b / 16) ∷ hex_digit (b % 16) ∷ [])
+
+-- a text as it is shown
+abbrev pub shown : List ℕ → List ℕ
+shown text = flat_map shown_byte text
+
+-- the text, and a caret below the byte at this place, or behind the text where none stands there
+abbrev pub pointed_text : List ℕ → ℕ → List ℕ
+pointed_text text place =
+    shown text ++ (codes "\n" ++ (replicate (length (shown (take place text))) 32 ++ codes "^\n"))

@@ -1,0 +1,90 @@
+//! What a capability text comes to.
+
+ghost use Rattle.std.specs.Prelude.{◌≡◌, ◌++◌, IfOk, OnOk, string_bytes, flat_map};
+ghost use Rattle.cap_text.specs.FaultText as cap;
+ghost use Rattle.grant_core.specs.BuiltIn.{built_in};
+ghost use Rattle.grant_core.specs.Refusal.{expand_refusal};
+ghost use Rattle.grant_core.specs.Text as profiles;
+ghost use Rattle.osdgate.specs.Explain.{IsExplainText, explained_text, grant_line, list_text};
+ghost use Rattle.osdgate.specs.Text.{refused_text};
+
+use cap_text::{AllowGrant, CapFault, CapList, FaultKind, OutOfMemory, parse, print, push_allow};
+use grant_core::{ExpandFault, Path, ProfileTable, expand};
+use std::alloc::{AllocError, Global};
+use std::fmt::{Display, Write};
+use verdict_core::Ticket;
+
+/// Adds the line of a grant: its path and its printed form.
+fn push_grant(text: &mut String, entry: &(Path, AllowGrant)) -> Result<(), OutOfMemory>
+    ensures { OnOk result (string_bytes text.new ≡ string_bytes text.old ++ grant_line entry.now) }
+{
+    let path = &entry.0;
+    write!(text, "{path} ")?;
+    push_allow(text, &entry.1)?;
+    text.push_str("\n")
+}
+
+/// Adds the line of each grant.
+fn push_grants(text: &mut String, ticket: &Ticket) -> Result<(), OutOfMemory>
+    ensures { OnOk result (string_bytes text.new ≡ string_bytes text.old ++ flat_map grant_line ticket.now) }
+{
+    for entry in ticket.grants() {
+        push_grant(text, entry)?;
+    }
+    Ok(())
+}
+
+/// The canonical form of a list on a line, and a line for each grant that it comes to.
+fn explained_text(alloc: Global, list: &CapList, ticket: &Ticket) -> Result<String, OutOfMemory>
+    ensures { IfOk result (λ text. string_bytes text ≡ explained_text list.now ticket.now) }
+{
+    let mut text = print(alloc, list)?;
+    text.push_str("\n")?;
+    push_grants(&mut text, ticket)?;
+    Ok(text)
+}
+
+/// The text of a list, where it can be expanded by the built-in profiles.
+fn list_text(alloc: Global, list: &CapList) -> Result<String, OutOfMemory>
+    ensures { IfOk result (λ text. string_bytes text ≡ list_text (expand_refusal built_in list.now) list.now) }
+{
+    let table = ProfileTable::builtin(alloc)?;
+    match expand(alloc, &table, list) {
+        Ok(tree) => explained_text(alloc, list, &Ticket::of(alloc, &tree)?),
+        Err(ExpandFault::OutOfMemory) => Err(AllocError),
+        Err(fault) => refused_by_expansion(alloc, fault),
+    }
+}
+
+/// The line of a list that is not expanded.
+fn refused_by_expansion(alloc: Global, fault: ExpandFault) -> Result<String, OutOfMemory>
+    ensures { IfOk result (λ text. string_bytes text ≡ refused_text (profiles.fault_text fault)) }
+{
+    format!(in alloc; "refused {fault}\n")
+}
+
+/// The line of a text that spells no list.
+fn refused_by_parse(alloc: Global, fault: CapFault) -> Result<String, OutOfMemory>
+    ensures { IfOk result (λ text. string_bytes text ≡ refused_text (cap.fault_text fault)) }
+{
+    format!(in alloc; "refused {fault}\n")
+}
+
+/// The whole text that the program prints to explain a capability text: its canonical form on a line, which
+/// is empty where it spells no grants, and a line `PATH GRANT` for each grant that it comes to with the
+/// built-in profiles; or `refused FAULT` where it spells no list or cannot be expanded. Every line ends with
+/// a line feed.
+pub fn explain_text(alloc: Global, caps: &str) -> Result<String, OutOfMemory>
+    ensures { IfOk result (λ text. IsExplainText caps.now (string_bytes text)) }
+{
+    match parse(alloc, caps) {
+        Ok(list) => list_text(alloc, &list),
+        Err(
+            CapFault {
+                kind: FaultKind::OutOfMemory,
+                ..
+            },
+        ) => Err(AllocError),
+        Err(fault) => refused_by_parse(alloc, fault),
+    }
+}

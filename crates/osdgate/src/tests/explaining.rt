@@ -1,0 +1,118 @@
+//! Texts that are explained, and faults that are pointed at.
+
+use crate::command::run_command;
+use std::alloc::Global;
+use std::io;
+use std::test::Fail;
+
+/// What the program writes on these words, on both streams, and its status.
+fn streams(alloc: Global, words: &[&str]) -> Result<(String, String, u8), Fail> {
+    let mut out: Vec<u8> = Vec::new(alloc);
+    let mut err: Vec<u8> = Vec::new(alloc);
+    let status = run_command(alloc, words, &mut io::empty(), &mut out, &mut err);
+    let out = String::from_utf8(out).map_err(|_| "printed bytes that are no text")?;
+    let err = String::from_utf8(err).map_err(|_| "printed bytes that are no text")?;
+    Ok((out, err, status))
+}
+
+const RBD: &str = "allow rw pool=data, profile rbd pool=vms\n1 allow rw pool=data\n\
+2.1.1 allow r class-read pool=vms\n2.2 allow rwx pool=vms\n";
+
+#[test]
+fn texts_are_explained(rt: HostRuntime) -> Result<(), Fail> {
+    let alloc = rt.alloc();
+    for (caps, text) in [
+        ("", "\n"),
+        (" ", "\n"),
+        ("allow all", "allow *\n1 allow *\n"),
+        ("allow pool=data rw; profile rbd pool=vms", RBD),
+        ("profile osd", "refused G1 UnknownProfile 1\n"),
+    ] {
+        let words = ["osdgate", "explain", "--caps", caps];
+        let (out, err, status) = streams(alloc, words.as_slice())?;
+        assert_eq!(rt; out.as_str(), text, "{caps}");
+        assert_eq!(rt; err.as_str(), "", "{caps}");
+        assert_eq!(rt;
+            status,
+            if text.starts_with("refused") { 1 } else { 0 },
+            "{caps}"
+        );
+    }
+    Ok(())
+}
+
+const NETWORK: &str = "allow rw network 10.0.0.0/8\n         ^\n";
+
+const LETTER: &str = "allow r pool='d\\xc3\\xa9'\n             ^\n";
+
+const BEHIND_A_LETTER: &str = "allow r pool=\"a\" \\xc3\\xa9\n                 ^\n";
+
+const LINES: &str = "allow\\x09r\\x0aw\n              ^\n";
+
+const ENDS: &str = "allow r pool=\n             ^\n";
+
+#[test]
+fn faults_are_pointed_at(rt: HostRuntime) -> Result<(), Fail> {
+    let alloc = rt.alloc();
+    for (caps, text, pointed) in [
+        (
+            "allow rw network 10.0.0.0/8",
+            "refused C7 NetworkClause at 9\n",
+            NETWORK,
+        ),
+        (
+            "allow r pool='d\u{e9}'",
+            "refused C6 BadWord at 13\n",
+            LETTER,
+        ),
+        (
+            "allow r pool=\"a\" \u{e9}",
+            "refused C6 BadWord at 17\n",
+            BEHIND_A_LETTER,
+        ),
+        ("allow\tr\nw", "refused C3 UnknownWord at 8\n", LINES),
+        ("allow r pool=", "refused C6 BadWord at 13\n", ENDS),
+    ] {
+        let words = ["osdgate", "explain", "--caps", caps];
+        let (out, err, status) = streams(alloc, words.as_slice())?;
+        assert_eq!(rt; out.as_str(), text);
+        assert_eq!(rt; err.as_str(), pointed);
+        assert_eq!(rt; status, 1);
+    }
+    Ok(())
+}
+
+const REFUSED_VERDICT: &[&str] = &[
+    "osdgate",
+    "verdict",
+    "--caps",
+    "allow rw network 10.0.0.0/8",
+    "--pool",
+    "data",
+    "--object",
+    "x",
+];
+
+#[test]
+fn a_refused_verdict_points_too(rt: HostRuntime) -> Result<(), Fail> {
+    let (out, err, status) = streams(rt.alloc(), REFUSED_VERDICT)?;
+    assert_eq!(rt; out.as_str(), "refused C7 NetworkClause at 9\n");
+    assert_eq!(rt; err.as_str(), NETWORK);
+    assert_eq!(rt; status, 1);
+    Ok(())
+}
+
+#[test]
+fn the_program_says_what_it_is(rt: HostRuntime) -> Result<(), Fail> {
+    let alloc = rt.alloc();
+    let (out, err, status) = streams(alloc, ["osdgate", "--version"].as_slice())?;
+    assert!(rt; out.starts_with("osdgate ") && err.is_empty() && status == 0);
+    for command in ["verdict", "explain"] {
+        let (out, _, status) = streams(alloc, ["osdgate", command, "--help"].as_slice())?;
+        assert!(rt; out.contains("Example: osdgate ") && status == 0);
+    }
+    let (out, err, status) = streams(alloc, ["osdgate", "explan"].as_slice())?;
+    assert!(rt; out.is_empty() && status == 2);
+    assert!(rt; err.contains("a similar subcommand exists: 'explain'"));
+    Ok(())
+}

@@ -1,0 +1,82 @@
+"""Makes the quick build of a program and keeps it: keep_quick_build.py CRATE_FOLDER KEPT.
+
+`rt try` compiles and links a program that is not proved, runs it in a folder of its own below TMPDIR, and removes that
+folder. While it runs here, on the word --help, what it has linked gets a second name, KEPT. Exit status: 0 where KEPT
+is there and can be run, else 1.
+"""
+import os
+import shutil
+import subprocess
+import sys
+import tempfile
+import time
+
+# So many times the program is run on --help: one run is over in some milliseconds.
+RUNS = 12
+
+
+def linked_below(folder):
+    """The linked programs that are there now."""
+    found = []
+    for path, _, names in os.walk(folder):
+        if "program" in names:
+            found.append(f"{path}/program")
+    return found
+
+
+def keep(room, kept):
+    """Gives what is linked now the name kept, if anything is."""
+    for file in linked_below(f"{room}/tmp"):
+        try:
+            os.link(file, kept)
+            return True
+        except OSError:
+            pass
+    return False
+
+
+def starts(program):
+    """Whether it can be run from here, and ends by itself."""
+    how = {"stdin": subprocess.DEVNULL, "capture_output": True, "timeout": 60}
+    return subprocess.run([program, "--help"], **how).returncode in (0, 1, 2)
+
+
+def main(crate, kept):
+    name = os.path.basename(crate)
+    begun = time.time()
+    room = tempfile.mkdtemp(prefix="making-", dir=os.path.dirname(kept))
+    try:
+        os.makedirs(f"{room}/tmp")
+        os.makedirs(f"{room}/cases")
+        for number in range(RUNS):
+            open(f"{room}/cases/{number}", "wb").close()
+        words = ["rt", "try", "--cases", f"{room}/cases", "--", "--help"]
+        with open(f"{room}/said", "wb") as said:
+            ran = subprocess.Popen(
+                words,
+                cwd=crate,
+                env={**os.environ, "TMPDIR": f"{room}/tmp"},
+                stdin=subprocess.DEVNULL,
+                stdout=said,
+                stderr=subprocess.STDOUT,
+            )
+            made = f"{room}/{name}"
+            while ran.poll() is None and not keep(room, made):
+                time.sleep(0.003)
+            ran.wait()
+        if ran.returncode or not os.path.exists(made):
+            with open(f"{room}/said", encoding="utf-8", errors="replace") as said:
+                sys.stderr.write(said.read() if ran.returncode else "")
+            return 1
+        os.chmod(made, 0o755)
+        if not starts(made):
+            return 1
+        os.utime(made, (begun, begun))
+        os.replace(made, kept)
+        return 0
+    finally:
+        shutil.rmtree(room, ignore_errors=True)
+
+
+if __name__ == "__main__":
+    sys.exit(main(*sys.argv[1:]))
