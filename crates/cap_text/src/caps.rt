@@ -1,11 +1,12 @@
 //! Lists of grants.
 
-ghost use Rattle.std.specs.Prelude.{◌≡◌, ◌≤◌, [], true, length, IfOk};
+ghost use Rattle.std.specs.Prelude.{◌≡◌, ◌≤◌, [], true, length, IfOk, IsTrue, ◌↔◌};
 ghost use Rattle.std.specs.List.{list_all};
 ghost use Rattle.cap_text.specs.Spellable.{is_spellable};
 
 use crate::fault::OutOfMemory;
 use crate::grant::Grant;
+use crate::spelling::are_spellable;
 use std::alloc::Global;
 use std::marker::Model;
 
@@ -38,7 +39,14 @@ impl CapList {
         }
     }
 
-    /// The list of these grants, each of which the grammar can spell. It takes no memory.
+    /// Whether grants make a list: at most 64, each of which the grammar can spell. It takes no memory.
+    pub fn can_hold(grants: &[Grant]) -> bool
+        ensures { IsTrue result ↔ ((length grants.now ≤ 64) × (list_all is_spellable grants.now ≡ true)) }
+    {
+        grants.len() <= 64 && are_spellable(grants)
+    }
+
+    /// The list of these grants, where [`CapList::can_hold`] says that they make one. It takes no memory.
     pub fn from_vec(grants: Vec<Grant>) -> CapList
         requires few { length grants.items ≤ 64 }
         requires spellable { list_all is_spellable grants.items ≡ true }

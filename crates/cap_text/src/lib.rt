@@ -15,6 +15,7 @@ mod parser;
 mod place;
 mod printing;
 mod spellable;
+mod spelling;
 mod state;
 mod tags;
 mod token;
@@ -27,6 +28,7 @@ pub use name::{Name, copy_name};
 pub use parser::{parse, spells_at_most_one};
 pub use printing::{print, push_allow};
 pub use spellable::{spellable_is_spelled, spelled_is_spellable};
+pub use spelling::is_spellable;
 pub use tags::{AppTags, Pairs, Tags};
 pub use token::{Piece, Token};
 

@@ -23,8 +23,6 @@ pub(crate) struct Profile {
 }
 
 /// Profiles in the order in which they were added, at most 32, which contracts see as the list of them by name.
-///
-/// The body of a profile uses only profiles that were added before it.
 #[derive(Drop)]
 pub struct ProfileTable {
     profiles: IndexMap<String, Profile>,

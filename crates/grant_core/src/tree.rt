@@ -15,13 +15,13 @@ pub(crate) enum Branches {
     End,
     /// The allow at a place, and the grants behind it.
     Leaf(usize, AllowGrant, Box<Branches>),
-    /// What the use at a place comes to, at least one grant, and the grants behind it.
+    /// What the use at a place comes to, and the grants behind it.
     Use(usize, Box<Branches>, Box<Branches>),
 }
 
 /// What a list of grants comes to, which contracts see as the list of at most 256 paths and grants.
 ///
-/// No use of a profile is left in it, and a use that comes to no grant has no node.
+/// No use of a profile is left in it.
 #[derive(Debug, Drop)]
 pub struct GrantTree {
     branches: Branches,
