@@ -15,3 +15,4 @@ pub mod SpelledGrants
 pub mod PrintedMarks
 pub mod PrintedPhrases
 pub mod PrintedGrants
+pub mod ReadTexts

@@ -9,3 +9,4 @@ pub mod Printed
 pub mod Machine
 pub mod FaultText
 pub mod Sheet
+pub mod Reading

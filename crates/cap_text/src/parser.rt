@@ -5,6 +5,7 @@ ghost use Rattle.cap_text.specs.declared.grant.Grant.{Grant};
 ghost use Rattle.cap_text.specs.Grammar.{Spells, AtMostOneList};
 ghost use Rattle.cap_text.specs.Machine.{placed};
 ghost use Rattle.cap_text.specs.Faults.{OrMemory, IsFirstFault};
+ghost use Rattle.cap_text.specs.Reading.{ReadsTheGrammar};
 
 use crate::caps::CapList;
 use crate::fault::{CapFault, FaultKind};
@@ -79,4 +80,9 @@ pub fn parse(alloc: Global, text: &str) -> Result<CapList, CapFault>
 /// The law that a text spells at most one list of grants.
 pub fn spells_at_most_one()
     ensures { AtMostOneList }
+{}
+
+/// The law that what a text spells is what the function `read_text` of contracts reads from it. It does nothing.
+pub fn reads_the_grammar()
+    ensures { ReadsTheGrammar }
 {}

@@ -2,6 +2,7 @@
 
 ghost use Rattle.std.specs.Prelude.{◌≡◌, ◌↔◌, IfOk, IsTrue};
 ghost use Rattle.map_core.specs.State.{Begins};
+ghost use Rattle.map_core.specs.declared.command.MapCommand.TheVariants.{PoolCreate, AppEnable, AppSet, AppRm};
 
 use cap_text::{Name, OutOfMemory};
 use std::alloc::Global;
@@ -99,25 +100,9 @@ impl MapCommand {
                     size,
                     min_size,
                 },
-                MapCommand::PoolCreate {
-                    name: other_name,
-                    pg_num: other_pg_num,
-                    size: other_size,
-                    min_size: other_min_size,
-                },
-            ) => {
-                name.equals(other_name)
-                    && *pg_num == *other_pg_num
-                    && *size == *other_size
-                    && *min_size == *other_min_size
-            }
-            (
-                MapCommand::AppEnable { pool, app },
-                MapCommand::AppEnable {
-                    pool: other_pool,
-                    app: other_app,
-                },
-            ) => pool.equals(other_pool) && app.equals(other_app),
+                other,
+            ) => other.creates(name, *pg_num, *size, *min_size),
+            (MapCommand::AppEnable { pool, app }, other) => other.enables(pool, app),
             (
                 MapCommand::AppSet {
                     pool,
@@ -125,29 +110,71 @@ impl MapCommand {
                     key,
                     value,
                 },
-                MapCommand::AppSet {
-                    pool: other_pool,
-                    app: other_app,
-                    key: other_key,
-                    value: other_value,
-                },
-            ) => {
-                pool.equals(other_pool)
-                    && app.equals(other_app)
-                    && key.equals(other_key)
-                    && value.equals(other_value)
-            }
-            (
-                MapCommand::AppRm { pool, app, key },
-                MapCommand::AppRm {
-                    pool: other_pool,
-                    app: other_app,
-                    key: other_key,
-                },
-            ) => pool.equals(other_pool) && app.equals(other_app) && key.equals(other_key),
+                other,
+            ) => other.sets(pool, app, key, value),
+            (MapCommand::AppRm { pool, app, key }, other) => other.removes(pool, app, key),
             (MapCommand::OsdUp(daemon), MapCommand::OsdUp(other)) => *daemon == *other,
             (MapCommand::OsdDown(daemon), MapCommand::OsdDown(other)) => *daemon == *other,
             (MapCommand::OsdRestart(daemon), MapCommand::OsdRestart(other)) => *daemon == *other,
+            _ => false,
+        }
+    }
+
+    // Whether it creates a pool of this name with these numbers.
+    fn creates(&self, pool: &Name, groups: u32, daemons: u32, needed: u32) -> bool
+        ensures { IsTrue result ↔ (PoolCreate pool.now groups daemons needed ≡ self.now) }
+    {
+        match self {
+            MapCommand::PoolCreate {
+                name,
+                pg_num,
+                size,
+                min_size,
+            } => {
+                pool.equals(name) && groups == *pg_num && daemons == *size && needed == *min_size
+            }
+            _ => false,
+        }
+    }
+
+    // Whether it enables this application.
+    fn enables(&self, of_pool: &Name, application: &Name) -> bool
+        ensures { IsTrue result ↔ (AppEnable of_pool.now application.now ≡ self.now) }
+    {
+        match self {
+            MapCommand::AppEnable { pool, app } => of_pool.equals(pool) && application.equals(app),
+            _ => false,
+        }
+    }
+
+    // Whether it gives this key this value.
+    fn sets(&self, of_pool: &Name, application: &Name, of_key: &Name, new_value: &Name) -> bool
+        ensures { IsTrue result ↔ (AppSet of_pool.now application.now of_key.now new_value.now ≡ self.now) }
+    {
+        match self {
+            MapCommand::AppSet {
+                pool,
+                app,
+                key,
+                value,
+            } => {
+                of_pool.equals(pool)
+                    && application.equals(app)
+                    && of_key.equals(key)
+                    && new_value.equals(value)
+            }
+            _ => false,
+        }
+    }
+
+    // Whether it takes this key away.
+    fn removes(&self, of_pool: &Name, application: &Name, of_key: &Name) -> bool
+        ensures { IsTrue result ↔ (AppRm of_pool.now application.now of_key.now ≡ self.now) }
+    {
+        match self {
+            MapCommand::AppRm { pool, app, key } => {
+                of_pool.equals(pool) && application.equals(app) && of_key.equals(key)
+            }
             _ => false,
         }
     }
