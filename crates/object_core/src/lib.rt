@@ -20,6 +20,7 @@ mod running;
 
 pub use attributes::Attributes;
 pub use bytes::Bytes;
+pub use class::registry;
 pub use needs::{NeedsFault, needs_of};
 pub use object::Object;
 pub use op::Op;
