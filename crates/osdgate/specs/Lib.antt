@@ -1,2 +1,4 @@
 pub mod Text
 pub mod Answer
+pub mod Request
+pub mod Compared

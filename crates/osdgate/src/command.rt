@@ -2,6 +2,8 @@
 
 ghost use Rattle.std.specs.Prelude.{◌≤◌};
 
+use crate::compare::compare_text;
+use crate::printed::Printed;
 use crate::verdict::verdict_text;
 use cap_text::{AppTags, Name, OutOfMemory, Pairs, Tags};
 use clap::{Arg, ArgAction, ArgMatches, Command, Error};
@@ -65,12 +67,32 @@ fn verdict_command<'a>(alloc: Global) -> Result<Command<'a>, AllocError> {
         .arg(calls)
 }
 
+fn compare_command<'a>(alloc: Global) -> Result<Command<'a>, AllocError> {
+    let old = text_option(alloc, "old", "TEXT", "The present capability text").required(true);
+    let new = text_option(alloc, "new", "TEXT", "The text that is to take its place").required(
+        true,
+    );
+    let check = flag(
+        alloc,
+        "check",
+        "Ends with status 1 where the new text allows more",
+    );
+    Command::new(alloc, "compare")
+        .about(
+            "Tells what a new capability text allows that the old one denies, and the other way round",
+        )
+        .arg(old)?
+        .arg(new)?
+        .arg(check)
+}
+
 fn whole_command<'a>(alloc: Global) -> Result<Command<'a>, AllocError> {
     Command::new(alloc, "osdgate")
         .about("The access gate of a replicated object store")
         .subcommand_required(true)
         .disable_help_subcommand(true)
-        .subcommand(verdict_command(alloc)?)
+        .subcommand(verdict_command(alloc)?)?
+        .subcommand(compare_command(alloc)?)
 }
 
 /// An application tag: a text is cut at its first `:`, and what is behind it at its first `=`. A text with a
@@ -131,6 +153,21 @@ fn answer_verdict(alloc: Global, matches: &ArgMatches<'_>) -> Result<Option<Stri
     verdict_text(alloc, caps, &target, reads, writes, calls.as_slice()).map(Some)
 }
 
+/// What is printed of a verdict.
+fn printed_verdict(text: Option<String>) -> Option<Printed> {
+    text.map(|text| {
+        let fails = text.as_str().as_bytes().starts_with(b"refused");
+        Printed { text, fails }
+    })
+}
+
+/// What `osdgate compare` prints.
+fn answer_compare(alloc: Global, matches: &ArgMatches<'_>) -> Result<Option<Printed>, OutOfMemory> {
+    let old = matches.get_str("old").unwrap_or("");
+    let new = matches.get_str("new").unwrap_or("");
+    compare_text(alloc, old, new, matches.get_flag("check")).map(Some)
+}
+
 /// Writes a text and flushes.
 fn write_out<W: Write>(out: &mut W, text: &str) -> bool {
     out.write_all(text.as_bytes()).is_ok() && out.flush().is_ok()
@@ -138,7 +175,7 @@ fn write_out<W: Write>(out: &mut W, text: &str) -> bool {
 
 /// The status behind an answer that was made, or for which memory was wanting.
 fn finish<O: Write, E: Write>(
-    answer: Result<Option<String>, OutOfMemory>,
+    answer: Result<Option<Printed>, OutOfMemory>,
     out: &mut O,
     err: &mut E,
 ) -> u8
@@ -149,11 +186,8 @@ fn finish<O: Write, E: Write>(
             let _ = write_out(err, BAD_TAG);
             return BAD_COMMAND_LINE;
         }
-        Ok(Some(text)) if text.as_str().as_bytes().starts_with(b"refused") => (
-            text.as_str(),
-            FAULT,
-        ),
-        Ok(Some(text)) => (text.as_str(), DONE),
+        Ok(Some(printed)) if printed.fails => (printed.text.as_str(), FAULT),
+        Ok(Some(printed)) => (printed.text.as_str(), DONE),
         Err(_) => ("refused OutOfMemory\n", FAULT),
     };
     if write_out(out, text) {
@@ -167,10 +201,11 @@ fn finish<O: Write, E: Write>(
 fn answer<S: AsStr>(
     alloc: Global,
     words: &[S],
-) -> Result<Result<Option<String>, OutOfMemory>, Error> {
+) -> Result<Result<Option<Printed>, OutOfMemory>, Error> {
     let matches = whole_command(alloc)?.try_get_matches_from(words)?;
     match matches.subcommand() {
-        Some(("verdict", inner)) => Ok(answer_verdict(alloc, inner)),
+        Some(("verdict", inner)) => Ok(answer_verdict(alloc, inner).map(printed_verdict)),
+        Some(("compare", inner)) => Ok(answer_compare(alloc, inner)),
         _ => Ok(Ok(None)),
     }
 }

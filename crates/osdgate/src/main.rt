@@ -2,12 +2,17 @@
 #![tactic(auto)]
 
 mod command;
+mod compare;
+mod printed;
+mod request;
 mod text;
 mod verdict;
 
 use command::run_command;
 use std::process::ExitCode;
 
+#[cfg(test)]
+mod compare_tests;
 #[cfg(test)]
 mod tests;
 
