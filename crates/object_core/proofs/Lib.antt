@@ -3,4 +3,5 @@ pub mod CallList
 pub mod Lengths
 pub mod Numbers
 pub mod Overwrites
+pub mod RegisteredCalls
 pub mod Runs

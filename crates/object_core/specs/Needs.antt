@@ -1,6 +1,6 @@
 -- What a vector of operations asks for, and when it is refused. Source: Ceph User Management's r, w and
 -- x for reads, writes and class methods; the class registry is this project's profile.
-use Rattle.std.specs.Prelude.{ℕ, List, Bool, true, false, ◌&&◌, ◌==◌, if◌then◌else◌, Option, None, Some, is_none, length, nat_lt, codes}
+use Rattle.std.specs.Prelude.{◌≡◌, ℕ, List, [], ◌∷◌, Bool, true, false, ◌&&◌, ◌==◌, if◌then◌else◌, Option, None, Some, is_none, length, nat_lt, codes}
 use Rattle.std.specs.Option.{option_map}
 use Rattle.std.specs.List.{list_any, filter_map}
 use Rattle.std.specs.Str.{bytes_eq}
@@ -26,6 +26,18 @@ abbrev pub registered : List ℕ → List ℕ → Method → ClassCall
 registered class method CounterGet = record { class = class; method = method; class_reads = true; class_writes = false; listed = true }
 registered class method CounterAdd = record { class = class; method = method; class_reads = true; class_writes = true; listed = true }
 registered class method VaultPeek = record { class = class; method = method; class_reads = true; class_writes = false; listed = false }
+
+-- the class registry has the method, and says this of it
+abbrev pub IsRegistered : ClassCall → Type 0
+IsRegistered call = option_map (registered call.class call.method) (method_of call.class call.method) ≡ Some call
+
+-- the calls of all methods of the registry
+abbrev pub registry : List ClassCall
+registry =
+    registered (codes "counter") (codes "get") CounterGet
+    ∷ registered (codes "counter") (codes "add") CounterAdd
+    ∷ registered (codes "vault") (codes "peek") VaultPeek
+    ∷ []
 
 -- whether an operation has the need read
 abbrev pub is_read : Op → Bool

@@ -1,10 +1,14 @@
 //! The registry of object classes.
 
 ghost use Rattle.std.specs.Prelude.{◌≡◌, IfOk};
+ghost use Rattle.std.specs.List.{All, Contains};
 ghost use Rattle.object_core.specs.Needs as spec;
+ghost use Rattle.object_core.specs.Needs.{IsRegistered};
+ghost use Rattle.verdict_core.specs.declared.request.ClassCall.{ClassCall};
 
 use cap_text::{Name, OutOfMemory};
-use verdict_core::ClassCall;
+use std::alloc::Global;
+use verdict_core::{Calls, ClassCall};
 
 /// A method that the registry has.
 #[derive(Clone, Copy, Debug)]
@@ -62,4 +66,31 @@ pub(crate) fn registered(
             listed: false,
         }),
     }
+}
+
+/// The call of a method by its names.
+fn known(alloc: Global, class: &str, method: &str, found: Method) -> Result<ClassCall, OutOfMemory>
+    ensures { IfOk result (λ call. call ≡ spec.registered class.now method.now found) }
+{
+    registered(&Name::new(alloc, class)?, &Name::new(alloc, method)?, found)
+}
+
+/// The calls of all methods, in the registry's order.
+fn registered_calls(alloc: Global) -> Result<Vec<ClassCall>, OutOfMemory>
+    ensures { IfOk result (λ calls. calls.items ≡ spec.registry) }
+{
+    let mut calls = Vec::with_capacity(alloc, 3)?;
+    calls.push(known(alloc, "counter", "get", Method::CounterGet)?)?;
+    calls.push(known(alloc, "counter", "add", Method::CounterAdd)?)?;
+    calls.push(known(alloc, "vault", "peek", Method::VaultPeek)?)?;
+    Ok(calls)
+}
+
+/// The calls of all methods of the class registry, each with what the registry says of it: they are those
+/// whose needs are answered, and no others. Source: this project's profile.
+pub fn registry(alloc: Global) -> Result<Calls, OutOfMemory>
+    ensures known { IfOk result (λ calls. All IsRegistered calls) }
+    ensures whole { IfOk result (λ calls. (call : ClassCall) → IsRegistered call → Contains calls call) }
+{
+    Ok(Calls::from_vec(registered_calls(alloc)?))
 }

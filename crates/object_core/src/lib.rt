@@ -22,6 +22,7 @@ mod running;
 pub use attributes::Attributes;
 pub use bytes::Bytes;
 pub use laws::removed_is_gone;
+pub use class::registry;
 pub use needs::{NeedsFault, needs_of};
 pub use object::Object;
 pub use op::Op;

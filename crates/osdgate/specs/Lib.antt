@@ -2,3 +2,5 @@ pub mod Text
 pub mod Answer
 pub mod Explain
 pub mod Caret
+pub mod Request
+pub mod Compared

@@ -1,14 +1,19 @@
-//! The command line.
+//! The command line: from words to what is written, and the status.
 
 ghost use Rattle.std.specs.Prelude.{◌≤◌};
 
+use crate::arguments::whole_command;
 use crate::caret::point_at_fault;
+use crate::compare::compare_text;
 use crate::explain::explain_text;
-use crate::verdict::verdict_text;
+use crate::printed::Printed;
+use crate::verdict::{Answer, Times, answer, text_of};
+use crate::words::WordsFault;
 use cap_text::{AppTags, Name, OutOfMemory, Pairs, Tags};
-use clap::{Arg, ArgAction, ArgMatches, Command, Error};
+use clap::error::ErrorKind;
+use clap::{ArgMatches, Error};
 use object_core::{Bytes, Op};
-use std::alloc::{AllocError, Global};
+use std::alloc::{AllocError, AllocFailed, Global};
 use std::convert::AsStr;
 use std::io::{Read, Write};
 use verdict_core::Target;
@@ -20,77 +25,63 @@ const FAULT: u8 = 1;
 /// The words are no command line of this program.
 const BAD_COMMAND_LINE: u8 = 2;
 
-const BAD_TAG: &str = "osdgate: a tag with a `:` needs a `=` behind it\n";
+const WANT_OF_MEMORY: &str = "refused OutOfMemory\n";
 
-const TAG_HELP: &str = "An application of the pool, and a pair under it";
-
-const VERSION: &str = "0.1.0";
-
-const VERDICT_EXAMPLE: &str =
-    "Example: osdgate verdict --caps 'allow rw pool=data' --pool data --object x --read --write";
-
-const EXPLAIN_EXAMPLE: &str = "Example: osdgate explain --caps 'profile rbd pool=vms'";
-
-/// An option whose value is taken as it is, also where it begins with a dash.
-fn text_option<'a>(alloc: Global, name: &'a str, value: &'a str, help: &'a str) -> Arg<'a> {
-    Arg::new(alloc, name)
-        .long(name)
-        .action(ArgAction::Set)
-        .allow_hyphen_values(true)
-        .value_name(value)
-        .help(help)
+/// Why words that clap takes are no command line.
+#[derive(Clone, Copy, Debug, PartialEq, Eq)]
+enum BadWords {
+    /// A tag with a `:` has no `=` behind it.
+    Tag,
+    /// A time is no decimal number below 2 to the power of 64.
+    Time,
+    /// There is no such command.
+    Command,
 }
 
-fn flag<'a>(alloc: Global, name: &'a str, help: &'a str) -> Arg<'a> {
-    Arg::new(alloc, name)
-        .long(name)
-        .action(ArgAction::SetTrue)
-        .help(help)
+impl BadWords {
+    fn text(self) -> &'static str {
+        match self {
+            BadWords::Tag => "osdgate: a tag with a `:` needs a `=` behind it\n",
+            BadWords::Time => "osdgate: a time is a decimal number below 2^64, without a sign\n",
+            BadWords::Command => "osdgate: there is no such command\n",
+        }
+    }
 }
 
-fn verdict_command<'a>(alloc: Global) -> Result<Command<'a>, AllocError> {
-    let caps = text_option(alloc, "caps", "TEXT", "The capability text").required(true);
-    let pool = text_option(alloc, "pool", "POOL", "The pool").required(true);
-    let object = text_option(alloc, "object", "OBJECT", "The object's name").required(true);
-    let namespace = text_option(
-        alloc,
-        "namespace",
-        "NAMESPACE",
-        "The object's namespace, the empty one where none is given",
-    );
-    let calls = Arg::new(alloc, "calls")
-        .action(ArgAction::Append)
-        .value_name("CLASS.METHOD")
-        .help("A class method that the request calls");
-    Command::new(alloc, "verdict")
-        .about("Tells whether a capability text allows a request, and why not")
-        .after_help(VERDICT_EXAMPLE)
-        .arg(caps)?
-        .arg(pool)?
-        .arg(object)?
-        .arg(namespace)?
-        .arg(text_option(alloc, "tag", "APP[:KEY=VALUE]", TAG_HELP))?
-        .arg(flag(alloc, "read", "The request reads"))?
-        .arg(flag(alloc, "write", "The request writes"))?
-        .arg(calls)
+/// Why words have no answer.
+#[derive(Drop)]
+enum NoAnswer {
+    /// They are no command line, or ask for help: clap says it.
+    Clap(Error),
+    /// Clap takes them, and yet they are no command line.
+    Words(BadWords),
+    /// A growth was refused.
+    OutOfMemory,
 }
 
-fn explain_command<'a>(alloc: Global) -> Result<Command<'a>, AllocError> {
-    Command::new(alloc, "explain")
-        .about("Prints the canonical form of a capability text, and the grants that it comes to")
-        .after_help(EXPLAIN_EXAMPLE)
-        .arg(text_option(alloc, "caps", "TEXT", "The capability text").required(true))
+impl From<Error> for NoAnswer {
+    fn from(error: Error) -> NoAnswer {
+        NoAnswer::Clap(error)
+    }
 }
 
-fn whole_command<'a>(alloc: Global) -> Result<Command<'a>, AllocError> {
-    Command::new(alloc, "osdgate")
-        .about("The access gate of a replicated object store")
-        .version(VERSION)
-        .after_help(VERDICT_EXAMPLE)
-        .subcommand_required(true)
-        .disable_help_subcommand(true)
-        .subcommand(verdict_command(alloc)?)?
-        .subcommand(explain_command(alloc)?)
+impl From<AllocError> for NoAnswer {
+    fn from(_error: AllocError) -> NoAnswer {
+        NoAnswer::OutOfMemory
+    }
+}
+
+impl<T: Drop> From<AllocFailed<T>> for NoAnswer {
+    fn from(_error: AllocFailed<T>) -> NoAnswer {
+        NoAnswer::OutOfMemory
+    }
+}
+
+/// What a command prints, and the capability text in which a fault is shown.
+#[derive(Drop)]
+struct Answered<'a> {
+    printed: Printed,
+    caps: &'a str,
 }
 
 /// An application tag: a text is cut at its first `:`, and what is behind it at its first `=`. A text with a
@@ -124,31 +115,105 @@ fn call_of(alloc: Global, word: &str) -> Result<Op, OutOfMemory> {
     })
 }
 
-/// The text of `osdgate verdict`, or nothing where its words are no command line.
-fn answer_verdict(alloc: Global, matches: &ArgMatches<'_>) -> Result<Option<String>, OutOfMemory> {
-    let tags = match matches.get_str("tag") {
-        None => Tags::from_vec(Vec::new(alloc)),
-        Some(text) => match tags_of(alloc, text)? {
-            None => return Ok(None),
-            Some(tags) => tags,
-        },
+/// A number in decimal digits alone.
+fn number_of(text: &str) -> Option<u64> {
+    if !text.as_bytes().iter().all(|byte| byte.is_ascii_digit()) {
+        return None;
+    }
+    text.parse::<u64>().ok()
+}
+
+/// The times of `osdgate verdict`, or nothing where one is no number.
+fn times_of(matches: &ArgMatches<'_>) -> Option<Times> {
+    let until = match matches.get_str("until") {
+        None => None,
+        Some(text) => Some(number_of(text)?),
     };
-    let target = Target {
-        pool: matches.get_str("pool").unwrap_or(""),
-        tags: &tags,
-        namespace: matches.get_str("namespace").unwrap_or(""),
-        object: matches.get_str("object").unwrap_or(""),
+    let tick = match matches.get_str("tick") {
+        None => 0,
+        Some(text) => number_of(text)?,
     };
+    Some(Times { until, tick })
+}
+
+/// The value of an option, the empty text where it is not given.
+fn value_of<'a>(matches: &ArgMatches<'a>, name: &str) -> &'a str {
+    matches.get_str(name).unwrap_or("")
+}
+
+/// The calls that the words ask for.
+fn calls_of(alloc: Global, matches: &ArgMatches<'_>) -> Result<Vec<Op>, OutOfMemory> {
     let mut calls = Vec::new(alloc);
     if let Some(words) = matches.get_strs("calls") {
         for word in words {
             calls.push(call_of(alloc, word)?)?;
         }
     }
-    let caps = caps_of(matches);
+    Ok(calls)
+}
+
+/// The answer of `osdgate verdict`.
+fn answer_verdict(alloc: Global, matches: &ArgMatches<'_>) -> Result<Answer, NoAnswer> {
+    let tags = match matches.get_str("tag") {
+        None => Tags::from_vec(Vec::new(alloc)),
+        Some(text) => match tags_of(alloc, text)? {
+            None => return Err(NoAnswer::Words(BadWords::Tag)),
+            Some(tags) => tags,
+        },
+    };
+    let Some(times) = times_of(matches) else {
+        return Err(NoAnswer::Words(BadWords::Time));
+    };
+    let target = Target {
+        pool: value_of(matches, "pool"),
+        tags: &tags,
+        namespace: value_of(matches, "namespace"),
+        object: value_of(matches, "object"),
+    };
+    let calls = calls_of(alloc, matches)?;
+    let caps = value_of(matches, "caps");
     let reads = matches.get_flag("read");
     let writes = matches.get_flag("write");
-    verdict_text(alloc, caps, &target, reads, writes, calls.as_slice()).map(Some)
+    Ok(answer(alloc, caps, &target, reads, writes, calls.as_slice(), times)?)
+}
+
+/// What `osdgate verdict` prints.
+fn printed_verdict(alloc: Global, matches: &ArgMatches<'_>) -> Result<Printed, NoAnswer> {
+    let answer = answer_verdict(alloc, matches)?;
+    Ok(Printed {
+        text: text_of(alloc, &answer)?,
+        fails: answer.is_err(),
+    })
+}
+
+/// What `osdgate compare` prints.
+fn printed_comparison(alloc: Global, matches: &ArgMatches<'_>) -> Result<Printed, OutOfMemory> {
+    let old = value_of(matches, "old");
+    let new = value_of(matches, "new");
+    compare_text(alloc, old, new, matches.get_flag("check"))
+}
+
+/// What the words ask for.
+fn answer_words<'a, S: AsStr>(alloc: Global, words: &'a [S]) -> Result<Answered<'a>, NoAnswer> {
+    let matches = whole_command(alloc)?.try_get_matches_from(words)?;
+    match matches.subcommand() {
+        Some(("verdict", inner)) => Ok(Answered {
+            printed: printed_verdict(alloc, inner)?,
+            caps: value_of(inner, "caps"),
+        }),
+        Some(("explain", inner)) => {
+            let caps = value_of(inner, "caps");
+            Ok(Answered {
+                printed: explain_text(alloc, caps)?,
+                caps,
+            })
+        }
+        Some(("compare", inner)) => Ok(Answered {
+            printed: printed_comparison(alloc, inner)?,
+            caps: "",
+        }),
+        _ => Err(NoAnswer::Words(BadWords::Command)),
+    }
 }
 
 /// Writes a text and flushes.
@@ -156,26 +221,11 @@ fn write_out<W: Write>(out: &mut W, text: &str) -> bool {
     out.write_all(text.as_bytes()).is_ok() && out.flush().is_ok()
 }
 
-/// The status behind an answer that was made, or for which memory was wanting.
-fn finish<O: Write, E: Write>(
-    answer: Result<Option<String>, OutOfMemory>,
-    out: &mut O,
-    err: &mut E,
-) -> u8
+/// Writes an answer's text, and answers the status behind it.
+fn finish<O: Write, E: Write>(text: &str, status: u8, out: &mut O, err: &mut E) -> u8
+    requires { status ≤ 2 }
     ensures { result ≤ 2 }
 {
-    let (text, status) = match &answer {
-        Ok(None) => {
-            let _ = write_out(err, BAD_TAG);
-            return BAD_COMMAND_LINE;
-        }
-        Ok(Some(text)) if text.as_str().as_bytes().starts_with(b"refused") => (
-            text.as_str(),
-            FAULT,
-        ),
-        Ok(Some(text)) => (text.as_str(), DONE),
-        Err(_) => ("refused OutOfMemory\n", FAULT),
-    };
     if write_out(out, text) {
         return status;
     }
@@ -183,25 +233,55 @@ fn finish<O: Write, E: Write>(
     FAULT
 }
 
-/// What the words ask for, and the capability text that they give; or why they are no command line.
-fn answer<'a, S: AsStr>(
+/// Writes an answer, and after a refusal where the fault of the capability text stands.
+fn finish_answer<O: Write, E: Write>(
     alloc: Global,
-    words: &'a [S],
-) -> Result<(Result<Option<String>, OutOfMemory>, &'a str), Error> {
-    let matches = whole_command(alloc)?.try_get_matches_from(words)?;
-    match matches.subcommand() {
-        Some(("verdict", inner)) => Ok((answer_verdict(alloc, inner), caps_of(inner))),
-        Some(("explain", inner)) => {
-            let caps = caps_of(inner);
-            Ok((explain_text(alloc, caps).map(Some), caps))
-        }
-        _ => Ok((Ok(None), "")),
+    answered: &Answered<'_>,
+    out: &mut O,
+    err: &mut E,
+) -> u8
+    ensures { result ≤ 2 }
+{
+    let status = if answered.printed.fails { FAULT } else { DONE };
+    let status = finish(answered.printed.text.as_str(), status, out, err);
+    if answered.printed.fails {
+        point_at_fault(alloc, answered.caps, err);
+    }
+    status
+}
+
+/// What clap says of words that it does not take, or the help that they ask for.
+fn finish_error<O: Write, E: Write>(error: &Error, out: &mut O, err: &mut E) -> u8
+    ensures { result ≤ 2 }
+{
+    if error.kind() == ErrorKind::OutOfMemory {
+        return finish(WANT_OF_MEMORY, FAULT, out, err);
+    }
+    if error.use_stderr() {
+        let _ = write!(err, "{error}");
+        return BAD_COMMAND_LINE;
+    }
+    if write!(out, "{error}").is_ok() {
+        DONE
+    } else {
+        FAULT
     }
 }
 
-/// The capability text of a command.
-fn caps_of<'a>(matches: &ArgMatches<'a>) -> &'a str {
-    matches.get_str("caps").unwrap_or("")
+/// Tells why the words of the command line cannot be read, and answers the status.
+pub(crate) fn refuse_words<O: Write, E: Write>(fault: WordsFault, out: &mut O, err: &mut E) -> u8
+    ensures { result ≤ 2 }
+{
+    match fault {
+        WordsFault::OutOfMemory => finish(WANT_OF_MEMORY, FAULT, out, err),
+        WordsFault::NotText(number) => {
+            let _ = write!(
+                err,
+                "osdgate: word {number} of the command line is not UTF-8\n"
+            );
+            BAD_COMMAND_LINE
+        }
+    }
 }
 
 /// Runs the program on the words of its command line, the first of which is the program's own name, and
@@ -219,24 +299,13 @@ pub fn run_command<S: AsStr, R: Read, O: Write, E: Write>(
 ) -> u8
     ensures { result ≤ 2 }
 {
-    match answer(alloc, words) {
-        Ok((text, caps)) => {
-            let status = finish(text, out, err);
-            if status == FAULT {
-                point_at_fault(alloc, caps, err);
-            }
-            status
+    match answer_words(alloc, words) {
+        Ok(answered) => finish_answer(alloc, &answered, out, err),
+        Err(NoAnswer::Words(bad)) => {
+            let _ = write_out(err, bad.text());
+            BAD_COMMAND_LINE
         }
-        Err(error) => {
-            if error.use_stderr() {
-                let _ = write!(err, "{error}");
-                return BAD_COMMAND_LINE;
-            }
-            if write!(out, "{error}").is_ok() {
-                DONE
-            } else {
-                FAULT
-            }
-        }
+        Err(NoAnswer::OutOfMemory) => finish(WANT_OF_MEMORY, FAULT, out, err),
+        Err(NoAnswer::Clap(error)) => finish_error(&error, out, err),
     }
 }

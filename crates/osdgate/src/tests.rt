@@ -8,7 +8,7 @@ use std::io;
 use std::test::Fail;
 
 /// What the program prints on these words, and its status.
-fn run(alloc: Global, words: &[&str]) -> Result<(String, u8), Fail> {
+pub(crate) fn run(alloc: Global, words: &[&str]) -> Result<(String, u8), Fail> {
     let mut out: Vec<u8> = Vec::new(alloc);
     let mut err: Vec<u8> = Vec::new(alloc);
     let status = run_command(alloc, words, &mut io::empty(), &mut out, &mut err);

@@ -1,0 +1,11 @@
+use Rattle.std.proofs.Common.{ap, ◌∙◌}
+use Rattle.compare_core.specs.Questions as spec
+use Rattle.compare_core.proofs.Asked.{enough_questions}
+use Rattle.compare_core.proofs.Results.{ok_also}
+use Rattle.compare_core.proofs.question.questions.Goals as goal
+
+pub returns : goal.returns
+returns c =
+    ok_also c.needs_with.result
+    (λ asked is. enough_questions asked.items c.in_ok-registry.field-0 (is ∙ ap spec.questions c.as_slice-2.ensures) c.in_ok-registry.ensures.known c.in_ok-registry.ensures.whole)
+    c.needs_with.ensures

@@ -1,0 +1,36 @@
+-- The needs that are tried at a place: at most one call.
+use Rattle.std.specs.Prelude.{◌≡◌, List, [], ◌∷◌, ◌++◌, map, Bool, true, false, not, ◌&&◌, Option, None, Some, option_to_list, ℕ}
+use Rattle.std.specs.List.{list_any, All, Contains}
+use Rattle.cap_text.specs.declared.grant.AllowGrant.{AllowGrant}
+use Rattle.verdict_core.specs.Place.{Place}
+use Rattle.verdict_core.specs.Verdict.{is_allowed}
+use Rattle.verdict_core.specs.declared.request.Needs.{Needs}
+use Rattle.verdict_core.specs.declared.request.ClassCall.{ClassCall}
+use Rattle.object_core.specs.Needs.{IsRegistered}
+use Rattle.compare_core.specs.Widening.{IsAsked}
+
+abbrev pub asks : Bool → Bool → List ClassCall → Needs
+asks reads writes calls = record { reads = reads; writes = writes; calls = calls }
+
+abbrev pub asks_one : Bool → Bool → ClassCall → Needs
+asks_one reads writes call = asks reads writes (call ∷ [])
+
+-- needs with at most one of these calls: the plainest first, and those that need nothing last
+abbrev pub questions : List ClassCall → List Needs
+questions calls =
+    asks true false [] ∷ asks false true [] ∷ asks true true []
+    ∷ (map (asks_one false false) calls ++ (map (asks_one true false) calls ++ (map (asks_one false true) calls ++ (map (asks_one true true) calls ++ asks false false [] ∷ []))))
+
+-- needs that may all be asked, among which are all those with at most one call
+pub record AreEnough (questions : List Needs) : Type 0 where
+  pub asked : All IsAsked questions
+  pub whole : (reads writes : Bool) (call : Option ClassCall) → ((one : ClassCall) → call ≡ Some one → IsRegistered one) → Contains questions (asks reads writes (option_to_list call))
+
+-- new allows the needs at the place, and old denies them
+abbrev pub shows : List (List ℕ × AllowGrant) → List (List ℕ × AllowGrant) → Place → Needs → Bool
+shows old new place needs = is_allowed new place needs && not (is_allowed old place needs)
+
+-- none of the needs shows that new allows more at the place, or these do
+abbrev pub IsShownBy : List (List ℕ × AllowGrant) → List (List ℕ × AllowGrant) → Place → List Needs → Option Needs → Type 0
+IsShownBy old new place questions None = list_any (shows old new place) questions ≡ false
+IsShownBy old new place questions (Some needs) = Contains questions needs × (shows old new place needs ≡ true)

@@ -1,0 +1,79 @@
+//! What one ticket allows that another denies.
+
+ghost use Rattle.std.specs.Prelude.{◌≡◌, ◌≤◌, ◌↔◌, [], ◌∷◌, length, IfOk, MatchOption};
+ghost use Rattle.std.specs.List.{All};
+ghost use Rattle.compare_core.specs.Questions.{AreEnough};
+ghost use Rattle.compare_core.specs.Widening.{Answers, IsExampleOf, IsGained, Widens, request_of};
+
+use crate::best::best_place;
+use crate::place::Place;
+use crate::question::{questions, shown_needs};
+use cap_text::{AllowGrant, OutOfMemory};
+use grant_core::Path;
+use std::alloc::Global;
+use verdict_core::{Needs, Ticket};
+
+/// A request that a grant of the new ticket allows by itself, and that the old ticket denies.
+#[derive(Debug, Drop)]
+pub struct Example {
+    /// The grant's path.
+    pub path: Path,
+    pub place: Place,
+    pub needs: Needs,
+}
+
+/// The ticket of one grant.
+fn alone(alloc: Global, path: &Path, grant: &AllowGrant) -> Result<Ticket, OutOfMemory>
+    ensures { IfOk result (λ ticket. ticket ≡ (path.now, grant.now) ∷ []) }
+{
+    let mut grants = Vec::new(alloc);
+    grants.push((path.copy()?, grant.copy()?))?;
+    Ok(Ticket::from_vec(grants))
+}
+
+/// An example of what a grant by itself allows and the old ticket denies, if there is anything.
+fn example_of(
+    alloc: Global,
+    questions: &[Needs],
+    old: &Ticket,
+    path: &Path,
+    grant: &AllowGrant,
+) -> Result<Option<Example>, OutOfMemory>
+    requires few { length old.now ≤ 256 }
+    requires questions { AreEnough questions.now }
+    ensures { IfOk result (λ found. MatchOption found
+        (¬ Widens old.now ((path.now, grant.now) ∷ []))
+        (λ example. IsExampleOf old.now (path.now, grant.now) example)) }
+{
+    let place = best_place(alloc, grant, old)?;
+    let new = alone(alloc, path, grant)?;
+    match shown_needs(questions, old, &new, &place)? {
+        None => Ok(None),
+        Some(needs) => Ok(Some(Example {
+            path: path.copy()?,
+            place,
+            needs,
+        })),
+    }
+}
+
+/// For each grant of `new`, in order, that by itself allows some request which `old` denies, its path and one such
+/// request. Where there is none, `new` allows nothing that `old` denies.
+///
+/// The requests are those of all places and of all needs whose calls are methods of the class registry. An expanded
+/// text has at most 256 grants, so that letters are left for names that `old` does not speak of.
+pub fn widening(alloc: Global, old: &Ticket, new: &Ticket) -> Result<Vec<Example>, OutOfMemory>
+    requires { length old.now ≤ 256 }
+    ensures answers { IfOk result (λ examples. Answers old.now new.now examples.items) }
+    ensures gained { IfOk result (λ examples. All (λ example. IsGained old.now new.now (request_of example)) examples.items) }
+    ensures empty { IfOk result (λ examples. (examples.items ≡ []) ↔ ¬ Widens old.now new.now) }
+{
+    let questions = questions(alloc)?;
+    let mut examples = Vec::new(alloc);
+    for entry in new.grants() {
+        if let Some(example) = example_of(alloc, &questions, old, &entry.0, &entry.1)? {
+            examples.push(example)?;
+        }
+    }
+    Ok(examples)
+}

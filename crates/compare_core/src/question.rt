@@ -1,0 +1,110 @@
+//! The needs that are tried at a place.
+
+ghost use Rattle.std.specs.Prelude.{◌≡◌, ◌++◌, map, IfOk, OnOk};
+ghost use Rattle.compare_core.specs.Questions as spec;
+ghost use Rattle.compare_core.specs.Questions.{AreEnough, IsShownBy};
+
+use crate::place::Place;
+use cap_text::OutOfMemory;
+use object_core::registry;
+use std::alloc::Global;
+use verdict_core::{Calls, ClassCall, Needs, Ticket, judge};
+
+/// Needs that read and write as these flags say, with these calls.
+fn asks(reads: bool, writes: bool, calls: Vec<ClassCall>) -> Needs
+    ensures { result ≡ spec.asks reads writes calls.items }
+{
+    Needs {
+        reads,
+        writes,
+        calls: Calls::from_vec(calls),
+    }
+}
+
+/// Needs with one call.
+fn asks_one(
+    alloc: Global,
+    reads: bool,
+    writes: bool,
+    call: &ClassCall,
+) -> Result<Needs, OutOfMemory>
+    ensures { IfOk result (λ needs. needs ≡ spec.asks_one reads writes call.now) }
+{
+    let mut calls = Vec::with_capacity(alloc, 1)?;
+    calls.push(call.copy()?)?;
+    Ok(asks(reads, writes, calls))
+}
+
+/// Adds needs with each of the calls.
+fn push_calls(
+    questions: &mut Vec<Needs>,
+    alloc: Global,
+    reads: bool,
+    writes: bool,
+    calls: &[ClassCall],
+) -> Result<(), OutOfMemory>
+    ensures { OnOk result (questions.new.items ≡ questions.old.items ++ map (spec.asks_one reads writes) calls.now) }
+{
+    for call in calls {
+        questions.push(asks_one(alloc, reads, writes, call)?)?;
+    }
+    Ok(())
+}
+
+/// The needs with at most one of these calls: the plainest first, and those that need nothing last.
+fn needs_with(alloc: Global, calls: &[ClassCall]) -> Result<Vec<Needs>, OutOfMemory>
+    ensures { IfOk result (λ questions. questions.items ≡ spec.questions calls.now) }
+{
+    let mut questions = Vec::new(alloc);
+    questions.push(asks(true, false, Vec::new(alloc)))?;
+    questions.push(asks(false, true, Vec::new(alloc)))?;
+    questions.push(asks(true, true, Vec::new(alloc)))?;
+    push_calls(&mut questions, alloc, false, false, calls)?;
+    push_calls(&mut questions, alloc, true, false, calls)?;
+    push_calls(&mut questions, alloc, false, true, calls)?;
+    push_calls(&mut questions, alloc, true, true, calls)?;
+    questions.push(asks(false, false, Vec::new(alloc)))?;
+    Ok(questions)
+}
+
+/// All needs with at most one call of a method of the class registry.
+pub(crate) fn questions(alloc: Global) -> Result<Vec<Needs>, OutOfMemory>
+    ensures { IfOk result (λ questions. AreEnough questions.items) }
+{
+    needs_with(alloc, registry(alloc)?.as_slice())
+}
+
+/// Whether the new ticket allows the needs at a place where the old one denies them.
+fn shows(old: &Ticket, new: &Ticket, place: &Place, needs: &Needs) -> bool
+    ensures { result ≡ spec.shows old.now new.now place.now needs.now }
+{
+    judge(new, &place.target(), needs) && !judge(old, &place.target(), needs)
+}
+
+/// Equal needs.
+fn copy_needs(needs: &Needs) -> Result<Needs, OutOfMemory>
+    ensures { IfOk result (λ copy. copy ≡ needs.now) }
+{
+    Ok(Needs {
+        reads: needs.reads,
+        writes: needs.writes,
+        calls: needs.calls.copy()?,
+    })
+}
+
+/// The first of the needs that the new ticket allows at a place where the old one denies them.
+pub(crate) fn shown_needs(
+    questions: &[Needs],
+    old: &Ticket,
+    new: &Ticket,
+    place: &Place,
+) -> Result<Option<Needs>, OutOfMemory>
+    ensures { IfOk result (λ found. IsShownBy old.now new.now place.now questions.now found) }
+{
+    for needs in questions {
+        if shows(old, new, place, needs) {
+            return Ok(Some(copy_needs(needs)?));
+        }
+    }
+    Ok(None)
+}
