@@ -12,7 +12,6 @@ use cap_text::{AllowGrant, CapFault, CapList, FaultKind, OutOfMemory, parse, pri
 use grant_core::{ExpandFault, Path, ProfileTable, expand};
 use std::alloc::{AllocError, Global};
 use std::fmt::{Display, Write};
-use verdict_core::Ticket;
 
 /// Adds the line of a grant: its path and its printed form.
 fn push_grant(text: &mut String, entry: &(Path, AllowGrant)) -> Result<(), OutOfMemory>
@@ -25,22 +24,26 @@ fn push_grant(text: &mut String, entry: &(Path, AllowGrant)) -> Result<(), OutOf
 }
 
 /// Adds the line of each grant.
-fn push_grants(text: &mut String, ticket: &Ticket) -> Result<(), OutOfMemory>
-    ensures { OnOk result (string_bytes text.new ≡ string_bytes text.old ++ flat_map grant_line ticket.now) }
+fn push_grants(text: &mut String, grants: &[(Path, AllowGrant)]) -> Result<(), OutOfMemory>
+    ensures { OnOk result (string_bytes text.new ≡ string_bytes text.old ++ flat_map grant_line grants.now) }
 {
-    for entry in ticket.grants() {
+    for entry in grants {
         push_grant(text, entry)?;
     }
     Ok(())
 }
 
 /// The canonical form of a list on a line, and a line for each grant that it comes to.
-fn explained_text(alloc: Global, list: &CapList, ticket: &Ticket) -> Result<String, OutOfMemory>
-    ensures { IfOk result (λ text. string_bytes text ≡ explained_text list.now ticket.now) }
+fn explained_text(
+    alloc: Global,
+    list: &CapList,
+    grants: &[(Path, AllowGrant)],
+) -> Result<String, OutOfMemory>
+    ensures { IfOk result (λ text. string_bytes text ≡ explained_text list.now grants.now) }
 {
     let mut text = print(alloc, list)?;
     text.push_str("\n")?;
-    push_grants(&mut text, ticket)?;
+    push_grants(&mut text, grants)?;
     Ok(text)
 }
 
@@ -50,7 +53,7 @@ fn list_text(alloc: Global, list: &CapList) -> Result<String, OutOfMemory>
 {
     let table = ProfileTable::builtin(alloc)?;
     match expand(alloc, &table, list) {
-        Ok(tree) => explained_text(alloc, list, &Ticket::of(alloc, &tree)?),
+        Ok(tree) => explained_text(alloc, list, tree.flat(alloc)?.as_slice()),
         Err(ExpandFault::OutOfMemory) => Err(AllocError),
         Err(fault) => refused_by_expansion(alloc, fault),
     }

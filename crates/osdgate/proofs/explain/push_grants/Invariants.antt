@@ -6,4 +6,4 @@ use Rattle.osdgate.proofs.explain.push_grants.Given as goal
 -- what is written, and what the rest gives, is the whole
 abbrev pub invariant-loop-entry : goal.invariant-loop-entry
 invariant-loop-entry l =
-    string_bytes l.text ++ flat_map grant_line (drop l.entry-index l.entry-items) ≡ string_bytes l.initial.text ++ flat_map grant_line l.entry-items
+    string_bytes l.text ++ flat_map grant_line (drop l.entry-index l.grants) ≡ string_bytes l.initial.text ++ flat_map grant_line l.grants
