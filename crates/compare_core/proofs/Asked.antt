@@ -8,7 +8,7 @@ use Rattle.std.specs.List.{list_any, All, Contains}
 use Rattle.std.proofs.lemmas.Bool.{false≢true}
 use Rattle.cap_text.specs.declared.grant.AllowGrant.{AllowGrant}
 use Rattle.verdict_core.specs.Place.{Place}
-use Rattle.verdict_core.specs.Verdict.{matches, is_allowed}
+use Rattle.verdict_core.specs.Verdict.{matches, grants_allow}
 use Rattle.verdict_core.specs.declared.request.Needs.{Needs}
 use Rattle.verdict_core.specs.declared.request.ClassCall.{ClassCall}
 use Rattle.object_core.specs.Needs.{IsRegistered}
@@ -131,11 +131,11 @@ nothing_gained old entry place asked enough best none gained =
     only zero at = sym (some_same at)
     only (suc i) at = absurd (cc)
 
-    at_best : (needs : Needs) → is_allowed (entry ∷ []) gained.0.place needs ≡ true → is_allowed old gained.0.place needs ≡ false → shows old (entry ∷ []) place needs ≡ true
+    at_best : (needs : Needs) → grants_allow (entry ∷ []) gained.0.place needs ≡ true → grants_allow old gained.0.place needs ≡ false → shows old (entry ∷ []) place needs ≡ true
     at_best needs allowed denied =
         both _ _
         (alone_there entry gained.0.place place needs best.0 allowed)
-        (denies (is_allowed old place needs) (fails _ (λ h. false≢true (sym denied ∙ allowed_there old place gained.0.place needs (λ i e at k. best.1 i e at k gained.0.place (matched_alone entry gained.0.place needs allowed)) h))))
+        (denies (grants_allow old place needs) (fails _ (λ h. false≢true (sym denied ∙ allowed_there old place gained.0.place needs (λ i e at k. best.1 i e at k gained.0.place (matched_alone entry gained.0.place needs allowed)) h))))
 
     registered : (call : Option ClassCall) → ((one : ClassCall) → call ≡ Some one → (i : ℕ) × (slice_get gained.0.needs.calls i ≡ Some one)) → (one : ClassCall) → call ≡ Some one → IsRegistered one
     registered call small one is = let found = small one is in all_slice_get IsRegistered gained.0.needs.calls found.0 one gained.1.0 found.1
@@ -146,5 +146,5 @@ nothing_gained old entry place asked enough best none gained =
     by_grant : Shown old (entry ∷ []) gained.0.place gained.0.needs → ⊥
     by_grant shown =
         let same : shown.entry ≡ entry = only shown.index shown.at in
-        let here : shows old (entry ∷ []) place (calling gained.0.needs (option_to_list shown.call)) ≡ true = at_best _ (ap (λ e. is_allowed (e ∷ []) gained.0.place (calling gained.0.needs (option_to_list shown.call))) (sym same) ∙ shown.allowed) shown.denied in
+        let here : shows old (entry ∷ []) place (calling gained.0.needs (option_to_list shown.call)) ≡ true = at_best _ (ap (λ e. grants_allow (e ∷ []) gained.0.place (calling gained.0.needs (option_to_list shown.call))) (sym same) ∙ shown.allowed) shown.denied in
         false≢true (sym (silent _ (enough.whole gained.0.needs.reads gained.0.needs.writes shown.call (registered shown.call shown.small))) ∙ here)

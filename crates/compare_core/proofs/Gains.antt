@@ -8,7 +8,7 @@ use Rattle.std.proofs.lemmas.List.Elements.{All-contains}
 use Rattle.std.proofs.lemmas.Option.{slice_get-get_or}
 use Rattle.cap_text.specs.declared.grant.AllowGrant.{AllowGrant}
 use Rattle.verdict_core.specs.Place.{Place}
-use Rattle.verdict_core.specs.Verdict.{matches, is_usable, is_covered, covers, is_allowed}
+use Rattle.verdict_core.specs.Verdict.{matches, is_usable, is_covered, covers, grants_allow}
 use Rattle.verdict_core.specs.declared.request.Needs.{Needs}
 use Rattle.verdict_core.specs.declared.request.ClassCall.{ClassCall}
 use Rattle.compare_core.specs.declared.comparing.Example.{Example}
@@ -65,7 +65,7 @@ example_from old (g ∷ new) (e ∷ es) h k example at =
     by (inr silent) j q first rest = later (rest silent.1)
 
 -- what one grant allows, each ticket that has it allows
-allowed_among : (grants : Grants) (i : ℕ) (entry : List ℕ × AllowGrant) (place : Place) (needs : Needs) → slice_get grants i ≡ Some entry → is_allowed (entry ∷ []) place needs ≡ true → is_allowed grants place needs ≡ true
+allowed_among : (grants : Grants) (i : ℕ) (entry : List ℕ × AllowGrant) (place : Place) (needs : Needs) → slice_get grants i ≡ Some entry → grants_allow (entry ∷ []) place needs ≡ true → grants_allow grants place needs ≡ true
 allowed_among grants i entry place needs at h =
     both _ _
     (among (λ e. is_usable e.1 place needs) (both_left _ _ h))
@@ -132,7 +132,7 @@ shown_grant old new entry path place asked None needs is same enough h some = ab
 shown_grant old new entry path place asked (Some m) needs is same enough h some =
     let equal : m ≡ needs = cc in
     let shown : shows old (entry ∷ []) place needs ≡ true = (λ i. shows old (sym is i) place (sym equal i)) ∙ h.1 in
-    (same, (subst IsAsked equal (All-contains IsAsked asked m enough.asked h.0), both_left _ _ shown, negated (is_allowed old place needs) (both_right (is_allowed (entry ∷ []) place needs) _ shown)))
+    (same, (subst IsAsked equal (All-contains IsAsked asked m enough.asked h.0), both_left _ _ shown, negated (grants_allow old place needs) (both_right (grants_allow (entry ∷ []) place needs) _ shown)))
 
 pub append_nil : (l : List Example) → l ++ [] ≡ l
 append_nil [] = refl

@@ -3,7 +3,7 @@ use Rattle.std.specs.Prelude.{◌≡◌, List, [], ◌∷◌, ◌++◌, map, Boo
 use Rattle.std.specs.List.{list_any, All, Contains}
 use Rattle.cap_text.specs.declared.grant.AllowGrant.{AllowGrant}
 use Rattle.verdict_core.specs.Place.{Place}
-use Rattle.verdict_core.specs.Verdict.{is_allowed}
+use Rattle.verdict_core.specs.Verdict.{grants_allow}
 use Rattle.verdict_core.specs.declared.request.Needs.{Needs}
 use Rattle.verdict_core.specs.declared.request.ClassCall.{ClassCall}
 use Rattle.object_core.specs.Needs.{IsRegistered}
@@ -28,7 +28,7 @@ pub record AreEnough (questions : List Needs) : Type 0 where
 
 -- new allows the needs at the place, and old denies them
 abbrev pub shows : List (List ℕ × AllowGrant) → List (List ℕ × AllowGrant) → Place → Needs → Bool
-shows old new place needs = is_allowed new place needs && not (is_allowed old place needs)
+shows old new place needs = grants_allow new place needs && not (grants_allow old place needs)
 
 -- none of the needs shows that new allows more at the place, or these do
 abbrev pub IsShownBy : List (List ℕ × AllowGrant) → List (List ℕ × AllowGrant) → Place → List Needs → Option Needs → Type 0

@@ -3,7 +3,7 @@ use Rattle.std.specs.Prelude.{◌≡◌, ℕ, List, [], ◌∷◌, true, false, 
 use Rattle.std.specs.List.{All}
 use Rattle.cap_text.specs.declared.grant.AllowGrant.{AllowGrant}
 use Rattle.verdict_core.specs.Place.{Place}
-use Rattle.verdict_core.specs.Verdict.{is_allowed}
+use Rattle.verdict_core.specs.Verdict.{grants_allow}
 use Rattle.verdict_core.specs.declared.request.Needs.{Needs}
 use Rattle.object_core.specs.Needs.{IsRegistered}
 use Rattle.compare_core.specs.declared.comparing.Example.{Example}
@@ -18,7 +18,7 @@ IsAsked needs = All IsRegistered needs.calls
 
 -- a request that may be asked, which new allows and old denies
 abbrev pub IsGained : List (List ℕ × AllowGrant) → List (List ℕ × AllowGrant) → Request → Type 0
-IsGained old new request = IsAsked request.needs × (is_allowed new request.place request.needs ≡ true) × (is_allowed old request.place request.needs ≡ false)
+IsGained old new request = IsAsked request.needs × (grants_allow new request.place request.needs ≡ true) × (grants_allow old request.place request.needs ≡ false)
 
 -- some request, of all places and all needs that may be asked, is gained
 abbrev pub Widens : List (List ℕ × AllowGrant) → List (List ℕ × AllowGrant) → Type 0

@@ -1,13 +1,14 @@
 //! Random pairs of texts, compared with all requests over small alphabets.
 
 use crate::comparing::widening;
-use crate::tests::{alone, ticket};
-use cap_text::{AppTags, Name, Pairs, Tags};
+use crate::tests::ticket;
+use cap_text::{AllowGrant, AppTags, Name, Pairs, Tags};
+use grant_core::Path;
 use object_core::registry;
 use std::alloc::Global;
 use std::fmt::Write;
 use std::test::Fail;
-use verdict_core::{Calls, Needs, Target, Ticket, judge};
+use verdict_core::{Calls, Needs, Target, Ticket, grants_allow};
 
 const ACCESSES: &[&str] = &[
     "r",
@@ -130,12 +131,18 @@ fn all_needs(alloc: Global) -> Result<Vec<Needs>, Fail> {
     Ok(all)
 }
 
-fn shows_at(old: &Ticket, new: &Ticket, target: &Target<'_>, needs: &[Needs]) -> bool {
-    needs.iter().any(|needs| judge(new, target, needs) && !judge(old, target, needs))
+fn shows_at(
+    old: &Ticket,
+    new: &[(Path, AllowGrant)],
+    target: &Target<'_>,
+    needs: &[Needs],
+) -> bool {
+    needs.iter().any(|needs| grants_allow(new, target, needs)
+        && !grants_allow(old.grants(), target, needs))
 }
 
-/// Whether some request over the alphabets is allowed by the new ticket and denied by the old one.
-fn gains(old: &Ticket, new: &Ticket, tags: &[Tags], needs: &[Needs]) -> bool {
+/// Whether some request over the alphabets is allowed by the new grants and denied by the old one.
+fn gains(old: &Ticket, new: &[(Path, AllowGrant)], tags: &[Tags], needs: &[Needs]) -> bool {
     for pool in PLACE_NAMES {
         for namespace in PLACE_NAMES {
             for object in PLACE_NAMES {
@@ -162,8 +169,8 @@ fn found_by_looking(alloc: Global, old: &Ticket, new: &Ticket) -> Result<String,
     let needs = all_needs(alloc)?;
     let mut paths = String::new(alloc);
     for entry in new.grants() {
-        let one = alone(alloc, entry.1.copy()?)?;
-        if gains(old, &one, &tags, &needs) {
+        let one = vec![in alloc; (entry.0.copy()?, entry.1.copy()?)]?;
+        if gains(old, one.as_slice(), &tags, &needs) {
             write!(paths, "{} ", entry.0)?;
         }
     }

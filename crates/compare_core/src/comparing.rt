@@ -22,13 +22,17 @@ pub struct Example {
     pub needs: Needs,
 }
 
-/// The ticket of one grant.
-fn alone(alloc: Global, path: &Path, grant: &AllowGrant) -> Result<Ticket, OutOfMemory>
-    ensures { IfOk result (λ ticket. ticket ≡ (path.now, grant.now) ∷ []) }
+/// One grant alone.
+fn alone(
+    alloc: Global,
+    path: &Path,
+    grant: &AllowGrant,
+) -> Result<Vec<(Path, AllowGrant)>, OutOfMemory>
+    ensures { IfOk result (λ grants. grants.items ≡ (path.now, grant.now) ∷ []) }
 {
     let mut grants = Vec::new(alloc);
     grants.push((path.copy()?, grant.copy()?))?;
-    Ok(Ticket::from_vec(grants))
+    Ok(grants)
 }
 
 /// An example of what a grant by itself allows and the old ticket denies, if there is anything.
@@ -39,15 +43,15 @@ fn example_of(
     path: &Path,
     grant: &AllowGrant,
 ) -> Result<Option<Example>, OutOfMemory>
-    requires few { length old.now ≤ 256 }
+    requires few { length old.now.grants ≤ 256 }
     requires questions { AreEnough questions.now }
     ensures { IfOk result (λ found. MatchOption found
-        (¬ Widens old.now ((path.now, grant.now) ∷ []))
-        (λ example. IsExampleOf old.now (path.now, grant.now) example)) }
+        (¬ Widens old.now.grants ((path.now, grant.now) ∷ []))
+        (λ example. IsExampleOf old.now.grants (path.now, grant.now) example)) }
 {
     let place = best_place(alloc, grant, old)?;
     let new = alone(alloc, path, grant)?;
-    match shown_needs(questions, old, &new, &place)? {
+    match shown_needs(questions, old, new.as_slice(), &place)? {
         None => Ok(None),
         Some(needs) => Ok(Some(Example {
             path: path.copy()?,
@@ -60,14 +64,14 @@ fn example_of(
 /// For each grant of `new`, in order, that by itself allows some request which `old` denies, its path and one such
 /// request. Where there is none, `new` allows nothing that `old` denies.
 ///
-/// The requests are those of all places and of all needs whose calls are methods of the class registry. An expanded
-/// text has at most 256 grants, so that letters are left for names that `old` does not speak of.
+/// The requests are those of all places and of all needs whose calls are methods of the class registry. When a ticket
+/// ends is not looked at. It has at most 256 grants, so that letters are left for names that `old` does not speak of.
 pub fn widening(alloc: Global, old: &Ticket, new: &Ticket) -> Result<Vec<Example>, OutOfMemory>
-    requires { length old.now ≤ 256 }
-    ensures answers { IfOk result (λ examples. Answers old.now new.now examples.items) }
-    ensures gained { IfOk result (λ examples. All (λ example. IsGained old.now new.now (request_of example)) examples.items) }
-    ensures empty { IfOk result (λ examples. (examples.items ≡ []) ↔ ¬ Widens old.now new.now) }
+    ensures answers { IfOk result (λ examples. Answers old.now.grants new.now.grants examples.items) }
+    ensures gained { IfOk result (λ examples. All (λ example. IsGained old.now.grants new.now.grants (request_of example)) examples.items) }
+    ensures empty { IfOk result (λ examples. (examples.items ≡ []) ↔ ¬ Widens old.now.grants new.now.grants) }
 {
+    let _old_grants = old.grants();
     let questions = questions(alloc)?;
     let mut examples = Vec::new(alloc);
     for entry in new.grants() {

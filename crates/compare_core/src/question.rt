@@ -5,10 +5,11 @@ ghost use Rattle.compare_core.specs.Questions as spec;
 ghost use Rattle.compare_core.specs.Questions.{AreEnough, IsShownBy};
 
 use crate::place::Place;
-use cap_text::OutOfMemory;
+use cap_text::{AllowGrant, OutOfMemory};
+use grant_core::Path;
 use object_core::registry;
 use std::alloc::Global;
-use verdict_core::{Calls, ClassCall, Needs, Ticket, judge};
+use verdict_core::{Calls, ClassCall, Needs, Ticket, grants_allow};
 
 /// Needs that read and write as these flags say, with these calls.
 fn asks(reads: bool, writes: bool, calls: Vec<ClassCall>) -> Needs
@@ -74,11 +75,11 @@ pub(crate) fn questions(alloc: Global) -> Result<Vec<Needs>, OutOfMemory>
     needs_with(alloc, registry(alloc)?.as_slice())
 }
 
-/// Whether the new ticket allows the needs at a place where the old one denies them.
-fn shows(old: &Ticket, new: &Ticket, place: &Place, needs: &Needs) -> bool
-    ensures { result ≡ spec.shows old.now new.now place.now needs.now }
+/// Whether the new grants allow the needs at a place where the old one denies them.
+fn shows(old: &Ticket, new: &[(Path, AllowGrant)], place: &Place, needs: &Needs) -> bool
+    ensures { result ≡ spec.shows old.now.grants new.now place.now needs.now }
 {
-    judge(new, &place.target(), needs) && !judge(old, &place.target(), needs)
+    grants_allow(new, &place.target(), needs) && !grants_allow(old.grants(), &place.target(), needs)
 }
 
 /// Equal needs.
@@ -92,14 +93,14 @@ fn copy_needs(needs: &Needs) -> Result<Needs, OutOfMemory>
     })
 }
 
-/// The first of the needs that the new ticket allows at a place where the old one denies them.
+/// The first of the needs that the new grants allow at a place where the old ticket denies them.
 pub(crate) fn shown_needs(
     questions: &[Needs],
     old: &Ticket,
-    new: &Ticket,
+    new: &[(Path, AllowGrant)],
     place: &Place,
 ) -> Result<Option<Needs>, OutOfMemory>
-    ensures { IfOk result (λ found. IsShownBy old.now new.now place.now questions.now found) }
+    ensures { IfOk result (λ found. IsShownBy old.now.grants new.now place.now questions.now found) }
 {
     for needs in questions {
         if shows(old, new, place, needs) {

@@ -1,5 +1,5 @@
 -- What `explain` prints of a capability text, and how a fault's place is shown (this project's profile). Every line ends with byte 10.
-use Rattle.std.specs.Prelude.{ℕ, ◌≡◌, ◌≢◌, ◌⊎◌, List, ◌++◌, Option, Some, None, codes, flat_map}
+use Rattle.std.specs.Prelude.{ℕ, ◌≡◌, ◌≢◌, ◌⊎◌, Bool, true, List, ◌++◌, Option, Some, None, is_some, codes, flat_map}
 use Rattle.cap_text.specs.FaultText as cap
 use Rattle.cap_text.specs.Faults.{IsFirstFault}
 use Rattle.cap_text.specs.Grammar.{Spells}
@@ -15,6 +15,7 @@ use Rattle.grant_core.specs.Text as profiles
 use Rattle.grant_core.specs.Text.{printed_path}
 use Rattle.grant_core.specs.declared.fault.ExpandFault.{ExpandFault}
 use Rattle.osdgate.specs.Text.{refused_text}
+use Rattle.osdgate.specs.Answer.{SpellsNothing}
 
 -- a grant's path, and its printed form
 abbrev pub grant_line : List ℕ × AllowGrant → List ℕ
@@ -29,13 +30,14 @@ abbrev pub list_text : Option ExpandFault → List Grant → List ℕ
 list_text (Some fault) grants = refused_text (profiles.fault_text fault)
 list_text None grants = explained_text grants (flat built_in grants)
 
--- the capability text spells these grants, and the printed text explains them
-abbrev pub IsExplained : List ℕ → List ℕ → Type 0
-IsExplained caps text = (grants : List Grant) × Spells caps grants × (text ≡ list_text (expand_refusal built_in grants) grants)
+-- the capability text spells these grants, and the printed text explains them; it fails where they cannot be expanded
+abbrev pub IsExplained : List ℕ → List ℕ → Bool → Type 0
+IsExplained caps text fails = (grants : List Grant) × Spells caps grants × (text ≡ list_text (expand_refusal built_in grants) grants) × (fails ≡ is_some (expand_refusal built_in grants))
 
 -- the capability text spells no grants, and the printed text names its first fault
-abbrev pub IsRefused : List ℕ → List ℕ → Type 0
-IsRefused caps text = (fault : CapFault) × (fault.kind ≢ kinds.OutOfMemory) × IsFirstFault caps fault × (text ≡ refused_text (cap.fault_text fault))
+abbrev pub IsRefused : List ℕ → List ℕ → Bool → Type 0
+IsRefused caps text fails = (fault : CapFault) × (fault.kind ≢ kinds.OutOfMemory) × IsFirstFault caps fault × SpellsNothing caps × (text ≡ refused_text (cap.fault_text fault)) × (fails ≡ true)
 
-abbrev pub IsExplainText : List ℕ → List ℕ → Type 0
-IsExplainText caps text = IsExplained caps text ⊎ IsRefused caps text
+-- what is printed, and whether the command fails
+abbrev pub IsExplainText : List ℕ → List ℕ → Bool → Type 0
+IsExplainText caps text fails = IsExplained caps text fails ⊎ IsRefused caps text fails

@@ -134,12 +134,11 @@ fn push_examples(text: &mut String, sign: &str, examples: &[Example]) -> Result<
 
 /// The ticket of a list of grants, by the built-in profiles.
 fn ticket_of_list(alloc: Global, list: &CapList) -> Result<Ticket, TextFault>
-    ensures ticket { IfOk result (λ ticket. spec.Expands list.now ticket) }
-    ensures few { IfOk result (λ ticket. length ticket ≤ 256) }
+    ensures ticket { IfOk result (λ ticket. spec.Expands list.now ticket.grants) }
     ensures refused { IfErr result (λ fault. spec.IsExpansionFault list.now fault) }
 {
     match expand(alloc, &ProfileTable::builtin(alloc)?, list) {
-        Ok(tree) => Ok(Ticket::of(alloc, &tree)?),
+        Ok(tree) => Ok(Ticket::of(alloc, &tree, None)?),
         Err(ExpandFault::OutOfMemory) => Err(TextFault::OutOfMemory),
         Err(fault) => Err(TextFault::Expansion(fault)),
     }
@@ -147,8 +146,7 @@ fn ticket_of_list(alloc: Global, list: &CapList) -> Result<Ticket, TextFault>
 
 /// The ticket that a capability text comes to, by the built-in profiles.
 pub(crate) fn ticket_of(alloc: Global, caps: &str) -> Result<Ticket, TextFault>
-    ensures ticket { IfOk result (λ ticket. ComesTo caps.now ticket) }
-    ensures few { IfOk result (λ ticket. length ticket ≤ 256) }
+    ensures ticket { IfOk result (λ ticket. ComesTo caps.now ticket.grants) }
     ensures refused { IfErr result (λ fault. IsFaultOf caps.now fault) }
 {
     match parse(alloc, caps) {
@@ -165,9 +163,7 @@ pub(crate) fn ticket_of(alloc: Global, caps: &str) -> Result<Ticket, TextFault>
 
 /// What changes from an old ticket to a new one, both ways.
 pub(crate) fn changes(alloc: Global, old: &Ticket, new: &Ticket) -> Result<Change, OutOfMemory>
-    requires old_few { length old.now ≤ 256 }
-    requires new_few { length new.now ≤ 256 }
-    ensures { IfOk result (λ change. IsChange old.now new.now change) }
+    ensures { IfOk result (λ change. IsChange old.now.grants new.now.grants change) }
 {
     Ok(Change {
         gained: widening(alloc, old, new)?,
@@ -193,9 +189,7 @@ fn fails_check(check: bool, relation: Relation) -> bool
 
 /// The relation and the examples. It fails where a check was asked for and the new ticket is wider.
 fn compared(alloc: Global, old: &Ticket, new: &Ticket, check: bool) -> Result<Printed, OutOfMemory>
-    requires old_few { length old.now ≤ 256 }
-    requires new_few { length new.now ≤ 256 }
-    ensures { IfOk result (λ printed. spec.IsCompared old.now new.now check (string_bytes printed.text) printed.fails) }
+    ensures { IfOk result (λ printed. spec.IsCompared old.now.grants new.now.grants check (string_bytes printed.text) printed.fails) }
 {
     let change = changes(alloc, old, new)?;
     let relation = change.relation();

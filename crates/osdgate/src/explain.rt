@@ -1,6 +1,6 @@
 //! What a capability text comes to.
 
-ghost use Rattle.std.specs.Prelude.{◌≡◌, ◌++◌, IfOk, OnOk, string_bytes, flat_map};
+ghost use Rattle.std.specs.Prelude.{◌≡◌, ◌++◌, true, is_some, IfOk, OnOk, string_bytes, flat_map};
 ghost use Rattle.cap_text.specs.FaultText as cap;
 ghost use Rattle.grant_core.specs.BuiltIn.{built_in};
 ghost use Rattle.grant_core.specs.Refusal.{expand_refusal};
@@ -8,6 +8,7 @@ ghost use Rattle.grant_core.specs.Text as profiles;
 ghost use Rattle.osdgate.specs.Explain.{IsExplainText, explained_text, grant_line, list_text};
 ghost use Rattle.osdgate.specs.Text.{refused_text};
 
+use crate::printed::Printed;
 use cap_text::{AllowGrant, CapFault, CapList, FaultKind, OutOfMemory, parse, print, push_allow};
 use grant_core::{ExpandFault, Path, ProfileTable, expand};
 use std::alloc::{AllocError, Global};
@@ -47,41 +48,51 @@ fn explained_text(
     Ok(text)
 }
 
-/// The text of a list, where it can be expanded by the built-in profiles.
-fn list_text(alloc: Global, list: &CapList) -> Result<String, OutOfMemory>
-    ensures { IfOk result (λ text. string_bytes text ≡ list_text (expand_refusal built_in list.now) list.now) }
+/// What is printed of a list: by its expansion with the built-in profiles, or by why that is refused.
+fn explained_list(alloc: Global, list: &CapList) -> Result<Printed, OutOfMemory>
+    ensures text { IfOk result (λ printed. string_bytes printed.text ≡ list_text (expand_refusal built_in list.now) list.now) }
+    ensures fails { IfOk result (λ printed. printed.fails ≡ is_some (expand_refusal built_in list.now)) }
 {
     let table = ProfileTable::builtin(alloc)?;
     match expand(alloc, &table, list) {
-        Ok(tree) => explained_text(alloc, list, tree.flat(alloc)?.as_slice()),
+        Ok(tree) => Ok(Printed {
+            text: explained_text(alloc, list, tree.flat(alloc)?.as_slice())?,
+            fails: false,
+        }),
         Err(ExpandFault::OutOfMemory) => Err(AllocError),
         Err(fault) => refused_by_expansion(alloc, fault),
     }
 }
 
 /// The line of a list that is not expanded.
-fn refused_by_expansion(alloc: Global, fault: ExpandFault) -> Result<String, OutOfMemory>
-    ensures { IfOk result (λ text. string_bytes text ≡ refused_text (profiles.fault_text fault)) }
+fn refused_by_expansion(alloc: Global, fault: ExpandFault) -> Result<Printed, OutOfMemory>
+    ensures { IfOk result (λ printed. (string_bytes printed.text ≡ refused_text (profiles.fault_text fault)) × (printed.fails ≡ true)) }
 {
-    format!(in alloc; "refused {fault}\n")
+    Ok(Printed {
+        text: format!(in alloc; "refused {fault}\n")?,
+        fails: true,
+    })
 }
 
 /// The line of a text that spells no list.
-fn refused_by_parse(alloc: Global, fault: CapFault) -> Result<String, OutOfMemory>
-    ensures { IfOk result (λ text. string_bytes text ≡ refused_text (cap.fault_text fault)) }
+fn refused_by_parse(alloc: Global, fault: CapFault) -> Result<Printed, OutOfMemory>
+    ensures { IfOk result (λ printed. (string_bytes printed.text ≡ refused_text (cap.fault_text fault)) × (printed.fails ≡ true)) }
 {
-    format!(in alloc; "refused {fault}\n")
+    Ok(Printed {
+        text: format!(in alloc; "refused {fault}\n")?,
+        fails: true,
+    })
 }
 
-/// The whole text that the program prints to explain a capability text: its canonical form on a line, which
-/// is empty where it spells no grants, and a line `PATH GRANT` for each grant that it comes to with the
-/// built-in profiles; or `refused FAULT` where it spells no list or cannot be expanded. Every line ends with
-/// a line feed.
-pub fn explain_text(alloc: Global, caps: &str) -> Result<String, OutOfMemory>
-    ensures { IfOk result (λ text. IsExplainText caps.now (string_bytes text)) }
+/// What the program prints to explain a capability text: its canonical form on a line, which is empty where it
+/// spells no grants, and a line `PATH GRANT` for each grant that it comes to with the built-in profiles; or
+/// `refused FAULT` where it spells no list or cannot be expanded, and then the command fails. Every line ends
+/// with a line feed.
+pub(crate) fn explain_text(alloc: Global, caps: &str) -> Result<Printed, OutOfMemory>
+    ensures { IfOk result (λ printed. IsExplainText caps.now (string_bytes printed.text) printed.fails) }
 {
     match parse(alloc, caps) {
-        Ok(list) => list_text(alloc, &list),
+        Ok(list) => explained_list(alloc, &list),
         Err(
             CapFault {
                 kind: FaultKind::OutOfMemory,

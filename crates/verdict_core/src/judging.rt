@@ -45,8 +45,9 @@ fn are_covered(grants: &[(Path, AllowGrant)], target: &Target<'_>, needs: &Needs
         .all(|call| is_covered(grants, target, needs, call))
 }
 
-/// Whether the grants allow a request, whatever the time.
-pub(crate) fn grants_allow(
+/// Whether grants allow a request, whatever the time: what `judge` asks of a ticket that is not expired. It takes
+/// no memory and copies nothing.
+pub fn grants_allow(
     grants: &[(Path, AllowGrant)],
     target: &Target<'_>,
     needs: &Needs,

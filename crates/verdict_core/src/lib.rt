@@ -14,7 +14,7 @@ mod request;
 mod ticket;
 
 pub use indexed::IndexedTicket;
-pub use judging::judge;
+pub use judging::{grants_allow, judge};
 pub use reporting::report;
 pub use request::{Calls, ClassCall, Condition, Needs, Target};
 pub use ticket::{Report, Ticket};

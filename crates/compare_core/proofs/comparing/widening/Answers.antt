@@ -7,8 +7,8 @@ use Rattle.compare_core.proofs.comparing.widening.Goals.{in-Some+in_ok-push, in_
 
 pub loop-entry-preserved : goal.loop-entry-preserved
 loop-entry-preserved c =
-    let more : Answers c.args.old.now (take (c.loop-entry.entry-index + 1) c.grants-entry-items.result.now) (c.loop-entry.examples.items ++ option_to_list c.in_ok-example.field-0) =
-    answers_step c.args.old.now c.grants-entry-items.result.now c.loop-entry.entry-index c.entry-item.result c.loop-entry.examples.items c.in_ok-example.field-0
+    let more : Answers c.args.old.now.grants (take (c.loop-entry.entry-index + 1) c.grants-entry-items.result.now) (c.loop-entry.examples.items ++ option_to_list c.in_ok-example.field-0) =
+    answers_step c.args.old.now.grants c.grants-entry-items.result.now c.loop-entry.entry-index c.entry-item.result c.loop-entry.examples.items c.in_ok-example.field-0
     (omega arith) c.entry-item.is c.loop-entry.invariant c.in_ok-example.ensures in
     let pushed : c.match-branch-3.examples.items ≡ c.loop-entry.examples.items ++ option_to_list c.in_ok-example.field-0 =
     elim c.match-branch-3.branch [
@@ -17,15 +17,15 @@ loop-entry-preserved c =
       | in_default w ↦
           ap (λ v. v.items) w.examples-is ∙ (sym (append_nil c.loop-entry.examples.items) ∙ ap (λ o. c.loop-entry.examples.items ++ option_to_list o) (sym w.in_default.is))
     ] in
-    subst (Answers c.args.old.now (take (c.loop-entry.entry-index + 1) c.grants-entry-items.result.now)) (sym pushed) more
+    subst (Answers c.args.old.now.grants (take (c.loop-entry.entry-index + 1) c.grants-entry-items.result.now)) (sym pushed) more
 
 pub returns-clause-gained : goal.returns-clause-gained
 returns-clause-gained c =
-    all_gained c.args.old.now c.args.new.now c.loop-entry.examples.items
-    (answers_whole c.args.old.now c.args.new.now c.grants-entry-items.result.now c.loop-entry.entry-index c.loop-entry.examples.items c.grants-entry-items.ensures c.loop-entry-test.false c.loop-entry.invariant)
+    all_gained c.args.old.now.grants c.args.new.now.grants c.loop-entry.examples.items
+    (answers_whole c.args.old.now.grants c.args.new.now.grants c.grants-entry-items.result.now c.loop-entry.entry-index c.loop-entry.examples.items c.grants-entry-items.ensures c.loop-entry-test.false c.loop-entry.invariant)
 
 pub returns-clause-empty : goal.returns-clause-empty
 returns-clause-empty c =
-    let all : Answers c.args.old.now c.args.new.now c.loop-entry.examples.items =
-    answers_whole c.args.old.now c.args.new.now c.grants-entry-items.result.now c.loop-entry.entry-index c.loop-entry.examples.items c.grants-entry-items.ensures c.loop-entry-test.false c.loop-entry.invariant in
-    (λ none. nothing_widens c.args.old.now c.args.new.now (subst (Answers c.args.old.now c.args.new.now) none all), no_examples c.args.old.now c.args.new.now c.loop-entry.examples.items all)
+    let all : Answers c.args.old.now.grants c.args.new.now.grants c.loop-entry.examples.items =
+    answers_whole c.args.old.now.grants c.args.new.now.grants c.grants-entry-items.result.now c.loop-entry.entry-index c.loop-entry.examples.items c.grants-entry-items.ensures c.loop-entry-test.false c.loop-entry.invariant in
+    (λ none. nothing_widens c.args.old.now.grants c.args.new.now.grants (subst (Answers c.args.old.now.grants c.args.new.now.grants) none all), no_examples c.args.old.now.grants c.args.new.now.grants c.loop-entry.examples.items all)
