@@ -7,7 +7,7 @@ use entry_core::{Id, OutOfMemory, Sealed};
 use grant_core::{ProfileTable, expand};
 use map_core::PoolView;
 use object_core::{Bytes, NeedsFault, Op};
-use std::alloc::Global;
+use std::alloc::{AllocError, Global};
 use verdict_core::{IndexedTicket, Ticket};
 
 // What is asked of the object `x`: one operation, or an append of `a` and a read in one vector.
@@ -36,10 +36,10 @@ fn ticket(alloc: Global, may: May) -> Result<IndexedTicket, OutOfMemory> {
         May::All => "allow rwx",
     };
     let Ok(list) = parse(alloc, text) else {
-        return Err(OutOfMemory);
+        return Err(AllocError);
     };
     let Ok(tree) = expand(alloc, &ProfileTable::builtin(alloc)?, &list) else {
-        return Err(OutOfMemory);
+        return Err(AllocError);
     };
     IndexedTicket::of(Ticket::of(alloc, &tree, None)?).map_err(|refused| refused.1)
 }
