@@ -1,6 +1,5 @@
--- What the text of a verdict says of a capability text and a request.
-use Rattle.std.specs.Prelude.{ℕ, ◌≡◌, ◌≢◌, ◌⊎◌, ◌||◌, Bool, List, [], ◌∷◌, Option, Some, None}
-use Rattle.cap_text.specs.FaultText as cap
+-- What a capability text and a request come to.
+use Rattle.std.specs.Prelude.{ℕ, ◌≡◌, ◌≢◌, ◌⊎◌, ◌||◌, Bool, List, [], ◌∷◌, Option, Some, None, Result, Ok, Err, if◌then◌else◌}
 use Rattle.cap_text.specs.Faults.{IsFirstFault}
 use Rattle.cap_text.specs.Grammar.{Spells}
 use Rattle.cap_text.specs.declared.grant.Grant.{Grant}
@@ -9,15 +8,19 @@ use Rattle.cap_text.specs.declared.fault.FaultKind.TheVariants as kinds
 use Rattle.grant_core.specs.BuiltIn.{built_in}
 use Rattle.grant_core.specs.Flat.{Flat, flat}
 use Rattle.grant_core.specs.Refusal.{expand_refusal}
-use Rattle.grant_core.specs.Text as profiles
 use Rattle.grant_core.specs.declared.fault.ExpandFault.{ExpandFault}
 use Rattle.verdict_core.specs.declared.request.Needs.{Needs}
 use Rattle.verdict_core.specs.Place.{Place}
-use Rattle.object_core.specs.Faults as vectors
+use Rattle.verdict_core.specs.Ticket.{Ticket}
+use Rattle.verdict_core.specs.Verdict.{is_allowed, report_of}
 use Rattle.object_core.specs.Needs.{needs_of, needs_fault}
 use Rattle.object_core.specs.declared.needs.NeedsFault.{NeedsFault}
 use Rattle.object_core.specs.declared.op.Op.{Op}
-use Rattle.osdgate.specs.Text.{judged_text, refused_text}
+use Rattle.osdgate.specs.Text.{answer_text}
+use Rattle.osdgate.specs.declared.verdict.Verdict.{Verdict}
+use Rattle.osdgate.specs.declared.verdict.Verdict.TheVariants.{Allowed, Denied}
+use Rattle.osdgate.specs.declared.verdict.VerdictFault.{VerdictFault}
+use Rattle.osdgate.specs.declared.verdict.VerdictFault.TheVariants.{Caps, Profiles, Calls}
 
 -- what a verdict is asked of, beside the capability text
 pub record Asked : Type 0 where
@@ -25,6 +28,8 @@ pub record Asked : Type 0 where
   pub reads : Bool
   pub writes : Bool
   pub calls : List Op
+  pub until : Option ℕ  -- when the ticket ends
+  pub tick : ℕ  -- when the request comes
 
 -- what the calls ask for, and the two flags
 abbrev pub asked_needs : Asked → Needs
@@ -37,27 +42,38 @@ abbrev pub calls_fault : List Op → Option NeedsFault
 calls_fault [] = None
 calls_fault (op ∷ ops) = needs_fault (op ∷ ops)
 
+-- allowed, or denied with the report
+abbrev pub judged : Ticket → Place → Needs → ℕ → Verdict
+judged ticket place needs tick = if is_allowed ticket place needs tick then Allowed else Denied (report_of ticket place needs tick)
+
 -- the verdict, where the calls are not refused
-abbrev pub needed_text : Option NeedsFault → Flat → Asked → List ℕ
-needed_text (Some fault) ticket asked = refused_text (vectors.text_of fault)
-needed_text None ticket asked = judged_text ticket asked.place (asked_needs asked)
+abbrev pub needed : Option NeedsFault → Ticket → Asked → Result Verdict VerdictFault
+needed (Some fault) ticket asked = Err (Calls fault)
+needed None ticket asked = Ok (judged ticket asked.place (asked_needs asked) asked.tick)
 
--- the text, where the list is expanded
-abbrev pub expanded_text : Option ExpandFault → List Grant → Asked → List ℕ
-expanded_text (Some fault) grants asked = refused_text (profiles.fault_text fault)
-expanded_text None grants asked = needed_text (calls_fault asked.calls) (flat built_in grants) asked
+-- the same, where the list is expanded
+abbrev pub expanded : Option ExpandFault → List Grant → Asked → Result Verdict VerdictFault
+expanded (Some fault) grants asked = Err (Profiles fault)
+expanded None grants asked = needed (calls_fault asked.calls) (record { grants = flat built_in grants; until = asked.until }) asked
 
--- the text that a list of grants gets: it is expanded, then the calls are looked up, then it is judged
-abbrev pub answer_text : List Grant → Asked → List ℕ
-answer_text grants asked = expanded_text (expand_refusal built_in grants) grants asked
+-- what a list of grants gets: it is expanded, then the calls are looked up, then it is judged
+abbrev pub answer_of : List Grant → Asked → Result Verdict VerdictFault
+answer_of grants asked = expanded (expand_refusal built_in grants) grants asked
 
--- the capability text spells these grants, and the printed text is their answer
-abbrev pub IsAnswered : List ℕ → Asked → List ℕ → Type 0
-IsAnswered caps asked text = (grants : List Grant) × Spells caps grants × (text ≡ answer_text grants asked)
+abbrev pub SpellsNothing : List ℕ → Type 0
+SpellsNothing caps = (grants : List Grant) → Spells caps grants → ⊥
 
--- the capability text spells no grants, and the printed text names its first fault
-abbrev pub IsRefused : List ℕ → List ℕ → Type 0
-IsRefused caps text = (fault : CapFault) × (fault.kind ≢ kinds.OutOfMemory) × IsFirstFault caps fault × (text ≡ refused_text (cap.fault_text fault))
+-- the capability text spells these grants, and this is their answer
+abbrev pub IsAnswered : List ℕ → Asked → Result Verdict VerdictFault → Type 0
+IsAnswered caps asked answer = (grants : List Grant) × Spells caps grants × (answer ≡ answer_of grants asked)
 
+-- the capability text spells nothing, and the answer is its first fault
+abbrev pub IsRefused : List ℕ → Result Verdict VerdictFault → Type 0
+IsRefused caps answer = (fault : CapFault) × (fault.kind ≢ kinds.OutOfMemory) × IsFirstFault caps fault × SpellsNothing caps × (answer ≡ Err (Caps fault))
+
+abbrev pub IsAnswer : List ℕ → Asked → Result Verdict VerdictFault → Type 0
+IsAnswer caps asked answer = IsAnswered caps asked answer ⊎ IsRefused caps answer
+
+-- the text is that of the answer
 abbrev pub IsVerdictText : List ℕ → Asked → List ℕ → Type 0
-IsVerdictText caps asked text = IsAnswered caps asked text ⊎ IsRefused caps text
+IsVerdictText caps asked text = (answer : Result Verdict VerdictFault) × IsAnswer caps asked answer × (text ≡ answer_text answer)

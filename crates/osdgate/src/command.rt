@@ -2,8 +2,10 @@
 
 ghost use Rattle.std.specs.Prelude.{◌≤◌};
 
-use crate::verdict::verdict_text;
+use crate::verdict::{Answer, Times, answer, text_of};
+use crate::words::WordsFault;
 use cap_text::{AppTags, Name, OutOfMemory, Pairs, Tags};
+use clap::error::ErrorKind;
 use clap::{Arg, ArgAction, ArgMatches, Command, Error};
 use object_core::{Bytes, Op};
 use std::alloc::{AllocError, Global};
@@ -18,9 +20,34 @@ const FAULT: u8 = 1;
 /// The words are no command line of this program.
 const BAD_COMMAND_LINE: u8 = 2;
 
-const BAD_TAG: &str = "osdgate: a tag with a `:` needs a `=` behind it\n";
+/// Why words that clap takes are no command line.
+#[derive(Clone, Copy, Debug, PartialEq, Eq)]
+enum BadWords {
+    /// A tag with a `:` has no `=` behind it.
+    Tag,
+    /// A time is no decimal number below 2 to the power of 64.
+    Time,
+    /// There is no such command.
+    Command,
+}
+
+impl BadWords {
+    fn text(self) -> &'static str {
+        match self {
+            BadWords::Tag => "osdgate: a tag with a `:` needs a `=` behind it\n",
+            BadWords::Time => "osdgate: a time is a decimal number below 2^64, without a sign\n",
+            BadWords::Command => "osdgate: there is no such command\n",
+        }
+    }
+}
+
+const WANT_OF_MEMORY: &str = "refused OutOfMemory\n";
 
 const TAG_HELP: &str = "An application of the pool, and a pair under it";
+
+const UNTIL_HELP: &str = "The first tick at which the grants hold no more";
+
+const TICK_HELP: &str = "When the request comes, 0 where none is given";
 
 /// An option whose value is taken as it is, also where it begins with a dash.
 fn text_option<'a>(alloc: Global, name: &'a str, value: &'a str, help: &'a str) -> Arg<'a> {
@@ -60,6 +87,8 @@ fn verdict_command<'a>(alloc: Global) -> Result<Command<'a>, AllocError> {
         .arg(object)?
         .arg(namespace)?
         .arg(text_option(alloc, "tag", "APP[:KEY=VALUE]", TAG_HELP))?
+        .arg(text_option(alloc, "until", "TICK", UNTIL_HELP))?
+        .arg(text_option(alloc, "tick", "TICK", TICK_HELP))?
         .arg(flag(alloc, "read", "The request reads"))?
         .arg(flag(alloc, "write", "The request writes"))?
         .arg(calls)
@@ -104,14 +133,41 @@ fn call_of(alloc: Global, word: &str) -> Result<Op, OutOfMemory> {
     })
 }
 
-/// The text of `osdgate verdict`, or nothing where its words are no command line.
-fn answer_verdict(alloc: Global, matches: &ArgMatches<'_>) -> Result<Option<String>, OutOfMemory> {
+/// A number in decimal digits alone.
+fn number_of(text: &str) -> Option<u64> {
+    if !text.as_bytes().iter().all(|byte| byte.is_ascii_digit()) {
+        return None;
+    }
+    text.parse::<u64>().ok()
+}
+
+/// The times of `osdgate verdict`, or nothing where one is no number.
+fn times_of(matches: &ArgMatches<'_>) -> Option<Times> {
+    let until = match matches.get_str("until") {
+        None => None,
+        Some(text) => Some(number_of(text)?),
+    };
+    let tick = match matches.get_str("tick") {
+        None => 0,
+        Some(text) => number_of(text)?,
+    };
+    Some(Times { until, tick })
+}
+
+/// The answer of `osdgate verdict`, or why its words are no command line.
+fn answer_verdict(
+    alloc: Global,
+    matches: &ArgMatches<'_>,
+) -> Result<Result<Answer, BadWords>, OutOfMemory> {
     let tags = match matches.get_str("tag") {
         None => Tags::from_vec(Vec::new(alloc)),
         Some(text) => match tags_of(alloc, text)? {
-            None => return Ok(None),
+            None => return Ok(Err(BadWords::Tag)),
             Some(tags) => tags,
         },
+    };
+    let Some(times) = times_of(matches) else {
+        return Ok(Err(BadWords::Time));
     };
     let target = Target {
         pool: matches.get_str("pool").unwrap_or(""),
@@ -128,7 +184,8 @@ fn answer_verdict(alloc: Global, matches: &ArgMatches<'_>) -> Result<Option<Stri
     let caps = matches.get_str("caps").unwrap_or("");
     let reads = matches.get_flag("read");
     let writes = matches.get_flag("write");
-    verdict_text(alloc, caps, &target, reads, writes, calls.as_slice()).map(Some)
+    let answer = answer(alloc, caps, &target, reads, writes, calls.as_slice(), times)?;
+    Ok(Ok(answer))
 }
 
 /// Writes a text and flushes.
@@ -136,26 +193,11 @@ fn write_out<W: Write>(out: &mut W, text: &str) -> bool {
     out.write_all(text.as_bytes()).is_ok() && out.flush().is_ok()
 }
 
-/// The status behind an answer that was made, or for which memory was wanting.
-fn finish<O: Write, E: Write>(
-    answer: Result<Option<String>, OutOfMemory>,
-    out: &mut O,
-    err: &mut E,
-) -> u8
+/// Writes an answer's text, and answers the status behind it.
+fn finish<O: Write, E: Write>(text: &str, status: u8, out: &mut O, err: &mut E) -> u8
+    requires { status ≤ 2 }
     ensures { result ≤ 2 }
 {
-    let (text, status) = match &answer {
-        Ok(None) => {
-            let _ = write_out(err, BAD_TAG);
-            return BAD_COMMAND_LINE;
-        }
-        Ok(Some(text)) if text.as_str().as_bytes().starts_with(b"refused") => (
-            text.as_str(),
-            FAULT,
-        ),
-        Ok(Some(text)) => (text.as_str(), DONE),
-        Err(_) => ("refused OutOfMemory\n", FAULT),
-    };
     if write_out(out, text) {
         return status;
     }
@@ -163,15 +205,63 @@ fn finish<O: Write, E: Write>(
     FAULT
 }
 
+/// Writes an answer, and answers the status behind it.
+fn finish_answer<O: Write, E: Write>(alloc: Global, answer: &Answer, out: &mut O, err: &mut E) -> u8
+    ensures { result ≤ 2 }
+{
+    let status = match answer {
+        Ok(_) => DONE,
+        Err(_) => FAULT,
+    };
+    match text_of(alloc, answer) {
+        Ok(text) => finish(text.as_str(), status, out, err),
+        Err(_) => finish(WANT_OF_MEMORY, FAULT, out, err),
+    }
+}
+
+/// What clap says of words that it does not take, or the help that they ask for.
+fn finish_error<O: Write, E: Write>(error: &Error, out: &mut O, err: &mut E) -> u8
+    ensures { result ≤ 2 }
+{
+    if error.kind() == ErrorKind::OutOfMemory {
+        return finish(WANT_OF_MEMORY, FAULT, out, err);
+    }
+    if error.use_stderr() {
+        let _ = write!(err, "{error}");
+        return BAD_COMMAND_LINE;
+    }
+    if write!(out, "{error}").is_ok() {
+        DONE
+    } else {
+        FAULT
+    }
+}
+
 /// What the words ask for, or why they are no command line.
-fn answer<S: AsStr>(
+fn answer_words<S: AsStr>(
     alloc: Global,
     words: &[S],
-) -> Result<Result<Option<String>, OutOfMemory>, Error> {
+) -> Result<Result<Result<Answer, BadWords>, OutOfMemory>, Error> {
     let matches = whole_command(alloc)?.try_get_matches_from(words)?;
     match matches.subcommand() {
         Some(("verdict", inner)) => Ok(answer_verdict(alloc, inner)),
-        _ => Ok(Ok(None)),
+        _ => Ok(Ok(Err(BadWords::Command))),
+    }
+}
+
+/// Tells why the words of the command line cannot be read, and answers the status.
+pub(crate) fn refuse_words<O: Write, E: Write>(fault: WordsFault, out: &mut O, err: &mut E) -> u8
+    ensures { result ≤ 2 }
+{
+    match fault {
+        WordsFault::OutOfMemory => finish(WANT_OF_MEMORY, FAULT, out, err),
+        WordsFault::NotText(number) => {
+            let _ = write!(
+                err,
+                "osdgate: word {number} of the command line is not UTF-8\n"
+            );
+            BAD_COMMAND_LINE
+        }
     }
 }
 
@@ -189,18 +279,13 @@ pub fn run_command<S: AsStr, R: Read, O: Write, E: Write>(
 ) -> u8
     ensures { result ≤ 2 }
 {
-    match answer(alloc, words) {
-        Ok(text) => finish(text, out, err),
-        Err(error) => {
-            if error.use_stderr() {
-                let _ = write!(err, "{error}");
-                return BAD_COMMAND_LINE;
-            }
-            if write!(out, "{error}").is_ok() {
-                DONE
-            } else {
-                FAULT
-            }
+    match answer_words(alloc, words) {
+        Ok(Ok(Ok(answer))) => finish_answer(alloc, &answer, out, err),
+        Ok(Ok(Err(bad))) => {
+            let _ = write_out(err, bad.text());
+            BAD_COMMAND_LINE
         }
+        Ok(Err(_)) => finish(WANT_OF_MEMORY, FAULT, out, err),
+        Err(error) => finish_error(&error, out, err),
     }
 }

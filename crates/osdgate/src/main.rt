@@ -2,30 +2,27 @@
 #![tactic(auto)]
 
 mod command;
-mod text;
 mod verdict;
+mod words;
 
-use command::run_command;
+use command::{refuse_words, run_command};
 use std::process::ExitCode;
+use words::words;
 
 #[cfg(test)]
 mod tests;
 
 fn main(rt: HostRuntime) -> ExitCode {
     let alloc = rt.alloc();
-    let words: Vec<String> = match std::env::args(&rt) {
-        Ok(args) => match args.collect(alloc) {
-            Ok(words) => words,
-            Err(_) => return ExitCode::from(1),
-        },
-        Err(_) => return ExitCode::from(1),
+    let status = match words(&rt, alloc) {
+        Ok(words) => run_command(
+            alloc,
+            words.as_slice(),
+            &mut rt.stdin(),
+            &mut rt.stdout(),
+            &mut rt.stderr(),
+        ),
+        Err(fault) => refuse_words(fault, &mut rt.stdout(), &mut rt.stderr()),
     };
-    let status = run_command(
-        alloc,
-        words.as_slice(),
-        &mut rt.stdin(),
-        &mut rt.stdout(),
-        &mut rt.stderr(),
-    );
     ExitCode::from(status)
 }

@@ -1,56 +1,91 @@
-//! The text of a verdict.
+//! What a capability text and a request come to, as a value and as a text.
 
-ghost use Rattle.std.specs.Prelude.{◌≡◌, IfOk, string_bytes};
-ghost use Rattle.cap_text.specs.FaultText as cap;
-ghost use Rattle.grant_core.specs.Text as profiles;
+ghost use Rattle.std.specs.Prelude.{◌≡◌, IfOk, Some, string_bytes};
 ghost use Rattle.object_core.specs.Faults as vectors;
 ghost use Rattle.object_core.specs.Needs.{needs_of};
-ghost use Rattle.osdgate.specs.Answer.{IsVerdictText, answer_text, needed_text, calls_fault};
-ghost use Rattle.osdgate.specs.Text.{judged_text, refused_text};
+ghost use Rattle.osdgate.specs.Answer as spec;
+ghost use Rattle.osdgate.specs.Answer.{IsAnswer, IsVerdictText, answer_of, needed, calls_fault};
+ghost use Rattle.osdgate.specs.Text as printed;
 
-use crate::text::push_report;
 use cap_text::{CapFault, CapList, FaultKind, OutOfMemory, parse};
 use grant_core::{ExpandFault, ProfileTable, expand};
 use object_core::{NeedsFault, Op, needs_of};
 use std::alloc::{AllocError, Global};
-use verdict_core::{Calls, Needs, Target, Ticket, judge, report};
+use std::fmt;
+use verdict_core::{Calls, Needs, Report, Target, Ticket, judge, report};
 
-/// `allow`, or `deny` and a line for each grant.
-fn judged_text(
+/// What a request gets. It prints `allow`, or `deny` and a line `PATH CONDITION` for each grant; every line ends
+/// with a line feed.
+#[derive(Debug, Drop)]
+pub enum Verdict {
+    Allowed,
+    Denied(Report),
+}
+
+/// Why there is no verdict. It prints as the fault that it is.
+#[derive(Debug, Drop)]
+pub enum VerdictFault {
+    /// The capability text spells no list.
+    Caps(CapFault),
+    /// The list cannot be expanded by the built-in profiles.
+    Profiles(ExpandFault),
+    /// The calls are refused.
+    Calls(NeedsFault),
+}
+
+/// A verdict, or why there is none.
+pub type Answer = Result<Verdict, VerdictFault>;
+
+/// When a ticket ends, if it does, and when the request comes.
+#[derive(Clone, Copy, Debug)]
+pub struct Times {
+    pub until: Option<u64>,
+    pub tick: u64,
+}
+
+impl fmt::Display for Verdict {
+    ghost use Rattle.std.specs.Prelude.{Some};
+    ghost use Rattle.osdgate.specs.Text as printed;
+
+    ghost output = { λ verdict. Some (printed.verdict_text verdict) };
+
+    fn fmt<W: fmt::Write>(&self, f: &mut fmt::Formatter<W>) -> fmt::Result {
+        match self {
+            Verdict::Allowed => write!(f, "allow\n"),
+            Verdict::Denied(report) => write!(f, "deny\n{report}"),
+        }
+    }
+}
+
+impl fmt::Display for VerdictFault {
+    ghost use Rattle.std.specs.Prelude.{Some};
+    ghost use Rattle.osdgate.specs.Text as printed;
+
+    ghost output = { λ fault. Some (printed.fault_text fault) };
+
+    fn fmt<W: fmt::Write>(&self, f: &mut fmt::Formatter<W>) -> fmt::Result {
+        match self {
+            VerdictFault::Caps(fault) => write!(f, "{fault}"),
+            VerdictFault::Profiles(fault) => write!(f, "{fault}"),
+            VerdictFault::Calls(fault) => write!(f, "{fault}"),
+        }
+    }
+}
+
+/// Allowed, or denied with the report.
+fn judged(
     alloc: Global,
     ticket: &Ticket,
     target: &Target<'_>,
     needs: &Needs,
-) -> Result<String, OutOfMemory>
-    ensures { IfOk result (λ text. string_bytes text ≡ judged_text ticket.now target.now needs.now) }
+    tick: u64,
+) -> Result<Verdict, OutOfMemory>
+    ensures { IfOk result (λ verdict. verdict ≡ spec.judged ticket.now target.now needs.now tick) }
 {
-    if judge(ticket, target, needs) {
-        return String::from_str(alloc, "allow\n");
+    if judge(ticket, target, needs, tick) {
+        return Ok(Verdict::Allowed);
     }
-    let mut text = String::from_str(alloc, "deny\n")?;
-    push_report(&mut text, &report(alloc, ticket, target, needs)?)?;
-    Ok(text)
-}
-
-/// The line of a capability text that spells no list.
-fn refused_by_parse(alloc: Global, fault: CapFault) -> Result<String, OutOfMemory>
-    ensures { IfOk result (λ text. string_bytes text ≡ refused_text (cap.fault_text fault)) }
-{
-    format!(in alloc; "refused {fault}\n")
-}
-
-/// The line of a list that is not expanded.
-fn refused_by_expansion(alloc: Global, fault: ExpandFault) -> Result<String, OutOfMemory>
-    ensures { IfOk result (λ text. string_bytes text ≡ refused_text (profiles.fault_text fault)) }
-{
-    format!(in alloc; "refused {fault}\n")
-}
-
-/// The line of calls that are refused.
-fn refused_by_needs(alloc: Global, fault: NeedsFault) -> Result<String, OutOfMemory>
-    ensures { IfOk result (λ text. string_bytes text ≡ refused_text (vectors.text_of fault)) }
-{
-    format!(in alloc; "refused {fault}\n")
+    Ok(Verdict::Denied(report(alloc, ticket, target, needs, tick)?))
 }
 
 /// What a request with these calls asks for. Without calls it asks for nothing.
@@ -68,17 +103,18 @@ fn needs_of_calls(alloc: Global, calls: &[Op]) -> Result<Needs, NeedsFault>
     needs_of(alloc, calls)
 }
 
-/// The text of a ticket, where the calls are not refused.
-fn ticket_text(
+/// The answer of a ticket, which is a verdict where the calls are not refused.
+fn answer_ticket(
     alloc: Global,
     ticket: &Ticket,
     target: &Target<'_>,
     reads: bool,
     writes: bool,
     calls: &[Op],
-) -> Result<String, OutOfMemory>
-    ensures { IfOk result (λ text. string_bytes text ≡ needed_text (calls_fault calls.now) ticket.now
-        (record { place = target.now; reads = reads; writes = writes; calls = calls.now })) }
+    times: Times,
+) -> Result<Answer, OutOfMemory>
+    ensures { IfOk result (λ answer. answer ≡ needed (calls_fault calls.now) ticket.now
+        (record { place = target.now; reads = reads; writes = writes; calls = calls.now; until = times.until; tick = times.tick })) }
 {
     match needs_of_calls(alloc, calls) {
         Ok(needs) => {
@@ -87,40 +123,75 @@ fn ticket_text(
                 writes: writes || needs.writes,
                 calls: needs.calls,
             };
-            judged_text(alloc, ticket, target, &needs)
+            Ok(Ok(judged(alloc, ticket, target, &needs, times.tick)?))
         }
         Err(NeedsFault::OutOfMemory) => Err(AllocError),
-        Err(fault) => refused_by_needs(alloc, fault),
+        Err(fault) => Ok(Err(VerdictFault::Calls(fault))),
     }
 }
 
-/// The text of a list of grants, where it can be expanded by the built-in profiles.
-fn list_text(
+/// The answer of a list of grants, which is its ticket's where it can be expanded by the built-in profiles.
+fn answer_list(
     alloc: Global,
     list: &CapList,
     target: &Target<'_>,
     reads: bool,
     writes: bool,
     calls: &[Op],
-) -> Result<String, OutOfMemory>
-    ensures { IfOk result (λ text. string_bytes text ≡ answer_text list.now
-        (record { place = target.now; reads = reads; writes = writes; calls = calls.now })) }
+    times: Times,
+) -> Result<Answer, OutOfMemory>
+    ensures { IfOk result (λ answer. answer ≡ answer_of list.now
+        (record { place = target.now; reads = reads; writes = writes; calls = calls.now; until = times.until; tick = times.tick })) }
 {
     let table = ProfileTable::builtin(alloc)?;
     match expand(alloc, &table, list) {
         Ok(tree) => {
-            let ticket = Ticket::of(alloc, &tree)?;
-            ticket_text(alloc, &ticket, target, reads, writes, calls)
+            let ticket = Ticket::of(alloc, &tree, times.until)?;
+            answer_ticket(alloc, &ticket, target, reads, writes, calls, times)
         }
         Err(ExpandFault::OutOfMemory) => Err(AllocError),
-        Err(fault) => refused_by_expansion(alloc, fault),
+        Err(fault) => Ok(Err(VerdictFault::Profiles(fault))),
     }
 }
 
-/// The whole text that the program prints for a capability text and a request: `allow`; or `deny` and a
-/// line `PATH CONDITION` for each grant; or `refused FAULT` where the text spells no grants, where they
-/// cannot be expanded by the built-in profiles, or where the calls are refused, in this order. The request
-/// reads and writes as the two flags say, beside what its calls ask for. Every line ends with a line feed.
+/// What a capability text and a request come to: a verdict; or the first of these that holds: the text spells no
+/// grants, they cannot be expanded by the built-in profiles, the calls are refused. The request reads and writes
+/// as the two flags say, beside what its calls ask for.
+pub fn answer(
+    alloc: Global,
+    caps: &str,
+    target: &Target<'_>,
+    reads: bool,
+    writes: bool,
+    calls: &[Op],
+    times: Times,
+) -> Result<Answer, OutOfMemory>
+    ensures { IfOk result (λ answer. IsAnswer caps.now
+        (record { place = target.now; reads = reads; writes = writes; calls = calls.now; until = times.until; tick = times.tick }) answer) }
+{
+    match parse(alloc, caps) {
+        Ok(list) => answer_list(alloc, &list, target, reads, writes, calls, times),
+        Err(
+            CapFault {
+                kind: FaultKind::OutOfMemory,
+                ..
+            },
+        ) => Err(AllocError),
+        Err(fault) => Ok(Err(VerdictFault::Caps(fault))),
+    }
+}
+
+/// The text of an answer: the verdict's, or a line `refused FAULT`.
+pub fn text_of(alloc: Global, answer: &Answer) -> Result<String, OutOfMemory>
+    ensures { IfOk result (λ text. string_bytes text ≡ printed.answer_text answer.now) }
+{
+    match answer {
+        Ok(verdict) => format!(in alloc; "{verdict}"),
+        Err(fault) => format!(in alloc; "refused {fault}\n"),
+    }
+}
+
+/// The whole text that the program prints for a capability text and a request: that of their answer.
 pub fn verdict_text(
     alloc: Global,
     caps: &str,
@@ -128,18 +199,11 @@ pub fn verdict_text(
     reads: bool,
     writes: bool,
     calls: &[Op],
+    times: Times,
 ) -> Result<String, OutOfMemory>
     ensures { IfOk result (λ text. IsVerdictText caps.now
-        (record { place = target.now; reads = reads; writes = writes; calls = calls.now }) (string_bytes text)) }
+        (record { place = target.now; reads = reads; writes = writes; calls = calls.now; until = times.until; tick = times.tick }) (string_bytes text)) }
 {
-    match parse(alloc, caps) {
-        Ok(list) => list_text(alloc, &list, target, reads, writes, calls),
-        Err(
-            CapFault {
-                kind: FaultKind::OutOfMemory,
-                ..
-            },
-        ) => Err(AllocError),
-        Err(fault) => refused_by_parse(alloc, fault),
-    }
+    let answer = answer(alloc, caps, target, reads, writes, calls, times)?;
+    text_of(alloc, &answer)
 }
