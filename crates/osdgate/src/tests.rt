@@ -2,8 +2,10 @@
 
 mod explaining;
 
-use crate::command::run_command;
+use crate::command::{refuse_words, run_command};
+use crate::words::words;
 use std::alloc::Global;
+use std::env::{Env, FillError};
 use std::io;
 use std::test::Fail;
 
@@ -41,6 +43,14 @@ const TWO_CALLS: &[&str] = &["counter.get", "vault.peek"];
 const FS: &[&str] = &["--read", "--tag", "cephfs"];
 
 const FS_DATA: &[&str] = &["--read", "--tag", "cephfs:data=x"];
+
+const NOT_YET: &[&str] = &["--read", "--until", "10", "--tick", "9"];
+
+const EXPIRED: &[&str] = &["--read", "--until", "010", "--tick", "0010"];
+
+const EXPIRES_AT_ONCE: &[&str] = &["--read", "--until", "0"];
+
+const LATE_FOR_EVER: &[&str] = &["--read", "--tick", "18446744073709551615"];
 
 #[test]
 fn verdicts_print_their_texts(rt: HostRuntime) -> Result<(), Fail> {
@@ -86,6 +96,13 @@ fn verdicts_print_their_texts(rt: HostRuntime) -> Result<(), Fail> {
             &["counter.drop"],
             "refused G1 UnknownProfile 1\n",
         ),
+        ("deny r", &["counter.drop"], "refused C3 UnknownWord at 0\n"),
+        ("allow r pool=data", NOT_YET, "allow\n"),
+        ("allow r pool=data", EXPIRED, "deny\n1 expired\n"),
+        ("allow r pool=other", EXPIRED, "deny\n1 expired\n"),
+        ("allow r pool=data", EXPIRES_AT_ONCE, "deny\n1 expired\n"),
+        ("allow r pool=data", LATE_FOR_EVER, "allow\n"),
+        ("", EXPIRED, "deny\n"),
     ] {
         let (printed, status) = verdict(alloc, caps, "data", more)?;
         assert_eq!(rt; printed.as_str(), text, "{caps}");
@@ -129,6 +146,12 @@ fn command_lines(rt: HostRuntime) -> Result<(), Fail> {
         ["--read", "--read"].as_slice(),
         ["--pool", "data"].as_slice(),
         ["--fly"].as_slice(),
+        ["--until", ""].as_slice(),
+        ["--until", "+1"].as_slice(),
+        ["--until", "-1"].as_slice(),
+        ["--tick", "1x"].as_slice(),
+        ["--tick", "18446744073709551616"].as_slice(),
+        ["--tick", "1", "--tick", "1"].as_slice(),
     ] {
         assert_eq!(rt; verdict(alloc, "allow *", "data", more)?.1, 2);
     }
@@ -136,5 +159,76 @@ fn command_lines(rt: HostRuntime) -> Result<(), Fail> {
         assert_eq!(rt; run(alloc, words)?.1, 2);
     }
     assert_eq!(rt; run(alloc, ["osdgate", "--help"].as_slice())?.1, 0);
+    Ok(())
+}
+
+#[test]
+fn tags_with_and_without_a_pair(rt: HostRuntime) -> Result<(), Fail> {
+    let alloc = rt.alloc();
+    for (tag, text) in [
+        ("a=b", "allow\n"),
+        ("a", "deny\n1 tag\n"),
+        ("a:b=c", "deny\n1 tag\n"),
+    ] {
+        let more = ["--read", "--tag", tag];
+        let caps = "allow r tag 'a=b' *=*";
+        let (printed, _) = verdict(alloc, caps, "data", more.as_slice())?;
+        assert_eq!(rt; printed.as_str(), text, "{tag}");
+    }
+    let more = ["--read", "--tag", "a:b=c=d"];
+    let caps = "allow r tag a b='c=d'";
+    let (printed, _) = verdict(alloc, caps, "data", more.as_slice())?;
+    assert_eq!(rt; printed.as_str(), "allow\n");
+    Ok(())
+}
+
+/// Words that end in one which is not UTF-8, or for which there is no room.
+#[derive(Drop)]
+struct Words {
+    bad: usize,
+}
+
+impl Env for Words {
+    fn arg(&self, i: usize, buf: &mut [u8]) -> Result<usize, FillError> {
+        if i == self.bad {
+            if buf.is_empty() {
+                return Err(FillError::TooLong);
+            }
+            buf[0] = 255;
+            return Ok(1);
+        }
+        if i < 2 {
+            Ok(0)
+        } else {
+            Err(FillError::NotPresent)
+        }
+    }
+
+    fn var(&self, _name: &str, _buf: &mut [u8]) -> Result<usize, FillError> {
+        Err(FillError::NotPresent)
+    }
+
+    fn var_at(&self, _i: usize, _buf: &mut [u8]) -> Result<usize, FillError> {
+        Err(FillError::NotPresent)
+    }
+}
+
+#[test]
+fn words_that_are_no_text(rt: HostRuntime) -> Result<(), Fail> {
+    let alloc = rt.alloc();
+    assert!(rt; words(&Words { bad: 7 }, alloc).is_ok());
+    for (bad, line) in [
+        (0, "osdgate: word 0 of the command line is not UTF-8\n"),
+        (1, "osdgate: word 1 of the command line is not UTF-8\n"),
+    ] {
+        let mut out: Vec<u8> = Vec::new(alloc);
+        let mut err: Vec<u8> = Vec::new(alloc);
+        match words(&Words { bad }, alloc) {
+            Ok(_) => assert!(rt; false),
+            Err(fault) => assert!(rt; refuse_words(fault, &mut out, &mut err) == 2),
+        }
+        assert!(rt; out.is_empty());
+        assert!(rt; err.as_slice() == line.as_bytes());
+    }
     Ok(())
 }

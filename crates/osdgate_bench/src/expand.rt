@@ -38,7 +38,7 @@ struct MakeTicket<'a>(Expand<'a>);
 impl Work for MakeTicket<'_> {
     fn once(&self, _turn: usize) -> Result<bool, OutOfMemory> {
         match expand(self.0.alloc, self.0.table, self.0.list) {
-            Ok(tree) => Ok(!Ticket::of(self.0.alloc, &tree)?.grants().is_empty()),
+            Ok(tree) => Ok(!Ticket::of(self.0.alloc, &tree, None)?.grants().is_empty()),
             Err(ExpandFault::OutOfMemory) => Err(AllocError),
             Err(_) => Ok(false),
         }

@@ -6,15 +6,15 @@ ghost use Rattle.group_core.specs.Group.{IsSet};
 use crate::fault::Fault;
 use crate::measure::Work;
 use crate::table::Table;
-use cap_text::{Access, AllowGrant, Name, OutOfMemory, Tags};
+use cap_text::{Name, OutOfMemory, Tags, parse};
 use entry_core::{GroupId, Id, Items, Sealed, TryCopy};
-use grant_core::Path;
+use grant_core::{ProfileTable, expand};
 use group_core::Group;
 use map_core::PoolView;
 use object_core::{Bytes, Op};
 use std::alloc::Global;
 use std::time::Clock;
-use verdict_core::Ticket;
+use verdict_core::{IndexedTicket, Ticket};
 
 /// Requests that a new group takes and answers.
 #[derive(Drop)]
@@ -57,17 +57,13 @@ impl Work for Settling {
 }
 
 /// A ticket of the one grant `allow *`.
-fn all(alloc: Global) -> Result<Ticket, OutOfMemory> {
-    let grant = AllowGrant {
-        access: Access::All,
-        pool: None,
-        namespace: None,
-        prefix: None,
-        tag: None,
-    };
-    let mut grants = Vec::with_capacity(alloc, 1)?;
-    grants.push((Path::of(alloc, &[1])?, grant))?;
-    Ok(Ticket::from_vec(grants))
+fn all(alloc: Global) -> Result<IndexedTicket, Fault> {
+    let list = parse(alloc, "allow *")?;
+    let tree = expand(alloc, &ProfileTable::builtin(alloc)?, &list)?;
+    match IndexedTicket::of(Ticket::of(alloc, &tree, None)?) {
+        Ok(ticket) => Ok(ticket),
+        Err((_, error)) => Err(Fault::from(error)),
+    }
 }
 
 /// A request to replace the contents of one of 64 objects by a name.
@@ -87,6 +83,7 @@ fn request(alloc: Global, number: u32, name: &str) -> Result<Sealed, Fault> {
         alloc,
         Id::new(1, number),
         all(alloc)?,
+        0,
         view,
         0,
         Name::new(alloc, "")?,

@@ -9,7 +9,7 @@ use cap_text::{AppTags, Name, OutOfMemory, Pairs, Tags, parse};
 use grant_core::{ProfileTable, expand};
 use std::alloc::Global;
 use std::time::Clock;
-use verdict_core::{Calls, ClassCall, Needs, Target, Ticket, judge, report};
+use verdict_core::{Calls, ClassCall, IndexedTicket, Needs, Target, Ticket, judge, report};
 
 /// The number of the first grant. Numbers have two digits, so that all names are equally long.
 const FIRST: usize = 10;
@@ -122,6 +122,7 @@ impl Place {
 #[derive(Drop)]
 struct Asked {
     ticket: Ticket,
+    indexed: IndexedTicket,
     places: Vec<Place>,
     needs: Needs,
 }
@@ -139,7 +140,7 @@ fn ticket(alloc: Global, shape: Shape, name: &str, grants: usize) -> Result<Tick
     }
     let list = parse(alloc, text.as_str())?;
     let tree = expand(alloc, &ProfileTable::builtin(alloc)?, &list)?;
-    Ok(Ticket::of(alloc, &tree)?)
+    Ok(Ticket::of(alloc, &tree, None)?)
 }
 
 impl Asked {
@@ -157,8 +158,14 @@ impl Asked {
         for object in 0..4 {
             places.push(Place::new(alloc, shape, name, number, object)?)?;
         }
+        let ticket = ticket(alloc, shape, name, grants)?;
+        let indexed = match IndexedTicket::of(ticket.copy()?) {
+            Ok(indexed) => indexed,
+            Err((_, error)) => return Err(Fault::from(error)),
+        };
         Ok(Asked {
-            ticket: ticket(alloc, shape, name, grants)?,
+            ticket,
+            indexed,
             places,
             needs: shape.needs(alloc, name, number)?,
         })
@@ -173,8 +180,56 @@ impl Work for Judge<'_> {
     fn once(&self, turn: usize) -> Result<bool, OutOfMemory> {
         match self.0.places.get(turn % 4) {
             None => Ok(false),
-            Some(place) => Ok(judge(&self.0.ticket, &place.target(), &self.0.needs)),
+            Some(place) => Ok(judge(&self.0.ticket, &place.target(), &self.0.needs, 0)),
         }
+    }
+
+    fn size(&self) -> u64 {
+        1
+    }
+}
+
+/// The verdict by the index.
+#[derive(Drop)]
+struct JudgeIndexed<'a>(&'a Asked);
+
+impl Work for JudgeIndexed<'_> {
+    fn once(&self, turn: usize) -> Result<bool, OutOfMemory> {
+        match self.0.places.get(turn % 4) {
+            None => Ok(false),
+            Some(place) => Ok(self.0.indexed.judge(&place.target(), &self.0.needs, 0)),
+        }
+    }
+
+    fn size(&self) -> u64 {
+        1
+    }
+}
+
+/// Making a ticket's index, with the copy of the ticket that it takes.
+#[derive(Drop)]
+struct MakeIndex<'a>(&'a Asked);
+
+impl Work for MakeIndex<'_> {
+    fn once(&self, _turn: usize) -> Result<bool, OutOfMemory> {
+        match IndexedTicket::of(self.0.ticket.copy()?) {
+            Ok(indexed) => Ok(!indexed.grants().is_empty()),
+            Err((_, error)) => Err(error),
+        }
+    }
+
+    fn size(&self) -> u64 {
+        1
+    }
+}
+
+/// The copy of a ticket alone.
+#[derive(Drop)]
+struct CopyTicket<'a>(&'a Asked);
+
+impl Work for CopyTicket<'_> {
+    fn once(&self, _turn: usize) -> Result<bool, OutOfMemory> {
+        Ok(!self.0.ticket.copy()?.grants().is_empty())
     }
 
     fn size(&self) -> u64 {
@@ -192,7 +247,7 @@ impl Work for JudgeAndReport<'_> {
             return Ok(false);
         };
         let target = place.target();
-        if judge(&self.0.ticket, &target, &self.0.needs) {
+        if judge(&self.0.ticket, &target, &self.0.needs, 0) {
             return Ok(true);
         }
         let lines = report(
@@ -200,6 +255,7 @@ impl Work for JudgeAndReport<'_> {
             &self.0.ticket,
             &target,
             &self.0.needs,
+            0,
         )?;
         Ok(lines.lines().is_empty())
     }
@@ -223,11 +279,19 @@ fn add_rows<C: Clock>(
     let last = Asked::new(alloc, shape, name, grants, FIRST + grants - 1)?;
     let row = format!(in alloc; "judge, {by}, last of {grants}")?;
     table.row(row.as_str(), &Judge(&last))?;
+    let row = format!(in alloc; "judge indexed, {by}, last of {grants}")?;
+    table.row(row.as_str(), &JudgeIndexed(&last))?;
     let nobody = Asked::new(alloc, shape, name, grants, NOBODY)?;
     let row = format!(in alloc; "judge, {by}, none of {grants}")?;
     table.row(row.as_str(), &Judge(&nobody))?;
+    let row = format!(in alloc; "judge indexed, {by}, none of {grants}")?;
+    table.row(row.as_str(), &JudgeIndexed(&nobody))?;
     let row = format!(in alloc; "judge and report, {by}, none of {grants}")?;
-    table.row(row.as_str(), &JudgeAndReport(&nobody))
+    table.row(row.as_str(), &JudgeAndReport(&nobody))?;
+    let row = format!(in alloc; "copy a ticket, {by}, of {grants}")?;
+    table.row(row.as_str(), &CopyTicket(&nobody))?;
+    let row = format!(in alloc; "copy and index a ticket, {by}, of {grants}")?;
+    table.row(row.as_str(), &MakeIndex(&nobody))
 }
 
 /// Adds the rows of verdicts, over names that begin with a given one.

@@ -1,3 +1,4 @@
+use crate::indexed::IndexedTicket;
 use crate::judging::judge;
 use crate::reporting::report;
 use crate::request::{Calls, ClassCall, Condition, Needs, Target};
@@ -41,7 +42,12 @@ fn reading_call(
     })
 }
 
-/// What a ticket answers: nothing where it allows the request, else the report's text behind a word.
+/// The same ticket with an index.
+fn indexed(ticket: &Ticket) -> Result<IndexedTicket, Fail> {
+    Ok(IndexedTicket::of(ticket.copy()?).map_err(|_| "no room for an index")?)
+}
+
+/// What a ticket answers, and the same with an index: nothing where it allows the request, else the report's text behind a word.
 fn answer(
     alloc: Global,
     ticket: &Ticket,
@@ -49,11 +55,22 @@ fn answer(
     needs: &Needs,
     tick: u64,
 ) -> Result<String, Fail> {
-    if judge(ticket, target, needs, tick) {
+    let indexed = indexed(ticket)?.copy()?;
+    let allowed = judge(ticket, target, needs, tick);
+    if indexed.judge(target, needs, tick) != allowed {
+        return Err(Fail::from("the types differ in the verdict"));
+    }
+    if allowed {
         return Ok(String::new(alloc));
     }
     let lines = report(alloc, ticket, target, needs, tick)?.copy()?;
-    Ok(format!(in alloc; "deny\n{lines}")?)
+    let text = format!(in alloc; "deny\n{lines}")?;
+    let lines = indexed.report(alloc, target, needs, tick)?;
+    let other = format!(in alloc; "deny\n{lines}")?;
+    if other.as_str() != text.as_str() {
+        return Err(Fail::from("the types differ in the report"));
+    }
+    Ok(text)
 }
 
 /// The object x of a pool.
@@ -197,5 +214,42 @@ fn tickets_expire(rt: HostRuntime) -> Result<(), Fail> {
     let none = Ticket::empty(alloc, Some(0));
     let found = answer(alloc, &none, &object("data", "", &tags), &reads, 0)?;
     assert_eq!(rt; found.as_str(), "deny\n");
+    Ok(())
+}
+
+#[test]
+fn the_index_keeps_the_order_of_the_ticket(rt: HostRuntime) -> Result<(), Fail> {
+    let alloc = rt.alloc();
+    let tags = Tags::from_vec(Vec::new(alloc));
+    let get = reading_call(alloc, "counter", "get", true)?;
+    let both = needs(true, false, vec![in alloc; get]?);
+    let caps = "allow r pool=a, allow class counter, allow r pool=b, allow w";
+    let four = ticket(alloc, caps, None)?;
+    let text = answer(alloc, &four, &object("b", "", &tags), &both, 0)?;
+    assert_eq!(rt; text.as_str(), "deny\n1 pool\n2 read\n3 call 1\n4 read\n");
+    let caps = "allow r pool=a, allow class counter, allow r pool=b, allow w, allow r pool=c";
+    let five = ticket(alloc, caps, None)?;
+    let text = answer(alloc, &five, &object("b", "", &tags), &both, 0)?;
+    let wanted = "deny\n1 pool\n2 read\n3 call 1\n4 read\n5 pool\n";
+    assert_eq!(rt; text.as_str(), wanted);
+    let get = reading_call(alloc, "counter", "get", true)?;
+    let call = needs(false, false, vec![in alloc; get]?);
+    let reads = needs(true, false, Vec::new(alloc));
+    let writes = needs(false, true, Vec::new(alloc));
+    for (pool, read) in [
+        ("a", ""),
+        ("b", ""),
+        ("c", ""),
+        ("d", "deny\n1 pool\n2 read\n3 pool\n4 read\n5 pool\n"),
+    ] {
+        let here = object(pool, "", &tags);
+        let text = answer(alloc, &five, &here, &reads, 0)?;
+        assert_eq!(rt; text.as_str(), read, "{pool}");
+        assert!(rt; answer(alloc, &five, &here, &call, 0)?.is_empty(), "{pool}");
+        assert!(rt;
+            answer(alloc, &five, &here, &writes, 0)?.is_empty(),
+            "{pool}"
+        );
+    }
     Ok(())
 }
