@@ -1,3 +1,4 @@
 pub mod Place
 pub mod Ranking
+pub mod Members
 pub mod Inside
