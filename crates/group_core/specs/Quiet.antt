@@ -1,9 +1,8 @@
--- A quiet group: one interval with all its members up, in which no message is lost, repeated or overtaken.
+-- A set that can serve, what its interval costs in deliveries, and what is left once it settled.
 use Rattle.std.specs.Prelude.{ℕ, ◌≡◌, ◌≤◌, ◌<◌, ◌+◌, ◌*◌, ◌-◌, true, List, [], ◌∷◌, length, take, Option, Some, None, slice_get}
 use Rattle.entry_core.specs.Log.{is_in}
 use Rattle.peer_core.specs.Sets.{daemons}
 use Rattle.group_core.specs.Types.{Sent}
-use Rattle.group_core.specs.Each.{Each}
 use Rattle.group_core.specs.Group.{Group, Event, Submit, Deliver, Lose, Repeat, NewInterval, Restart, Kick, IsSet, group_step, open_requests}
 use Rattle.group_core.specs.Budget.{settled_group}
 
@@ -14,19 +13,6 @@ pub record IsQuiet (min_size count : ℕ) (acting up : List ℕ) : Type 0 where
   pub set : IsSet acting
   pub exist : (d : ℕ) → is_in acting d ≡ true → d < length (take count daemons)
   pub live : (d : ℕ) → is_in acting d ≡ true → is_in up d ≡ true
-
--- the client submits, and the oldest message is delivered
-abbrev pub IsServing : Event → Type 0
-IsServing (Submit s) = Unit {0}
-IsServing (Deliver k) = k ≡ 0
-IsServing (Lose k) = ⊥
-IsServing (Repeat k) = ⊥
-IsServing (NewInterval acting up) = ⊥
-IsServing (Restart d) = ⊥
-IsServing Kick = ⊥
-
-abbrev pub OnlyServes : List Event → Type 0
-OnlyServes events = Each IsServing events
 
 -- how many messages these events delivered
 

@@ -1,7 +1,7 @@
 ghost use Rattle.std.specs.Prelude.{ℕ, ◌≡◌, ◌≤◌, ◌<◌, ◌+◌, Some, take, List, ◌++◌, length, map, true, [], slice_get, replicate, ◌*◌, None};
 ghost use Rattle.entry_core.specs.declared.entry.Entry.{Entry};
 ghost use Rattle.group_core.specs.History.{History, IsSound, IsDecided, Begins, but_last};
-ghost use Rattle.entry_core.specs.Log.{Legal};
+ghost use Rattle.entry_core.specs.Log.{Legal, reply_in};
 ghost use Rattle.group_core.specs.Replicated.{IsReplicated};
 ghost use Rattle.group_core.specs.Sane.{AllSane};
 ghost use Rattle.entry_core.specs.declared.sealed.GroupId.{GroupId};
@@ -14,9 +14,11 @@ ghost use Rattle.group_core.specs.Reached.{IsReached};
 ghost use Rattle.group_core.specs.Open.{HasHistory};
 ghost use Rattle.entry_core.specs.Request.{Sealed};
 ghost use Rattle.group_core.specs.Types.{Daemon, Party, Sent, Outcome};
-ghost use Rattle.group_core.specs.Quiet.{IsQuiet, OnlyServes, IsServed, deliveries_made, opening_cost, request_cost};
+ghost use Rattle.group_core.specs.Quiet.{IsQuiet, IsServed, made_by, deliveries_made, opening_cost, request_cost};
+ghost use Rattle.group_core.specs.Calm.{OnlyCalm, IsSmall, IsUnserved, IsCalm, IsCalmGroup, unserved_cost, log_of, answer_with, all_taken};
 ghost use Rattle.group_core.specs.Budget.{Lowers, budget, settled_group, settle_count};
-ghost use Rattle.group_core.specs.Rows.{IsLostReply, IsLate, IsHalfDone, IsCounted};
+ghost use Rattle.group_core.specs.Recovery.{LiesWithin, ActsWithin, IsReady, is_ready, lost_all, IsLoss, Recovers};
+ghost use Rattle.group_core.specs.Rows.{IsLostReply, IsLate, IsHalfDone, IsCounted, IsKickedAwake, IsServedCalmly};
 
 /// Whatever was decided stands at the beginning of every log that is chosen later.
 pub fn decided_entries_stay()
@@ -30,6 +32,8 @@ pub fn worked_cases()
     ensures late { (group : GroupId) (s : Sealed) → IsLate group s }
     ensures half_done { (group : GroupId) (s : Sealed) → IsHalfDone group s }
     ensures counted { (group : GroupId) (s : Sealed) → IsCounted group s }
+    ensures kicked { (group : GroupId) (s : Sealed) → IsKickedAwake group s }
+    ensures calm { (group : GroupId) (s : Sealed) → IsServedCalmly group s }
 {}
 
 /// Whatever happens, a role is that of the interval that was promised, no base is above the promise, and each log is legal: its numbers differ, and each entry is what is decided on those before it.
@@ -98,6 +102,7 @@ pub fn settling_ends()
     ensures stops { (group : GroupId) (min_size count : ℕ) (acting up : List ℕ) (events : List Event) (n : ℕ) → IsSet acting → Each EventFits events →
         budget (run events (start group min_size count acting up)) ≤ n →
         settle n (run events (start group min_size count acting up)) ≡ settled_group (run events (start group min_size count acting up)) }
+    ensures rests { (g : Group) → g.wire ≡ [] → (settled_group g ≡ g) × (settle_count g ≡ 0) }
 {}
 
 /// At most the last entry of a copy's log is open: the others were held by each member of its base's interval or of one
@@ -120,21 +125,79 @@ pub fn calls_only_add()
     ensures reached { (g : Group) (e : Event) → IsReached g → EventFits e → IsReached (group_step g e) }
 {}
 
-/// One interval with enough members, all of them up, in which the client submits and the oldest message is delivered, and
-/// nothing else happens: settling answers every request and empties the wire, and takes a number of deliveries that is known
-/// before. Of m members it is 5 * m - 4 for the opening and 2 * m for each request, less those that were made already: at
-/// most 21, and 10 for each request.
+/// A group that stays in one interval, with enough members and all of them up, serves: the client submits, the oldest message
+/// is delivered, and daemons outside of the set may come, go and restart. Settling answers every request and empties the wire,
+/// and takes a number of deliveries that is known before. Of m members it is 5 * m - 4 for the opening and 2 * m for each
+/// request, less those that were made already: at most 21, and 10 for each request.
 pub fn one_interval_serves_all()
-    ensures served { (group : GroupId) (min_size count : ℕ) (acting up : List ℕ) (events : List Event) → IsQuiet min_size count acting up → OnlyServes events →
+    ensures served { (group : GroupId) (min_size count : ℕ) (acting up : List ℕ) (events : List Event) → IsQuiet min_size count acting up → OnlyCalm acting events →
         IsServed (run events (start group min_size count acting up)) }
-    ensures counted { (group : GroupId) (min_size count : ℕ) (acting up : List ℕ) (events : List Event) → IsQuiet min_size count acting up → OnlyServes events →
+    ensures counted { (group : GroupId) (min_size count : ℕ) (acting up : List ℕ) (events : List Event) → IsQuiet min_size count acting up → OnlyCalm acting events →
         deliveries_made events (start group min_size count acting up) + settle_count (run events (start group min_size count acting up)) ≡
         opening_cost (length acting) + request_cost (length acting) * length (run events (start group min_size count acting up)).requests }
     ensures opening { (group : GroupId) (min_size count : ℕ) (acting up : List ℕ) → IsQuiet min_size count acting up →
         settle_count (start group min_size count acting up) ≡ opening_cost (length acting) }
-    ensures one_more { (group : GroupId) (min_size count : ℕ) (acting up : List ℕ) (events : List Event) (s : Sealed) → IsQuiet min_size count acting up → OnlyServes events →
+    ensures one_more { (group : GroupId) (min_size count : ℕ) (acting up : List ℕ) (events : List Event) (s : Sealed) → IsQuiet min_size count acting up → OnlyCalm acting events →
         refusal_of (run events (start group min_size count acting up)) (Submit s) ≡ None →
         settle_count (group_step (run events (start group min_size count acting up)) (Submit s)) ≡ settle_count (run events (start group min_size count acting up)) + request_cost (length acting) }
-    ensures at_most { (group : GroupId) (min_size count : ℕ) (acting up : List ℕ) (events : List Event) → IsQuiet min_size count acting up → OnlyServes events →
+    ensures at_most { (group : GroupId) (min_size count : ℕ) (acting up : List ℕ) (events : List Event) → IsQuiet min_size count acting up → OnlyCalm acting events →
         settle_count (run events (start group min_size count acting up)) ≤ 21 + 10 * length (run events (start group min_size count acting up)).requests }
+{}
+
+/// Such a group decides its requests in the order in which they were submitted, each on the store that those before it made;
+/// and its answers are these decisions, in the same order. So what it answers is a function of what was submitted.
+pub fn requests_are_decided_in_order()
+    ensures order { (group : GroupId) (min_size count : ℕ) (acting up : List ℕ) (events : List Event) → IsQuiet min_size count acting up → OnlyCalm acting events →
+        map (λ e. e.sealed) (settled_group (run events (start group min_size count acting up))).audit ≡ (run events (start group min_size count acting up)).requests }
+    ensures decided { (group : GroupId) (min_size count : ℕ) (acting up : List ℕ) (events : List Event) → IsQuiet min_size count acting up → OnlyCalm acting events →
+        (settled_group (run events (start group min_size count acting up))).audit ≡ log_of (run events (start group min_size count acting up)).requests }
+    ensures answers { (group : GroupId) (min_size count : ℕ) (acting up : List ℕ) (events : List Event) → IsQuiet min_size count acting up → OnlyCalm acting events →
+        (settled_group (run events (start group min_size count acting up))).answers ≡ map answer_with (log_of (run events (start group min_size count acting up)).requests) }
+    ensures answered { (group : GroupId) (min_size count : ℕ) (acting up : List ℕ) (events : List Event) (id : ℕ) → IsQuiet min_size count acting up → OnlyCalm acting events →
+        answer_of (settled_group (run events (start group min_size count acting up))).answers id ≡ reply_in (log_of (run events (start group min_size count acting up)).requests) id }
+    ensures taken { (group : GroupId) (min_size count : ℕ) (acting up : List ℕ) (events : List Event) →
+        (run events (start group min_size count acting up)).requests ≡ all_taken events [] }
+{}
+
+/// A group whose one set has too few members to serve, all of them up, answers and decides nothing, and its wire empties all the
+/// same: each member hears of the set, and each request takes two deliveries, to the first and back, where there is a first.
+pub fn small_sets_answer_nothing()
+    ensures unserved { (group : GroupId) (min_size count : ℕ) (acting up : List ℕ) (events : List Event) → IsSmall min_size count acting up → OnlyCalm acting events →
+        IsUnserved (run events (start group min_size count acting up)) }
+    ensures counted { (group : GroupId) (min_size count : ℕ) (acting up : List ℕ) (events : List Event) → IsSmall min_size count acting up → OnlyCalm acting events →
+        deliveries_made events (start group min_size count acting up) + settle_count (run events (start group min_size count acting up)) ≡
+        length acting + unserved_cost (length acting) * length (run events (start group min_size count acting up)).requests }
+    ensures opening { (group : GroupId) (min_size count : ℕ) (acting up : List ℕ) → IsSmall min_size count acting up →
+        settle_count (start group min_size count acting up) ≡ length acting }
+    ensures one_more { (group : GroupId) (min_size count : ℕ) (acting up : List ℕ) (events : List Event) (s : Sealed) → IsSmall min_size count acting up → OnlyCalm acting events →
+        refusal_of (run events (start group min_size count acting up)) (Submit s) ≡ None →
+        settle_count (group_step (run events (start group min_size count acting up)) (Submit s)) ≡ settle_count (run events (start group min_size count acting up)) + unserved_cost (length acting) }
+{}
+
+/// A calm group is one after each calm event, and once it settled. A request that is taken adds its deliveries to those that are
+/// due, a delivery takes one of them, and nothing else changes their number.
+pub fn calm_groups_stay_calm()
+    ensures begins { (group : GroupId) (min_size count : ℕ) (acting up : List ℕ) → IsCalmGroup min_size count acting up (start group min_size count acting up) }
+    ensures steps { (min_size count : ℕ) (acting up : List ℕ) (g : Group) (e : Event) → IsCalmGroup min_size count acting up g → IsCalm acting e → IsCalmGroup min_size count acting up (group_step g e) }
+    ensures settles { (min_size count : ℕ) (acting up : List ℕ) (g : Group) → IsCalmGroup min_size count acting up g → IsCalmGroup min_size count acting up (settled_group g) }
+    ensures served { (group : GroupId) (min_size count : ℕ) (acting up : List ℕ) (events : List Event) (e : Event) → IsQuiet min_size count acting up → OnlyCalm acting events → IsCalm acting e →
+        made_by (run events (start group min_size count acting up)) e + settle_count (group_step (run events (start group min_size count acting up)) e) + request_cost (length acting) * length (run events (start group min_size count acting up)).requests ≡
+        settle_count (run events (start group min_size count acting up)) + request_cost (length acting) * length (group_step (run events (start group min_size count acting up)) e).requests }
+    ensures unserved { (group : GroupId) (min_size count : ℕ) (acting up : List ℕ) (events : List Event) (e : Event) → IsSmall min_size count acting up → OnlyCalm acting events → IsCalm acting e →
+        made_by (run events (start group min_size count acting up)) e + settle_count (group_step (run events (start group min_size count acting up)) e) + unserved_cost (length acting) * length (run events (start group min_size count acting up)).requests ≡
+        settle_count (run events (start group min_size count acting up)) + unserved_cost (length acting) * length (group_step (run events (start group min_size count acting up)) e).requests }
+{}
+
+/// Nobody is stranded. Take any events whose acting sets lie within the daemons that are handed in as up, and a group that is
+/// ready after them: its last set is large enough, and each earlier one that is, from the greatest base of a copy that is up,
+/// has a member that is up. Where all messages are lost and the group is kicked, settling answers every request and empties the
+/// wire, in as many deliveries as the budget at most. Whichever way the messages are lost, the same group is left.
+pub fn a_kick_recovers()
+    ensures recovers { (group : GroupId) (min_size count : ℕ) (acting up : List ℕ) (events : List Event) → 1 ≤ min_size → IsSet acting → Each EventFits events →
+        LiesWithin count acting up → Each (ActsWithin count) events → IsReady (run events (start group min_size count acting up)) →
+        Recovers (run events (start group min_size count acting up)) }
+    ensures lost { (g : Group) (losses : List Event) → Each IsLoss losses → (run losses g).wire ≡ [] → run losses g ≡ lost_all g }
+    ensures loses { (g : Group) → run (replicate (length g.wire) (Lose 0)) g ≡ lost_all g }
+    ensures ready { (g : Group) → is_ready g ≡ true → IsReady g }
+    ensures unready { (g : Group) → IsReady g → is_ready g ≡ true }
 {}

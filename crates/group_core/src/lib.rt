@@ -9,6 +9,7 @@ mod group;
 mod ids;
 mod laws;
 mod parts;
+mod ready;
 mod requests;
 mod sending;
 mod wire;
@@ -16,9 +17,10 @@ mod wire;
 pub use fault::GroupFault;
 pub use group::Group;
 pub use laws::{
-    answers_stand, calls_only_add, copies_stay_sane, decided_entries_stay, decided_is_one_list,
-    deliveries_lower_the_budget, limits_hold, one_entry_is_open, one_interval_serves_all,
-    requests_were_submitted, settling_ends, worked_cases,
+    a_kick_recovers, answers_stand, calls_only_add, calm_groups_stay_calm, copies_stay_sane,
+    decided_entries_stay, decided_is_one_list, deliveries_lower_the_budget, limits_hold,
+    one_entry_is_open, one_interval_serves_all, requests_are_decided_in_order,
+    requests_were_submitted, settling_ends, small_sets_answer_nothing, worked_cases,
 };
 
 #[cfg(test)]
