@@ -19,7 +19,6 @@ distinct-from_pairs (x ∷ xs) h =
     let rest : is_distinct xs ≡ true = distinct-from_pairs xs (λ i j d low high. h (suc i) (suc j) d (omega arith) (omega arith)) in
     rw (none, rest) refl
 
-
 split : (a b : Bool) → (not a && b) ≡ true → (a ≡ false) × (b ≡ true)
 split false true h = (refl, refl)
 split true b h = absurd (cc)

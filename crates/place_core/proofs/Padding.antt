@@ -31,10 +31,10 @@ padded_push a daemon h room new =
     let rest : List ℕ = replicate (5 - (a.len + 1)) 0 in
     let taken : take (a.len + 1) (set a.members a.len daemon) ≡ take a.len a.members ++ daemon ∷ [] = take_more_set a.members a.len daemon (omega (arith, few, h.long)) in
     let whole : set a.members a.len daemon ≡ (take a.len a.members ++ daemon ∷ []) ++ rest =
-        ap (λ l. set l a.len daemon) (h.zeros ∙ ap (λ n. take a.len a.members ++ replicate n 0) tail)
-        ∙ ap (λ n. set (take a.len a.members ++ 0 ∷ rest) n daemon) (sym front)
-        ∙ set-append_seam (take a.len a.members) 0 rest daemon
-        ∙ sym (append_assoc (take a.len a.members) (daemon ∷ []) rest) in
+    ap (λ l. set l a.len daemon) (h.zeros ∙ ap (λ n. take a.len a.members ++ replicate n 0) tail)
+    ∙ ap (λ n. set (take a.len a.members ++ 0 ∷ rest) n daemon) (sym front)
+    ∙ set-append_seam (take a.len a.members) 0 rest daemon
+    ∙ sym (append_assoc (take a.len a.members) (daemon ∷ []) rest) in
     record {
       long = length-set a.members a.len daemon ∙ h.long;
       few = omega (arith, few);

@@ -1,4 +1,4 @@
-use Rattle.std.proofs.Common.{◌≡◌, ◌==◌, ◌||◌, not, ℕ, Bool, sym, ap, ◌∙◌}
+use Rattle.std.proofs.Common.{◌==◌, ◌||◌, not, sym, ◌∙◌}
 use Rattle.entry_core.specs.Log.{is_in}
 use Rattle.peer_core.proofs.Counted.{room_left, is_new, takes, skips}
 use Rattle.peer_core.proofs.state.State.counted.Goals as goal
