@@ -8,14 +8,18 @@ mod furthest;
 mod group;
 mod ids;
 mod laws;
+mod moves;
+mod opening;
 mod parts;
 mod ready;
 mod requests;
 mod sending;
+mod state;
 mod wire;
 
 pub use fault::GroupFault;
 pub use group::Group;
+pub use opening::GroupMove;
 pub use laws::{
     a_kick_recovers, answers_stand, calls_only_add, calm_groups_stay_calm, copies_stay_sane,
     decided_entries_stay, decided_is_one_list, deliveries_lower_the_budget, limits_hold,

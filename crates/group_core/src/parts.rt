@@ -12,7 +12,8 @@ ghost use Rattle.group_core.specs.Reached.{unsent};
 use crate::answers::{Answer, Answers};
 use crate::at::at;
 use crate::requests::Requests;
-use crate::sending::{announce, contains, resend};
+use crate::opening::{open, prepare};
+use crate::sending::contains;
 use crate::wire::Wire;
 use entry_core::{Items, OutOfMemory, Sealed, TryCopy};
 use peer_core::{Body, Daemon, IntervalSets, Message, Sent};
@@ -141,12 +142,8 @@ pub(crate) fn begin(
     ensures sets_err { OnErr result (sets.new ≡ sets.old) }
     ensures wire_err { OnErr result (wire.new.sent ≡ wire.old.sent) }
 {
-    let next = sets.followed_by(alloc, acting)?;
-    let mut sent = announce(alloc, &next)?;
-    let mut again = resend(alloc, &next, requests, answers)?;
-    sent.append(&mut again)?;
-    wire.extend(sent)?;
-    *sets = next;
+    let opening = prepare(alloc, wire, sets, acting, requests, answers)?;
+    open(wire, sets, opening);
     Ok(())
 }
 
