@@ -1,5 +1,5 @@
 -- How many messages one step of a copy sends.
-use Rattle.std.proofs.Common.{ℕ, ◌≡◌, ◌+◌, ◌≤◌, Bool, true, false, not, ◌==◌, ◌&&◌, nat_lt, List, [], ◌∷◌, ◌++◌, map, length, arith, length-append, refl, if◌then◌else◌}
+use Rattle.std.proofs.Common.{ℕ, ◌≡◌, ◌+◌, ◌≤◌, Bool, true, false, not, ◌==◌, ◌&&◌, nat_lt, List, [], ◌∷◌, ◌++◌, length, arith, length-append, refl, if◌then◌else◌}
 use Rattle.std.specs.Prelude.{Option, Some, None, slice_get}
 use Rattle.std.specs.List.{list_any}
 use Rattle.std.proofs.Math.ListN.{length-map}
@@ -7,7 +7,7 @@ use Rattle.entry_core.specs.Log.{find, is_in, ids}
 use Rattle.entry_core.specs.Request.{Sealed}
 use Rattle.entry_core.specs.declared.entry.Entry.{Entry}
 use Rattle.peer_core.specs.Steps.{Stepped, still, send}
-use Rattle.peer_core.specs.Copy.{promised, request_as, busy, waits, query, append, acknowledged, complete, appended_as, told, leads, lead, interval, queries, installed_as, comes, copy_step, install, try_choice, info_as}
+use Rattle.peer_core.specs.Copy.{promised, request_as, busy, waits, append, acknowledged, complete, appended_as, told, leads, lead, interval, queries, installed_as, comes, copy_step, install, try_choice, info_as}
 use Rattle.peer_core.specs.Sets.{others, all_count, set_of, asked, is_asked, daemons, counted}
 use Rattle.peer_core.specs.Serve.{serve, serve_one, push_new}
 use Rattle.peer_core.specs.Choice.{can_choose, best, own_offer, is_heard}

@@ -19,13 +19,14 @@ mod wire;
 
 pub use fault::GroupFault;
 pub use group::Group;
-pub use opening::GroupMove;
 pub use laws::{
     a_kick_recovers, answers_stand, calls_only_add, calm_groups_stay_calm, copies_stay_sane,
     decided_entries_stay, decided_is_one_list, deliveries_lower_the_budget, limits_hold,
     one_entry_is_open, one_interval_serves_all, requests_are_decided_in_order,
     requests_were_submitted, settling_ends, small_sets_answer_nothing, worked_cases,
 };
+pub use moves::PreparedGroup;
+pub use opening::GroupMove;
 
 #[cfg(test)]
 mod tests;

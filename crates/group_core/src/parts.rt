@@ -11,8 +11,8 @@ ghost use Rattle.group_core.specs.Reached.{unsent};
 
 use crate::answers::{Answer, Answers};
 use crate::at::at;
-use crate::requests::Requests;
 use crate::opening::{open, prepare};
+use crate::requests::Requests;
 use crate::sending::contains;
 use crate::wire::Wire;
 use entry_core::{Items, OutOfMemory, Sealed, TryCopy};
