@@ -7,7 +7,7 @@ use Rattle.entry_core.specs.Request.{Sealed}
 use Rattle.entry_core.specs.declared.entry.Entry.{Entry}
 use Rattle.peer_core.specs.Steps.{Stepped, still, send}
 use Rattle.peer_core.specs.Copy.{promised, request, request_as, busy, waits, query, told, leads, lead, interval, append, acknowledged, queries, kicked, kicked_as, append_again, complete, installed_as, appended_as, install_comes, comes, install, try_choice, info_as}
-use Rattle.peer_core.specs.Sets.{others, asked, all_count}
+use Rattle.peer_core.specs.Sets.{others, asked, all_count, counted}
 use Rattle.peer_core.specs.Serve.{serve, push_new, serve_one}
 use Rattle.peer_core.specs.Decided.{settled, with_entry, last}
 use Rattle.peer_core.specs.Choice.{can_choose, best, own_offer, is_heard}
@@ -110,8 +110,8 @@ module _ (P : Sealed → Type 0) where
       go false = next
 
   installed_as_in : (r : Role) (c : Daemon) (n m : ℕ) → InCopy P c → InStep (installed_as r c n m)
-  installed_as_in (Installing done) c n m ok = by_test (c.promise == n) (if all_count c (done ++ m ∷ []) then serve c.waiting c else still (record c { role = Installing (done ++ m ∷ []) })) (still c)
-      (by_test (all_count c (done ++ m ∷ [])) (serve c.waiting c) (still (record c { role = Installing (done ++ m ∷ []) }))
+  installed_as_in (Installing done) c n m ok = by_test (c.promise == n) (if all_count c (counted c done m) then serve c.waiting c else still (record c { role = Installing (counted c done m) })) (still c)
+      (by_test (all_count c (counted c done m)) (serve c.waiting c) (still (record c { role = Installing (counted c done m) }))
       (serve_in c.waiting c ok.log ok.waiting)
       (record { copy = record { log = ok.log; waiting = ok.waiting; role = tt }; sent = tt }))
       (still_in c ok)
@@ -137,8 +137,8 @@ module _ (P : Sealed → Type 0) where
 
   appended_as_in : (r : Role) (c : Daemon) (n place m : ℕ) → InCopy P c → InStep (appended_as r c n place m)
   appended_as_in (Active (Some holders)) c n place m ok = by_test ((c.promise == n) && (place == length c.log))
-      (if all_count c (holders ++ m ∷ []) then complete c (last c.log) else still (record c { role = Active (Some (holders ++ m ∷ [])) })) (still c)
-      (by_test (all_count c (holders ++ m ∷ [])) (complete c (last c.log)) (still (record c { role = Active (Some (holders ++ m ∷ [])) }))
+      (if all_count c (counted c holders m) then complete c (last c.log) else still (record c { role = Active (Some (counted c holders m)) })) (still c)
+      (by_test (all_count c (counted c holders m)) (complete c (last c.log)) (still (record c { role = Active (Some (counted c holders m)) }))
       (complete_in c (last c.log) ok)
       (record { copy = record { log = ok.log; waiting = ok.waiting; role = tt }; sent = tt }))
       (still_in c ok)

@@ -1,5 +1,5 @@
 -- A delivery lowers the budget.
-use Rattle.std.proofs.Common.{ℕ, ◌≡◌, ◌+◌, ◌*◌, ◌≤◌, Bool, true, false, not, ◌==◌, ◌&&◌, nat_lt, List, [], ◌∷◌, ◌++◌, map, length, refl, arith, length-append, if◌then◌else◌}
+use Rattle.std.proofs.Common.{ℕ, ◌≡◌, ◌+◌, ◌*◌, ◌≤◌, Bool, true, false, not, ◌==◌, ◌&&◌, nat_lt, List, [], ◌∷◌, map, length, refl, arith, length-append, if◌then◌else◌}
 use Rattle.std.specs.Prelude.{Option, Some, None}
 use Rattle.std.specs.List.{list_any}
 use Rattle.entry_core.specs.Log.{find, is_in, ids}
@@ -7,7 +7,7 @@ use Rattle.entry_core.specs.Request.{Sealed}
 use Rattle.entry_core.specs.declared.entry.Entry.{Entry}
 use Rattle.peer_core.specs.Steps.{Stepped, still}
 use Rattle.peer_core.specs.Copy.{promised, request, request_as, busy, waits, query, append, acknowledged, complete, appended_as}
-use Rattle.peer_core.specs.Sets.{others, all_count}
+use Rattle.peer_core.specs.Sets.{others, all_count, counted}
 use Rattle.peer_core.specs.Serve.{serve, serve_one, push_new}
 use Rattle.peer_core.specs.Decided.{with_entry, settled, last}
 use Rattle.group_core.specs.Types.{Role, Idle, Peering, Installing, Active, Daemon, Info, Append, Appended, Party, Osd}
@@ -81,8 +81,8 @@ pub appended_as_lowers : (r : Role) (c : Daemon) (n place m : ℕ) → c.role �
 appended_as_lowers (Active (Some holders)) c n place m is few =
     let in_flight : role_budget c.role ≡ 1 = rw is in
     by_test 1 c ((c.promise == n) && (place == length c.log))
-    (if all_count c (holders ++ m ∷ []) then complete c (last c.log) else still (record c { role = Active (Some (holders ++ m ∷ [])) })) (still c)
-    (by_test 1 c (all_count c (holders ++ m ∷ [])) (complete c (last c.log)) (still (record c { role = Active (Some (holders ++ m ∷ [])) }))
+    (if all_count c (counted c holders m) then complete c (last c.log) else still (record c { role = Active (Some (counted c holders m)) })) (still c)
+    (by_test 1 c (all_count c (counted c holders m)) (complete c (last c.log)) (still (record c { role = Active (Some (counted c holders m)) }))
     (omega (arith, complete_budget c (last c.log) few, in_flight))
     (omega (arith, in_flight)))
     (omega arith)

@@ -7,7 +7,7 @@ use Rattle.entry_core.specs.Log.{is_in, ids, Legal, decide, decide-sealed, find}
 use Rattle.entry_core.specs.Request.{Sealed}
 use Rattle.entry_core.specs.declared.entry.Entry.{Entry}
 use Rattle.peer_core.specs.Steps.{Stepped, still, send}
-use Rattle.peer_core.specs.Sets.{set_of, is_first, others, asked, all_count}
+use Rattle.peer_core.specs.Sets.{set_of, is_first, others, asked, all_count, counted}
 use Rattle.peer_core.specs.Copy.{promised, waits, busy, request_as, request, install, try_choice, queries, told, leads, lead, interval, query, info_as, install_comes, installed_as, acknowledged, append, complete, appended_as, comes}
 use Rattle.peer_core.specs.Decided.{settled, with_entry, last}
 use Rattle.peer_core.specs.Serve.{push_new, serve_one, serve, reply_with}
@@ -16,6 +16,7 @@ use Rattle.group_core.specs.Types.{Informed, Role, Idle, Peering, Installing, Ac
 use Rattle.group_core.specs.Each.{Each}
 use Rattle.group_core.specs.History.{Begins, History, Held, IsOpened, IsSound, but_last, IsSettled}
 use Rattle.group_core.specs.Offer.{IsTold, IsOffer}
+use Rattle.group_core.proofs.Countings.{at_member, Each-counted}
 use Rattle.group_core.proofs.Eaches.{Each-append, Each-push, Each-map_all, Each-weaker}
 use Rattle.group_core.proofs.Logs.{absent, Legal-push, LegalFrom-at, LegalFrom-front}
 use Rattle.group_core.proofs.Prefixes.{Begins-trans, Begins-refl, Begins-nil, Begins-push, Begins-length, Begins-same}
@@ -343,13 +344,6 @@ module _ (z : ℕ) (sets : List (List ℕ)) (d : ℕ) where
   request_after p h c s sound ok = by_test p h (list_any (λ w. w.id == s.id) c.waiting) (still c) (request_as c.role c s)
       (λ _. still_after p h c sound ok) (λ _. request_as_after c.role p h c s refl sound ok)
 
-  counted : (P : ℕ → Type 0) (ms : List ℕ) (m : ℕ) → Each P ms → is_in ms m ≡ true → P m
-  counted P [] m each bad = absurd (both_ways false refl bad)
-  counted P (i ∷ ms) m each is = elim (or_cases (i == m) (is_in ms m) is) [
-    | inl here ↦ subst P (eqb-true i m here) each.0
-    | inr later ↦ counted P ms m each.1 later
-  ]
-
   all_in : (test : ℕ → Bool) (ms : List ℕ) (m : ℕ) → list_all test ms ≡ true → is_in ms m ≡ true → test m ≡ true
   all_in test [] m all bad = absurd (both_ways false refl bad)
   all_in test (i ∷ ms) m all is =
@@ -364,11 +358,11 @@ module _ (z : ℕ) (sets : List (List ℕ)) (d : ℕ) where
   all_hold p h c ms state owns each all =
       let mine : Held h d c.promise (length c.log) = record { most = length c.log; is = subst (λ v. h.held d v ≡ Some (length c.log)) owns.is_base state.held; enough = omega arith } in
       all_members (λ m. Held h m c.promise (length c.log)) c state.number state.known owns.leads mine
-      (λ m is. counted (λ m. Held h m c.promise (length c.log)) ms m each (all_in (λ i. is_in ms i) (others c) m all is))
+      (λ m is. at_member (λ m. Held h m c.promise (length c.log)) ms m each (all_in (λ i. is_in ms i) (others c) m all is))
 
   installed_as_after : (r : Role) (p : ℕ → ℕ) (h : History) (c : Daemon) (n m : ℕ) → c.role ≡ r → IsSound p z sets h → CopyOk z sets p h d c → HasInstalled h m n → After z sets p h d (installed_as r c n m)
   installed_as_after (Installing done) p h c n m is sound ok has = by_test p h (c.promise == n)
-      (if all_count c (done ++ m ∷ []) then serve c.waiting c else still (record c { role = Installing (done ++ m ∷ []) })) (still c)
+      (if all_count c (counted c done m) then serve c.waiting c else still (record c { role = Installing (counted c done m) })) (still c)
       (λ same. (
       let now : c.promise ≡ n = eqb-true c.promise n same in
       let role = role_at p h c (Installing done) is ok in
@@ -376,12 +370,12 @@ module _ (z : ℕ) (sets : List (List ℕ)) (d : ℕ) where
       let was = role.chosen in
       let whole : has.log ≡ c.log = cc in
       let holds : Held h m c.promise (length c.log) = subst (λ v. Held h m v (length c.log)) (sym now) (subst (λ l. Held h m n (length l)) whole has.holds) in
-      let each : Each (λ i. Held h i c.promise (length c.log)) (done ++ m ∷ []) = Each-push (λ i. Held h i c.promise (length c.log)) done m role.holders holds in
-      by_test p h (all_count c (done ++ m ∷ [])) (serve c.waiting c) (still (record c { role = Installing (done ++ m ∷ []) }))
-      (λ all. serve_after c.waiting p h c sound ok.state role.owns (all_hold p h c (done ++ m ∷ []) ok.state role.owns each all))
-      (λ _. still_after p h (record c { role = Installing (done ++ m ∷ []) }) sound (record {
-        state = StateOk-same p h c (Installing (done ++ m ∷ [])) c.waiting ok.state;
-        role = record { owns = Owns-same h c (Installing (done ++ m ∷ [])) c.waiting role.owns; chosen = role.chosen; holders = each };
+      let each : Each (λ i. Held h i c.promise (length c.log)) (counted c done m) = Each-counted (λ i. Held h i c.promise (length c.log)) c done m role.holders holds in
+      by_test p h (all_count c (counted c done m)) (serve c.waiting c) (still (record c { role = Installing (counted c done m) }))
+      (λ all. serve_after c.waiting p h c sound ok.state role.owns (all_hold p h c (counted c done m) ok.state role.owns each all))
+      (λ _. still_after p h (record c { role = Installing (counted c done m) }) sound (record {
+        state = StateOk-same p h c (Installing (counted c done m)) c.waiting ok.state;
+        role = record { owns = Owns-same h c (Installing (counted c done m)) c.waiting role.owns; chosen = role.chosen; holders = each };
       }))))
       (λ _. still_after p h c sound ok)
   installed_as_after Idle p h c n m is sound ok has = still_after p h c sound ok
@@ -394,19 +388,19 @@ module _ (z : ℕ) (sets : List (List ℕ)) (d : ℕ) where
 
   appended_as_after : (r : Role) (p : ℕ → ℕ) (h : History) (c : Daemon) (n place m : ℕ) → c.role ≡ r → IsSound p z sets h → CopyOk z sets p h d c → Held h m n place → After z sets p h d (appended_as r c n place m)
   appended_as_after (Active (Some holders)) p h c n place m is sound ok has = by_test p h ((c.promise == n) && (place == length c.log))
-      (if all_count c (holders ++ m ∷ []) then complete c (last c.log) else still (record c { role = Active (Some (holders ++ m ∷ [])) })) (still c)
+      (if all_count c (counted c holders m) then complete c (last c.log) else still (record c { role = Active (Some (counted c holders m)) })) (still c)
       (λ both. (
       let parts = and_parts (c.promise == n) (place == length c.log) both in
       let now : c.promise ≡ n = eqb-true c.promise n parts.0 in
       let there : place ≡ length c.log = eqb-true place (length c.log) parts.1 in
       let role = role_at p h c (Active (Some holders)) is ok in
       let holds : Held h m c.promise (length c.log) = subst (λ v. Held h m v (length c.log)) (sym now) (subst (λ k. Held h m n k) there has) in
-      let each : Each (λ i. Held h i c.promise (length c.log)) (holders ++ m ∷ []) = Each-push (λ i. Held h i c.promise (length c.log)) holders m role.1.holders_hold holds in
-      by_test p h (all_count c (holders ++ m ∷ [])) (complete c (last c.log)) (still (record c { role = Active (Some (holders ++ m ∷ [])) }))
-      (λ all. complete_after (last c.log) p h c (serve_after c.waiting p h c sound ok.state role.0 (all_hold p h c (holders ++ m ∷ []) ok.state role.0 each all)))
-      (λ _. still_after p h (record c { role = Active (Some (holders ++ m ∷ [])) }) sound (record {
-        state = StateOk-same p h c (Active (Some (holders ++ m ∷ []))) c.waiting ok.state;
-        role = (Owns-same h c (Active (Some (holders ++ m ∷ []))) c.waiting role.0, record { one = role.1.one; before = role.1.before; holders_hold = each });
+      let each : Each (λ i. Held h i c.promise (length c.log)) (counted c holders m) = Each-counted (λ i. Held h i c.promise (length c.log)) c holders m role.1.holders_hold holds in
+      by_test p h (all_count c (counted c holders m)) (complete c (last c.log)) (still (record c { role = Active (Some (counted c holders m)) }))
+      (λ all. complete_after (last c.log) p h c (serve_after c.waiting p h c sound ok.state role.0 (all_hold p h c (counted c holders m) ok.state role.0 each all)))
+      (λ _. still_after p h (record c { role = Active (Some (counted c holders m)) }) sound (record {
+        state = StateOk-same p h c (Active (Some (counted c holders m))) c.waiting ok.state;
+        role = (Owns-same h c (Active (Some (counted c holders m))) c.waiting role.0, record { one = role.1.one; before = role.1.before; holders_hold = each });
       }))))
       (λ _. still_after p h c sound ok)
   appended_as_after (Active None) p h c n place m is sound ok has = still_after p h c sound ok

@@ -8,7 +8,7 @@ use Rattle.entry_core.specs.Request.{Sealed}
 use Rattle.entry_core.specs.declared.entry.Entry.{Entry}
 use Rattle.peer_core.specs.Steps.{Stepped, still}
 use Rattle.peer_core.specs.Copy.{promised, request, request_as, busy, waits, query, told, leads, lead, interval, append, acknowledged, queries, kicked, kicked_as, append_again, complete, installed_as, appended_as, install_comes, comes, copy_step, install, try_choice, info_as}
-use Rattle.peer_core.specs.Sets.{others, asked, set_of, is_first, all_count}
+use Rattle.peer_core.specs.Sets.{others, asked, set_of, is_first, all_count, counted}
 use Rattle.peer_core.specs.Serve.{serve, push_new, serve_one}
 use Rattle.peer_core.specs.Decided.{settled, with_entry, last}
 use Rattle.peer_core.specs.Choice.{can_choose, best, own_offer, is_heard}
@@ -125,8 +125,8 @@ install_comes_sane c from n log ok legal = go (nat_lt n c.promise) refl
         inner false = record { copy = promised_sane c n ok; sent = (tt, tt) }
 
 installed_as_sane : (r : Role) (c : Daemon) (n m : ℕ) → c.role ≡ r → IsSane c → SaneStep (installed_as r c n m)
-installed_as_sane (Installing done) c n m is ok = by_test (c.promise == n) (if all_count c (done ++ m ∷ []) then serve c.waiting c else still (record c { role = Installing (done ++ m ∷ []) })) (still c)
-    (λ _. by_test (all_count c (done ++ m ∷ [])) (serve c.waiting c) (still (record c { role = Installing (done ++ m ∷ []) }))
+installed_as_sane (Installing done) c n m is ok = by_test (c.promise == n) (if all_count c (counted c done m) then serve c.waiting c else still (record c { role = Installing (counted c done m) })) (still c)
+    (λ _. by_test (all_count c (counted c done m)) (serve c.waiting c) (still (record c { role = Installing (counted c done m) }))
     (λ _. serve_sane c.waiting c ok.base (rw is at ok.role) ok.legal)
     (λ _. record { copy = record { base = ok.base; role = rw is at ok.role; legal = ok.legal }; sent = tt }))
     (λ _. still_sane c ok)
@@ -153,8 +153,8 @@ complete_sane c (Some e) base known legal = let after = serve_sane c.waiting c b
 
 appended_as_sane : (r : Role) (c : Daemon) (n place m : ℕ) → c.role ≡ r → IsSane c → SaneStep (appended_as r c n place m)
 appended_as_sane (Active (Some holders)) c n place m is ok = by_test ((c.promise == n) && (place == length c.log))
-    (if all_count c (holders ++ m ∷ []) then complete c (last c.log) else still (record c { role = Active (Some (holders ++ m ∷ [])) })) (still c)
-    (λ _. by_test (all_count c (holders ++ m ∷ [])) (complete c (last c.log)) (still (record c { role = Active (Some (holders ++ m ∷ [])) }))
+    (if all_count c (counted c holders m) then complete c (last c.log) else still (record c { role = Active (Some (counted c holders m)) })) (still c)
+    (λ _. by_test (all_count c (counted c holders m)) (complete c (last c.log)) (still (record c { role = Active (Some (counted c holders m)) }))
     (λ _. complete_sane c (last c.log) ok.base (rw is at ok.role) ok.legal)
     (λ _. record { copy = record { base = ok.base; role = rw is at ok.role; legal = ok.legal }; sent = tt }))
     (λ _. still_sane c ok)

@@ -8,7 +8,7 @@ use Rattle.entry_core.specs.Request.{Sealed}
 use Rattle.entry_core.specs.declared.entry.Entry.{Entry}
 use Rattle.peer_core.specs.Steps.{Stepped, still, send}
 use Rattle.peer_core.specs.Copy.{promised, request_as, busy, waits, append, acknowledged, complete, appended_as, told, leads, lead, interval, queries, installed_as, comes, copy_step, install, try_choice, info_as}
-use Rattle.peer_core.specs.Sets.{others, all_count, set_of, asked, is_asked, daemons}
+use Rattle.peer_core.specs.Sets.{others, all_count, set_of, asked, is_asked, daemons, counted}
 use Rattle.peer_core.specs.Serve.{serve, serve_one, push_new}
 use Rattle.peer_core.specs.Choice.{can_choose, best, own_offer, is_heard}
 use Rattle.peer_core.specs.Decided.{with_entry, settled, last}
@@ -87,8 +87,8 @@ info_sends (Active flight) c n offer few = omega arith
 
 installed_sends : (r : Role) (c : Daemon) (n m : ℕ) → Few r c → Sends (length c.waiting + 4) (installed_as r c n m)
 installed_sends (Installing done) c n m few =
-    either (length c.waiting + 4) (c.promise == n) (if all_count c (done ++ m ∷ []) then serve c.waiting c else still (record c { role = Installing (done ++ m ∷ []) })) (still c)
-    (either (length c.waiting + 4) (all_count c (done ++ m ∷ [])) (serve c.waiting c) (still (record c { role = Installing (done ++ m ∷ []) })) (serve_sends c.waiting c few) (omega arith)) (omega arith)
+    either (length c.waiting + 4) (c.promise == n) (if all_count c (counted c done m) then serve c.waiting c else still (record c { role = Installing (counted c done m) })) (still c)
+    (either (length c.waiting + 4) (all_count c (counted c done m)) (serve c.waiting c) (still (record c { role = Installing (counted c done m) })) (serve_sends c.waiting c few) (omega arith)) (omega arith)
 installed_sends Idle c n m few = omega arith
 installed_sends (Peering heard) c n m few = omega arith
 installed_sends (Active flight) c n m few = omega arith
@@ -105,8 +105,8 @@ append_sends c from n place s = either 1 ((c.promise == n) && (c.base == n))
 appended_sends : (r : Role) (c : Daemon) (n place m : ℕ) → Few r c → Sends (length c.waiting + 5) (appended_as r c n place m)
 appended_sends (Active (Some holders)) c n place m few =
     either (length c.waiting + 5) ((c.promise == n) && (place == length c.log))
-    (if all_count c (holders ++ m ∷ []) then complete c (last c.log) else still (record c { role = Active (Some (holders ++ m ∷ [])) })) (still c)
-    (either (length c.waiting + 5) (all_count c (holders ++ m ∷ [])) (complete c (last c.log)) (still (record c { role = Active (Some (holders ++ m ∷ [])) })) (complete_sends c (last c.log) few) (omega arith))
+    (if all_count c (counted c holders m) then complete c (last c.log) else still (record c { role = Active (Some (counted c holders m)) })) (still c)
+    (either (length c.waiting + 5) (all_count c (counted c holders m)) (complete c (last c.log)) (still (record c { role = Active (Some (counted c holders m)) })) (complete_sends c (last c.log) few) (omega arith))
     (omega arith)
 appended_sends (Active None) c n place m few = omega arith
 appended_sends Idle c n place m few = omega arith

@@ -9,7 +9,7 @@ use Rattle.entry_core.specs.Request.{Sealed}
 use Rattle.entry_core.specs.declared.entry.Entry.{Entry}
 use Rattle.peer_core.specs.Steps.{Stepped, still, send, blank, restarted}
 use Rattle.peer_core.specs.Copy.{promised, request_as, told, leads, lead, interval, queries, installed_as, appended_as, install_comes, comes, copy_step, install, try_choice, info_as}
-use Rattle.peer_core.specs.Sets.{others, asked, set_of, is_first, all_count, daemons}
+use Rattle.peer_core.specs.Sets.{others, asked, set_of, is_first, all_count, daemons, counted}
 use Rattle.peer_core.specs.Serve.{serve}
 use Rattle.peer_core.specs.Choice.{can_choose, best, own_offer, is_heard}
 use Rattle.entry_core.specs.declared.sealed.GroupId.{GroupId}
@@ -154,8 +154,8 @@ install_comes_lowers c from n log = by_test 2 c (nat_lt n c.promise) (still c)
 installed_as_lowers : (r : Role) (c : Daemon) (n m : ℕ) → c.role ≡ r → Few r c → Lowers 1 c (installed_as r c n m)
 installed_as_lowers (Installing done) c n m is few =
     let now : role_budget c.role ≡ 0 = rw is refl in
-    by_test 1 c (c.promise == n) (if all_count c (done ++ m ∷ []) then serve c.waiting c else still (record c { role = Installing (done ++ m ∷ []) })) (still c)
-    (by_test 1 c (all_count c (done ++ m ∷ [])) (serve c.waiting c) (still (record c { role = Installing (done ++ m ∷ []) })) (omega (arith, serve_budget c.waiting c few)) (omega arith)) (omega arith)
+    by_test 1 c (c.promise == n) (if all_count c (counted c done m) then serve c.waiting c else still (record c { role = Installing (counted c done m) })) (still c)
+    (by_test 1 c (all_count c (counted c done m)) (serve c.waiting c) (still (record c { role = Installing (counted c done m) })) (omega (arith, serve_budget c.waiting c few)) (omega arith)) (omega arith)
 installed_as_lowers Idle c n m is few = omega arith
 installed_as_lowers (Peering heard) c n m is few = omega arith
 installed_as_lowers (Active flight) c n m is few = omega arith

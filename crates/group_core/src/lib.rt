@@ -8,10 +8,13 @@ mod furthest;
 mod group;
 mod ids;
 mod laws;
+mod moves;
+mod opening;
 mod parts;
 mod ready;
 mod requests;
 mod sending;
+mod state;
 mod wire;
 
 pub use fault::GroupFault;
@@ -22,6 +25,8 @@ pub use laws::{
     requests_are_decided_in_order, requests_were_submitted, settling_ends,
     small_sets_answer_nothing, worked_cases,
 };
+pub use moves::PreparedGroup;
+pub use opening::GroupMove;
 
 #[cfg(test)]
 mod tests;

@@ -11,12 +11,14 @@ ghost use Rattle.group_core.specs.Reached.{unsent};
 
 use crate::answers::{Answer, Answers};
 use crate::at::at;
+use crate::opening::{open, prepare};
 use crate::requests::Requests;
-use crate::sending::{announce, contains, resend};
+use crate::sending::contains;
 use crate::wire::Wire;
 use entry_core::{Items, OutOfMemory, Sealed, TryCopy};
-use peer_core::{Body, Daemon, Message, Sent};
-use std::alloc::{AllocError, Global};
+use peer_core::{Body, Daemon, IntervalSets, Message, Sent};
+use place_core::ActingSet;
+use std::alloc::Global;
 
 /// The copies of so many daemons, as they begin.
 pub(crate) fn blank_copies(
@@ -128,9 +130,10 @@ pub(crate) fn take_back_sent(wire: &mut Wire, set: &[u8])
 
 /// Begins an interval with this set.
 pub(crate) fn begin(
+    alloc: Global,
     wire: &mut Wire,
-    sets: &mut Items<Items<u8>>,
-    acting: Items<u8>,
+    sets: &mut IntervalSets,
+    acting: ActingSet,
     requests: &Requests,
     answers: &Answers,
 ) -> Result<(), OutOfMemory>
@@ -139,14 +142,8 @@ pub(crate) fn begin(
     ensures sets_err { OnErr result (sets.new ≡ sets.old) }
     ensures wire_err { OnErr result (wire.new.sent ≡ wire.old.sent) }
 {
-    let alloc = sets.allocator();
-    let mut next = sets.copy()?;
-    next.push(acting)?;
-    let mut sent = announce(alloc, &next)?;
-    let mut again = resend(alloc, &next, requests, answers)?;
-    sent.append(&mut again)?;
-    wire.extend(sent)?;
-    *sets = next;
+    let opening = prepare(alloc, wire, sets, acting, requests, answers)?;
+    open(wire, sets, opening);
     Ok(())
 }
 
@@ -203,13 +200,9 @@ pub(crate) fn reach(wire: &mut Wire, copy: &mut Daemon, k: usize) -> Result<(), 
             from: message.from,
             body: message.body.copy()?,
         },
-        None => return Err(AllocError),
+        None => unreachable!(),
     };
-    let most = copy
-        .waiting_count()
-        .checked_add(MOST_SENT)
-        .ok_or(AllocError)?;
-    wire.reserve(most)?;
+    wire.reserve(copy.waiting_count().saturating_add(MOST_SENT))?;
     let sent = copy.on(message)?;
     wire.append(sent.into_vec());
     wire.remove(k);

@@ -8,8 +8,9 @@ ghost use Rattle.entry_core.specs.Log.{is_in};
 use crate::answers::Answers;
 use crate::at::at;
 use crate::requests::Requests;
-use entry_core::{Items, OutOfMemory, Sealed, TryCopy};
-use peer_core::{Body, Daemon, Party, Sent};
+use entry_core::{OutOfMemory, Sealed, TryCopy};
+use peer_core::{Body, Daemon, IntervalSets, Party, Sent};
+use place_core::ActingSet;
 use std::alloc::Global;
 
 /// A message of the group's own to a daemon.
@@ -47,7 +48,7 @@ pub(crate) fn equals(one: &[u8], other: &[u8]) -> bool
 }
 
 /// The set of the last interval.
-pub(crate) fn latest(sets: &Items<Items<u8>>) -> &[u8]
+pub(crate) fn latest(sets: &IntervalSets) -> &[u8]
     ensures { result.now ≡ last_set sets.now }
 {
     match sets.as_slice().last() {
@@ -57,12 +58,12 @@ pub(crate) fn latest(sets: &Items<Items<u8>>) -> &[u8]
 }
 
 /// A copy of the set of the last interval.
-pub(crate) fn same_again(sets: &Items<Items<u8>>) -> Result<Items<u8>, OutOfMemory>
-    ensures { IfOk result (λ set. set ≡ last_set sets.now) }
+pub(crate) fn same_again(sets: &IntervalSets) -> ActingSet
+    ensures { result ≡ last_set sets.now }
 {
     match sets.as_slice().last() {
-        Some(set) => set.copy(),
-        None => Ok(Items::new(sets.allocator())),
+        Some(set) => *set,
+        None => ActingSet::new(),
     }
 }
 
@@ -82,7 +83,7 @@ pub(crate) fn to_first(
 }
 
 /// Tells each of the last set of all sets.
-pub(crate) fn announce(alloc: Global, sets: &Items<Items<u8>>) -> Result<Vec<Sent>, OutOfMemory>
+pub(crate) fn announce(alloc: Global, sets: &IntervalSets) -> Result<Vec<Sent>, OutOfMemory>
     ensures { IfOk result (λ v. v.items ≡ announced sets.now) }
 {
     let mut sent = Vec::new(alloc);
@@ -95,7 +96,7 @@ pub(crate) fn announce(alloc: Global, sets: &Items<Items<u8>>) -> Result<Vec<Sen
 /// Sends the requests that have no answer to the first of the last set.
 pub(crate) fn resend(
     alloc: Global,
-    sets: &Items<Items<u8>>,
+    sets: &IntervalSets,
     requests: &Requests,
     answers: &Answers,
 ) -> Result<Vec<Sent>, OutOfMemory>
@@ -116,7 +117,7 @@ pub(crate) fn resend(
 /// What the copy of the last set's first daemon sends again.
 pub(crate) fn kick_first(
     alloc: Global,
-    sets: &Items<Items<u8>>,
+    sets: &IntervalSets,
     copies: &[Daemon],
 ) -> Result<Vec<Sent>, OutOfMemory>
     ensures { IfOk result (λ v. v.items ≡ first_again copies.now (last_set sets.now)) }

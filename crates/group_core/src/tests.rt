@@ -1,4 +1,5 @@
 mod limits;
+mod moves;
 mod peering;
 mod recovery;
 mod requests;

@@ -1,8 +1,5 @@
 //! What it costs to take requests through a group of three daemons.
 
-ghost use Rattle.std.specs.Prelude.{IfOk};
-ghost use Rattle.group_core.specs.Group.{IsSet};
-
 use crate::fault::Fault;
 use crate::measure::Work;
 use crate::table::Table;
@@ -12,6 +9,7 @@ use grant_core::{ProfileTable, expand};
 use group_core::Group;
 use map_core::PoolView;
 use object_core::{Bytes, Op};
+use place_core::ActingSet;
 use std::alloc::Global;
 use std::time::Clock;
 use verdict_core::{IndexedTicket, Ticket};
@@ -25,9 +23,7 @@ struct Settling {
 }
 
 /// The daemons 0, 1 and 2.
-fn three(alloc: Global) -> Result<Items<u8>, OutOfMemory>
-    ensures { IfOk result (λ set. IsSet set) }
-{
+fn three(alloc: Global) -> Result<Items<u8>, OutOfMemory> {
     let mut set = Items::new(alloc);
     set.push(0)?;
     set.push(1)?;
@@ -41,8 +37,9 @@ impl Work for Settling {
             pool: self.pool.copy()?,
             number: 0,
         };
+        let acting = ActingSet::from_slice(&[0, 1, 2]).unwrap_or(ActingSet::new());
         let up = three(self.alloc)?;
-        let mut group = Group::new(self.alloc, group, 2, 3, three(self.alloc)?, up)?;
+        let mut group = Group::new(self.alloc, group, 2, 3, acting, up)?;
         for request in self.requests.as_slice() {
             if group.submit(request.copy()?).is_err() {
                 return Ok(false);

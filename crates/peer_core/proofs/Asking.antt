@@ -40,6 +40,10 @@ install_others : (c : Daemon) (log : List Entry) (members : List ℕ) → (lengt
 install_others c log [] some = absurd (cc)
 install_others c log (m ∷ ms) some = refl
 
-pub install_sent : (c : Daemon) (log : List Entry) (before sent : List Sent) → (length (others c) == 0) ≡ false → sent ≡ before ++ map (λ m. send c (Osd m) (Install c.promise log)) (missing c []) →
-    sent ≡ before ++ (install c log (others c)).sent
-install_sent c log before sent some is = is ∙ ap (λ ms. before ++ map (λ m. send c (Osd m) (Install c.promise log)) ms) (missing_all c) ∙ ap (λ v. before ++ v) (sym (install_others c log (others c) some))
+pub install_sent : (c : Daemon) (log : List Entry) (before sent : List Sent) (none : List ℕ) → none ≡ [] → (length (others c) == 0) ≡ false →
+    sent ≡ before ++ map (λ m. send c (Osd m) (Install c.promise log)) (missing c none) → sent ≡ before ++ (install c log (others c)).sent
+install_sent c log before sent none empty some is =
+    is
+    ∙ ap (λ ms. before ++ map (λ m. send c (Osd m) (Install c.promise log)) (missing c ms)) empty
+    ∙ ap (λ ms. before ++ map (λ m. send c (Osd m) (Install c.promise log)) ms) (missing_all c)
+    ∙ ap (λ v. before ++ v) (sym (install_others c log (others c) some))

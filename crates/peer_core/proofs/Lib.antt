@@ -1,6 +1,7 @@
 pub mod Finding
 pub mod Serving
 pub mod Counting
+pub mod Counted
 pub mod Asking
 pub mod Whole
 pub mod Messages

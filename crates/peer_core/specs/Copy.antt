@@ -3,7 +3,7 @@ use Rattle.std.specs.Prelude.{ℕ, ◌+◌, Bool, ◌==◌, ◌&&◌, not, nat_l
 use Rattle.std.specs.List.{list_any}
 use Rattle.entry_core.specs.Log.{find, is_in, ids}
 use Rattle.peer_core.specs.Types.{Sealed, Entry, Party, Client, Osd, Body, Interval, Query, Info, Install, Installed, Append, Appended, Request, Reply, NotHere, Message, Sent, Informed, Role, Idle, Peering, Installing, Active, Daemon}
-use Rattle.peer_core.specs.Sets.{set_of, is_first, others, all_count, missing, asked}
+use Rattle.peer_core.specs.Sets.{set_of, is_first, others, counted, all_count, missing, asked}
 use Rattle.peer_core.specs.Decided.{settled, last, with_entry}
 use Rattle.peer_core.specs.Choice.{best, own_offer, is_heard, can_choose}
 use Rattle.peer_core.specs.Steps.{Stepped, still, send}
@@ -99,7 +99,7 @@ install_comes c from n log =
 abbrev pub installed_as : Role → Daemon → ℕ → ℕ → Stepped
 installed_as (Installing done) c n m =
     if c.promise == n
-    then (if all_count c (done ++ m ∷ []) then serve c.waiting c else still (record c { role = Installing (done ++ m ∷ []) }))
+    then (if all_count c (counted c done m) then serve c.waiting c else still (record c { role = Installing (counted c done m) }))
     else still c
 installed_as Idle c n m = still c
 installed_as (Peering heard) c n m = still c
@@ -126,7 +126,7 @@ complete c (Some e) = record { copy = (serve c.waiting c).copy; sent = reply_wit
 abbrev pub appended_as : Role → Daemon → ℕ → ℕ → ℕ → Stepped
 appended_as (Active (Some holders)) c n place m =
     if (c.promise == n) && (place == length c.log)
-    then (if all_count c (holders ++ m ∷ []) then complete c (last c.log) else still (record c { role = Active (Some (holders ++ m ∷ [])) }))
+    then (if all_count c (counted c holders m) then complete c (last c.log) else still (record c { role = Active (Some (counted c holders m)) }))
     else still c
 appended_as (Active None) c n place m = still c
 appended_as Idle c n place m = still c

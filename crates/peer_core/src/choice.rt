@@ -5,7 +5,8 @@ ghost use Rattle.peer_core.specs.Choice.{is_better};
 
 use crate::role::Informed;
 use crate::state::State;
-use entry_core::{Items, Log};
+use entry_core::Log;
+use place_core::ActingSet;
 
 /// Whether an offer is better than the other, which is given by its parts.
 fn is_better(offer: &Informed, number: u8, base: u64, log: &Log) -> bool
@@ -66,7 +67,7 @@ impl State {
     }
 
     /// The sets before the interval that was promised.
-    fn earlier_sets(&self) -> &[Items<u8>]
+    fn earlier_sets(&self) -> &[ActingSet]
         ensures { result.now ≡ take (self.now.promise - 1) self.now.known }
     {
         let sets = self.known.as_slice();

@@ -4,6 +4,7 @@
 mod arrival;
 mod choice;
 mod daemon;
+mod interval_sets;
 mod members;
 mod message;
 mod peering;
@@ -16,5 +17,6 @@ mod state;
 mod tests;
 
 pub use daemon::Daemon;
+pub use interval_sets::IntervalSets;
 pub use message::{Body, Message, Party, Sent};
 pub use role::{Informed, Role};

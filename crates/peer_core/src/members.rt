@@ -1,36 +1,33 @@
 //! The members of sets, and what is sent to them.
 
-ghost use Rattle.std.specs.Prelude.{◌≡◌, ◌==◌, ◌&&◌, ◌++◌, not, map, length, OnOk, IfOk};
+ghost use Rattle.std.specs.Prelude.{◌≡◌, ◌≤◌, ◌==◌, ◌&&◌, ◌++◌, true, not, map, length, OnOk, IfOk};
 ghost use Rattle.std.specs.List.{list_any};
 ghost use Rattle.entry_core.specs.Log.{is_in};
+ghost use Rattle.place_core.specs.Members.{is_distinct};
 ghost use Rattle.peer_core.specs.Sets.{set_of, is_first};
 
 use crate::message::{Body, Party, Sent};
 use crate::role::Informed;
 use crate::state::State;
 use entry_core::{BoxedLog, Items, Log, OutOfMemory, Sealed, TryCopy};
+use place_core::ActingSet;
 
 /// The numbers that daemons have.
 const DAEMONS: [u8; 16] = [0, 1, 2, 3, 4, 5, 6, 7, 8, 9, 10, 11, 12, 13, 14, 15];
 
-/// Whether a daemon is among these.
-fn has_member(members: &[u8], number: u8) -> bool
-    ensures { result ≡ is_in members.now number }
+/// Whether a daemon is a member of a set.
+fn has_member(set: &ActingSet, number: u8) -> bool
+    ensures { result ≡ is_in set.now number }
 {
-    for m in members {
-        if *m == number {
-            return true;
-        }
-    }
-    false
+    set.has(number)
 }
 
 /// Whether a daemon is in one of these sets.
-fn is_in_some(sets: &[Items<u8>], number: u8) -> bool
+fn is_in_some(sets: &[ActingSet], number: u8) -> bool
     ensures { result ≡ list_any (λ members. is_in members number) sets.now }
 {
     for members in sets {
-        if has_member(members.as_slice(), number) {
+        if has_member(members, number) {
             return true;
         }
     }
@@ -38,8 +35,10 @@ fn is_in_some(sets: &[Items<u8>], number: u8) -> bool
 }
 
 /// The set of an interval, counted from 1.
-pub fn set_of(sets: &[Items<u8>], interval: u64) -> &[u8]
-    ensures { result.now ≡ set_of sets.now interval }
+pub fn set_of(sets: &[ActingSet], interval: u64) -> &[u8]
+    ensures value { result.now ≡ set_of sets.now interval }
+    ensures few { length result.now ≤ 5 }
+    ensures once { is_distinct result.now ≡ true }
 {
     let place = interval.saturating_sub(1) as usize;
     match sets.get(place) {
@@ -59,16 +58,20 @@ pub fn is_first(set: &[u8], number: u8) -> bool
 }
 
 impl State {
-    ghost use Rattle.std.specs.Prelude.{◌≡◌, ◌==◌, ◌++◌, not, map, filter, length, OnOk};
+    ghost use Rattle.std.specs.Prelude.{◌≡◌, ◌≤◌, ◌==◌, ◌&&◌, ◌||◌, ◌++◌, true, not, map, filter, length, OnOk};
+    ghost use Rattle.entry_core.specs.Log.{is_in};
+    ghost use Rattle.place_core.specs.Members.{is_distinct};
     ghost use Rattle.peer_core.specs.Types as types;
-    ghost use Rattle.peer_core.specs.Sets.{set_of, others, all_count, missing, is_asked};
+    ghost use Rattle.peer_core.specs.Sets.{set_of, others, counted, all_count, missing, is_asked};
     ghost use Rattle.peer_core.specs.Choice.{is_heard};
     ghost use Rattle.peer_core.specs.Steps.{send};
     ghost use Rattle.peer_core.specs.Copy.{unheard};
 
     /// The set of the interval that was promised.
     pub fn set(&self) -> &[u8]
-        ensures { result.now ≡ set_of self.now.known self.now.promise }
+        ensures value { result.now ≡ set_of self.now.known self.now.promise }
+        ensures few { length result.now ≤ 5 }
+        ensures once { is_distinct result.now ≡ true }
     {
         set_of(self.known.as_slice(), self.promise)
     }
@@ -85,8 +88,28 @@ impl State {
         true
     }
 
+    /// Whether this is another daemon that counts, or is the one that does from now on.
+    fn is_counted(&self, done: &ActingSet, number: u8, member: u8) -> bool
+        ensures { result ≡ (not (member == self.now.number) && (is_in done.now member || (member == number))) }
+    {
+        member != self.number && (has_member(done, member) || member == number)
+    }
+
+    /// The other members of that set that count, once this daemon does.
+    pub fn counted(&self, done: &ActingSet, number: u8) -> ActingSet
+        ensures { result ≡ counted self.now done.now number }
+    {
+        let mut counted = ActingSet::new();
+        for m in self.set() {
+            if self.is_counted(done, number, *m) {
+                counted.push(*m);
+            }
+        }
+        counted
+    }
+
     /// Whether each other member of that set counts.
-    pub fn all_count(&self, counted: &[u8]) -> bool
+    pub fn all_count(&self, counted: &ActingSet) -> bool
         ensures { result ≡ all_count self.now counted.now }
     {
         for m in self.set() {
@@ -176,7 +199,7 @@ impl State {
     pub fn send_install(
         &self,
         log: &Log,
-        done: &[u8],
+        done: &ActingSet,
         sent: &mut Items<Sent>,
     ) -> Result<(), OutOfMemory>
         ensures { OnOk result (sent.new ≡ sent.old ++ map (λ m. send self.now (types.Osd m) (types.Install self.now.promise log.now)) (missing self.now done.now)) }
@@ -194,7 +217,7 @@ impl State {
         &self,
         place: usize,
         request: &Sealed,
-        holders: &[u8],
+        holders: &ActingSet,
         sent: &mut Items<Sent>,
     ) -> Result<(), OutOfMemory>
         ensures { OnOk result (sent.new ≡ sent.old ++ map (λ m. send self.now (types.Osd m) (types.Append self.now.promise place request.now)) (missing self.now holders.now)) }

@@ -1,6 +1,7 @@
 //! What daemons and the client send to one another.
 
-use entry_core::{BoxedLog, Id, Items, OutOfMemory, Reply, Sealed, TryCopy};
+use crate::interval_sets::IntervalSets;
+use entry_core::{BoxedLog, Id, OutOfMemory, Reply, Sealed, TryCopy};
 
 /// Who sends or receives.
 #[derive(Clone, Copy, Debug, PartialEq, Eq)]
@@ -15,7 +16,7 @@ pub enum Party {
 #[derive(Drop)]
 pub enum Body {
     /// The sets of all intervals so far, the first first.
-    Interval(Items<Items<u8>>),
+    Interval(IntervalSets),
     /// Asks for the copy, and for the promise to follow no earlier interval.
     Query {
         interval: u64,

@@ -1,5 +1,6 @@
 //! How the members of an interval agree on a log.
 
+use crate::interval_sets::IntervalSets;
 use crate::members::{is_first, set_of};
 use crate::message::{Body, Party, Sent};
 use crate::queue::Queue;
@@ -7,6 +8,7 @@ use crate::role::{Informed, Role};
 use crate::serve::complete_each;
 use crate::state::State;
 use entry_core::{BoxedLog, Items, Log, OutOfMemory, TryCopy};
+use place_core::ActingSet;
 use std::mem;
 
 impl State {
@@ -48,9 +50,9 @@ impl State {
         if self.is_alone() {
             return self.begin_alone(log, sent);
         }
-        self.send_install(&log, &[], &mut sent)?;
+        self.send_install(&log, &ActingSet::new(), &mut sent)?;
         self.base = self.promise;
-        self.role = Role::Installing(Items::new(log.allocator()));
+        self.role = Role::Installing(ActingSet::new());
         self.log = log;
         Ok(sent)
     }
@@ -81,7 +83,7 @@ impl State {
     }
 
     /// Leads the last of these sets.
-    fn lead_next(&mut self, sets: Items<Items<u8>>) -> Result<Items<Sent>, OutOfMemory>
+    fn lead_next(&mut self, sets: IntervalSets) -> Result<Items<Sent>, OutOfMemory>
         ensures ok { IfOk result (λ sent. lead (record (told self.old sets) { promise = length sets }) ≡ record { copy = self.new; sent = sent }) }
         ensures err { OnErr result (self.new ≡ self.old) }
     {
@@ -103,7 +105,7 @@ impl State {
     }
 
     /// Whether it is to lead the last of these sets, and may.
-    fn leads(&self, sets: &[Items<u8>]) -> bool
+    fn leads(&self, sets: &[ActingSet]) -> bool
         ensures { result ≡ leads self.now sets.now }
     {
         let set = set_of(sets, sets.len() as u64);
@@ -111,7 +113,7 @@ impl State {
     }
 
     /// Hears of a new interval. The first member of its set leads it.
-    pub fn on_interval(&mut self, sets: Items<Items<u8>>) -> Result<Items<Sent>, OutOfMemory>
+    pub fn on_interval(&mut self, sets: IntervalSets) -> Result<Items<Sent>, OutOfMemory>
         ensures ok { IfOk result (λ sent. interval self.old sets ≡ record { copy = self.new; sent = sent }) }
         ensures err { OnErr result (self.new ≡ self.old) }
     {
@@ -184,12 +186,12 @@ impl State {
         ensures err { OnErr result (self.new ≡ self.old) }
     {
         let sent = Items::new(self.log.allocator());
-        let mut done = match &self.role {
-            Role::Installing(done) if self.promise == n => done.copy()?,
+        let done = match &self.role {
+            Role::Installing(done) if self.promise == n => *done,
             _ => return Ok(sent),
         };
-        done.push(m)?;
-        if self.all_count(done.as_slice()) {
+        let done = self.counted(&done, m);
+        if self.all_count(&done) {
             return self.serve(sent);
         }
         self.role = Role::Installing(done);

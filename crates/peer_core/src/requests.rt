@@ -4,7 +4,8 @@ use crate::message::{Body, Party, Sent};
 use crate::role::Role;
 use crate::serve::reply_to;
 use crate::state::State;
-use entry_core::{Items, OutOfMemory, Sealed, TryCopy};
+use entry_core::{Items, OutOfMemory, Sealed};
+use place_core::ActingSet;
 
 impl State {
     ghost use Rattle.std.specs.Prelude.{◌≡◌, ◌++◌, ◌∷◌, length, take, ◌-◌, IfOk, OnOk, OnErr};
@@ -70,14 +71,12 @@ impl State {
         ensures err { OnErr result (self.new ≡ self.old) }
     {
         let sent = Items::new(self.log.allocator());
-        let mut holders = match &self.role {
-            Role::Active(Some(holders)) if self.promise == n && place == self.log.len() => {
-                holders.copy()?
-            }
+        let holders = match &self.role {
+            Role::Active(Some(holders)) if self.promise == n && place == self.log.len() => *holders,
             _ => return Ok(sent),
         };
-        holders.push(m)?;
-        if self.all_count(holders.as_slice()) {
+        let holders = self.counted(&holders, m);
+        if self.all_count(&holders) {
             return self.finish();
         }
         self.role = Role::Active(Some(holders));
@@ -143,7 +142,7 @@ impl State {
 
     /// Sends the last entry's request again.
     #[tactic(auto, using(crate::proofs::Counting::last_get))]
-    fn send_last(&self, holders: &[u8], sent: &mut Items<Sent>) -> Result<(), OutOfMemory>
+    fn send_last(&self, holders: &ActingSet, sent: &mut Items<Sent>) -> Result<(), OutOfMemory>
         ensures { OnOk result (sent.new ≡ sent.old ++ rules.append_again self.now (last self.now.log) (missing self.now holders.now)) }
     {
         match self.log.last() {
@@ -158,8 +157,8 @@ impl State {
         match &self.role {
             Role::Idle | Role::Active(None) => Ok(()),
             Role::Peering(heard) => self.send_queries(heard.as_slice(), sent),
-            Role::Installing(done) => self.send_install(&self.log, done.as_slice(), sent),
-            Role::Active(Some(holders)) => self.send_last(holders.as_slice(), sent),
+            Role::Installing(done) => self.send_install(&self.log, done, sent),
+            Role::Active(Some(holders)) => self.send_last(holders, sent),
         }
     }
 

@@ -1,6 +1,7 @@
 //! What a daemon does for its group.
 
 use entry_core::{BoxedLog, Items, OutOfMemory, TryCopy};
+use place_core::ActingSet;
 
 /// What another daemon told of its copy.
 #[derive(Drop)]
@@ -16,10 +17,10 @@ pub enum Role {
     Idle,
     /// It asks for copies: the others that told of theirs.
     Peering(Items<Informed>),
-    /// It sends out the chosen log: the others that have it.
-    Installing(Items<u8>),
-    /// It takes requests. Where its last entry is in flight: the others that have that entry.
-    Active(Option<Items<u8>>),
+    /// It sends out the chosen log: the other members that have it.
+    Installing(ActingSet),
+    /// It takes requests. Where its last entry is in flight: the other members that have that entry.
+    Active(Option<ActingSet>),
 }
 
 impl TryCopy for Informed {
@@ -37,9 +38,8 @@ impl TryCopy for Role {
         match self {
             Role::Idle => Ok(Role::Idle),
             Role::Peering(informed) => Ok(Role::Peering(informed.copy()?)),
-            Role::Installing(members) => Ok(Role::Installing(members.copy()?)),
-            Role::Active(None) => Ok(Role::Active(None)),
-            Role::Active(Some(holders)) => Ok(Role::Active(Some(holders.copy()?))),
+            Role::Installing(members) => Ok(Role::Installing(*members)),
+            Role::Active(flight) => Ok(Role::Active(*flight)),
         }
     }
 }

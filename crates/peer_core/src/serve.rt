@@ -10,6 +10,7 @@ use crate::queue::Queue;
 use crate::role::Role;
 use crate::state::State;
 use entry_core::{Decided, Items, Log, OutOfMemory, Reply, Sealed, TryCopy};
+use place_core::ActingSet;
 
 /// A daemon's reply to the request of an id.
 pub fn reply_to(number: u8, request: &Sealed, reply: &Reply) -> Result<Sent, OutOfMemory>
@@ -119,7 +120,7 @@ impl State {
         let request = self.waiting.at(place);
         let decided = self.log.decide(request)?;
         let next = self.log.entries().len() + 1;
-        self.send_append(next, request, &[], sent)?;
+        self.send_append(next, request, &ActingSet::new(), sent)?;
         Ok(decided)
     }
 
@@ -133,7 +134,7 @@ impl State {
         let decided = self.offer(place, sent)?;
         self.log.push(decided)?;
         self.waiting.skip_through(place);
-        self.role = Role::Active(Some(Items::new(self.log.allocator())));
+        self.role = Role::Active(Some(ActingSet::new()));
         Ok(())
     }
 

@@ -2,9 +2,10 @@
 
 ghost use Rattle.std.specs.Prelude.{◌≡◌};
 
+use crate::interval_sets::IntervalSets;
 use crate::queue::Queue;
 use crate::role::Role;
-use entry_core::{Items, Log, OutOfMemory, TryCopy};
+use entry_core::{Log, OutOfMemory, TryCopy};
 use std::alloc::Global;
 
 /// A daemon's copy of a group: the promise, the base and the log, which a restart keeps, and what it does at present.
@@ -15,7 +16,7 @@ pub struct State {
     pub promise: u64,
     pub base: u64,
     pub log: Log,
-    pub known: Items<Items<u8>>,
+    pub known: IntervalSets,
     pub role: Role,
     pub waiting: Queue,
 }
@@ -35,7 +36,7 @@ impl State {
             promise: 0,
             base: 0,
             log: Log::new(alloc),
-            known: Items::new(alloc),
+            known: IntervalSets::new(),
             role: Role::Idle,
             waiting: Queue::new(alloc),
         }
@@ -46,7 +47,7 @@ impl State {
         ensures { self.new ≡ restarted self.old }
     {
         let alloc = self.log.allocator();
-        self.known = Items::new(alloc);
+        self.known = IntervalSets::new();
         self.role = Role::Idle;
         self.waiting = Queue::new(alloc);
     }

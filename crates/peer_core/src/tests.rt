@@ -2,6 +2,7 @@ use super::*;
 use cap_text::{Name, Tags};
 use entry_core::{BoxedLog, Id, Items, OutOfMemory, Sealed, TryCopy};
 use map_core::PoolView;
+use place_core::ActingSet;
 use std::alloc::Global;
 use std::process::Abort;
 use std::test::Fail;
@@ -52,14 +53,11 @@ fn request(alloc: Global, number: u32) -> Result<Sealed, OutOfMemory> {
 }
 
 // Sets of intervals, each of which has the same members.
-fn sets(alloc: Global, count: usize, members: &[u8]) -> Result<Items<Items<u8>>, OutOfMemory> {
-    let mut sets = Items::new(alloc);
+fn sets(alloc: Global, count: usize, members: &[u8]) -> Result<IntervalSets, OutOfMemory> {
+    let set = ActingSet::from_slice(members).unwrap_or(ActingSet::new());
+    let mut sets = IntervalSets::new();
     for _ in 0..count {
-        let mut set = Items::new(alloc);
-        for m in members {
-            set.push(*m)?;
-        }
-        sets.push(set)?;
+        sets = sets.followed_by(alloc, set)?;
     }
     Ok(sets)
 }

@@ -1,4 +1,5 @@
 pub mod Counts
+pub mod Distinct
 pub mod Hashes
 pub mod Keys
 pub mod Counted

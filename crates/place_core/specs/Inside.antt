@@ -1,16 +1,18 @@
 -- What the fields of an acting set stand for.
-use Rattle.std.specs.Prelude.{◌≡◌, ℕ, ◌-◌, ◌≤◌, List, ◌++◌, length, take, replicate}
+use Rattle.std.specs.Prelude.{◌≡◌, ℕ, ◌-◌, ◌≤◌, true, List, ◌++◌, length, take, replicate}
 use Rattle.std.proofs.Common.{sym, ap, ◌∙◌, length-take, arith}
+use Rattle.place_core.specs.Members.{is_distinct}
 use Rattle.place_core.specs.declared.members.ActingSet.TheInside.{Inside}
 
 abbrev pub members_of : Inside → List ℕ
 members_of a = take a.len a.members
 
--- zeros follow the members
+-- zeros follow the members, each of which stands once
 pub record IsPadded (a : Inside) : Type 0 where
   pub long : length a.members ≡ 5
   pub few : a.len ≤ 5
   pub zeros : a.members ≡ take a.len a.members ++ replicate (5 - a.len) 0
+  pub once : is_distinct (take a.len a.members) ≡ true
 
 abbrev pub padded : List ℕ → Inside
 padded members = record { members = members ++ replicate (5 - length members) 0; len = length members }

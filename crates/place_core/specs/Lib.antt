@@ -1,4 +1,5 @@
 pub mod Place
 pub mod Ranking
+pub mod Members
 pub mod Inside
 pub mod Laws

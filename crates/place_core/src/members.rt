@@ -1,8 +1,9 @@
 //! Acting sets.
 
-ghost use Rattle.std.specs.Prelude.{◌≡◌, ◌≤◌, ◌≢◌, length, min, AllPairs, IfOk, ◌↔◌, IsSome, IfSome, ◌==◌};
+ghost use Rattle.std.specs.Prelude.{◌≡◌, ◌≤◌, ◌<◌, ◌≢◌, ◌++◌, [], ◌∷◌, true, false, length, min, AllPairs, IfOk, ◌↔◌, IsSome, IfSome, ◌==◌};
 ghost use Rattle.std.specs.List.{list_any};
 ghost use Rattle.std.specs.Str.{bytes_eq};
+ghost use Rattle.place_core.specs.Members.{is_distinct};
 ghost use Rattle.place_core.specs.Place.{IsActing, acting_of, numbers_of};
 
 use crate::daemons::DaemonSet;
@@ -10,7 +11,7 @@ use crate::ranking::ranked;
 use std::alloc::{AllocError, Global};
 use std::marker::Model;
 
-/// The acting set of a group of at most five daemons, in order, which contracts see as the list of their numbers.
+/// The acting set of a group: at most five daemons in order, each once, which contracts see as the list of their numbers.
 #[derive(Clone, Copy, Debug, PartialEq, Eq)]
 pub struct ActingSet {
     members: [u8; 5],
@@ -34,12 +35,22 @@ impl Model for ActingSet {
 }
 
 impl ActingSet {
-    /// These daemons in this order, or `None` where they are more than five.
+    /// The set of nobody.
+    pub fn new() -> ActingSet
+        ensures { result ≡ [] }
+    {
+        ActingSet {
+            members: [0; 5],
+            len: 0,
+        }
+    }
+
+    /// These daemons in this order, or `None` where they are more than five or one stands twice.
     pub fn from_slice(members: &[u8]) -> Option<ActingSet>
-        ensures few { IsSome result ↔ (length members.now ≤ 5) }
+        ensures sets { IsSome result ↔ ((length members.now ≤ 5) × (is_distinct members.now ≡ true)) }
         ensures value { IfSome result (λ set. set ≡ members.now) }
     {
-        if members.len() > 5 {
+        if members.len() > 5 || !are_distinct(members) {
             return None;
         }
         let mut padded = [0; 5];
@@ -52,10 +63,21 @@ impl ActingSet {
         })
     }
 
+    /// Adds a daemon at the end.
+    pub fn push(&mut self, daemon: u8)
+        requires room { length self.old < 5 }
+        requires other { list_any (λ d. d == daemon) self.old ≡ false }
+        ensures { self.new ≡ self.old ++ daemon ∷ [] }
+    {
+        self.members[usize::from(self.len)] = daemon;
+        self.len += 1;
+    }
+
     /// The daemons in order. The first is the primary.
     pub fn as_slice(&self) -> &[u8]
         ensures value { result.now ≡ self.now }
         ensures few { length result.now ≤ 5 }
+        ensures once { is_distinct result.now ≡ true }
     {
         &self.members[..usize::from(self.len)]
     }
@@ -72,6 +94,16 @@ impl ActingSet {
         ensures { result ≡ list_any (λ d. d == daemon) self.now }
     {
         self.as_slice().contains(&daemon)
+    }
+}
+
+// Whether no daemon stands twice.
+fn are_distinct(members: &[u8]) -> bool
+    ensures { result ≡ is_distinct members.now }
+{
+    match members.split_first() {
+        Some((first, rest)) => !rest.contains(first) && are_distinct(rest),
+        None => true,
     }
 }
 

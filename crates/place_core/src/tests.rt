@@ -75,5 +75,6 @@ fn acting_sets_of_groups(rt: HostRuntime) -> Result<(), Fail> {
         ActingSet::from_slice(&all[..5])
     );
     assert_eq!(rt; ActingSet::from_slice(&all[..6]), None);
+    assert_eq!(rt; ActingSet::from_slice(&[3, 1, 3]), None);
     Ok(())
 }

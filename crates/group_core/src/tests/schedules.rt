@@ -2,7 +2,7 @@
 //! settles: every request is answered, none is decided twice, and what was answered before stands.
 
 use super::requests::{May, Work, request};
-use super::sets::{Who, set};
+use super::sets::{self, Who, set};
 use super::steps::{begun, gives, has_decided};
 use crate::{Group, GroupFault};
 use Event::{Deliver, Lose, LoseAll, Move, Settle, Submit};
@@ -176,8 +176,8 @@ impl Stage {
     }
 
     fn moves(&mut self, alloc: Global, acting: Who, up: Who) -> Result<bool, OutOfMemory> {
-        let acting = set(alloc, acting)?;
-        let up = set(alloc, up)?;
+        let acting = set(acting);
+        let up = sets::up(alloc, up)?;
         Ok(self.group.new_interval(acting, up).is_ok() && self.counts())
     }
 

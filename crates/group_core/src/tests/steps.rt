@@ -3,7 +3,7 @@
 ghost use Rattle.std.specs.Prelude.{◌≤◌};
 
 use super::requests::{May, Work, request};
-use super::sets::{Who, set};
+use super::sets::{self, Who, set};
 use crate::{Group, GroupFault};
 use cap_text::Name;
 use entry_core::{GroupId, Id, OutOfMemory, Reply, Sealed};
@@ -124,8 +124,8 @@ fn sees(group: &Group, step: Step) -> bool {
 fn changes(alloc: Global, group: &mut Group, step: Step) -> Result<bool, OutOfMemory> {
     match step {
         Move(acting, up) => {
-            let acting = set(alloc, acting)?;
-            let up = set(alloc, up)?;
+            let acting = set(acting);
+            let up = sets::up(alloc, up)?;
             Ok(group.new_interval(acting, up).is_ok())
         }
         Restart(daemon) => Ok(group.restart(daemon).is_ok()),
@@ -218,8 +218,8 @@ pub(super) fn begun(alloc: Global, min_size: usize, who: Who) -> Result<Group, O
         pool: Name::new(alloc, "data")?,
         number: 5,
     };
-    let acting = set(alloc, who)?;
-    let up = set(alloc, Who::Three)?;
+    let acting = set(who);
+    let up = sets::up(alloc, Who::Three)?;
     Group::new(alloc, group, min_size, 3, acting, up)
 }
 

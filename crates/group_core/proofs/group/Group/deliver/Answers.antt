@@ -6,28 +6,28 @@ use Rattle.group_core.proofs.group.Group.deliver.Goals as goal
 
 pub invariant_of-self : goal.invariant_of-self
 invariant_of-self c =
-    let here : slice_get c.self.inside.wire.sent c.args.k ≡ Some c.in-Some.message.now = ap (λ l. slice_get l c.args.k) (sym c.as_slice.ensures) ∙ sym c.in-Some.ensures in
+    let here : slice_get c.self.inside.state.wire.sent c.args.k ≡ Some c.in-Some.message.now = ap (λ l. slice_get l c.args.k) (sym c.as_slice.ensures) ∙ sym c.in-Some.ensures in
     (next_answered c.self.invariant c.args.k c.in-Some.message.now c.reach_client.new.wire.sent c.reach_client.new.answers here c.in-Client.is
     c.in_ok-reach_client-in-Client.ensures.wire_ok (c.in_ok-reach_client-in-Client.ensures.answers_ok c.in-Some.message.now here)).whole
 
 pub returns-in_ok-reach_client-in-Client : goal.returns-in_ok-reach_client-in-Client
 returns-in_ok-reach_client-in-Client c =
-    let here : slice_get c.self.inside.wire.sent c.args.k ≡ Some c.in-Some.message.now = ap (λ l. slice_get l c.args.k) (sym c.as_slice.ensures) ∙ sym c.in-Some.ensures in
+    let here : slice_get c.self.inside.state.wire.sent c.args.k ≡ Some c.in-Some.message.now = ap (λ l. slice_get l c.args.k) (sym c.as_slice.ensures) ∙ sym c.in-Some.ensures in
     stepped c.self.view_is (next_answered c.self.invariant c.args.k c.in-Some.message.now c.reach_client.new.wire.sent c.reach_client.new.answers here c.in-Client.is
     c.in_ok-reach_client-in-Client.ensures.wire_ok (c.in_ok-reach_client-in-Client.ensures.answers_ok c.in-Some.message.now here))
 
 pub remove-requires : goal.remove-requires
 remove-requires c =
-    let here : slice_get c.self.inside.wire.sent c.args.k ≡ Some c.in-Some.message.now = ap (λ l. slice_get l c.args.k) (sym c.as_slice.ensures) ∙ sym c.in-Some.ensures in
-    get_in c.self.inside.wire.sent c.args.k c.in-Some.message.now here
+    let here : slice_get c.self.inside.state.wire.sent c.args.k ≡ Some c.in-Some.message.now = ap (λ l. slice_get l c.args.k) (sym c.as_slice.ensures) ∙ sym c.in-Some.ensures in
+    get_in c.self.inside.state.wire.sent c.args.k c.in-Some.message.now here
 
 pub invariant_of-self-then-not-contains : goal.invariant_of-self-then-not-contains
 invariant_of-self-then-not-contains c =
-    let here : slice_get c.self.inside.wire.sent c.args.k ≡ Some c.in-Some.message.now = ap (λ l. slice_get l c.args.k) (sym c.as_slice.ensures) ∙ sym c.in-Some.ensures in
-    let down : is_in c.self.inside.up c.in-Osd.d ≡ false = ap (λ l. is_in l c.in-Osd.d) (sym c.as_slice-in-Osd.ensures) ∙ sym c.contains.ensures ∙ c.if-not-contains.true in
+    let here : slice_get c.self.inside.state.wire.sent c.args.k ≡ Some c.in-Some.message.now = ap (λ l. slice_get l c.args.k) (sym c.as_slice.ensures) ∙ sym c.in-Some.ensures in
+    let down : is_in c.self.inside.state.up c.in-Osd.d ≡ false = ap (λ l. is_in l c.in-Osd.d) (sym c.as_slice-in-Osd.ensures) ∙ sym c.contains.ensures ∙ c.if-not-contains.true in
     whole_dropped c.self.invariant c.args.k c.in-Osd.d c.in-Some.message.now c.remove.new.self.sent here c.in-Osd.is down c.remove.ensures
 
 pub reach_daemon-requires-clause-here : goal.reach_daemon-requires-clause-here
 reach_daemon-requires-clause-here c =
-    let here : slice_get c.self.inside.wire.sent c.args.k ≡ Some c.in-Some.message.now = ap (λ l. slice_get l c.args.k) (sym c.as_slice.ensures) ∙ sym c.in-Some.ensures in
-    subst (λ v. c.args.k < length v.wire) c.self.view_is (get_in c.self.inside.wire.sent c.args.k c.in-Some.message.now here)
+    let here : slice_get c.self.inside.state.wire.sent c.args.k ≡ Some c.in-Some.message.now = ap (λ l. slice_get l c.args.k) (sym c.as_slice.ensures) ∙ sym c.in-Some.ensures in
+    subst (λ v. c.args.k < length v.wire) c.self.view_is (get_in c.self.inside.state.wire.sent c.args.k c.in-Some.message.now here)

@@ -4,10 +4,10 @@ use Rattle.group_core.proofs.group.Group.lose.Goals as goal
 
 pub invariant_of-self : goal.invariant_of-self
 invariant_of-self c =
-    let lt : c.args.k < length c.self.inside.wire.sent = subst (λ l. c.args.k < length l) c.as_slice.ensures c.if-k-as_slice.false in
+    let lt : c.args.k < length c.self.inside.state.wire.sent = subst (λ l. c.args.k < length l) c.as_slice.ensures c.if-k-as_slice.false in
     (next_lost c.self.invariant c.args.k c.remove.new.self.sent lt c.remove.ensures).whole
 
-pub returns : goal.returns
-returns c =
-    let lt : c.args.k < length c.self.inside.wire.sent = subst (λ l. c.args.k < length l) c.as_slice.ensures c.if-k-as_slice.false in
+pub returns-clause-steps : goal.returns-clause-steps
+returns-clause-steps c =
+    let lt : c.args.k < length c.self.inside.state.wire.sent = subst (λ l. c.args.k < length l) c.as_slice.ensures c.if-k-as_slice.false in
     stepped c.self.view_is (next_lost c.self.invariant c.args.k c.remove.new.self.sent lt c.remove.ensures)

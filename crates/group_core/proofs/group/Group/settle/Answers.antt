@@ -1,7 +1,10 @@
 use Rattle.std.proofs.lemmas.Bool.{eqb-true}
 use Rattle.std.proofs.Common.{◌≡◌, ◌==◌, ap, sym, ◌∙◌, subst, length, false}
 use Rattle.group_core.specs.Group.{Group, Deliver, Unreachable}
-use Rattle.group_core.specs.Reached.{IsReached, Refuses}
+use Rattle.std.specs.Prelude.{Ok, Err}
+use Rattle.group_core.specs.Budget.{budget}
+use Rattle.group_core.specs.Reached.{IsReached, Refuses, Settles}
+use Rattle.group_core.proofs.SettledGrowth.{settle_grows, settle_stands}
 use Rattle.group_core.proofs.Reached.{reached_bounded}
 use Rattle.group_core.proofs.Settling.{lowered, so_far_more, so_far_less, so_far_ended, so_far_done, wire_none, dropped, not_dropped, lowered_drop}
 use Rattle.group_core.proofs.group.Group.settle.Goals as goal
@@ -18,7 +21,12 @@ loop-self-preserved-in-Ok c =
 pub returns : goal.returns
 returns c =
     let none : length c.loop-self.self.wire ≡ 0 = ap (λ (v : Group). length v.wire) (sym c.self-in-loop-self.view_is) ∙ ap (λ l. length l) (sym c.as_slice.ensures) ∙ eqb-true (length c.as_slice.result.now) 0 (sym c.is_empty.ensures ∙ c.loop-self-test.false) in
-    so_far_done c.args.self.now c.loop-self.self c.loop-self.delivered (reached_bounded c.args.self.now (subst IsReached c.self.view_is c.self.invariant.reached)) c.loop-self.invariant (wire_none c.loop-self.self.wire none)
+    let all : Settles c.args.self.now (Ok c.loop-self.delivered) c.loop-self.self = so_far_done c.args.self.now c.loop-self.self c.loop-self.delivered (reached_bounded c.args.self.now (subst IsReached c.self.view_is c.self.invariant.reached)) c.loop-self.invariant (wire_none c.loop-self.self.wire none) in
+    record {
+      settles = all;
+      grows = settle_grows c.args.self.now c.loop-self.self (budget c.args.self.now) all.0;
+      stands = settle_stands c.args.self.now c.loop-self.self (budget c.args.self.now) all.0;
+    }
 
 pub loop-self-preserved : goal.loop-self-preserved
 loop-self-preserved c =
@@ -36,5 +44,10 @@ loop-self-smaller c =
 pub returns-in-Err-2 : goal.returns-in-Err-2
 returns-in-Err-2 c =
     let some : (length c.loop-self.self.wire == 0) ≡ false = ap (λ (v : Group). length v.wire == 0) (sym c.self-in-loop-self.view_is) ∙ ap (λ l. length l == 0) (sym c.as_slice.ensures) ∙ sym c.is_empty.ensures ∙ c.loop-self-test.true in
-    so_far_ended c.args.self.now c.loop-self.self c.deliver.new.self c.loop-self.delivered c.in-Err.fault c.loop-self.invariant some c.in-Err.ensures
-    (not_dropped c.in-Err.fault (sym c.is_unreachable.ensures ∙ c.if-is_unreachable.false))
+    let some_of : Settles c.args.self.now (Err c.in-Err.fault) c.deliver.new.self = so_far_ended c.args.self.now c.loop-self.self c.deliver.new.self c.loop-self.delivered c.in-Err.fault c.loop-self.invariant some c.in-Err.ensures
+    (not_dropped c.in-Err.fault (sym c.is_unreachable.ensures ∙ c.if-is_unreachable.false)) in
+    record {
+      settles = some_of;
+      grows = settle_grows c.args.self.now c.deliver.new.self some_of.1.0 some_of.1.1;
+      stands = settle_stands c.args.self.now c.deliver.new.self some_of.1.0 some_of.1.1;
+    }

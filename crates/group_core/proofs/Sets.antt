@@ -1,0 +1,17 @@
+-- Acting sets.
+use Rattle.std.proofs.Common.{ℕ, ◌≡◌, ◌≤◌, true, ◌==◌, ◌&&◌, ◌||◌, not, List, [], ◌∷◌, length, refl, sym, ap, ◌∙◌}
+use Rattle.std.specs.List.{list_any}
+use Rattle.place_core.specs.Members as members
+use Rattle.entry_core.specs.Log.{is_in}
+use Rattle.group_core.specs.Group.{is_distinct, IsSet}
+
+has_is_in : (xs : List ℕ) (x : ℕ) → list_any (λ d. d == x) xs ≡ is_in xs x
+has_is_in [] x = refl
+has_is_in (y ∷ ys) x = ap (λ b. (y == x) || b) (has_is_in ys x)
+
+distinct_is : (xs : List ℕ) → members.is_distinct xs ≡ is_distinct xs
+distinct_is [] = refl
+distinct_is (x ∷ xs) = ap (λ b. not b && members.is_distinct xs) (has_is_in xs x) ∙ ap (λ b. not (is_in xs x) && b) (distinct_is xs)
+
+pub set_is : (xs : List ℕ) → length xs ≤ 5 → members.is_distinct xs ≡ true → IsSet xs
+set_is xs few once = record { few = few; once = sym (distinct_is xs) ∙ once }

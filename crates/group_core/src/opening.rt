@@ -1,0 +1,61 @@
+//! What an interval begins with, made before it begins.
+
+ghost use Rattle.std.specs.Prelude.{◌≡◌, ◌≤◌, ◌++◌, ◌∷◌, [], IfOk, OnOk, vec_len};
+ghost use Rattle.group_core.specs.Group.{announced, resent};
+
+use crate::answers::Answers;
+use crate::requests::Requests;
+use crate::sending::{announce, contains, equals, latest, resend, same_again};
+use crate::wire::Wire;
+use entry_core::{Items, OutOfMemory};
+use peer_core::{IntervalSets, Sent};
+use place_core::ActingSet;
+use std::alloc::Global;
+
+/// What moves a group: what a map's command makes of it.
+#[derive(Drop)]
+pub enum GroupMove {
+    /// The acting set is this one, and these daemons are up. Where the set is the last one, no interval begins.
+    NewInterval { acting: ActingSet, up: Items<u8> },
+    /// A daemon restarted. Where it is one of the last set, an interval of the same set begins.
+    Restart(u8),
+}
+
+/// The sets with the new one, and the messages that tell of it.
+#[derive(Drop)]
+pub(crate) struct Opening {
+    pub sets: IntervalSets,
+    pub sent: Vec<Sent>,
+}
+
+/// Makes what an interval of this set begins with, and room for its messages.
+pub(crate) fn prepare(
+    alloc: Global,
+    wire: &mut Wire,
+    sets: &IntervalSets,
+    acting: ActingSet,
+    requests: &Requests,
+    answers: &Answers,
+) -> Result<Opening, OutOfMemory>
+    ensures sets { IfOk result (λ o. o.sets ≡ sets.now ++ acting ∷ []) }
+    ensures sent { IfOk result (λ o. o.sent.items ≡ announced (sets.now ++ acting ∷ []) ++ resent (sets.now ++ acting ∷ []) requests.now answers.now) }
+    ensures room { IfOk result (λ o. vec_len o.sent ≤ wire.new.room) }
+    ensures same { wire.new.sent ≡ wire.old.sent }
+{
+    let next = sets.followed_by(alloc, acting)?;
+    let mut sent = announce(alloc, &next)?;
+    let mut again = resend(alloc, &next, requests, answers)?;
+    sent.append(&mut again)?;
+    wire.reserve(sent.len())?;
+    Ok(Opening { sets: next, sent })
+}
+
+/// Begins the interval. It takes no memory.
+pub(crate) fn open(wire: &mut Wire, sets: &mut IntervalSets, opening: Opening)
+    requires { vec_len opening.sent ≤ wire.old.room }
+    ensures sets { sets.new ≡ opening.sets }
+    ensures wire { wire.new.sent ≡ wire.old.sent ++ opening.sent.items }
+{
+    wire.append(opening.sent);
+    *sets = opening.sets;
+}
