@@ -16,6 +16,8 @@ use std::process::ExitCode;
 use words::words;
 
 #[cfg(test)]
+mod compare_tests;
+#[cfg(test)]
 mod tests;
 
 fn main(rt: HostRuntime) -> ExitCode {
