@@ -1,3 +1,4 @@
+-- Refinement: only contracts inside the crate use it.
 -- The entries of the map of users.
 use Rattle.std.specs.Prelude.{ℕ, List, map, String, string_bytes}
 use Rattle.std.specs.declared.alloc.Global.{Global}

@@ -1,3 +1,4 @@
+-- Statement: contracts of public calls use it.
 -- The names of users: TYPE.ID, as in Ceph User Management. The types and the limit are this project's profile.
 use Rattle.std.specs.Prelude.{ℕ, List, Bool, ◌&&◌, ◌||◌, nat_le, length, take, drop, codes}
 use Rattle.std.specs.List.{list_all}

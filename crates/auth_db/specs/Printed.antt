@@ -1,3 +1,4 @@
+-- Statement: contracts of public calls use it.
 -- The printed form of a fault: this project's profile.
 use Rattle.std.specs.Prelude.{ℕ, List, ◌++◌, codes}
 use Rattle.cap_text.specs.FaultText as caps_text

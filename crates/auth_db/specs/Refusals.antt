@@ -1,3 +1,4 @@
+-- Statement: contracts of public calls use it.
 -- Why a call on the users is refused: this project's profile.
 use Rattle.std.specs.Prelude.{◌≡◌, ℕ, List, [], ◌∷◌, Bool, not, ◌||◌, if◌then◌else◌, Option, None, Some, Result, Ok, Err, unwrap_or, length, nat_le}
 use Rattle.cap_text.specs.declared.fault.CapFault.{CapFault}

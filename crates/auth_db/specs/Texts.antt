@@ -1,3 +1,4 @@
+-- Statement: contracts of public calls use it.
 -- The texts of a user, and what its osd text comes to.
 use Rattle.std.specs.Prelude.{◌≡◌, ℕ, List, [], Bool, true, false, ◌&&◌, ◌||◌, not, Option, None, Some, length, nat_lt, is_some}
 use Rattle.std.specs.Str.{bytes_eq}

@@ -1,3 +1,4 @@
+-- Statement: contracts of public calls use it.
 -- Users by their names, and the commands that change them: those of Ceph User Management.
 use Rattle.std.specs.Prelude.{◌≡◌, ℕ, ◌≤◌, List, [], ◌∷◌, ◌++◌, Bool, true, false, if◌then◌else◌, Option, Some, length, is_some, fold}
 use Rattle.std.specs.List.{All}

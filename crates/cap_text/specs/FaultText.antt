@@ -1,3 +1,4 @@
+-- Statement: contracts of public calls use it.
 -- The printed form of a fault: this project's profile.
 use Rattle.std.specs.Prelude.{ℕ, List, ◌++◌, codes, decimal}
 use Rattle.cap_text.specs.declared.fault.CapFault.{CapFault}

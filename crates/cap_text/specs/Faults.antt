@@ -1,3 +1,4 @@
+-- Statement: contracts of public calls use it.
 -- The first fault of a text, by what may follow what stands before it. The rules and their order are this project's profile.
 use Rattle.std.specs.Prelude.{◌≡◌, ◌≢◌, ◌≤◌, ◌<◌, ◌+◌, ℕ, ◌⊎◌, Bool, true, false, List, [], ◌∷◌, ◌++◌, length, codes}
 use Rattle.cap_text.specs.declared.token.Token.{Token}

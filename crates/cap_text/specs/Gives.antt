@@ -1,3 +1,4 @@
+-- Refinement: only contracts inside the crate use it.
 -- What a step of the code answers.
 use Rattle.std.specs.Prelude.{◌≡◌, Result, Ok, Err}
 use Rattle.cap_text.specs.declared.fault.FaultKind.{FaultKind}

@@ -1,3 +1,4 @@
+-- Statement: contracts of public calls use it.
 -- The grammar of capability texts, by their tokens.
 -- The forms are those of Ceph User Management, "Authorization capabilities"; orders, separators, quotes and limits are this project's profile.
 use Rattle.std.specs.Prelude.{◌≡◌, ◌≢◌, ◌≤◌, ℕ, ◌⊎◌, Bool, true, false, ◌||◌, ◌==◌, List, [], ◌∷◌, length, codes, Option, Some, None, option_map, if◌then◌else◌}

@@ -1,3 +1,4 @@
+-- Refinement: only contracts inside the crate use it.
 -- The grammar, token by token.
 use Rattle.std.specs.Prelude.{ℕ, Bool, true, false, List, [], ◌∷◌, ◌++◌, Option, Some, None, Result, Ok, Err}
 use Rattle.cap_text.specs.declared.token.Token.{Token}

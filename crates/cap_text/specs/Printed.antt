@@ -1,3 +1,4 @@
+-- Statement: contracts of public calls use it.
 -- The printed form of capability lists. Source: this project's profile.
 use Rattle.std.specs.Prelude.{ℕ, Bool, true, false, ◌&&◌, ◌==◌, List, [], ◌∷◌, ◌++◌, length, codes, Option, Some, None, if◌then◌else◌}
 use Rattle.std.specs.List.{list_all, list_any, join_by}

@@ -1,3 +1,4 @@
+-- Statement: contracts of public calls use it.
 -- What a capability text comes to, as a function: the grammar's lists are a relation, of at most one list to a text.
 use Prim.Native.Nat.{zero, suc}
 use Rattle.std.specs.Prelude.{◌≡◌, ℕ, ◌+◌, ◌-◌, Bool, false, ◌&&◌, ◌==◌, nat_lt, List, [], ◌∷◌, Option, Some, None, Result, Ok, Err, if◌then◌else◌, length, take, drop}

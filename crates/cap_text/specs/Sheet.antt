@@ -1,3 +1,4 @@
+-- Refinement: only contracts inside the crate use it.
 -- How what was read is kept.
 use Rattle.std.specs.Prelude.{ℕ, List, [], None, Some, Result, Ok, Err}
 use Rattle.cap_text.specs.declared.fault.FaultKind.{FaultKind}

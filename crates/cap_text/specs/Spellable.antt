@@ -1,3 +1,4 @@
+-- Statement: contracts of public calls use it.
 -- Which grants the grammar can spell, by computed tests. The limits on a text's bytes and on the number of its grants are left aside.
 -- The conditions are this project's profile.
 use Rattle.std.specs.Prelude.{◌≡◌, ℕ, Bool, true, false, not, ◌||◌, ◌&&◌, ◌==◌, List, [], ◌∷◌, codes, Option, Some, None, is_none}

@@ -1,3 +1,4 @@
+-- Refinement: only contracts inside the crate use it.
 -- The needs that are tried at a place: at most one call.
 use Rattle.std.specs.Prelude.{◌≡◌, List, [], ◌∷◌, ◌++◌, map, Bool, true, false, not, ◌&&◌, Option, None, Some, option_to_list, ℕ}
 use Rattle.std.specs.List.{list_any, All, Contains}

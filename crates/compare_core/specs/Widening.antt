@@ -1,3 +1,4 @@
+-- Statement: contracts of public calls use it.
 -- What one ticket allows that another denies, said by what is allowed alone.
 use Rattle.std.specs.Prelude.{◌≡◌, ℕ, List, [], ◌∷◌, true, false, ◌⊎◌}
 use Rattle.std.specs.List.{All}

@@ -1,3 +1,4 @@
+-- Statement: contracts of public calls use it.
 -- What a store decides on a request, and what an entry makes of a store.
 use Rattle.std.specs.Prelude.{ℕ, List, Bool, ◌&&◌, ◌==◌, if◌then◌else◌, Ok, Err, map, fold}
 use Rattle.std.specs.List.{filter}

@@ -1,3 +1,4 @@
+-- Refinement: only contracts inside the crate use it.
 -- What the fields of types stand for.
 use Rattle.std.specs.Prelude.{◌≡◌, ℕ, ◌+◌, ◌*◌, ◌/◌, ◌%◌, ◌<◌}
 use Rattle.std.proofs.Common.{arith}

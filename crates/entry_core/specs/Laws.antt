@@ -1,3 +1,4 @@
+-- Statement: contracts of public calls use it.
 -- Laws of deciding.
 use Rattle.std.specs.Prelude.{◌≡◌, ℕ, Some, Bool, true, false, not, List, [], ◌∷◌, ◌++◌}
 use Rattle.std.specs.List.Sorted.{IsStrictlySortedBy}

@@ -1,3 +1,4 @@
+-- Statement: contracts of public calls use it.
 -- The objects of a group, and what is decided by them alone.
 -- An object is of the group that its name hashes to, with the number of groups that its pool has.
 use Rattle.std.specs.Prelude.{◌≡◌, ℕ, List}

@@ -1,3 +1,4 @@
+-- Statement: contracts of public calls use it.
 -- What a copy decides on a request, by the entries before it; and the logs that such decisions make.
 use Rattle.std.specs.Prelude.{ℕ, ◌≡◌, Bool, false, ◌==◌, ◌||◌, List, [], ◌∷◌, ◌++◌, refl, Option, Some, None, if◌then◌else◌}
 use Rattle.std.specs.Option.{option_map}

@@ -1,3 +1,4 @@
+-- Statement: contracts of public calls use it.
 -- The error numbers of replies: those of Ceph's operations, where EPERM is 1.
 use Rattle.std.specs.Prelude.{ℕ}
 use Rattle.entry_core.specs.declared.reply.Reply.{Reply}

@@ -1,3 +1,4 @@
+-- Statement: contracts of public calls use it.
 -- Requests, with all that they are decided by. Source: this project's profile, after the object operations of RADOS.
 use Rattle.std.specs.Prelude.{◌≡◌, ℕ, List, [], true, false, None}
 use Rattle.verdict_core.specs.Place.{Place}

@@ -1,3 +1,4 @@
+-- Refinement: only contracts inside the crate use it.
 -- What the parts of a sealed request stand for.
 use Rattle.std.specs.Prelude.{◌≡◌, ℕ, ◌≤◌, List, [], Option, Some, None}
 use Rattle.verdict_core.specs.Place.{Place}

@@ -1,3 +1,4 @@
+-- Statement: contracts of public calls use it.
 -- The objects of a store, a finite map from their names to what they hold.
 use Rattle.std.specs.Prelude.{ℕ, List, Option, Some, None, refl}
 use Rattle.std.specs.Coded.{Coded, code_by, coded×, coded_list, coded_ℕ}

@@ -1,3 +1,4 @@
+-- Refinement: only contracts inside the crate use it.
 -- How a log keeps its objects and where its entries stand.
 use Rattle.std.specs.Prelude.{◌≡◌, ℕ, ◌+◌, ◌==◌, if◌then◌else◌, List, [], ◌∷◌, Bool, Option, Some, None, map, String, string_bytes}
 use Rattle.std.specs.Arc.{arc_value}

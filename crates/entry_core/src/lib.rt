@@ -26,8 +26,8 @@ pub use entry::Entry;
 pub use id::Id;
 pub use items::{Items, TryCopy};
 pub use laws::{
-    decision_tells_the_store, find_tells, groups_decide_apart, listings_are_sorted, others_are_left,
-    refusals_leave_the_store, verdict_is_sealed,
+    decision_tells_the_store, find_tells, groups_decide_apart, listings_are_sorted,
+    others_are_left, refusals_leave_the_store, verdict_is_sealed,
 };
 pub use log::Log;
 pub use reply::{Reply, reply_number};

@@ -1,3 +1,4 @@
+-- Statement: contracts of public calls use it.
 -- The profiles that every table begins with. The names are those of Ceph User Management; what they grant is this project's profile.
 use Rattle.std.specs.Prelude.{[], ◌∷◌, Bool, true, false, None, codes}
 use Rattle.cap_text.specs.declared.grant.Access.TheVariants.{Flags}

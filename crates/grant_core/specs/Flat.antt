@@ -1,3 +1,4 @@
+-- Statement: contracts of public calls use it.
 -- What a list of grants comes to, with each use of a profile replaced by the profile's grants.
 -- Profiles are those of Ceph User Management; how a use fills its profile's grants is this project's profile.
 use Rattle.std.specs.Prelude.{ℕ, ◌+◌, List, [], ◌∷◌, ◌++◌, map, reverse, if◌then◌else◌, is_some}

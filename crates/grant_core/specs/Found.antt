@@ -1,3 +1,4 @@
+-- Refinement: only contracts inside the crate use it.
 -- Where a name stands in a table.
 use Rattle.std.specs.Prelude.{◌≡◌, ℕ, ◌<◌, List, map, reverse, take, Some, slice_get, String}
 use Rattle.std.specs.declared.alloc.Global.{Global}

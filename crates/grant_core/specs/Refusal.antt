@@ -1,3 +1,4 @@
+-- Statement: contracts of public calls use it.
 -- Why a profile is not added, and why a list is not expanded: this project's profile.
 use Rattle.std.specs.Prelude.{◌≡◌, ℕ, ◌+◌, List, [], ◌∷◌, length, Bool, if◌then◌else◌, is_some, Option, None, Some, Result, Ok, Err, unwrap_or, nat_lt, nat_le}
 use Rattle.std.specs.Option.{option_or}

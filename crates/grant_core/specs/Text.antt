@@ -1,3 +1,4 @@
+-- Statement: contracts of public calls use it.
 -- The printed texts: this project's profile.
 use Rattle.std.specs.Prelude.{ℕ, List, [], ◌∷◌, ◌++◌, codes, decimal, flat_map}
 use Rattle.grant_core.specs.declared.fault.ExpandFault.{ExpandFault}

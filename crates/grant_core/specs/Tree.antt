@@ -1,3 +1,4 @@
+-- Statement: contracts of public calls use it.
 -- What a tree of grants stands for.
 use Rattle.std.specs.Prelude.{ℕ, List, [], ◌∷◌, ◌++◌, map}
 use Rattle.cap_text.specs.declared.grant.AllowGrant.{AllowGrant}

@@ -1,3 +1,4 @@
+-- Statement: contracts of public calls use it.
 -- Where a request that a group holds comes from, and what an answer rests on.
 use Rattle.std.specs.Prelude.{ℕ, ◌≡◌, List, ◌∷◌, ◌++◌, Some}
 use Rattle.entry_core.specs.Log.{find}

@@ -1,3 +1,4 @@
+-- Statement: contracts of public calls use it.
 -- How many deliveries a group can still make.
 use Rattle.std.specs.Prelude.{ℕ, ◌+◌, ◌*◌, ◌≤◌, List, [], ◌∷◌, length, Option, Some, None}
 use Rattle.peer_core.specs.Steps.{Stepped}

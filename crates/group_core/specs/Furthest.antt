@@ -1,3 +1,4 @@
+-- Refinement: only contracts inside the crate use it.
 -- The copy that is furthest on: its log begins with all that was decided.
 use Rattle.std.specs.Prelude.{List, [], ◌∷◌, map}
 use Rattle.entry_core.specs.declared.entry.Entry.{Entry}

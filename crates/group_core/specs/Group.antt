@@ -1,3 +1,4 @@
+-- Statement: contracts of public calls use it.
 -- A group: its copies, the messages among them, its intervals, and what was answered and decided.
 use Prim.Native.Nat.{zero, suc}
 use Rattle.std.specs.Prelude.{ℕ, ◌≡◌, ◌≤◌, ◌+◌, Bool, true, false, ◌==◌, ◌&&◌, not, nat_lt, List, [], ◌∷◌, ◌++◌, map, filter, length, take, remove, slice_get, slice_set, Option, Some, None, if◌then◌else◌}

@@ -1,3 +1,4 @@
+-- Statement: contracts of public calls use it.
 -- What happened in a group's intervals so far. Nothing reads it: it stands beside the group in proofs.
 use Rattle.std.specs.Prelude.{ℕ, ◌≡◌, ◌≤◌, ◌<◌, ◌-◌, ◌⊎◌, true, List, [], ◌++◌, length, take, Option, Some, None}
 use Rattle.entry_core.specs.Log.{is_in, Legal}

@@ -1,3 +1,4 @@
+-- Refinement: only contracts inside the crate use it.
 -- What the fields of a group stand for.
 use Rattle.std.specs.Prelude.{take}
 use Rattle.group_core.specs.declared.state.GroupState.{GroupState}

@@ -1,3 +1,4 @@
+-- Statement: contracts of public calls use it.
 -- The laws of groups, each over any group that there can be. What `Group::keeps_promises` ensures is not said again.
 use Rattle.std.specs.Prelude.{ℕ, ◌≡◌, ◌≤◌, ◌+◌, ◌*◌, List, [], map, length, replicate, slice_get, Some, None}
 use Rattle.entry_core.specs.Log.{reply_in}

@@ -1,3 +1,4 @@
+-- Refinement: only contracts inside the crate use it.
 -- Messages on their way, and for how many more there is room.
 use Rattle.std.specs.Prelude.{ℕ, List}
 use Rattle.group_core.specs.Types.{Sent}

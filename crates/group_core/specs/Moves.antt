@@ -1,3 +1,4 @@
+-- Statement: contracts of public calls use it.
 -- Moves of a group, and what is made before one.
 use Rattle.std.specs.Prelude.{ℕ, ◌≡◌, ◌≤◌, ◌<◌, List, [], ◌∷◌, ◌++◌, length, Option, Some, None, if◌then◌else◌, vec_len}
 use Rattle.entry_core.specs.Log.{is_in}

@@ -1,3 +1,4 @@
+-- Refinement: only contracts inside the crate use it.
 -- What a copy that was heard stands for.
 use Rattle.std.specs.Prelude.{ℕ, ◌≡◌, ◌≤◌, ◌<◌, List, length, Some}
 use Rattle.entry_core.specs.declared.entry.Entry.{Entry}

@@ -1,3 +1,4 @@
+-- Statement: contracts of public calls use it.
 -- Of any log all but the last entry is decided.
 use Rattle.std.specs.Prelude.{ℕ, ◌≡◌, ◌⊎◌, List, length, Some, slice_get}
 use Rattle.entry_core.specs.declared.entry.Entry.{Entry}

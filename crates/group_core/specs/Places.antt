@@ -1,3 +1,4 @@
+-- Refinement: only contracts inside the crate use it.
 -- Where a number stands in a list.
 use Prim.Native.Nat.{suc}
 use Rattle.std.specs.Prelude.{ℕ, ◌≡◌, ◌==◌, List, [], ◌∷◌, ◌++◌, Option, Some, None, if◌then◌else◌, nat_eq}

@@ -1,3 +1,4 @@
+-- Statement: contracts of public calls use it.
 -- A set that can serve, what its interval costs in deliveries, and what is left once it settled.
 use Rattle.std.specs.Prelude.{ℕ, ◌≡◌, ◌≤◌, ◌<◌, ◌+◌, ◌*◌, ◌-◌, true, List, [], ◌∷◌, length, take, Option, Some, None, slice_get}
 use Rattle.entry_core.specs.Log.{is_in}

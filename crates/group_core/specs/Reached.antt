@@ -1,3 +1,4 @@
+-- Statement: contracts of public calls use it.
 -- The groups that there can be, and what one call does.
 use Rattle.std.specs.Prelude.{ℕ, ◌≡◌, ◌≤◌, List, Some, None, Result, Ok, Err, min, take, length, ◌-◌, [], ◌∷◌}
 use Rattle.entry_core.specs.declared.sealed.GroupId.{GroupId}

@@ -1,3 +1,4 @@
+-- Statement: contracts of public calls use it.
 -- What every group keeps, whatever happens.
 use Rattle.std.specs.Prelude.{ℕ, ◌≡◌, ◌≤◌, true, List, Option, Some, slice_get}
 use Rattle.entry_core.specs.Log.{is_in}

@@ -1,3 +1,4 @@
+-- Statement: contracts of public calls use it.
 -- What holds of each copy by itself, whatever was delivered.
 use Rattle.std.specs.Prelude.{ℕ, ◌≡◌, ◌≤◌, length}
 use Rattle.entry_core.specs.Log.{Legal}

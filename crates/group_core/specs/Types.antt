@@ -1,3 +1,4 @@
+-- Statement: contracts of public calls use it.
 -- The types that the rules of a group speak of: every other file takes those of a copy and of messages from here.
 pub use Rattle.entry_core.specs.declared.reply.Reply.{Reply as Outcome}
 pub use Rattle.peer_core.specs.declared.message.Party.{Party}

@@ -1,3 +1,4 @@
+-- Refinement: only contracts inside the crate use it.
 -- What holds of every group of the program.
 use Rattle.std.specs.Prelude.{ℕ, ◌≡◌, length}
 use Rattle.group_core.specs.Group.{Group}

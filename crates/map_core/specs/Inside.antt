@@ -1,3 +1,4 @@
+-- Refinement: only contracts inside the crate use it.
 -- What the map's fields stand for.
 use Rattle.std.specs.Prelude.{◌≡◌, ◌<◌, ◌≤◌, length}
 use Rattle.map_core.specs.State.{History}

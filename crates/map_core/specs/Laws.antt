@@ -1,3 +1,4 @@
+-- Statement: contracts of public calls use it.
 -- Laws of the map, over histories whose commands were accepted.
 use Rattle.std.specs.Prelude.{◌≡◌, ◌≢◌, ℕ, ◌<◌, ◌≤◌, List, [], ◌∷◌, ◌++◌, Bool, true, false, Option, None, Some, length, map, All, AllPairs}
 use Rattle.std.specs.Option.{option_to_list}

@@ -1,3 +1,4 @@
+-- Statement: contracts of public calls use it.
 -- What holds of every map: each command was one that nothing refused.
 use Rattle.std.specs.Prelude.{◌≡◌, ⊤, ℕ, ◌+◌, ◌≤◌, List, [], ◌∷◌, None}
 use Rattle.map_core.specs.State.{MapState, History}

@@ -1,3 +1,4 @@
+-- Statement: contracts of public calls use it.
 -- The map as the fold of its commands (commands and limits: this project's profile, after the Ceph manual's Pools chapter).
 use Rattle.std.specs.Prelude.{ℕ, ◌+◌, ◌-◌, List, [], ◌∷◌, ◌++◌, Bool, true, false, if◌then◌else◌, Option, length, take, fold, map, slice_set, nat_lt}
 use Rattle.std.specs.List.{find, range_with_len}

@@ -1,3 +1,4 @@
+-- Statement: contracts of public calls use it.
 -- Why a command or a question is refused (names and limits: this project's profile).
 use Rattle.std.specs.Prelude.{◌≡◌, ◌≢◌, ℕ, ◌+◌, unwrap_or, List, [], ◌∷◌, Bool, true, false, not, ◌||◌, ◌&&◌, if◌then◌else◌, ◌==◌, Option, None, Some, Result, Ok, Err, length, slice_index_or, nat_lt, nat_le, is_some}
 use Rattle.std.specs.List.{list_any, list_all, find}

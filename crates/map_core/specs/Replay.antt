@@ -1,3 +1,4 @@
+-- Refinement: only contracts inside the crate use it.
 -- One pool alone, command by command.
 use Rattle.std.specs.Prelude.{ℕ, List, if◌then◌else◌, Option, None, Some}
 use Rattle.std.specs.Option.{option_map}

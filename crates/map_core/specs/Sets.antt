@@ -1,3 +1,4 @@
+-- Statement: contracts of public calls use it.
 -- What every acting set of a map is.
 use Rattle.std.specs.Prelude.{◌≡◌, ℕ, ◌<◌, List, Some, All}
 use Rattle.place_core.specs.Place.{IsActing, IsActingSet, numbers_of}

@@ -1,3 +1,4 @@
+-- Statement: contracts of public calls use it.
 -- The state of the map, and the history that it follows from.
 use Rattle.std.specs.Prelude.{◌≡◌, ℕ, List, ◌++◌, Bool}
 use Rattle.map_core.specs.declared.command.MapCommand.{MapCommand}

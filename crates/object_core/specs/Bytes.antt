@@ -1,3 +1,4 @@
+-- Statement: contracts of public calls use it.
 -- Parts and changes of contents, as RADOS reads and writes them. Source: Ceph's object operations read,
 -- write, append and truncate.
 use Rattle.std.specs.Prelude.{ℕ, ◌+◌, ◌-◌, List, ◌++◌, if◌then◌else◌, ◌==◌, length, take, drop, replicate}

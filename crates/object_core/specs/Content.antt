@@ -1,3 +1,4 @@
+-- Statement: contracts of public calls use it.
 -- What an object holds, and its limits. Source: RADOS objects, which have bytes and named attributes; the
 -- limits are this project's profile.
 use Rattle.std.specs.Prelude.{ℕ, ◌<◌, ◌≤◌, List, [], ◌∷◌, ◌++◌, Bool, ◌||◌, Option, is_some, length, nat_lt, find, position, All, AllPairs, ◌≢◌, slice_set, remove}

@@ -1,3 +1,4 @@
+-- Refinement: only contracts inside the crate use it.
 -- The form of a decimal text, as the program tests it.
 use Rattle.std.specs.Prelude.{ℕ, List, Bool, not, ◌&&◌, ◌||◌, ◌==◌, length, slice_index}
 use Rattle.std.specs.Str.{all_ascii_digits}

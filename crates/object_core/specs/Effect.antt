@@ -1,3 +1,4 @@
+-- Statement: contracts of public calls use it.
 -- What operations do to an object. Source: Ceph's object operations and the numbers of its errors; classes
 -- and limits are this project's profile.
 use Rattle.std.specs.Prelude.{ℕ, ◌+◌, ◌^◌, List, [], ◌∷◌, ◌++◌, Bool, ◌==◌, ◌||◌, if◌then◌else◌, Option, None, Some, is_none, not, Result, Ok, Err, length, nat_lt, codes}

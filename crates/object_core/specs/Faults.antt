@@ -1,3 +1,4 @@
+-- Statement: contracts of public calls use it.
 -- How a vector is refused, in print and by number: this project's profile.
 use Rattle.std.specs.Prelude.{◌≡◌, ℕ, List, Option, None, Some, Result, Ok, Err, codes, unwrap_or}
 use Rattle.object_core.specs.declared.needs.NeedsFault.{NeedsFault}

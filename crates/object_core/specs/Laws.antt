@@ -1,3 +1,4 @@
+-- Statement: contracts of public calls use it.
 -- Laws of objects.
 use Rattle.std.specs.Prelude.{◌≡◌, ℕ, List, Option, Some, Ok, Err}
 use Rattle.object_core.specs.Content.{Content, AreAttributes}

@@ -1,3 +1,4 @@
+-- Statement: contracts of public calls use it.
 -- What a vector of operations asks for, and when it is refused. Source: Ceph User Management's r, w and
 -- x for reads, writes and class methods; the class registry is this project's profile.
 use Rattle.std.specs.Prelude.{◌≡◌, ℕ, List, [], ◌∷◌, Bool, true, false, ◌&&◌, ◌==◌, if◌then◌else◌, Option, None, Some, is_none, length, nat_lt, codes}

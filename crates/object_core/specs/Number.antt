@@ -1,3 +1,4 @@
+-- Statement: contracts of public calls use it.
 -- Decimal numbers as counters keep them: this project's profile.
 use Rattle.std.specs.Prelude.{ℕ, ◌^◌, List, ◌&&◌, if◌then◌else◌, Option, None, Some, nat_lt}
 use Rattle.std.specs.Fmt.{decimal}

@@ -21,8 +21,8 @@ mod running;
 
 pub use attributes::Attributes;
 pub use bytes::Bytes;
-pub use laws::removed_is_gone;
 pub use class::registry;
+pub use laws::removed_is_gone;
 pub use needs::{NeedsFault, needs_of};
 pub use object::Object;
 pub use op::Op;

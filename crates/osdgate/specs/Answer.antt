@@ -1,3 +1,4 @@
+-- Statement: contracts of public calls use it.
 -- What a capability text and a request come to.
 use Rattle.std.specs.Prelude.{ℕ, ◌≡◌, ◌≢◌, ◌⊎◌, ◌||◌, Bool, List, [], ◌∷◌, Option, Some, None, Result, Ok, Err, if◌then◌else◌}
 use Rattle.cap_text.specs.Faults.{IsFirstFault}

@@ -1,3 +1,4 @@
+-- Statement: contracts of public calls use it.
 -- How the place of a fault is shown under its text (this project's profile). Every line ends with byte 10.
 use Rattle.std.specs.Prelude.{ℕ, ◌+◌, ◌/◌, ◌%◌, ◌&&◌, List, [], ◌∷◌, ◌++◌, codes, length, take, replicate, flat_map, nat_le, nat_lt, if◌then◌else◌}
 

@@ -1,3 +1,4 @@
+-- Statement: contracts of public calls use it.
 -- What is printed of two capability texts: which allows more, and an example for each grant that does (this project's
 -- profile). Comparison is over the class registry: the calls of all requests are of its methods.
 use Rattle.std.specs.Prelude.{ℕ, ◌≡◌, ◌≢◌, ◌⊎◌, ◌↔◌, ◌&&◌, List, [], ◌∷◌, ◌++◌, Bool, true, false, None, Some, codes}

@@ -1,3 +1,4 @@
+-- Statement: contracts of public calls use it.
 -- What `explain` prints of a capability text, and how a fault's place is shown (this project's profile). Every line ends with byte 10.
 use Rattle.std.specs.Prelude.{ℕ, ◌≡◌, ◌≢◌, ◌⊎◌, Bool, true, List, ◌++◌, Option, Some, None, is_some, codes, flat_map}
 use Rattle.cap_text.specs.FaultText as cap

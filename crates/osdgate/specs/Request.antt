@@ -1,3 +1,4 @@
+-- Statement: contracts of public calls use it.
 -- Requests as the words of a shell that `osdgate verdict` takes (this project's profile; quotes as POSIX shells read them).
 use Rattle.std.specs.Prelude.{ℕ, Bool, true, false, List, [], ◌∷◌, ◌++◌, ◌==◌, ◌&&◌, not, length, codes, if◌then◌else◌}
 use Rattle.std.specs.List.{flat_map, list_all}

@@ -1,3 +1,4 @@
+-- Statement: contracts of public calls use it.
 -- The texts that the program prints (this project's profile). Every line ends with byte 10.
 use Rattle.std.specs.Prelude.{ℕ, List, ◌++◌, codes, Result, Ok, Err}
 use Rattle.cap_text.specs.FaultText as cap

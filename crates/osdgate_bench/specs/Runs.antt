@@ -1,3 +1,4 @@
+-- Statement: contracts of public calls use it.
 -- The least and the middle one of 15 times.
 use Rattle.std.specs.Prelude.{ℕ, ◌≡◌, List, slice_index}
 use Rattle.std.specs.List.Sorted.{IsPermutation, IsNonDecreasing}

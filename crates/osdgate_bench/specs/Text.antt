@@ -1,3 +1,4 @@
+-- Statement: contracts of public calls use it.
 -- The lines of a table.
 use Rattle.std.specs.Prelude.{ℕ, ◌-◌, ◌/◌, ◌%◌, List, ◌++◌, codes, length, replicate}
 use Rattle.std.specs.Fmt.{decimal}

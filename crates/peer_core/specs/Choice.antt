@@ -1,3 +1,4 @@
+-- Statement: contracts of public calls use it.
 -- Which copy's log begins an interval, and when it may be chosen.
 use Rattle.std.specs.Prelude.{ℕ, ◌+◌, ◌-◌, Bool, true, ◌==◌, ◌||◌, ◌&&◌, nat_lt, List, [], ◌∷◌, length, take, if◌then◌else◌}
 use Rattle.std.specs.List.{list_any, list_all}

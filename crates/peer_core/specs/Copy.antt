@@ -1,3 +1,4 @@
+-- Statement: contracts of public calls use it.
 -- One daemon's copy of one group: what each message makes of it, and what it sends (Ceph Peering, the RADOS paper, and this project's profile).
 use Rattle.std.specs.Prelude.{ℕ, ◌+◌, Bool, ◌==◌, ◌&&◌, not, nat_lt, List, [], ◌∷◌, ◌++◌, map, filter, length, Option, Some, None, if◌then◌else◌}
 use Rattle.std.specs.List.{list_any}

@@ -1,3 +1,4 @@
+-- Statement: contracts of public calls use it.
 -- Which entries of a copy's log are decided, and one entry more.
 use Rattle.std.specs.Prelude.{ℕ, ◌-◌, List, [], ◌∷◌, ◌++◌, length, take, Option, Some, None}
 use Rattle.entry_core.specs.Log.{decide}

@@ -1,3 +1,4 @@
+-- Refinement: only contracts inside the crate use it.
 -- Steps on the way to the rules.
 use Rattle.std.specs.Prelude.{ℕ, ◌≡◌, ◌<◌, ◌+◌, Bool, false, ◌==◌, ◌&&◌, not, List, [], ◌∷◌, ◌++◌, length, drop, slice_index_or, Option, Some, None}
 use Rattle.entry_core.specs.Log.{Decision, decision, decide, find}

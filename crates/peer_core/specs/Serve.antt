@@ -1,3 +1,4 @@
+-- Statement: contracts of public calls use it.
 -- How an active copy takes the requests that wait.
 use Rattle.std.specs.Prelude.{ℕ, ◌+◌, List, [], ◌∷◌, ◌++◌, map, length, Option, Some, None}
 use Rattle.entry_core.specs.Log.{decide, find}

@@ -1,3 +1,4 @@
+-- Statement: contracts of public calls use it.
 -- The sets of the intervals, and their members.
 use Rattle.std.specs.Prelude.{ℕ, ◌-◌, Bool, false, ◌==◌, ◌&&◌, ◌||◌, not, List, [], ◌∷◌, filter, slice_index_or}
 use Rattle.std.specs.List.{list_any, list_all}

@@ -1,3 +1,4 @@
+-- Statement: contracts of public calls use it.
 -- What a message makes of a copy.
 use Rattle.std.specs.Prelude.{ℕ, List, []}
 use Rattle.peer_core.specs.Types.{Party, Osd, Body, Sent, Idle, Daemon}

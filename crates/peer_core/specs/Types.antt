@@ -1,3 +1,4 @@
+-- Statement: contracts of public calls use it.
 -- The types that the rules of a copy speak of: every other file takes them from here.
 pub use Rattle.entry_core.specs.Request.{Sealed}
 pub use Rattle.entry_core.specs.declared.entry.Entry.{Entry}

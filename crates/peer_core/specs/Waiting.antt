@@ -1,3 +1,4 @@
+-- Refinement: only contracts inside the crate use it.
 -- Which ids may wait.
 use Rattle.std.specs.Prelude.{ℕ, ◌≡◌, true, ◌==◌, List, is_some, nat_eq}
 use Rattle.std.specs.List.{list_any}

@@ -1,3 +1,4 @@
+-- Refinement: only contracts inside the crate use it.
 -- What the fields of an acting set stand for.
 use Rattle.std.specs.Prelude.{◌≡◌, ℕ, ◌-◌, ◌≤◌, true, List, ◌++◌, length, take, replicate}
 use Rattle.std.proofs.Common.{sym, ap, ◌∙◌, length-take, arith}

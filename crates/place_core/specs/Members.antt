@@ -1,3 +1,4 @@
+-- Statement: contracts of public calls use it.
 -- Lists of daemons in which each stands once.
 use Rattle.std.specs.Prelude.{ℕ, Bool, true, ◌==◌, ◌&&◌, not, List, [], ◌∷◌}
 use Rattle.std.specs.List.{list_any}

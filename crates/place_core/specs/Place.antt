@@ -1,3 +1,4 @@
+-- Statement: contracts of public calls use it.
 -- Where objects and groups are placed.
 use Rattle.std.specs.Prelude.{◌≡◌, ℕ, ◌*◌, ◌%◌, ◌^◌, ◌<◌, ◌≤◌, ◌≢◌, List, ◌∷◌, ◌++◌, length, min, bit_xor, fold, filter, count_by, Contains, All, AllPairs, ◌⊎◌, Bool, Option, slice_index_or, false, ◌||◌, ◌&&◌, ◌==◌, nat_lt}
 use Rattle.std.specs.List.{find, filter_map, range_with_len}

@@ -1,3 +1,4 @@
+-- Statement: contracts of public calls use it.
 -- What clauses see of a lock and of a seat.
 use Rattle.std.specs.Prelude.{◌≡◌, ℕ, List, [], Option}
 use Rattle.atomic_table.specs.Seated.{TableId}

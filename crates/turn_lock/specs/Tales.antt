@@ -1,3 +1,4 @@
+-- Statement: contracts of public calls use it.
 -- Lists of turns.
 use Rattle.std.specs.Prelude.{◌≡◌, ℕ, ◌==◌, if◌then◌else◌, nat_le, List, [], ◌∷◌, ◌++◌, map, fold, length}
 use Rattle.turn_lock.specs.declared.rule.Made.{Made}

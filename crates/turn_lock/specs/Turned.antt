@@ -1,3 +1,4 @@
+-- Statement: contracts of public calls use it.
 -- What a turn does, and what a lock holds at its end.
 use Rattle.std.specs.Prelude.{◌≡◌, List, [], ◌∷◌, ◌++◌}
 use Rattle.turn_lock.specs.declared.rule.Made.{Made}

@@ -1,3 +1,4 @@
+-- Refinement: only contracts inside the crate use it.
 -- The rule of the lock, which holds between any two of its atomic steps, and what each step tells the seat that makes it.
 use Rattle.std.specs.Prelude.{◌≡◌, ◌≢◌, ℕ, ◌+◌, ◌-◌, ◌<◌, ◌≤◌, Bool, true, false, List, [], ◌∷◌, ◌++◌, length, slice_index, Option, Some, min}
 use mathlib.Core.Option.{some}

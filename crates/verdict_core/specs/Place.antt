@@ -1,3 +1,4 @@
+-- Statement: contracts of public calls use it.
 -- Where a request goes.
 use Rattle.std.specs.Prelude.{ℕ, List}
 use Rattle.cap_text.specs.declared.tags.AppTags.{AppTags}

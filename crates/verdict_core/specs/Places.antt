@@ -1,3 +1,4 @@
+-- Refinement: only contracts inside the crate use it.
 -- Where the grants of a ticket stand that may speak of a request. Only inner contracts use this: a public one speaks of
 -- the verdict alone.
 use Rattle.std.specs.Prelude.{◌≡◌, ◌≢◌, ℕ, ◌+◌, ◌*◌, ◌/◌, ◌%◌, ◌^◌, ◌<◌, ◌≤◌, List, Bool, false, Option, None, Some, ◌&&◌, length, map, fold, slice_index}

@@ -1,3 +1,4 @@
+-- Statement: contracts of public calls use it.
 -- What an entity may do, and until when.
 -- Source: this project's profile, after the tickets of Ceph's authentication, which also run out.
 use Rattle.std.specs.Prelude.{ℕ, List, Option}

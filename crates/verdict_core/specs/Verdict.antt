@@ -1,3 +1,4 @@
+-- Statement: contracts of public calls use it.
 -- When a request is allowed, and why it is not.
 -- Sources: Ceph User Management, "Authorization capabilities", for what a grant asks for and gives;
 -- reports, and what a tag's any stands for, are this project's profile.

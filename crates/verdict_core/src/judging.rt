@@ -47,11 +47,7 @@ fn are_covered(grants: &[(Path, AllowGrant)], target: &Target<'_>, needs: &Needs
 
 /// Whether grants allow a request, whatever the time: what `judge` asks of a ticket that is not expired. It takes
 /// no memory and copies nothing.
-pub fn grants_allow(
-    grants: &[(Path, AllowGrant)],
-    target: &Target<'_>,
-    needs: &Needs,
-) -> bool
+pub fn grants_allow(grants: &[(Path, AllowGrant)], target: &Target<'_>, needs: &Needs) -> bool
     ensures { result ≡ spec.grants_allow grants.now target.now needs.now }
 {
     has_usable(grants, target, needs) && are_covered(grants, target, needs)
