@@ -3,11 +3,14 @@
 mod explaining;
 
 use crate::command::{refuse_words, run_command};
+use crate::verdict::{Times, verdict_text};
 use crate::words::words;
+use cap_text::Tags;
 use std::alloc::Global;
 use std::env::{Env, FillError};
 use std::io;
 use std::test::Fail;
+use verdict_core::Target;
 
 /// What the program prints on these words, and its status.
 pub(crate) fn run(alloc: Global, words: &[&str]) -> Result<(String, u8), Fail> {
@@ -229,6 +232,28 @@ fn words_that_are_no_text(rt: HostRuntime) -> Result<(), Fail> {
         }
         assert!(rt; out.is_empty());
         assert!(rt; err.as_slice() == line.as_bytes());
+    }
+    Ok(())
+}
+
+#[test]
+fn the_text_of_a_verdict(rt: HostRuntime) -> Result<(), Fail> {
+    let alloc = rt.alloc();
+    let tags = Tags::from_vec(Vec::new(alloc));
+    let target = Target {
+        pool: "data",
+        tags: &tags,
+        namespace: "",
+        object: "x",
+    };
+    for (tick, text) in [(9, "allow\n"), (10, "deny\n1 expired\n")] {
+        let times = Times {
+            until: Some(10),
+            tick,
+        };
+        let caps = "allow r pool=data";
+        let printed = verdict_text(alloc, caps, &target, true, false, [].as_slice(), times)?;
+        assert_eq!(rt; printed.as_str(), text);
     }
     Ok(())
 }

@@ -22,10 +22,10 @@ loop-entry-preserved c =
 pub returns-clause-gained : goal.returns-clause-gained
 returns-clause-gained c =
     all_gained c.args.old.now.grants c.args.new.now.grants c.loop-entry.examples.items
-    (answers_whole c.args.old.now.grants c.args.new.now.grants c.grants-entry-items.result.now c.loop-entry.entry-index c.loop-entry.examples.items c.grants-entry-items.ensures c.loop-entry-test.false c.loop-entry.invariant)
+    (answers_whole c.args.old.now.grants c.args.new.now.grants c.grants-entry-items.result.now c.loop-entry.entry-index c.loop-entry.examples.items c.grants-entry-items.ensures.grants c.loop-entry-test.false c.loop-entry.invariant)
 
 pub returns-clause-empty : goal.returns-clause-empty
 returns-clause-empty c =
     let all : Answers c.args.old.now.grants c.args.new.now.grants c.loop-entry.examples.items =
-    answers_whole c.args.old.now.grants c.args.new.now.grants c.grants-entry-items.result.now c.loop-entry.entry-index c.loop-entry.examples.items c.grants-entry-items.ensures c.loop-entry-test.false c.loop-entry.invariant in
+    answers_whole c.args.old.now.grants c.args.new.now.grants c.grants-entry-items.result.now c.loop-entry.entry-index c.loop-entry.examples.items c.grants-entry-items.ensures.grants c.loop-entry-test.false c.loop-entry.invariant in
     (λ none. nothing_widens c.args.old.now.grants c.args.new.now.grants (subst (Answers c.args.old.now.grants c.args.new.now.grants) none all), no_examples c.args.old.now.grants c.args.new.now.grants c.loop-entry.examples.items all)
