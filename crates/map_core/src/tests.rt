@@ -191,21 +191,42 @@ fn faults_print_their_number_and_name(rt: HostRuntime) -> Result<(), Fail> {
     Ok(())
 }
 
+// A map of three daemons with one pool.
+fn with_a_pool(alloc: Global) -> Result<ClusterMap, Fail> {
+    let mut map = ClusterMap::new(alloc, 3)?;
+    let _ = map.apply(command(alloc, "create", ["data", "", ""], [2, 3, 2])?)?;
+    Ok(map)
+}
+
+// Whether a copy goes on from the map once daemon 2 went down in it, and whether the map goes on from the copy.
+fn go_on(map: &ClusterMap) -> Result<(bool, bool), Fail> {
+    let mut later = map.copy()?;
+    let _ = later.apply(MapCommand::OsdDown(2))?;
+    Ok((later.goes_on_from(map), map.goes_on_from(&later)))
+}
+
+// Whether daemon 2 is up in a copy in which it went down, and how many pools the copy has.
+fn copy_without_daemon_2(map: &ClusterMap) -> Result<(bool, usize), Fail> {
+    let mut other = map.copy()?;
+    let _ = other.apply(MapCommand::OsdDown(2))?;
+    Ok((other.up().has(2), other.pools().len()))
+}
+
 #[test]
 fn a_map_goes_on_from_its_copy(rt: HostRuntime) -> Result<(), Fail> {
+    let map = with_a_pool(rt.alloc())?;
+    assert_eq!(rt; go_on(&map)?, (true, false));
+    assert_eq!(rt; copy_without_daemon_2(&map)?, (false, 1));
+    assert!(rt; map.up().has(2));
+    Ok(())
+}
+
+#[test]
+fn a_map_of_other_daemons_does_not_go_on(rt: HostRuntime) -> Result<(), Fail> {
     let alloc = rt.alloc();
-    let mut map = ClusterMap::new(alloc, 3)?;
-    let create = command(alloc, "create", ["data", "", ""], [2, 3, 2])?;
-    let enable = command(alloc, "enable", ["app", "", ""], [0, 0, 0])?;
-    let _ = map.apply(create.copy()?)?;
-    let earlier = map.copy()?;
-    let mut other = map.copy()?;
-    let _ = map.apply(enable)?;
-    let _ = other.apply(MapCommand::OsdDown(2))?;
-    assert!(rt; map.goes_on_from(&earlier) && other.goes_on_from(&earlier));
-    assert!(rt; !earlier.goes_on_from(&map) && !other.goes_on_from(&map));
-    assert!(rt; !map.goes_on_from(&ClusterMap::new(alloc, 4)?));
-    assert_eq!(rt; other.pools().len(), 1);
-    assert!(rt; !other.up().has(2) && earlier.up().has(2));
+    let three = ClusterMap::new(alloc, 3)?;
+    let four = ClusterMap::new(alloc, 4)?;
+    assert!(rt; three.goes_on_from(&three));
+    assert!(rt; !three.goes_on_from(&four) && !four.goes_on_from(&three));
     Ok(())
 }
