@@ -6,6 +6,7 @@ use crate::command::{refuse_words, run_command};
 use crate::verdict::{Times, verdict_text};
 use crate::words::words;
 use cap_text::Tags;
+use object_core::Op;
 use std::alloc::Global;
 use std::env::{Env, FillError};
 use std::io;
@@ -240,6 +241,7 @@ fn words_that_are_no_text(rt: HostRuntime) -> Result<(), Fail> {
 fn the_text_of_a_verdict(rt: HostRuntime) -> Result<(), Fail> {
     let alloc = rt.alloc();
     let tags = Tags::from_vec(Vec::new(alloc));
+    let calls: Vec<Op> = Vec::new(alloc);
     let target = Target {
         pool: "data",
         tags: &tags,
@@ -252,7 +254,7 @@ fn the_text_of_a_verdict(rt: HostRuntime) -> Result<(), Fail> {
             tick,
         };
         let caps = "allow r pool=data";
-        let printed = verdict_text(alloc, caps, &target, true, false, [].as_slice(), times)?;
+        let printed = verdict_text(alloc, caps, &target, true, false, calls.as_slice(), times)?;
         assert_eq!(rt; printed.as_str(), text);
     }
     Ok(())
