@@ -47,6 +47,10 @@ is_wider Different = true
 abbrev pub example_lines : List Example → List Example → List ℕ
 example_lines gained lost = flat_map (example_line (codes "+ ")) gained ++ flat_map (example_line (codes "- ")) lost
 
+-- the same, indented
+abbrev pub indented_lines : List Example → List Example → List ℕ
+indented_lines gained lost = flat_map (example_line (codes "  + ")) gained ++ flat_map (example_line (codes "  - ")) lost
+
 abbrev pub relation_of : Bool → Bool → Relation
 relation_of false false = Same
 relation_of false true = Narrower

@@ -4,3 +4,4 @@ pub mod Explain
 pub mod Caret
 pub mod Request
 pub mod Compared
+pub mod Who

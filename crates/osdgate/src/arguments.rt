@@ -20,6 +20,15 @@ const EXPLAIN_EXAMPLE: &str = "Example: osdgate explain --caps 'profile rbd pool
 
 const COMPARE_EXAMPLE: &str = "Example: osdgate compare --old 'allow r' --new 'allow rw'";
 
+const WHO_EXAMPLE: &str =
+    "Example: ceph auth ls --format json | osdgate who --auth - --pool data --object x --read";
+
+const AUTH_HELP: &str =
+    "What `ceph auth ls --format json` or `ceph auth get NAME --format json` prints, `-` for standard input";
+
+const AUTHS_HELP: &str =
+    "The present file of entities, and again the one that is to take its place";
+
 /// An option whose value is taken as it is, also where it begins with a dash.
 fn text_option<'a>(alloc: Global, name: &'a str, value: &'a str, help: &'a str) -> Arg<'a> {
     Arg::new(alloc, name)
@@ -60,6 +69,32 @@ fn verdict_command<'a>(alloc: Global) -> Result<Command<'a>, AllocError> {
         .arg(calls)
 }
 
+/// The arguments of a request: an object's place, its reads and writes, and its calls.
+fn with_request<'a>(alloc: Global, command: Command<'a>) -> Result<Command<'a>, AllocError> {
+    let calls = Arg::new(alloc, "calls")
+        .action(ArgAction::Append)
+        .value_name("CLASS.METHOD")
+        .help("A class method that the request calls");
+    command
+        .arg(text_option(alloc, "pool", "POOL", "The pool").required(true))?
+        .arg(text_option(alloc, "object", "OBJECT", "The object's name").required(true))?
+        .arg(text_option(alloc, "namespace", "NAMESPACE", NAMESPACE_HELP))?
+        .arg(text_option(alloc, "tag", "APP[:KEY=VALUE]", TAG_HELP))?
+        .arg(flag(alloc, "read", "The request reads"))?
+        .arg(flag(alloc, "write", "The request writes"))?
+        .arg(calls)
+}
+
+fn who_command<'a>(alloc: Global) -> Result<Command<'a>, AllocError> {
+    let auth = text_option(alloc, "auth", "FILE", AUTH_HELP).required(true);
+    let all = flag(alloc, "all", "Prints each entity with its answer");
+    let command = Command::new(alloc, "who")
+        .about("Tells which entities of a file may do what a request asks for")
+        .after_help(WHO_EXAMPLE)
+        .arg(auth)?;
+    with_request(alloc, command)?.arg(all)
+}
+
 fn explain_command<'a>(alloc: Global) -> Result<Command<'a>, AllocError> {
     Command::new(alloc, "explain")
         .about("Prints the canonical form of a capability text, and the grants that it comes to")
@@ -68,10 +103,16 @@ fn explain_command<'a>(alloc: Global) -> Result<Command<'a>, AllocError> {
 }
 
 fn compare_command<'a>(alloc: Global) -> Result<Command<'a>, AllocError> {
-    let old = text_option(alloc, "old", "TEXT", "The present capability text").required(true);
-    let new = text_option(alloc, "new", "TEXT", "The text that is to take its place").required(
-        true,
-    );
+    let old = text_option(alloc, "old", "TEXT", "The present capability text")
+        .required_unless_present("auth")?
+        .requires_arg("new")?;
+    let new = text_option(alloc, "new", "TEXT", "The text that is to take its place").requires_arg(
+        "old",
+    )?;
+    let auth = text_option(alloc, "auth", "FILE", AUTHS_HELP)
+        .action(ArgAction::Append)
+        .conflicts_with("old")?
+        .conflicts_with("new")?;
     let check = flag(
         alloc,
         "check",
@@ -84,6 +125,7 @@ fn compare_command<'a>(alloc: Global) -> Result<Command<'a>, AllocError> {
         .after_help(COMPARE_EXAMPLE)
         .arg(old)?
         .arg(new)?
+        .arg(auth)?
         .arg(check)
 }
 
@@ -97,5 +139,6 @@ pub(crate) fn whole_command<'a>(alloc: Global) -> Result<Command<'a>, AllocError
         .disable_help_subcommand(true)
         .subcommand(verdict_command(alloc)?)?
         .subcommand(explain_command(alloc)?)?
-        .subcommand(compare_command(alloc)?)
+        .subcommand(compare_command(alloc)?)?
+        .subcommand(who_command(alloc)?)
 }

@@ -1,6 +1,6 @@
 //! Where the fault of a capability text stands.
 
-ghost use Rattle.std.specs.Prelude.{◌≡◌, ◌++◌, IfOk, OnOk, replicate, take, ◌<◌};
+ghost use Rattle.std.specs.Prelude.{◌≡◌, ◌++◌, ◌&&◌, [], ◌∷◌, IfOk, IsTrue, OnOk, codes, nat_le, replicate, string_bytes, take, ◌<◌, ◌/◌, ◌%◌};
 ghost use Rattle.osdgate.specs.Caret.{hex_digit, pointed_text, shown, shown_byte};
 
 use cap_text::{CapFault, FaultKind, OutOfMemory, parse};
@@ -10,7 +10,8 @@ use std::io::Write;
 /// The hexadecimal digit of a number below 16.
 fn hex_digit(number: u8) -> u8
     requires { number < 16 }
-    ensures { result ≡ hex_digit number }
+    ensures digit { result ≡ hex_digit number }
+    ensures ascii { result < 128 }
 {
     if number < 10 {
         48 + number
@@ -19,11 +20,19 @@ fn hex_digit(number: u8) -> u8
     }
 }
 
+/// Whether a byte is shown as it is.
+fn is_plain(byte: u8) -> bool
+    ensures plain { result ≡ (nat_le 32 byte && nat_le byte 126) }
+    ensures ascii { IsTrue result → byte < 128 }
+{
+    32 <= byte && byte <= 126
+}
+
 /// Adds a byte as it is shown: 32 to 126 as they are, any other as `\x` and two hexadecimal digits.
 fn push_shown_byte(line: &mut Vec<u8>, byte: u8) -> Result<(), OutOfMemory>
     ensures { OnOk result (line.new.items ≡ line.old.items ++ shown_byte byte) }
 {
-    if 32 <= byte && byte <= 126 {
+    if is_plain(byte) {
         return line.extend_from_slice([byte].as_slice());
     }
     let digits = [b'\\', b'x', hex_digit(byte / 16), hex_digit(byte % 16)];
@@ -38,6 +47,50 @@ fn push_shown(line: &mut Vec<u8>, bytes: &[u8]) -> Result<(), OutOfMemory>
         push_shown_byte(line, *byte)?;
     }
     Ok(())
+}
+
+/// Adds a byte of ASCII.
+fn push_ascii(text: &mut String, byte: u8) -> Result<(), OutOfMemory>
+    requires { byte < 128 }
+    ensures { OnOk result (string_bytes text.new ≡ string_bytes text.old ++ byte ∷ []) }
+{
+    text.push(char::from(byte))
+}
+
+/// Adds `\x` and the two hexadecimal digits of a byte.
+fn push_escaped(text: &mut String, byte: u8) -> Result<(), OutOfMemory>
+    ensures { OnOk result (string_bytes text.new ≡ string_bytes text.old ++ (codes "\\x" ++ (hex_digit (byte / 16) ∷ hex_digit (byte % 16) ∷ []))) }
+{
+    text.push_str("\\x")?;
+    push_ascii(text, hex_digit(byte / 16))?;
+    push_ascii(text, hex_digit(byte % 16))
+}
+
+/// Adds a byte to a text as it is shown.
+fn push_shown_char(text: &mut String, byte: u8) -> Result<(), OutOfMemory>
+    ensures { OnOk result (string_bytes text.new ≡ string_bytes text.old ++ shown_byte byte) }
+{
+    if is_plain(byte) {
+        push_ascii(text, byte)
+    } else {
+        push_escaped(text, byte)
+    }
+}
+
+fn push_shown_bytes(text: &mut String, bytes: &[u8]) -> Result<(), OutOfMemory>
+    ensures { OnOk result (string_bytes text.new ≡ string_bytes text.old ++ shown bytes.now) }
+{
+    for byte in bytes {
+        push_shown_char(text, *byte)?;
+    }
+    Ok(())
+}
+
+/// Adds a text to another as it is shown.
+pub(crate) fn push_shown_text(text: &mut String, more: &str) -> Result<(), OutOfMemory>
+    ensures { OnOk result (string_bytes text.new ≡ string_bytes text.old ++ shown more.now) }
+{
+    push_shown_bytes(text, more.as_bytes())
 }
 
 /// Adds so many blanks.

@@ -3,11 +3,14 @@
 ghost use Rattle.std.specs.Prelude.{◌≤◌};
 
 use crate::arguments::whole_command;
+use crate::auth_file::{AuthFault, AuthFiles, Entity, entities_of};
 use crate::caret::point_at_fault;
 use crate::compare::compare_text;
+use crate::compare_auth::compare_entities;
 use crate::explain::explain_text;
 use crate::printed::Printed;
 use crate::verdict::{Answer, Times, answer, text_of};
+use crate::who::who_text;
 use crate::words::WordsFault;
 use cap_text::{AppTags, Name, OutOfMemory, Pairs, Tags};
 use clap::error::ErrorKind;
@@ -34,6 +37,8 @@ enum BadWords {
     Tag,
     /// A time is no decimal number below 2 to the power of 64.
     Time,
+    /// A comparison of files has not two of them, or both are standard input.
+    Files,
     /// There is no such command.
     Command,
 }
@@ -43,9 +48,20 @@ impl BadWords {
         match self {
             BadWords::Tag => "osdgate: a tag with a `:` needs a `=` behind it\n",
             BadWords::Time => "osdgate: a time is a decimal number below 2^64, without a sign\n",
+            BadWords::Files => {
+                "osdgate: a comparison of files needs `--auth` twice, and standard input once at most\n"
+            }
             BadWords::Command => "osdgate: there is no such command\n",
         }
     }
+}
+
+/// Why a file has no entities.
+#[derive(Drop)]
+struct FileFault {
+    /// What the file is called.
+    file: &'static str,
+    fault: AuthFault,
 }
 
 /// Why words have no answer.
@@ -55,6 +71,8 @@ enum NoAnswer {
     Clap(Error),
     /// Clap takes them, and yet they are no command line.
     Words(BadWords),
+    /// A file has no entities.
+    File(FileFault),
     /// A growth was refused.
     OutOfMemory,
 }
@@ -152,15 +170,20 @@ fn calls_of(alloc: Global, matches: &ArgMatches<'_>) -> Result<Vec<Op>, OutOfMem
     Ok(calls)
 }
 
+/// The tags of the option, none where it is not given.
+fn tags_asked(alloc: Global, matches: &ArgMatches<'_>) -> Result<Tags, NoAnswer> {
+    match matches.get_str("tag") {
+        None => Ok(Tags::from_vec(Vec::new(alloc))),
+        Some(text) => match tags_of(alloc, text)? {
+            None => Err(NoAnswer::Words(BadWords::Tag)),
+            Some(tags) => Ok(tags),
+        },
+    }
+}
+
 /// The answer of `osdgate verdict`.
 fn answer_verdict(alloc: Global, matches: &ArgMatches<'_>) -> Result<Answer, NoAnswer> {
-    let tags = match matches.get_str("tag") {
-        None => Tags::from_vec(Vec::new(alloc)),
-        Some(text) => match tags_of(alloc, text)? {
-            None => return Err(NoAnswer::Words(BadWords::Tag)),
-            Some(tags) => tags,
-        },
-    };
+    let tags = tags_asked(alloc, matches)?;
     let Some(times) = times_of(matches) else {
         return Err(NoAnswer::Words(BadWords::Time));
     };
@@ -186,15 +209,108 @@ fn printed_verdict(alloc: Global, matches: &ArgMatches<'_>) -> Result<Printed, N
     })
 }
 
+/// The entities of a file, or of standard input where the path is `-`.
+fn read_entities<F: AuthFiles, R: Read>(
+    alloc: Global,
+    files: &F,
+    reader: &mut R,
+    path: &str,
+) -> Result<Vec<Entity>, AuthFault> {
+    if path == "-" {
+        let mut text = String::new(alloc);
+        reader.read_to_string(&mut text)?;
+        return entities_of(alloc, text.as_str());
+    }
+    let text = files.read(path)?;
+    entities_of(alloc, text.as_str())
+}
+
+/// The entities of the file that is called so.
+fn entities_in<F: AuthFiles, R: Read>(
+    alloc: Global,
+    files: &F,
+    reader: &mut R,
+    path: &str,
+    file: &'static str,
+) -> Result<Vec<Entity>, NoAnswer> {
+    match read_entities(alloc, files, reader, path) {
+        Ok(entities) => Ok(entities),
+        Err(AuthFault::OutOfMemory) => Err(NoAnswer::OutOfMemory),
+        Err(fault) => Err(NoAnswer::File(FileFault { file, fault })),
+    }
+}
+
+/// What `osdgate who` prints.
+fn printed_who<F: AuthFiles, R: Read>(
+    alloc: Global,
+    files: &F,
+    reader: &mut R,
+    matches: &ArgMatches<'_>,
+) -> Result<Printed, NoAnswer> {
+    let tags = tags_asked(alloc, matches)?;
+    let target = Target {
+        pool: value_of(matches, "pool"),
+        tags: &tags,
+        namespace: value_of(matches, "namespace"),
+        object: value_of(matches, "object"),
+    };
+    let calls = calls_of(alloc, matches)?;
+    let path = value_of(matches, "auth");
+    let entities = entities_in(alloc, files, reader, path, "the file")?;
+    let reads = matches.get_flag("read");
+    let writes = matches.get_flag("write");
+    let all = matches.get_flag("all");
+    Ok(who_text(
+        alloc,
+        entities.as_slice(),
+        &target,
+        reads,
+        writes,
+        calls.as_slice(),
+        all,
+    )?)
+}
+
+/// What `osdgate compare` prints of two files.
+fn printed_files<F: AuthFiles, R: Read>(
+    alloc: Global,
+    files: &F,
+    reader: &mut R,
+    paths: &[&str],
+    check: bool,
+) -> Result<Printed, NoAnswer> {
+    let (old, new) = match paths {
+        [old, new] if *old != "-" || *new != "-" => (*old, *new),
+        _ => return Err(NoAnswer::Words(BadWords::Files)),
+    };
+    let old = entities_in(alloc, files, reader, old, "the old file")?;
+    let new = entities_in(alloc, files, reader, new, "the new file")?;
+    Ok(compare_entities(alloc, old.as_slice(), new.as_slice(), check)?)
+}
+
 /// What `osdgate compare` prints.
-fn printed_comparison(alloc: Global, matches: &ArgMatches<'_>) -> Result<Printed, OutOfMemory> {
+fn printed_comparison<F: AuthFiles, R: Read>(
+    alloc: Global,
+    files: &F,
+    reader: &mut R,
+    matches: &ArgMatches<'_>,
+) -> Result<Printed, NoAnswer> {
+    let check = matches.get_flag("check");
+    if let Some(paths) = matches.get_strs("auth") {
+        return printed_files(alloc, files, reader, paths, check);
+    }
     let old = value_of(matches, "old");
     let new = value_of(matches, "new");
-    compare_text(alloc, old, new, matches.get_flag("check"))
+    Ok(compare_text(alloc, old, new, check)?)
 }
 
 /// What the words ask for.
-fn answer_words<'a, S: AsStr>(alloc: Global, words: &'a [S]) -> Result<Answered<'a>, NoAnswer> {
+fn answer_words<'a, S: AsStr, F: AuthFiles, R: Read>(
+    alloc: Global,
+    words: &'a [S],
+    files: &F,
+    reader: &mut R,
+) -> Result<Answered<'a>, NoAnswer> {
     let matches = whole_command(alloc)?.try_get_matches_from(words)?;
     match matches.subcommand() {
         Some(("verdict", inner)) => Ok(Answered {
@@ -209,7 +325,11 @@ fn answer_words<'a, S: AsStr>(alloc: Global, words: &'a [S]) -> Result<Answered<
             })
         }
         Some(("compare", inner)) => Ok(Answered {
-            printed: printed_comparison(alloc, inner)?,
+            printed: printed_comparison(alloc, files, reader, inner)?,
+            caps: "",
+        }),
+        Some(("who", inner)) => Ok(Answered {
+            printed: printed_who(alloc, files, reader, inner)?,
             caps: "",
         }),
         _ => Err(NoAnswer::Words(BadWords::Command)),
@@ -285,25 +405,30 @@ pub(crate) fn refuse_words<O: Write, E: Write>(fault: WordsFault, out: &mut O, e
 }
 
 /// Runs the program on the words of its command line, the first of which is the program's own name, and
-/// answers its exit status: 0 where it is done, 1 where a fault was answered or the answer could not be
-/// written, 2 where the words are no command line.
+/// answers its exit status: 0 where it is done, 1 where a fault was answered, a file has no entities, or the answer
+/// could not be written, 2 where the words are no command line.
 ///
 /// Answers, and the help that was asked for, go to `out`, and what is wrong with a command line to `err`. Where a
 /// capability text has a fault, the text and a caret under the fault's byte go to `err` as well.
-pub fn run_command<S: AsStr, R: Read, O: Write, E: Write>(
+pub(crate) fn run_command<S: AsStr, F: AuthFiles, R: Read, O: Write, E: Write>(
     alloc: Global,
     words: &[S],
-    _reader: &mut R,
+    files: &F,
+    reader: &mut R,
     out: &mut O,
     err: &mut E,
 ) -> u8
     ensures { result ≤ 2 }
 {
-    match answer_words(alloc, words) {
+    match answer_words(alloc, words, files, reader) {
         Ok(answered) => finish_answer(alloc, &answered, out, err),
         Err(NoAnswer::Words(bad)) => {
             let _ = write_out(err, bad.text());
             BAD_COMMAND_LINE
+        }
+        Err(NoAnswer::File(fault)) => {
+            let _ = write!(err, "osdgate: {} {}\n", fault.file, fault.fault);
+            FAULT
         }
         Err(NoAnswer::OutOfMemory) => finish(WANT_OF_MEMORY, FAULT, out, err),
         Err(NoAnswer::Clap(error)) => finish_error(&error, out, err),

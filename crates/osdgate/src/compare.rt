@@ -121,6 +121,14 @@ impl Change {
         push_examples(text, "+ ", &self.gained)?;
         push_examples(text, "- ", &self.lost)
     }
+
+    /// Adds a line for each example, indented by two blanks.
+    pub(crate) fn push_indented(&self, text: &mut String) -> Result<(), OutOfMemory>
+        ensures { OnOk result (string_bytes text.new ≡ string_bytes text.old ++ spec.indented_lines self.now.gained.items self.now.lost.items) }
+    {
+        push_examples(text, "  + ", &self.gained)?;
+        push_examples(text, "  - ", &self.lost)
+    }
 }
 
 fn push_examples(text: &mut String, sign: &str, examples: &[Example]) -> Result<(), OutOfMemory>
@@ -181,7 +189,7 @@ fn refused(alloc: Global, side: &str, fault: TextFault) -> Result<Printed, OutOf
     })
 }
 
-fn fails_check(check: bool, relation: Relation) -> bool
+pub(crate) fn fails_check(check: bool, relation: Relation) -> bool
     ensures { result ≡ (check && spec.is_wider relation) }
 {
     check && relation.is_wider()

@@ -4,6 +4,7 @@ mod explaining;
 
 use crate::command::{refuse_words, run_command};
 use crate::verdict::{Times, verdict_text};
+use crate::who_tests::TestFiles;
 use crate::words::words;
 use cap_text::Tags;
 use object_core::Op;
@@ -17,7 +18,8 @@ use verdict_core::Target;
 pub(crate) fn run(alloc: Global, words: &[&str]) -> Result<(String, u8), Fail> {
     let mut out: Vec<u8> = Vec::new(alloc);
     let mut err: Vec<u8> = Vec::new(alloc);
-    let status = run_command(alloc, words, &mut io::empty(), &mut out, &mut err);
+    let files = TestFiles { alloc };
+    let status = run_command(alloc, words, &files, &mut io::empty(), &mut out, &mut err);
     let text = String::from_utf8(out).map_err(|_| "printed bytes that are no text")?;
     Ok((text, status))
 }

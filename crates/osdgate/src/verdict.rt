@@ -89,7 +89,7 @@ fn judged(
 }
 
 /// What a request with these calls asks for. Without calls it asks for nothing.
-fn needs_of_calls(alloc: Global, calls: &[Op]) -> Result<Needs, NeedsFault>
+pub(crate) fn needs_of_calls(alloc: Global, calls: &[Op]) -> Result<Needs, NeedsFault>
     ensures refused { vectors.RefusedFirst (calls_fault calls.now) result }
     ensures needs { IfOk result (λ needs. needs ≡ needs_of calls.now) }
 {

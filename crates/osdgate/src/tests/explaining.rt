@@ -1,6 +1,7 @@
 //! Texts that are explained, and faults that are pointed at.
 
 use crate::command::run_command;
+use crate::who_tests::TestFiles;
 use std::alloc::Global;
 use std::io;
 use std::test::Fail;
@@ -9,7 +10,8 @@ use std::test::Fail;
 fn streams(alloc: Global, words: &[&str]) -> Result<(String, String, u8), Fail> {
     let mut out: Vec<u8> = Vec::new(alloc);
     let mut err: Vec<u8> = Vec::new(alloc);
-    let status = run_command(alloc, words, &mut io::empty(), &mut out, &mut err);
+    let files = TestFiles { alloc };
+    let status = run_command(alloc, words, &files, &mut io::empty(), &mut out, &mut err);
     let out = String::from_utf8(out).map_err(|_| "printed bytes that are no text")?;
     let err = String::from_utf8(err).map_err(|_| "printed bytes that are no text")?;
     Ok((out, err, status))
