@@ -14,6 +14,3 @@ mod users;
 pub use caps::Caps;
 pub use db::{AuthDb, Creation, goes_by_step};
 pub use fault::AuthFault;
-
-#[cfg(test)]
-mod tests;

@@ -31,6 +31,3 @@ pub use spellable::{spellable_is_spelled, spelled_is_spellable};
 pub use spelling::is_spellable;
 pub use tags::{AppTags, Pairs, Tags};
 pub use token::{Piece, Token};
-
-#[cfg(test)]
-mod tests;

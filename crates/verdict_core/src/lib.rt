@@ -18,6 +18,3 @@ pub use judging::{grants_allow, judge};
 pub use reporting::report;
 pub use request::{Calls, ClassCall, Condition, Needs, Target};
 pub use ticket::{Report, Ticket};
-
-#[cfg(test)]
-mod tests;

@@ -4,9 +4,9 @@ ghost use Rattle.std.specs.Prelude.{◌≤◌};
 
 use super::requests::{May, Work, request};
 use super::sets::{self, Who, set};
-use crate::{Group, GroupFault};
 use cap_text::Name;
 use entry_core::{GroupId, Id, OutOfMemory, Reply, Sealed};
+use group_core::{Group, GroupFault};
 use object_core::NeedsFault;
 use std::alloc::Global;
 use verdict_core::Condition;

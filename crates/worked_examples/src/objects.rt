@@ -1,7 +1,9 @@
 //! Vectors of operations at worked examples.
 
-use super::*;
 use cap_text::{Name, OutOfMemory};
+use object_core::{
+    Attributes, Bytes, Change, NeedsFault, Object, Op, Outcome, Outputs, needs_of, run_vector,
+};
 use std::alloc::Global;
 use std::process::Abort;
 use std::str;
@@ -284,10 +286,11 @@ fn made(alloc: Global, text: &str) -> Result<Option<Object>, OutOfMemory> {
 
 /// Bytes as text: `_` for a zero byte, and the number alone of more than 40.
 fn show(text: &mut String, bytes: &Bytes) -> Result<(), OutOfMemory> {
+    let bytes = bytes.as_slice();
     if bytes.len() > 40 {
         return write!(text, "#{}", bytes.len());
     }
-    for byte in bytes.as_slice() {
+    for byte in bytes {
         text.push(if *byte == 0 { '_' } else { *byte as char })?;
     }
     Ok(())

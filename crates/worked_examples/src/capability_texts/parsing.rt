@@ -1,9 +1,9 @@
 //! Texts with the lists that they spell, and with their first faults.
 
-use crate::fault::{CapFault, FaultKind, OutOfMemory};
-use crate::grant::{Access, AllowGrant, Flags, Grant, NsMatch, Part, ProfileUse, Tag};
-use crate::name::Name;
-use crate::parser::{parse, spells_at_most_one};
+use cap_text::{
+    Access, AllowGrant, CapFault, FaultKind, Flags, Grant, Name, NsMatch, OutOfMemory, Part,
+    ProfileUse, Tag, parse, spells_at_most_one,
+};
 use std::alloc::Global;
 use std::test::Fail;
 

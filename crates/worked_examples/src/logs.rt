@@ -2,8 +2,10 @@
 
 ghost use Rattle.std.specs.Prelude.{◌≤◌, IfOk};
 
-use crate::{BoxedLog, Entry, Id, Items, Log, OutOfMemory, Reply, Sealed, TryCopy, reply_number};
 use cap_text::{Name, Tags, parse};
+use entry_core::{
+    BoxedLog, Entry, Id, Items, Log, OutOfMemory, Reply, Sealed, TryCopy, reply_number,
+};
 use grant_core::{ProfileTable, expand};
 use map_core::PoolView;
 use object_core::{Bytes, NeedsFault, Op};

@@ -1,7 +1,7 @@
-use super::*;
 use cap_text::{Name, Tags};
 use entry_core::{BoxedLog, Id, Items, OutOfMemory, Sealed, TryCopy};
 use map_core::PoolView;
+use peer_core::{Body, Daemon, IntervalSets, Message, Party, Role, Sent};
 use place_core::ActingSet;
 use std::alloc::Global;
 use std::process::Abort;

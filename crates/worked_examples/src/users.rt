@@ -1,6 +1,6 @@
 //! Worked examples.
 
-use crate::{AuthDb, AuthFault, Caps, Creation};
+use auth_db::{AuthDb, AuthFault, Caps, Creation};
 use cap_text::{CapFault, FaultKind, Name};
 use grant_core::{ExpandFault, ProfileTable};
 use std::alloc::Global;

@@ -2,8 +2,8 @@
 
 use super::sets::{self, Who};
 use super::steps::begun;
-use crate::{GroupFault, GroupMove};
 use entry_core::OutOfMemory;
+use group_core::{GroupFault, GroupMove};
 use std::alloc::Global;
 use std::test::Fail;
 

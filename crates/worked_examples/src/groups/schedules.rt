@@ -4,10 +4,10 @@
 use super::requests::{May, Work, request};
 use super::sets::{self, Who, set};
 use super::steps::{begun, gives, has_decided};
-use crate::{Group, GroupFault};
 use Event::{Deliver, Lose, LoseAll, Move, Settle, Submit};
 use Party::{Client, Osd};
 use entry_core::{Id, OutOfMemory, Reply, TryCopy};
+use group_core::{Group, GroupFault};
 use object_core::NeedsFault;
 use peer_core::{Body, Party};
 use std::alloc::Global;

@@ -7,8 +7,8 @@ use super::steps::Step::{
     Settle, SettleAll, Stuck, TakeBack, Wire,
 };
 use super::steps::{Step, begun, run, run_from};
-use crate::{Group, GroupFault};
 use entry_core::TryCopy;
+use group_core::{Group, GroupFault};
 use object_core::NeedsFault;
 use std::alloc::Global;
 use std::test::Fail;

@@ -1,7 +1,7 @@
 //! Worked examples.
 
-use crate::{ExpandFault, GrantTree, Path, ProfileTable, expand};
 use cap_text::{Access, AllowGrant, CapList, NsMatch, parse};
+use grant_core::{ExpandFault, GrantTree, Path, ProfileTable, expand};
 use std::alloc::Global;
 use std::fmt::Write;
 use std::test::Fail;

@@ -1,5 +1,5 @@
-use super::*;
 use cap_text::Name;
+use map_core::{ClusterMap, Epoch, MapCommand, MapFault, OutOfMemory};
 use place_core::ActingSet;
 use std::alloc::Global;
 use std::process::Abort;

@@ -1,8 +1,8 @@
 //! Random pairs of texts, compared with all requests over small alphabets.
 
-use crate::comparing::widening;
-use crate::tests::ticket;
+use crate::comparisons::ticket;
 use cap_text::{AllowGrant, AppTags, Name, Pairs, Tags};
+use compare_core::widening;
 use grant_core::Path;
 use object_core::registry;
 use std::alloc::Global;

@@ -1,13 +1,11 @@
-use crate::indexed::IndexedTicket;
-use crate::judging::judge;
-use crate::reporting::report;
-use crate::request::{Calls, ClassCall, Condition, Needs, Target};
-use crate::ticket::Ticket;
 use cap_text::{AppTags, Name, OutOfMemory, Pairs, Tags, parse};
 use grant_core::{ProfileTable, expand};
 use std::alloc::Global;
 use std::fmt::Write;
 use std::test::Fail;
+use verdict_core::{
+    Calls, ClassCall, Condition, IndexedTicket, Needs, Target, Ticket, judge, report,
+};
 
 /// The ticket of a capability text.
 fn ticket(alloc: Global, text: &str, until: Option<u64>) -> Result<Ticket, Fail> {

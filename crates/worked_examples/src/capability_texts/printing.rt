@@ -3,12 +3,10 @@
 ghost use Rattle.std.specs.Prelude.{◌≡◌, ◌&&◌, true, Some, None};
 ghost use Rattle.cap_text.specs.Spellable.{is_spellable, is_access, is_value, is_namespace, is_part};
 
-use crate::caps::CapList;
-use crate::fault::OutOfMemory;
-use crate::grant::{Access, AllowGrant, Flags, Grant, NsMatch, Part, ProfileUse, Tag};
-use crate::name::Name;
-use crate::printing::print;
-use crate::spellable::{spellable_is_spelled, spelled_is_spellable};
+use cap_text::{
+    Access, AllowGrant, CapList, Flags, Grant, Name, NsMatch, OutOfMemory, Part, ProfileUse, Tag,
+    print, spellable_is_spelled, spelled_is_spellable,
+};
 use std::alloc::Global;
 use std::test::Fail;
 
