@@ -109,9 +109,15 @@ fn the_program_says_what_it_is(rt: HostRuntime) -> Result<(), Fail> {
     let alloc = rt.alloc();
     let (out, err, status) = streams(alloc, ["osdgate", "--version"].as_slice())?;
     assert!(rt; out.starts_with("osdgate ") && err.is_empty() && status == 0);
-    for command in ["verdict", "explain"] {
+    for (command, example) in [
+        ("verdict", "Example: osdgate verdict --caps "),
+        ("explain", "Example: osdgate explain --caps "),
+        ("compare", "Example: osdgate compare --old "),
+        ("compare", "Example: osdgate compare --auth "),
+        ("who", "| osdgate who --auth "),
+    ] {
         let (out, _, status) = streams(alloc, ["osdgate", command, "--help"].as_slice())?;
-        assert!(rt; out.contains("Example: osdgate ") && status == 0);
+        assert!(rt; out.contains(example) && status == 0, "{command}");
     }
     let (out, err, status) = streams(alloc, ["osdgate", "explan"].as_slice())?;
     assert!(rt; out.is_empty() && status == 2);
