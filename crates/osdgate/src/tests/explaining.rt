@@ -105,6 +105,23 @@ fn a_refused_verdict_points_too(rt: HostRuntime) -> Result<(), Fail> {
 }
 
 #[test]
+fn a_refused_comparison_points_too(rt: HostRuntime) -> Result<(), Fail> {
+    let refused = "allow rw network 10.0.0.0/8";
+    for (old, new, pointed) in [
+        (refused, "allow r pool=", NETWORK),
+        ("allow r", refused, NETWORK),
+        ("profile osd", refused, ""),
+        ("allow r", "allow rw", ""),
+    ] {
+        let words = ["osdgate", "compare", "--old", old, "--new", new, "--check"];
+        let (_, err, status) = streams(rt.alloc(), words.as_slice())?;
+        assert_eq!(rt; err.as_str(), pointed, "{old} to {new}");
+        assert_eq!(rt; status, 1, "{old} to {new}");
+    }
+    Ok(())
+}
+
+#[test]
 fn the_program_says_what_it_is(rt: HostRuntime) -> Result<(), Fail> {
     let alloc = rt.alloc();
     let (out, err, status) = streams(alloc, ["osdgate", "--version"].as_slice())?;
