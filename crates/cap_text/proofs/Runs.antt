@@ -51,7 +51,8 @@ moves s (Star b) u e = inr (in_is s.done (step s.place (Star b)) u e)
 moves s (Word w) u e = inr (in_is s.done (step s.place (Word w)) u e)
 moves s (Quoted q) u e = inr (in_is s.done (step s.place (Quoted q)) u e)
 
-then_is : {A : Type 0} → (r : Result State FaultKind) (f : State → Result A FaultKind) (x : A) → (r then f) ≡ Ok x → (u : State) × (r ≡ Ok u) × (f u ≡ Ok x)
+-- a run that ends went on from where its front ends
+pub then_is : {A : Type 0} → (r : Result State FaultKind) (f : State → Result A FaultKind) (x : A) → (r then f) ≡ Ok x → (u : State) × (r ≡ Ok u) × (f u ≡ Ok x)
 then_is (Ok u) f x e = (u, refl, e)
 then_is (Err k) f x e = absurd cc
 
