@@ -1,33 +1,31 @@
 -- The first fault of a text is what reading it tells.
 use Prim.Native.Nat.{zero, suc}
-use Rattle.std.proofs.Common.{◌≡◌, ◌≢◌, ◌∙◌, ℕ, ◌<◌, ◌≤◌, ◌+◌, ◌-◌, ◌⊎◌, inl, inr, Bool, true, false, ◌&&◌, ◌==◌, if◌then◌else◌, List, [], ◌∷◌, ◌++◌, Option, Some, None, Result, Ok, Err, refl, sym, ap, subst, arith, cond, append-nil, length, take, drop}
-use Rattle.std.specs.Prelude.{nat_lt}
+use Rattle.std.proofs.Common.{◌≡◌, ◌∙◌, ℕ, ◌<◌, ◌≤◌, ◌+◌, ◌-◌, inl, inr, Bool, true, false, ◌&&◌, ◌==◌, if◌then◌else◌, List, [], ◌∷◌, ◌++◌, Option, Some, None, Result, Ok, Err, refl, sym, ap, subst, arith, cond, append-nil, length, take, drop}
 use Rattle.std.specs.List.{prefix_len}
 use Rattle.std.specs.Cmp.{unsigned_Decides}
-use Rattle.cap_text.specs.Bytes.{is_space, is_word_byte, is_quote, is_quotable, Each, Begins, StopsBefore, SkipsSpaces, is_empty}
-use Rattle.cap_text.specs.Reads.{Stands, SaysBehind, is_word, ReadsOne, Reads, ends_in_word, IsUnreadable}
+use Rattle.cap_text.specs.Bytes.{is_space, is_word_byte, is_quote, is_quotable, SkipsSpaces, is_empty}
+use Rattle.cap_text.specs.Reads.{Stands, SaysBehind, is_word, ReadsOne, ends_in_word, IsUnreadable}
 use Rattle.cap_text.specs.Grammar.{Grants, GrantPhrase}
 use Rattle.cap_text.specs.Machine.{advance, finish, placed}
 use Rattle.cap_text.specs.declared.token.Token.{Token}
 use Rattle.cap_text.specs.declared.token.Token.TheVariants.{Comma, Semicolon, Equals, Star, Word, Quoted}
 use Rattle.cap_text.specs.declared.keyword.Keyword.TheVariants as kw
 use Rattle.cap_text.specs.declared.state.State.{State}
-use Rattle.cap_text.specs.declared.place.Place.TheVariants as places
 use Rattle.cap_text.specs.declared.fault.CapFault.{CapFault}
 use Rattle.cap_text.specs.declared.fault.FaultKind.{FaultKind}
 use Rattle.cap_text.specs.declared.fault.FaultKind.TheVariants.{TooLong, TooManyGrants, UnknownWord, BadAccess, BadMatch, BadWord, NetworkClause, OutOfMemory}
 use Rattle.cap_text.specs.declared.grant.Grant.{Grant}
-use Rattle.cap_text.specs.Faults.{Next, AtEnd, NoToken, AToken, StandsNext, keyword_at, IsClauseWord, IsViable, MayFollow, Blocks, IsBadWord, IsGrantPlace, IsAccessPlace, IsEqualsPlace, IsKind, AreFull, IsThere, IsPastLimit, IsFaultWithin, IsFirstFault}
-use Rattle.cap_text.specs.Reading.{quoted_at, token_at, Read, carried, with_token, read_at, read_from, read_text, TellsTheFirstFault}
-use Rattle.cap_text.proofs.Spans.{span_unique, prefix_len-span, drop-span, span_front, span_back}
+use Rattle.cap_text.specs.Faults.{Next, AtEnd, NoToken, AToken, StandsNext, keyword_at, IsClauseWord, MayFollow, Blocks, IsBadWord, IsGrantPlace, IsAccessPlace, IsEqualsPlace, IsKind, AreFull, IsThere, IsPastLimit, IsFaultWithin}
+use Rattle.cap_text.specs.Reading.{quoted_at, token_at, Read, carried, with_token, read_from, read_text, TellsTheFirstFault}
+use Rattle.cap_text.proofs.Spans.{span_unique, span_front}
 use Rattle.std.proofs.lemmas.Bool.{lt-ltb}
 use Rattle.std.proofs.lemmas.List.{take-append-drop}
 use Rattle.cap_text.proofs.Tokens.{word_stands}
 use Rattle.cap_text.proofs.Reading.{skips_all, one_not_spaces}
 use Rattle.cap_text.proofs.Forth.{run}
-use Rattle.cap_text.proofs.Runs.{whole, all_of, origin, Room, sound, may, not_past, full, too_many}
+use Rattle.cap_text.proofs.Runs.{whole, origin, sound, may, not_past, full, too_many}
 use Rattle.cap_text.proofs.FaultKinds.{kind_of, words_at, words_end, advance_fault, finish_fault}
-use Rattle.cap_text.proofs.ReadTexts.{starts, not_full, at_rest, at_some, at_token, at_end, NotPastBefore, Comes, comes_on, led, reads_from_start}
+use Rattle.cap_text.proofs.ReadTexts.{starts, not_full, at_rest, at_some, at_token, at_end, NotPastBefore, comes_on, led, reads_from_start}
 
 -- ---- one kind
 
@@ -83,7 +81,7 @@ kind_once p n j k J K = kinds_same j k (λ differ.
     differ (J.other word equals clause access ∙ sym (K.other word equals clause access)))
 
 -- want of memory is no place's kind
-pub never_memory : (p : List Token) (n : Next) → IsKind p n OutOfMemory → ⊥
+never_memory : (p : List Token) (n : Next) → IsKind p n OutOfMemory → ⊥
 never_memory p n J =
     let word : IsBadWord p n → ⊥ = λ h. let e : OutOfMemory ≡ BadWord = J.word h in cc in
     let grant : IsGrantPlace p → ⊥ = λ h. let e : OutOfMemory ≡ UnknownWord = J.grant word h in cc in
@@ -94,7 +92,7 @@ never_memory p n J =
     let e : OutOfMemory ≡ UnknownWord = J.other word equals clause access in
     cc
 
-pub placed_is : (k : FaultKind) (at : ℕ) → (k ≡ OutOfMemory → ⊥) → placed k at ≡ record { kind = k; at = at }
+placed_is : (k : FaultKind) (at : ℕ) → (k ≡ OutOfMemory → ⊥) → placed k at ≡ record { kind = k; at = at }
 placed_is TooLong at h = refl
 placed_is TooManyGrants at h = refl
 placed_is UnknownWord at h = refl
@@ -104,12 +102,17 @@ placed_is BadWord at h = refl
 placed_is NetworkClause at h = refl
 placed_is OutOfMemory at h = absurd (h refl)
 
+-- a fault of a place's kind
+pub placed_kind : (p : List Token) (n : Next) (k : FaultKind) (at : ℕ) → IsKind p n k → placed k at ≡ record { kind = k; at = at }
+placed_kind p n k at J =
+    let M : FaultKind → Type 0 = λ x. IsKind p n x in
+    placed_is k at (λ e. never_memory p n (subst M e J))
+
 -- what is told of a kind that the place has, at the fault's place
 told : (p : List Token) (n : Next) (k : FaultKind) (at : ℕ) (fault : CapFault) → IsKind p n k → IsKind p n fault.kind → at ≡ fault.at → placed k at ≡ fault
 told p n k at fault J K place =
     let same : k ≡ fault.kind = kind_once p n k fault.kind J K in
-    let M : FaultKind → Type 0 = λ x. IsKind p n x in
-    placed_is k at (λ e. never_memory p n (subst M e J)) ∙ (λ i. record { kind = same i; at = place i })
+    placed_kind p n k at J ∙ (λ i. record { kind = same i; at = place i })
 
 -- ---- where no token stands
 
@@ -220,15 +223,24 @@ within_first ts n within p t r s split at full_here place = within (p, t ∷ r, 
 
 -- ---- the first fault
 
+-- the kinds that the code tells are those of their places
+pub kind_end : (p : List Token) (u : State) (k : FaultKind) → run origin p ≡ whole u → finish u ≡ Err k → IsKind p AtEnd k
+kind_end p u k is e =
+    let K : FaultKind → Type 0 = λ x. IsKind p AtEnd x in
+    subst K (sym (finish_fault u k e)) (kind_of p AtEnd (words_end p) u.done u.place is)
+
+pub kind_token : (p : List Token) (t : Token) (u : State) (k : FaultKind) → run origin p ≡ whole u → advance u t ≡ Err k → IsKind p (AToken t) k
+kind_token p t u k is e =
+    let K : FaultKind → Type 0 = λ x. IsKind p (AToken t) x in
+    subst K (sym (advance_fault u t k e)) (kind_of p (AToken t) (words_at p t) u.done u.place is)
+
 told_end : (p : List Token) (u : State) (at : ℕ) (fault : CapFault) → run origin p ≡ whole u → ((gs : List Grant) → Grants GrantPhrase p gs → ⊥) → IsKind p AtEnd fault.kind → at ≡ fault.at
     → carried at (finish u) (λ grants. Ok grants) ≡ Err fault
 told_end p u at fault is none kind place = go (finish u) refl
   where
     go : (r : Result (List Grant) FaultKind) → finish u ≡ r → carried at r (λ grants. Ok grants) ≡ Err fault
     go (Ok gs) e = absurd (none gs (sound p u gs is e))
-    go (Err k) e =
-        let K : FaultKind → Type 0 = λ x. IsKind p AtEnd x in
-        ap Err (told p AtEnd k at fault (subst K (sym (finish_fault u k e)) (kind_of p AtEnd (words_end p) u.done u.place is)) kind place)
+    go (Err k) e = ap Err (told p AtEnd k at fault (kind_end p u k is e) kind place)
 
 told_token : (p : List Token) (t : Token) (u : State) (at : ℕ) (fault : CapFault) (next : State → Read) → run origin p ≡ whole u → (MayFollow p t → ⊥) → IsKind p (AToken t) fault.kind → at ≡ fault.at
     → carried at (advance u t) next ≡ Err fault
@@ -236,9 +248,7 @@ told_token p t u at fault next is blocks kind place = go (advance u t) refl
   where
     go : (r : Result State FaultKind) → advance u t ≡ r → carried at r next ≡ Err fault
     go (Ok v) e = absurd (blocks (may p u v t is e))
-    go (Err k) e =
-        let K : FaultKind → Type 0 = λ x. IsKind p (AToken t) x in
-        ap Err (told p (AToken t) k at fault (subst K (sym (advance_fault u t k e)) (kind_of p (AToken t) (words_at p t) u.done u.place is)) kind place)
+    go (Err k) e = ap Err (told p (AToken t) k at fault (kind_token p t u k is e) kind place)
 
 module _ (text : List ℕ) (fault : CapFault) (p : List Token) (next : Next) (mid rest : List ℕ) (skips : SkipsSpaces mid rest) (place : fault.at + length rest ≡ length text) (u : State) (is : run origin p ≡ whole u) where
   at_fault : length text - length rest ≡ fault.at
@@ -274,7 +284,7 @@ within_told text fault short (p, next, rest, (mid, reads, skips, stands), place,
     let few : IsThere next → length to.0.done < 64 = λ there. elim c.room [ inl few ↦ few | inr h ↦ absurd (within (p, [], sym (append-nil p), full p to.0 to.1 h.0 h.1, there)) ] in
     reads_from_start text short ∙ c.goes ∙ blocked_told text fault p next mid rest skips place to.0 to.1 c.fuel c.enough next stands blocks kind few
 
-too_long : (text : List ℕ) → 4096 < length text → read_text text ≡ Err (placed TooLong 0)
+pub too_long : (text : List ℕ) → 4096 < length text → read_text text ≡ Err (placed TooLong 0)
 unfolding read_text
 too_long text long = ap (λ b. if b then Err (placed TooLong 0) else read_from (length text + 1) (length text) origin false text) (lt-ltb 4096 (length text) long)
 

@@ -17,3 +17,4 @@ pub mod PrintedPhrases
 pub mod PrintedGrants
 pub mod ReadTexts
 pub mod FirstFaults
+pub mod ReadAnswers

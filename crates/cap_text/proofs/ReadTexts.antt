@@ -82,7 +82,7 @@ quoted_found behind q inside after mark each = go (is_mark q mark)
     go (inl e) = by_39 e
     go (inr e) = by_34 e
 
-token_found : (behind : Bool) (t : Token) (start after : List ℕ) → Stands t start after → SaysBehind behind t → token_at behind start ≡ Some (t, after)
+pub token_found : (behind : Bool) (t : Token) (start after : List ℕ) → Stands t start after → SaysBehind behind t → token_at behind start ≡ Some (t, after)
 token_found behind Comma start after h says = ap (token_at behind) h
 token_found behind Semicolon start after h says = ap (token_at behind) h
 token_found behind Equals start after h says = ap (token_at behind) h
