@@ -10,7 +10,7 @@ use Rattle.cap_text.specs.Machine.{advance, finish, placed}
 use Rattle.cap_text.specs.declared.token.Token.{Token}
 use Rattle.cap_text.specs.declared.token.Token.TheVariants.{Comma, Semicolon, Equals, Star, Word, Quoted}
 use Rattle.cap_text.specs.declared.keyword.Keyword.TheVariants as kw
-use Rattle.cap_text.specs.declared.state.State.{State}
+use Rattle.cap_text.specs.Place.{State}
 use Rattle.cap_text.specs.declared.fault.CapFault.{CapFault}
 use Rattle.cap_text.specs.declared.fault.FaultKind.{FaultKind}
 use Rattle.cap_text.specs.declared.fault.FaultKind.TheVariants.{TooLong, TooManyGrants, UnknownWord, BadAccess, BadMatch, BadWord, NetworkClause, OutOfMemory}

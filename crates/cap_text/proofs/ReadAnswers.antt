@@ -10,7 +10,7 @@ use Rattle.cap_text.specs.Reads.{is_word, ReadsOne}
 use Rattle.cap_text.specs.Grammar.{Spells}
 use Rattle.cap_text.specs.Machine.{advance, finish, placed}
 use Rattle.cap_text.specs.declared.token.Token.{Token}
-use Rattle.cap_text.specs.declared.state.State.{State}
+use Rattle.cap_text.specs.Place.{State}
 use Rattle.cap_text.specs.declared.fault.FaultKind.{FaultKind}
 use Rattle.cap_text.specs.declared.fault.FaultKind.TheVariants.{TooManyGrants}
 use Rattle.cap_text.specs.declared.grant.Grant.{Grant}
@@ -94,8 +94,8 @@ answers (suc n) text rest behind s p h short within enough =
     subst A (sym (at_rest n (length text) behind rest start s skipped))
     (answer_start text rest behind s p h short start (length text - length start) (behind && is_empty skipped.0) (read_from n (length text)) skipped place (looks behind rest start skipped)
     (λ t after v few one e.
-        let shorter : length after < length rest = one_shorter behind rest t after one in
-        answers n text after (is_word t) v (p ++ t ∷ []) (goes_on text rest behind s p h t after v few one e) short (omega arith) (omega arith)))
+    let shorter : length after < length rest = one_shorter behind rest t after one in
+    answers n text after (is_word t) v (p ++ t ∷ []) (goes_on text rest behind s p h t after v few one e) short (omega arith) (omega arith)))
 
 pub reads_nothing_else : ReadsNothingElse
 reads_nothing_else text = go (nat_lt 4096 (length text)) refl

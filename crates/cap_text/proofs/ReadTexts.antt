@@ -11,7 +11,7 @@ use Rattle.cap_text.specs.Grammar.{Grants, GrantPhrase}
 use Rattle.cap_text.specs.Machine.{advance, finish, placed}
 use Rattle.cap_text.specs.declared.token.Token.{Token}
 use Rattle.cap_text.specs.declared.token.Token.TheVariants.{Comma, Semicolon, Equals, Star, Word, Quoted}
-use Rattle.cap_text.specs.declared.state.State.{State}
+use Rattle.cap_text.specs.Place.{State}
 use Rattle.cap_text.specs.declared.fault.FaultKind.{FaultKind}
 use Rattle.cap_text.specs.declared.fault.FaultKind.TheVariants.{TooLong, TooManyGrants}
 use Rattle.cap_text.specs.declared.grant.Grant.{Grant}
@@ -19,7 +19,7 @@ use Rattle.cap_text.proofs.Spans.{prefix_len-span, take-span, drop-span}
 use Rattle.cap_text.proofs.Reading.{leads, one_shorter}
 use Rattle.cap_text.proofs.Forth.{◌then◌, run, complete}
 use Rattle.cap_text.proofs.Runs.{whole, all_of, origin, Room, advance_room, then_is, run-append, run_on, given_on, too_many}
-use Rattle.cap_text.specs.declared.place.Place.TheVariants as places
+use Rattle.cap_text.specs.Place as places
 use Rattle.cap_text.specs.Reading.{quoted_at, token_at, Read, carried, with_token, read_at, read_from, read_text, ReadsTheGrammar}
 
 -- ---- tokens

@@ -7,9 +7,8 @@ use Rattle.cap_text.specs.declared.token.Token.TheVariants.{Comma, Semicolon, Eq
 use Rattle.cap_text.specs.declared.grant.Grant.{Grant}
 use Rattle.cap_text.specs.declared.fault.FaultKind.{FaultKind}
 use Rattle.cap_text.specs.declared.fault.FaultKind.TheVariants.{UnknownWord}
-use Rattle.cap_text.specs.declared.place.Place.{Place}
-use Rattle.cap_text.specs.declared.place.Place.TheVariants as places
-use Rattle.cap_text.specs.declared.state.State.{State}
+use Rattle.cap_text.specs.Place.{Place, State}
+use Rattle.cap_text.specs.Place as places
 use Rattle.cap_text.specs.Grammar.{BeginsApart, GrantPhrase, Separated, Followed, Grants}
 use Rattle.cap_text.specs.Machine.{step, close, after_grant, in_grant, advance, ended, finish_at, finish}
 use Rattle.std.proofs.Common.{suc, ◌<◌, ◌≤◌, length, arith}
