@@ -1,6 +1,7 @@
 -- What private calls say: the first line, and the word that a line begins with.
 use Rattle.std.specs.Prelude.{◌≡◌, ℕ, ◌<◌, ◌≤◌, List, [], ◌∷◌, Bool, true, not, ◌||◌, ◌==◌, if◌then◌else◌, Option, None, Some, length}
 use Rattle.std.specs.Option.{option_map}
+use Rattle.std.specs.Str.{IsAscii}
 use Rattle.script_text.specs.Words.{is_quote, words_from, Between}
 use Rattle.script_text.specs.declared.words.FirstWord.{FirstWord}
 use Rattle.script_text.specs.declared.words.FirstWord.TheVariants as first
@@ -25,6 +26,11 @@ is_bare b = not (b == 32 || is_quote b)
 abbrev pub is_inside : ℕ → ℕ → Bool
 is_inside quote b = not (b == quote)
 
+-- nothing follows, or a space does
+abbrev pub ends_word : List ℕ → Bool
+ends_word [] = true
+ends_word (b ∷ bs) = b == 32
+
 -- the words of a text, by what it begins with
 abbrev pub words_by : FirstWord → Option (List (List ℕ))
 words_by first.Bad = None
@@ -37,8 +43,8 @@ GoesOn rest first.Bad = Unit {0}
 GoesOn rest first.End = Unit {0}
 GoesOn rest (first.Word word behind) = behind.now ≡ rest
 
--- what is behind the word is a part of the text
+-- what is behind the word is shorter than the text, and ASCII
 abbrev pub IsShorter : List ℕ → FirstWord → Type 0
 IsShorter text first.Bad = Unit {0}
 IsShorter text first.End = Unit {0}
-IsShorter text (first.Word word behind) = length behind.now < length text
+IsShorter text (first.Word word behind) = IsAscii behind.now × (length behind.now < length text)

@@ -64,9 +64,14 @@ fn cut_line(text: &[u8]) -> (&[u8], &[u8])
 fn trimmed(line: &[u8]) -> &[u8]
     ensures { result.now ≡ spec.trimmed line.now }
 {
-    match line.last() {
-        Some(b'\r') => &line[..line.len() - 1],
-        _ => line,
+    if line.is_empty() {
+        return line;
+    }
+    let last = line.len() - 1;
+    if line[last] == b'\r' {
+        &line[..last]
+    } else {
+        line
     }
 }
 

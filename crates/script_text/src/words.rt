@@ -5,7 +5,7 @@ ghost use Rattle.std.specs.List.{prefix_len, list_all};
 ghost use Rattle.std.specs.Str.{IsAscii};
 ghost use Rattle.script_text.specs.Words as spec;
 ghost use Rattle.script_text.specs.Words.{words_of, words_from, is_quote, Bare, Quoted, Behind, Between};
-ghost use Rattle.script_text.specs.Inside.{is_space, is_bare, is_inside, words_by, GoesOn, IsShorter};
+ghost use Rattle.script_text.specs.Inside.{is_space, is_bare, is_inside, ends_word, words_by, GoesOn, IsShorter};
 
 use std::marker::Model;
 use std::str;
@@ -70,15 +70,22 @@ fn cut(text: &str, len: usize) -> (&str, &str)
     text.split_at(len)
 }
 
-/// A word and what is behind it, which must be nothing or begin with a space.
+/// Whether a word may end before these bytes: none, or a space first.
+fn ends_word(rest: &[u8]) -> bool
+    ensures { result ≡ ends_word rest.now }
+{
+    rest.is_empty() || rest[0] == b' '
+}
+
+/// A word and what is behind it, where the word may end there.
 fn ended<'a>(word: &'a str, rest: &'a str) -> FirstWord<'a>
     ensures words { words_by result ≡ option_map (λ ws. word.now ∷ ws) (words_from Behind rest.now) }
     ensures rest { GoesOn rest.now result }
 {
-    match rest.as_bytes().first() {
-        None => FirstWord::Word(word, rest),
-        Some(b' ') => FirstWord::Word(word, rest),
-        Some(_) => FirstWord::Bad,
+    if ends_word(rest.as_bytes()) {
+        FirstWord::Word(word, rest)
+    } else {
+        FirstWord::Bad
     }
 }
 
@@ -113,10 +120,14 @@ fn first_word(text: &str) -> FirstWord<'_>
     ensures rest { IsShorter text.now result }
 {
     let (_, start) = cut(text, spaces_len(text.as_bytes()));
-    match start.as_bytes().first() {
-        None => FirstWord::End,
-        Some(first) if is_quote(*first) => quoted_word(*first, cut(start, 1).1),
-        Some(_) => bare_word(start),
+    if start.is_empty() {
+        return FirstWord::End;
+    }
+    let first = start.as_bytes()[0];
+    if is_quote(first) {
+        quoted_word(first, cut(start, 1).1)
+    } else {
+        bare_word(start)
     }
 }
 
@@ -126,7 +137,7 @@ fn are_words(text: &str) -> bool
     ensures { result ≡ is_some (words_from Between text.now) }
 {
     let mut rest = text;
-    while !rest.is_empty() {
+    while rest.len() > 0 {
         match first_word(rest) {
             FirstWord::Bad => return false,
             FirstWord::End => return true,
