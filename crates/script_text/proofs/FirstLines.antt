@@ -1,5 +1,5 @@
 -- The first line, and the lines behind it.
-use Rattle.std.proofs.Common.{◌≡◌, ◌<◌, ◌∙◌, ℕ, zero, suc, List, [], ◌∷◌, ◌++◌, Bool, true, false, if◌then◌else◌, ◌==◌, refl, sym, ap, length, take, drop, get_or, map, arith}
+use Rattle.std.proofs.Common.{◌≡◌, ◌<◌, ◌-◌, ◌∙◌, ℕ, zero, suc, List, [], ◌∷◌, ◌++◌, Bool, true, false, if◌then◌else◌, ◌==◌, refl, sym, ap, length, take, drop, get_or, map, arith}
 use Rattle.std.proofs.lemmas.Bool.Decides.{nat_tests}
 use Rattle.script_text.specs.Lines.{lines_of, onto_first, trimmed, script_lines}
 use Rattle.script_text.specs.Inside.{first_line, after_line}
@@ -35,6 +35,5 @@ trimmed_none (b ∷ []) (suc n) h e = absurd (omega arith)
 trimmed_none (b ∷ c ∷ bs) zero h e = absurd (omega arith)
 trimmed_none (b ∷ c ∷ bs) (suc n) h e = ap (λ xs. b ∷ xs) (trimmed_none (c ∷ bs) n (omega arith) e)
 
-pub trimmed_nothing : (line : List ℕ) → length line ≡ 0 → line ≡ trimmed line
-trimmed_nothing [] h = refl
-trimmed_nothing (b ∷ bs) h = absurd (omega arith)
+pub last_place : (n : ℕ) (b : Bool) → b ≡ (n == 0) → b ≡ false → n ≡ suc (n - 1)
+last_place n b e f = let some : 0 < n = grind (arith, nat_tests) in omega arith

@@ -1,2 +1,4 @@
 pub mod Cursor
+pub mod Digits
 pub mod FirstLines
+pub mod Known
