@@ -4,7 +4,7 @@ use Rattle.std.proofs.lemmas.Bool.Decides.{nat_tests}
 use Rattle.script_text.specs.Lines.{lines_of, onto_first, trimmed, script_lines}
 use Rattle.script_text.specs.Inside.{first_line, after_line}
 
-lines_at : (b : ℕ) (bs : List ℕ) → lines_of (b ∷ bs) ≡ first_line (b ∷ bs) ∷ lines_of (after_line (b ∷ bs))
+pub lines_at : (b : ℕ) (bs : List ℕ) → lines_of (b ∷ bs) ≡ first_line (b ∷ bs) ∷ lines_of (after_line (b ∷ bs))
 lines_at b [] =
     let P : Bool → Type 0 = λ v. (if v then [] ∷ lines_of [] else onto_first b (lines_of [])) ≡ (if v then [] else b ∷ first_line []) ∷ lines_of (if v then [] else after_line []) in
     elim (b == 10) as P [ true ↦ refl | false ↦ refl ]
@@ -34,6 +34,9 @@ trimmed_none (b ∷ []) zero h e = rw (not_13 b e) refl
 trimmed_none (b ∷ []) (suc n) h e = absurd (omega arith)
 trimmed_none (b ∷ c ∷ bs) zero h e = absurd (omega arith)
 trimmed_none (b ∷ c ∷ bs) (suc n) h e = ap (λ xs. b ∷ xs) (trimmed_none (c ∷ bs) n (omega arith) e)
+
+pub not_empty : (n : ℕ) (b : Bool) → b ≡ (n == 0) → b ≡ false → 0 < n
+not_empty n b e f = grind (arith, nat_tests)
 
 pub last_place : (n : ℕ) (b : Bool) → b ≡ (n == 0) → b ≡ false → n ≡ suc (n - 1)
 last_place n b e f = let some : 0 < n = grind (arith, nat_tests) in omega arith

@@ -2,3 +2,4 @@ pub mod Cursor
 pub mod Digits
 pub mod FirstLines
 pub mod Known
+pub mod ReadBack
