@@ -47,15 +47,15 @@ fn word_of(presence: Presence, relation: Relation) -> Option<&'static str>
 /// The lines of an entity's change, or nothing where there is no word for it.
 fn change_lines(
     alloc: Global,
-    name: &str,
-    word: Option<&str>,
+    pair: &Pair<'_>,
+    relation: Relation,
     change: &Change,
 ) -> Result<String, OutOfMemory>
-    ensures { IfOk result (λ text. string_bytes text ≡ spec.change_lines name.now (option_copied word) change.now.gained.items change.now.lost.items) }
+    ensures { IfOk result (λ text. string_bytes text ≡ spec.change_lines pair.now.name.now (spec.word_of pair.now.presence relation) change.now.gained.items change.now.lost.items) }
 {
     let mut text = String::new(alloc);
-    if let Some(word) = word {
-        push_shown_text(&mut text, name)?;
+    if let Some(word) = word_of(pair.presence, relation) {
+        push_shown_text(&mut text, pair.name)?;
         write!(text, " {word}\n")?;
         change.push_indented(&mut text)?;
     }
@@ -89,8 +89,7 @@ fn changed_pair(
 {
     let change = changes(alloc, old, new)?;
     let relation = change.relation();
-    let word = word_of(pair.presence, relation);
-    let text = change_lines(alloc, pair.name, word, &change)?;
+    let text = change_lines(alloc, pair, relation, &change)?;
     let fails = fails_check(check, relation);
     Ok(Printed { text, fails })
 }
@@ -120,19 +119,23 @@ fn told_of_old(
 ) -> Result<Printed, OutOfMemory>
     ensures { IfOk result (λ printed. IsOldTold new.now check entity.now (string_bytes printed.text) printed.fails) }
 {
-    let name = entity.name.as_str();
-    let old = entity.osd.as_str();
-    let (presence, new) = match find(new, name) {
-        None => (Presence::Gone, ""),
-        Some(other) => (Presence::Both, other.osd.as_str()),
+    let gone = Pair {
+        name: entity.name.as_str(),
+        presence: Presence::Gone,
+        old: entity.osd.as_str(),
+        new: "",
     };
-    let pair = Pair {
-        name,
-        presence,
-        old,
-        new,
-    };
-    told_pair(alloc, &pair, check)
+    match find(new, gone.name) {
+        None => told_pair(alloc, &gone, check),
+        Some(other) => {
+            let both = Pair {
+                presence: Presence::Both,
+                new: other.osd.as_str(),
+                ..gone
+            };
+            told_pair(alloc, &both, check)
+        }
+    }
 }
 
 /// What is told of an entity of the new list, which is nothing where the old list has it.
@@ -144,20 +147,19 @@ fn told_of_new(
 ) -> Result<Printed, OutOfMemory>
     ensures { IfOk result (λ printed. IsNewTold old.now check entity.now (string_bytes printed.text) printed.fails) }
 {
-    let name = entity.name.as_str();
-    if find(old, name).is_some() {
-        return Ok(Printed {
-            text: String::new(alloc),
-            fails: false,
-        });
-    }
-    let pair = Pair {
-        name,
+    let added = Pair {
+        name: entity.name.as_str(),
         presence: Presence::New,
         old: "",
         new: entity.osd.as_str(),
     };
-    told_pair(alloc, &pair, check)
+    match find(old, added.name) {
+        None => told_pair(alloc, &added, check),
+        Some(_) => Ok(Printed {
+            text: String::new(alloc),
+            fails: false,
+        }),
+    }
 }
 
 /// Adds what is told behind what is printed, which fails where one of them does.

@@ -62,7 +62,7 @@ fn add_rows<C: Clock>(table: &mut Table<'_, C>, name: &str, grants: usize) -> Re
         ("each narrower", &wide, &narrow),
         ("each wider", &narrow, &wide),
     ] {
-        let row = format!(in alloc; "compare, {grants} grants, {how}")?;
+        let row = format!(in alloc; "compare, {how}, of {grants}")?;
         table.row(row.as_str(), &Compare { alloc, old, new })?;
     }
     Ok(())
