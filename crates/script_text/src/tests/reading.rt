@@ -100,16 +100,18 @@ fn words_are_bare_or_quoted_whole(rt: HostRuntime) -> Result<(), Fail> {
     Ok(())
 }
 
+/// Whether a line has just the first one, two, three and four of the words `a`, `b`, the empty one and `d`.
+fn counted(line: &[u8]) -> (bool, bool, bool, bool) {
+    (
+        Words::of(line).is_some_and(|words| words.exactly_one() == Some("a")),
+        Words::of(line).is_some_and(|words| words.exactly_two() == Some(("a", "b"))),
+        Words::of(line).is_some_and(|words| words.exactly_three() == Some(("a", "b", ""))),
+        Words::of(line).is_some_and(|words| words.exactly_four() == Some(("a", "b", "", "d"))),
+    )
+}
+
 #[test]
 fn so_many_words_and_no_more(rt: HostRuntime) {
-    let counted = |line: &'static [u8]| -> (bool, bool, bool, bool) {
-        (
-            Words::of(line).is_some_and(|words| words.exactly_one() == Some("a")),
-            Words::of(line).is_some_and(|words| words.exactly_two() == Some(("a", "b"))),
-            Words::of(line).is_some_and(|words| words.exactly_three() == Some(("a", "b", ""))),
-            Words::of(line).is_some_and(|words| words.exactly_four() == Some(("a", "b", "", "d"))),
-        )
-    };
     assert!(rt; counted(b"") == (false, false, false, false));
     assert!(rt; counted(b" a ") == (true, false, false, false));
     assert!(rt; counted(b"a b") == (false, true, false, false));

@@ -76,7 +76,7 @@ fn a_slow_reader_is_read_to_its_end(rt: HostRuntime) -> Result<(), Fail> {
         fails: None,
     };
     let script = read_script(rt.alloc(), &mut reader)?;
-    assert!(rt; script.as_slice() == b"osds 3\n");
+    assert!(rt; script.as_slice() == b"osds 3\n".as_slice());
     Ok(())
 }
 
