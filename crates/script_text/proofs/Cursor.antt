@@ -1,5 +1,5 @@
 -- What a text begins with, and its words.
-use Rattle.std.proofs.Common.{◌≡◌, ℕ, suc, ◌+◌, ◌<◌, ◌≤◌, Bool, true, false, not, ◌||◌, ◌&&◌, ◌==◌, nat_le, cond, if◌then◌else◌, List, [], ◌∷◌, length, take, drop, get_or, refl, sym, ap, subst, ◌∙◌, arith, Option, None, Some, is_some, length-drop}
+use Rattle.std.proofs.Common.{◌≡◌, ℕ, suc, ◌+◌, ◌<◌, ◌≤◌, Bool, true, false, not, ◌||◌, ◌&&◌, ◌==◌, nat_le, cond, List, [], ◌∷◌, length, take, drop, get_or, refl, sym, ap, subst, ◌∙◌, arith, Option, None, Some, is_some, length-drop}
 use Rattle.std.specs.Option.{option_map, unwrap_or}
 use Rattle.std.specs.List.{prefix_len, list_all}
 use Rattle.std.specs.Str.{IsAscii}
@@ -7,7 +7,7 @@ use Rattle.std.proofs.lemmas.Bool.Decides.{nat_tests}
 use Rattle.std.proofs.lemmas.Str.{IsAscii-drop}
 use Rattle.std.proofs.lemmas.Str.Ascii.{IsAscii-nil, IsAscii-cons}
 use Rattle.std.proofs.lemmas.List.{drop-drop}
-use Rattle.script_text.specs.Words.{Place, is_quote, is_printable, onto_word, words_from, words_of, Between, Bare, Quoted, Behind}
+use Rattle.script_text.specs.Words.{is_quote, is_printable, onto_word, words_from, words_of, Between, Bare, Quoted, Behind}
 use Rattle.script_text.specs.Left.{words_left}
 use Rattle.script_text.specs.Inside.{is_space, is_bare, is_inside, ends_word, GoesOn, IsShorter}
 use Rattle.script_text.specs.declared.words.FirstWord.{FirstWord}

@@ -1,5 +1,5 @@
 -- What is printed is read back.
-use Rattle.std.proofs.Common.{◌≡◌, ◌⊎◌, ◌<◌, ◌≤◌, ◌+◌, ◌^◌, ◌∙◌, ℕ, suc, List, [], ◌∷◌, ◌++◌, Bool, true, false, not, ◌&&◌, ◌||◌, ◌==◌, cond, if◌then◌else◌, Option, None, Some, length, take, drop, decimal, codes, refl, sym, ap, inl, inr, arith, append_assoc, nat_le, length-append}
+use Rattle.std.proofs.Common.{◌≡◌, ◌⊎◌, ◌<◌, ◌≤◌, ◌+◌, ◌∙◌, ℕ, suc, List, [], ◌∷◌, ◌++◌, Bool, true, false, not, ◌&&◌, ◌||◌, ◌==◌, if◌then◌else◌, Some, length, decimal, refl, sym, ap, inl, inr, arith, nat_le, length-append}
 use Rattle.std.specs.Option.{option_map}
 use Rattle.std.specs.List.{flat_map, list_all, list_any, position_or_len, before_first, after_first}
 use Rattle.std.specs.Str.{all_ascii_digits}
@@ -7,9 +7,9 @@ use Rattle.std.specs.Char.{is_ascii_digit}
 use Rattle.std.proofs.lemmas.Bool.Decides.{nat_tests}
 use Rattle.std.proofs.lemmas.Fmt.{digits_decimal}
 use Rattle.script_text.specs.Lines.{lines_of, onto_first}
-use Rattle.script_text.specs.Words.{words_of, words_from, onto_word, is_printable, Quoted, Behind, Between}
-use Rattle.script_text.specs.Numbers.{number_of, pair_of, both, is_dot}
-use Rattle.script_text.specs.Text.{line, quoted, glyph, stands_for_itself}
+use Rattle.script_text.specs.Words.{words_of, words_from, onto_word, is_printable, Quoted}
+use Rattle.script_text.specs.Numbers.{is_dot}
+use Rattle.script_text.specs.Text.{line, glyph, stands_for_itself}
 use Rattle.script_text.specs.Laws.{LinesAreTheText, LinesAreReadBack, QuotedIsReadBack, NumbersAreReadBack, PairsAreReadBack}
 use Rattle.script_text.proofs.FirstLines.{lines_at}
 use Rattle.script_text.proofs.Digits.{own, number-decimal}

@@ -1,5 +1,6 @@
+-- Refinement: only contracts inside the crate use it.
 -- What private calls say: the first line, and the word that a line begins with.
-use Rattle.std.specs.Prelude.{◌≡◌, ℕ, ◌<◌, ◌≤◌, List, [], ◌∷◌, Bool, true, not, ◌||◌, ◌==◌, if◌then◌else◌, Option, None, Some, length}
+use Rattle.std.specs.Prelude.{◌≡◌, ℕ, ◌<◌, List, [], ◌∷◌, Bool, true, not, ◌||◌, ◌==◌, if◌then◌else◌, Option, None, Some, length}
 use Rattle.std.specs.Option.{option_map}
 use Rattle.std.specs.Str.{IsAscii}
 use Rattle.script_text.specs.Words.{is_quote, words_from, Between}

@@ -50,3 +50,21 @@ is_sound line = nat_le (length line) 8192 && list_all is_printable line
 -- the words of a line, if it is no bad line
 abbrev pub words_of : List ℕ → Option (List (List ℕ))
 words_of line = if is_sound line then words_from Between line else None
+
+-- so many words and no more
+
+abbrev pub one_of : List (List ℕ) → Option (List ℕ)
+one_of (a ∷ []) = Some a
+one_of ws = None
+
+abbrev pub two_of : List (List ℕ) → Option (List ℕ × List ℕ)
+two_of (a ∷ b ∷ []) = Some (a, b)
+two_of ws = None
+
+abbrev pub three_of : List (List ℕ) → Option (List ℕ × List ℕ × List ℕ)
+three_of (a ∷ b ∷ c ∷ []) = Some (a, b, c)
+three_of ws = None
+
+abbrev pub four_of : List (List ℕ) → Option (List ℕ × List ℕ × List ℕ × List ℕ)
+four_of (a ∷ b ∷ c ∷ d ∷ []) = Some (a, b, c, d)
+four_of ws = None

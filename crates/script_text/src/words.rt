@@ -1,10 +1,10 @@
 //! The words of a line.
 
-ghost use Rattle.std.specs.Prelude.{◌≡◌, ◌+◌, ◌<◌, ◌≤◌, ◌==◌, ◌∷◌, [], length, take, drop, option_map, is_some, MatchOption};
+ghost use Rattle.std.specs.Prelude.{◌≡◌, ◌+◌, ◌<◌, ◌≤◌, ◌==◌, ◌∷◌, [], length, take, drop, option_map, option_copied, is_some, MatchOption};
 ghost use Rattle.std.specs.List.{prefix_len, list_all};
 ghost use Rattle.std.specs.Str.{IsAscii};
 ghost use Rattle.script_text.specs.Words as spec;
-ghost use Rattle.script_text.specs.Words.{words_of, words_from, is_quote, Bare, Quoted, Behind, Between};
+ghost use Rattle.script_text.specs.Words.{words_of, words_from, is_quote, Bare, Quoted, Behind, Between, one_of, two_of, three_of, four_of};
 ghost use Rattle.script_text.specs.Inside.{is_space, is_bare, is_inside, ends_word, words_by, GoesOn, IsShorter};
 
 use std::marker::Model;
@@ -213,5 +213,40 @@ impl<'a> Words<'a> {
             }
             _ => None,
         }
+    }
+
+    /// The word that is left, where it is the only one.
+    pub fn exactly_one(mut self) -> Option<&'a str>
+        ensures { option_copied result ≡ one_of self.entry }
+    {
+        let word = self.next_word()?;
+        if self.is_empty() { Some(word) } else { None }
+    }
+
+    /// The two words that are left, where there are just two.
+    pub fn exactly_two(mut self) -> Option<(&'a str, &'a str)>
+        ensures { option_map (λ r. (r.0.now, r.1.now)) result ≡ two_of self.entry }
+    {
+        let first = self.next_word()?;
+        let second = self.exactly_one()?;
+        Some((first, second))
+    }
+
+    /// The three words that are left, where there are just three.
+    pub fn exactly_three(mut self) -> Option<(&'a str, &'a str, &'a str)>
+        ensures { option_map (λ r. (r.0.now, r.1.now, r.2.now)) result ≡ three_of self.entry }
+    {
+        let first = self.next_word()?;
+        let (second, third) = self.exactly_two()?;
+        Some((first, second, third))
+    }
+
+    /// The four words that are left, where there are just four.
+    pub fn exactly_four(mut self) -> Option<(&'a str, &'a str, &'a str, &'a str)>
+        ensures { option_map (λ r. (r.0.now, r.1.now, r.2.now, r.3.now)) result ≡ four_of self.entry }
+    {
+        let first = self.next_word()?;
+        let (second, third, fourth) = self.exactly_three()?;
+        Some((first, second, third, fourth))
     }
 }

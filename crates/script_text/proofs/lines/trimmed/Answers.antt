@@ -1,4 +1,3 @@
-use Rattle.std.proofs.Common.{arith}
 use Rattle.script_text.proofs.FirstLines.{trimmed_end, trimmed_none, last_place}
 use Rattle.script_text.proofs.lines.trimmed.Goals as goal
 

@@ -1,6 +1,6 @@
 use Rattle.std.proofs.Common.{sym, ap, ◌∙◌, List, ℕ, ◌∷◌}
 use Rattle.std.specs.Option.{option_map}
-use Rattle.script_text.proofs.Cursor.{behind_ends, behind_goes_on}
+use Rattle.script_text.proofs.Cursor.{behind_ends}
 use Rattle.script_text.specs.Inside.{ends_word}
 use Rattle.script_text.proofs.words.ended.Goals as goal
 

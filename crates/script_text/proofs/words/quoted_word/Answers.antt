@@ -1,7 +1,7 @@
-use Rattle.std.proofs.Common.{sym, ap, ◌∙◌, length, drop, arith, ◌≡◌, ◌+◌, ◌<◌, length-drop}
+use Rattle.std.proofs.Common.{sym, ap, ◌∙◌, length, arith, ◌<◌}
 use Rattle.std.specs.List.{prefix_len}
 use Rattle.std.proofs.lemmas.List.Sums.{prefix_len-le-length}
-use Rattle.script_text.specs.Inside.{is_inside, GoesOn}
+use Rattle.script_text.specs.Inside.{is_inside}
 use Rattle.std.proofs.lemmas.List.{drop-drop}
 use Rattle.script_text.proofs.Cursor.{closed_rest, open_rest}
 use Rattle.script_text.proofs.words.quoted_word.Goals as goal
