@@ -1,6 +1,6 @@
 //! One grant against one request.
 
-ghost use Rattle.std.specs.Prelude.{◌≡◌, ◌&&◌};
+ghost use Rattle.std.specs.Prelude.{◌≡◌, ◌&&◌, ◌||◌, not};
 ghost use Rattle.std.specs.List.{list_any};
 ghost use Rattle.std.specs.Str.{bytes_eq};
 ghost use Rattle.verdict_core.specs.Verdict as spec;
@@ -9,6 +9,7 @@ use crate::request::{ClassCall, Condition, Needs, Target};
 use cap_text::{Access, AllowGrant, AppTags, Name, NsMatch, Pairs, Part, Tag, Tags};
 
 /// No name, or this one.
+#[inline(always)]
 fn names(wanted: &Option<Name>, name: &str) -> bool
     ensures { result ≡ spec.names wanted.now name.now }
 {
@@ -18,6 +19,7 @@ fn names(wanted: &Option<Name>, name: &str) -> bool
     }
 }
 
+#[inline(always)]
 fn matches_namespace(wanted: &Option<NsMatch>, namespace: &str) -> bool
     ensures { result ≡ spec.matches_namespace wanted.now namespace.now }
 {
@@ -46,14 +48,14 @@ fn has_value(value: &Name, pairs: &Pairs) -> bool
     pairs.as_slice().iter().any(|pair| value.equals(&pair.1))
 }
 
-/// Whether some pair has this key, and a value that agrees.
+/// Whether some pair has this key, and a value that agrees. Values are looked at first, since they differ more often.
 fn has_pair(key: &Name, value: &Part, pairs: &Pairs) -> bool
     ensures { result ≡ list_any (λ pair. bytes_eq key.now pair.0 && spec.matches_part value.now pair.1) pairs.now }
 {
     pairs
         .as_slice()
         .iter()
-        .any(|pair| key.equals(&pair.0) && matches_part(value, &pair.1))
+        .any(|pair| matches_part(value, &pair.1) && key.equals(&pair.0))
 }
 
 fn matches_pairs(key: &Part, value: &Part, pairs: &Pairs) -> bool
@@ -66,13 +68,17 @@ fn matches_pairs(key: &Part, value: &Part, pairs: &Pairs) -> bool
     }
 }
 
+/// Whether an application agrees with a tag. Its pairs are looked at first, since a pool has few, and they differ more
+/// often than applications do.
 fn matches_application(tag: &Tag, app: &AppTags) -> bool
     ensures { result ≡ spec.matches_application tag.now app.now }
 {
-    tag.application.equals(&app.application) && matches_pairs(&tag.key, &tag.value, &app.pairs)
+    matches_pairs(&tag.key, &tag.value, &app.pairs) && tag.application.equals(&app.application)
 }
 
-/// Whether some application of the pool agrees with a tag.
+/// Whether some application of the pool agrees with a tag. It is a call of its own, so that a walk over grants without
+/// tags stays small.
+#[inline(never)]
 fn has_application(tag: &Tag, tags: &Tags) -> bool
     ensures { result ≡ list_any (spec.matches_application tag.now) tags.now }
 {
@@ -121,23 +127,36 @@ pub(crate) fn can_write(access: &Access) -> bool
     }
 }
 
-/// Whether a grant speaks of the place.
+/// Whether an access reads and writes as far as the request does.
+fn serves(access: &Access, needs: &Needs) -> bool
+    ensures { result ≡ ((not needs.now.reads || spec.can_read access.now) && (not needs.now.writes || spec.can_write access.now)) }
+{
+    match access {
+        Access::All => true,
+        Access::Flags(flags) => (!needs.reads || flags.read) && (!needs.writes || flags.write),
+        Access::Class { .. } => !needs.reads && !needs.writes,
+    }
+}
+
+/// Whether a grant speaks of the place. The order of its parts says nothing here, and the object's name, in which
+/// requests differ most, is looked at first.
+#[inline(always)]
 pub(crate) fn matches(grant: &AllowGrant, target: &Target<'_>) -> bool
     ensures { result ≡ spec.matches grant.now target.now }
 {
-    names(&grant.pool, target.pool)
+    matches_prefix(&grant.prefix, target.object)
+        && names(&grant.pool, target.pool)
         && matches_namespace(&grant.namespace, target.namespace)
         && matches_tag(&grant.tag, target.tags)
-        && matches_prefix(&grant.prefix, target.object)
 }
 
-/// Whether a grant speaks of the place, and reads and writes as far as the request does.
+/// Whether a grant speaks of the place, and reads and writes as far as the request does. It is inlined into the walks
+/// over grants, most of which one test rules out.
+#[inline(always)]
 pub(crate) fn is_usable(grant: &AllowGrant, target: &Target<'_>, needs: &Needs) -> bool
     ensures { result ≡ spec.is_usable grant.now target.now needs.now }
 {
-    matches(grant, target)
-        && (!needs.reads || can_read(&grant.access))
-        && (!needs.writes || can_write(&grant.access))
+    matches(grant, target) && serves(&grant.access, needs)
 }
 
 /// Whether an access covers a call.
