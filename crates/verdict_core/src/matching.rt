@@ -1,12 +1,58 @@
 //! One grant against one request.
 
-ghost use Rattle.std.specs.Prelude.{◌≡◌, ◌&&◌, ◌||◌, not};
-ghost use Rattle.std.specs.List.{list_any};
+ghost use Rattle.std.specs.Prelude.{◌≡◌, ◌*◌, ◌≤◌, ◌&&◌, ◌||◌, not, nat_eq, length};
+ghost use Rattle.std.specs.List.{list_any, starts_with};
 ghost use Rattle.std.specs.Str.{bytes_eq};
 ghost use Rattle.verdict_core.specs.Verdict as spec;
 
 use crate::request::{ClassCall, Condition, Needs, Target};
 use cap_text::{Access, AllowGrant, AppTags, Name, NsMatch, Pairs, Part, Tag, Tags};
+
+/// Whether two texts of the same length are the same. They have at least N bytes and at most twice as many, so that the
+/// last N and the first N are all of them: two comparisons of words.
+#[inline(always)]
+fn is_same_at_both_ends<const N: usize>(left: &[u8], right: &[u8]) -> bool
+    requires same_length { length left.now ≡ length right.now }
+    requires covered { (N ≤ length right.now) × (length right.now ≤ 2 * N) }
+    ensures { result ≡ bytes_eq left.now right.now }
+{
+    let rest = right.len() - N;
+    left.ends_with(&right[rest..]) && left.starts_with(&right[..N])
+}
+
+/// Whether two long or very short texts are the same. It is a call of its own, so that its callers stay small.
+#[inline(never)]
+fn is_same_at_length(left: &[u8], right: &[u8]) -> bool
+    ensures { result ≡ bytes_eq left.now right.now }
+{
+    left == right
+}
+
+/// Whether two texts are the same. Most names have 4 to 16 bytes, and differ at their ends.
+#[inline(always)]
+fn is_same(left: &[u8], right: &[u8]) -> bool
+    ensures { result ≡ bytes_eq left.now right.now }
+{
+    let length = left.len();
+    if length != right.len() {
+        return false;
+    }
+    if 8 <= length && length <= 16 {
+        return is_same_at_both_ends::<8>(left, right);
+    }
+    if 4 <= length && length <= 8 {
+        return is_same_at_both_ends::<4>(left, right);
+    }
+    is_same_at_length(left, right)
+}
+
+/// Whether a text begins with a prefix.
+#[inline(always)]
+fn begins_with(text: &[u8], prefix: &[u8]) -> bool
+    ensures { result ≡ starts_with nat_eq text.now prefix.now }
+{
+    prefix.len() <= text.len() && is_same(prefix, &text[..prefix.len()])
+}
 
 /// No name, or this one.
 #[inline(always)]
@@ -15,7 +61,7 @@ fn names(wanted: &Option<Name>, name: &str) -> bool
 {
     match wanted {
         None => true,
-        Some(wanted) => wanted.as_str() == name,
+        Some(wanted) => is_same(wanted.as_str().as_bytes(), name.as_bytes()),
     }
 }
 
@@ -25,7 +71,7 @@ fn matches_namespace(wanted: &Option<NsMatch>, namespace: &str) -> bool
 {
     match wanted {
         None => true,
-        Some(NsMatch::Exact(name)) => name.as_str() == namespace,
+        Some(NsMatch::Exact(name)) => is_same(name.as_str().as_bytes(), namespace.as_bytes()),
         Some(NsMatch::Prefix(prefix)) => {
             namespace.as_bytes().starts_with(prefix.as_str().as_bytes())
         }
@@ -102,7 +148,7 @@ fn matches_prefix(wanted: &Option<Name>, object: &str) -> bool
     match wanted {
         None => true,
         Some(prefix) => {
-            !object.is_empty() && object.as_bytes().starts_with(prefix.as_str().as_bytes())
+            !object.is_empty() && begins_with(object.as_bytes(), prefix.as_str().as_bytes())
         }
     }
 }
