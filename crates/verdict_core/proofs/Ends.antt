@@ -42,8 +42,8 @@ first_tell k a b e s lengths inside few e_is s_is same =
     let m_is : length a - length (drop m b) ≡ m = omega (arith, lengths, length-drop m b, inside) in
     let all = bytes_eq-Decides a b in
     same_bools s (bytes_eq a b) (λ h. all.1 (from_ends k m a b lengths (omega arith) (omega arith)
-        (subst (λ i. a ≡ take i a ++ drop m b) m_is (back.0 same)) (subst (λ i. a ≡ take k b ++ drop i a) (length-take-le k b inside) (front.0 h))))
-        (λ h. front.1 (drop k b) (all.0 h ∙ sym (take-append-drop k b)))
+    (subst (λ i. a ≡ take i a ++ drop m b) m_is (back.0 same)) (subst (λ i. a ≡ take k b ++ drop i a) (length-take-le k b inside) (front.0 h))))
+    (λ h. front.1 (drop k b) (all.0 h ∙ sym (take-append-drop k b)))
 
 -- and where they are not, the texts are not
 pub last_tell : (k : ℕ) (a b : List ℕ) (e : Bool) → e ≡ ends_with nat_eq a (last k b) → e ≡ false → e ≡ bytes_eq a b

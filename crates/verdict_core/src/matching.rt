@@ -1,58 +1,13 @@
 //! One grant against one request.
 
-ghost use Rattle.std.specs.Prelude.{◌≡◌, ◌*◌, ◌≤◌, ◌&&◌, ◌||◌, not, nat_eq, length};
-ghost use Rattle.std.specs.List.{list_any, starts_with};
+ghost use Rattle.std.specs.Prelude.{◌≡◌, ◌&&◌, ◌||◌, not};
+ghost use Rattle.std.specs.List.{list_any};
 ghost use Rattle.std.specs.Str.{bytes_eq};
 ghost use Rattle.verdict_core.specs.Verdict as spec;
 
 use crate::request::{ClassCall, Condition, Needs, Target};
+use crate::texts::{begins_with, is_text};
 use cap_text::{Access, AllowGrant, AppTags, Name, NsMatch, Pairs, Part, Tag, Tags};
-
-/// Whether two texts of the same length are the same. They have at least N bytes and at most twice as many, so that the
-/// last N and the first N are all of them: two comparisons of words.
-#[inline(always)]
-fn is_same_at_both_ends<const N: usize>(left: &[u8], right: &[u8]) -> bool
-    requires same_length { length left.now ≡ length right.now }
-    requires covered { (N ≤ length right.now) × (length right.now ≤ 2 * N) }
-    ensures { result ≡ bytes_eq left.now right.now }
-{
-    let rest = right.len() - N;
-    left.ends_with(&right[rest..]) && left.starts_with(&right[..N])
-}
-
-/// Whether two long or very short texts are the same. It is a call of its own, so that its callers stay small.
-#[inline(never)]
-fn is_same_at_length(left: &[u8], right: &[u8]) -> bool
-    ensures { result ≡ bytes_eq left.now right.now }
-{
-    left == right
-}
-
-/// Whether two texts are the same. Most names have 4 to 16 bytes, and differ at their ends.
-#[inline(always)]
-fn is_same(left: &[u8], right: &[u8]) -> bool
-    ensures { result ≡ bytes_eq left.now right.now }
-{
-    let length = left.len();
-    if length != right.len() {
-        return false;
-    }
-    if 8 <= length && length <= 16 {
-        return is_same_at_both_ends::<8>(left, right);
-    }
-    if 4 <= length && length <= 8 {
-        return is_same_at_both_ends::<4>(left, right);
-    }
-    is_same_at_length(left, right)
-}
-
-/// Whether a text begins with a prefix.
-#[inline(always)]
-fn begins_with(text: &[u8], prefix: &[u8]) -> bool
-    ensures { result ≡ starts_with nat_eq text.now prefix.now }
-{
-    prefix.len() <= text.len() && is_same(prefix, &text[..prefix.len()])
-}
 
 /// No name, or this one.
 #[inline(always)]
@@ -61,7 +16,7 @@ fn names(wanted: &Option<Name>, name: &str) -> bool
 {
     match wanted {
         None => true,
-        Some(wanted) => is_same(wanted.as_str().as_bytes(), name.as_bytes()),
+        Some(wanted) => is_text(wanted, name),
     }
 }
 
@@ -71,7 +26,7 @@ fn matches_namespace(wanted: &Option<NsMatch>, namespace: &str) -> bool
 {
     match wanted {
         None => true,
-        Some(NsMatch::Exact(name)) => is_same(name.as_str().as_bytes(), namespace.as_bytes()),
+        Some(NsMatch::Exact(name)) => is_text(name, namespace),
         Some(NsMatch::Prefix(prefix)) => {
             namespace.as_bytes().starts_with(prefix.as_str().as_bytes())
         }
@@ -83,7 +38,7 @@ fn matches_part(part: &Part, text: &Name) -> bool
 {
     match part {
         Part::Any => true,
-        Part::Is(name) => name.equals(text),
+        Part::Is(name) => is_text(name, text.as_str()),
     }
 }
 
@@ -91,7 +46,10 @@ fn matches_part(part: &Part, text: &Name) -> bool
 fn has_value(value: &Name, pairs: &Pairs) -> bool
     ensures { result ≡ list_any (λ pair. bytes_eq value.now pair.1) pairs.now }
 {
-    pairs.as_slice().iter().any(|pair| value.equals(&pair.1))
+    pairs
+        .as_slice()
+        .iter()
+        .any(|pair| is_text(value, pair.1.as_str()))
 }
 
 /// Whether some pair has this key, and a value that agrees. Values are looked at first, since they differ more often.
@@ -147,9 +105,7 @@ fn matches_prefix(wanted: &Option<Name>, object: &str) -> bool
 {
     match wanted {
         None => true,
-        Some(prefix) => {
-            !object.is_empty() && begins_with(object.as_bytes(), prefix.as_str().as_bytes())
-        }
+        Some(prefix) => !object.is_empty() && begins_with(object, prefix),
     }
 }
 
@@ -179,7 +135,7 @@ fn serves(access: &Access, needs: &Needs) -> bool
 {
     match access {
         Access::All => true,
-        Access::Flags(flags) => (!needs.reads || flags.read) && (!needs.writes || flags.write),
+        Access::Flags(flags) => (!needs.reads | flags.read) & (!needs.writes | flags.write),
         Access::Class { .. } => !needs.reads && !needs.writes,
     }
 }
@@ -212,7 +168,7 @@ pub(crate) fn covers(access: &Access, call: &ClassCall) -> bool
     match access {
         Access::All => true,
         Access::Class { class, method } => {
-            class.equals(&call.class) && names(method, call.method.as_str())
+            is_text(class, call.class.as_str()) && names(method, call.method.as_str())
         }
         Access::Flags(flags) => {
             call.listed

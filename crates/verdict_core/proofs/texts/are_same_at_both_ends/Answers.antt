@@ -1,6 +1,5 @@
-use Rattle.std.proofs.Common.{◌≡◌}
 use Rattle.verdict_core.proofs.Ends.{first_tell, last_tell}
-use Rattle.verdict_core.proofs.matching.is_same_at_both_ends.Goals as goal
+use Rattle.verdict_core.proofs.texts.are_same_at_both_ends.Goals as goal
 
 pub returns-then-ends_with : goal.returns-then-ends_with
 returns-then-ends_with g c =
