@@ -100,6 +100,7 @@ fn matches_tag(wanted: &Option<Tag>, tags: &Tags) -> bool
     }
 }
 
+#[inline(always)]
 fn matches_prefix(wanted: &Option<Name>, object: &str) -> bool
     ensures { result ≡ spec.matches_prefix wanted.now object.now }
 {
@@ -161,7 +162,16 @@ pub(crate) fn is_usable(grant: &AllowGrant, target: &Target<'_>, needs: &Needs) 
     matches(grant, target) && serves(&grant.access, needs)
 }
 
+/// The same in a call of its own, for walks on which few grants come so far.
+#[inline(never)]
+fn is_usable_in_turn(grant: &AllowGrant, target: &Target<'_>, needs: &Needs) -> bool
+    ensures { result ≡ spec.is_usable grant.now target.now needs.now }
+{
+    is_usable(grant, target, needs)
+}
+
 /// Whether an access covers a call.
+#[inline(always)]
 pub(crate) fn covers(access: &Access, call: &ClassCall) -> bool
     ensures { result ≡ spec.covers access.now call.now }
 {
@@ -179,6 +189,7 @@ pub(crate) fn covers(access: &Access, call: &ClassCall) -> bool
 }
 
 /// Whether a usable grant covers a call. What it covers is looked at first, since few grants cover a call.
+#[inline(always)]
 pub(crate) fn allows(
     grant: &AllowGrant,
     target: &Target<'_>,
@@ -187,7 +198,7 @@ pub(crate) fn allows(
 ) -> bool
     ensures { result ≡ (spec.is_usable grant.now target.now needs.now && spec.covers grant.now.access call.now) }
 {
-    covers(&grant.access, call) && is_usable(grant, target, needs)
+    covers(&grant.access, call) && is_usable_in_turn(grant, target, needs)
 }
 
 /// The first call that an access does not cover, by its number.
