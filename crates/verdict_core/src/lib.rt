@@ -11,6 +11,7 @@ mod matching;
 mod places;
 mod reporting;
 mod request;
+mod texts;
 mod ticket;
 
 pub use indexed::IndexedTicket;
