@@ -27,10 +27,10 @@ abbrev pub AnswersAreDecided : Group → Type 0
 AnswersAreDecided g = (id : ℕ) (reply : Outcome) → answer_of g.answers id ≡ Some reply → IsReplied g.audit id reply
 
 -- what came of a group: it is the same placement group, wants as many members, and has these requests
-pub record IsSameGroup (g : Group) (requests : List Sealed) (after : Group) : Type 0 where
+pub record IsSameGroup (g : Group) (these : List Sealed) (after : Group) : Type 0 where
   pub group : after.group ≡ g.group
   pub min_size : after.min_size ≡ g.min_size
-  pub requests : after.requests ≡ requests
+  pub requests : after.requests ≡ these
 
 -- Each delivery and each loss lowers the budget, so delivering message 0 again and again ends: it leaves an empty wire after as many deliveries as the
 -- budget at most, and more change nothing
