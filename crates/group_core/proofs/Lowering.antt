@@ -9,7 +9,7 @@ use Rattle.group_core.proofs.Reached.{reached_bounded}
 use Rattle.group_core.proofs.Refusals.{refused_leaves}
 use Rattle.group_core.proofs.Settles.{deliver_lowers, lose_lowers}
 
-found_lowers : (old new : Group) (k : ℕ) (m : Sent) → IsReached old → slice_get old.wire k ≡ Some m → new ≡ group_step old (Deliver k) → budget new < budget old
+pub found_lowers : (old new : Group) (k : ℕ) (m : Sent) → IsReached old → slice_get old.wire k ≡ Some m → new ≡ group_step old (Deliver k) → budget new < budget old
 found_lowers old new k m r here is =
     let low = deliver_lowers old k m here (reached_bounded old r) in
     let same : budget new ≡ budget (group_step old (Deliver k)) = ap budget is in
