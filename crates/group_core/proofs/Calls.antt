@@ -297,7 +297,7 @@ unsent_is : (set : List ℕ) (wire : List Sent) (s : Sealed) → unsent set (wir
 unsent_is [] wire s = append-nil wire
 unsent_is (d ∷ ds) wire s = take-front wire (tell d (Request s))
 
-opens_is : (before : Group) (s : Sealed) → refusal_of before (Submit s) ≡ None → group_step before (Submit s) ≡ opens before s
+pub opens_is : (before : Group) (s : Sealed) → refusal_of before (Submit s) ≡ None → group_step before (Submit s) ≡ opens before s
 opens_is before s free = go (is_submitted before.requests s.id) (has_all_requests before) free
   where
     go : (b q : Bool) → (if b then Some Doubled else (if q then Some Full else None)) ≡ None → (if b then before else (if q then before else opens before s)) ≡ opens before s

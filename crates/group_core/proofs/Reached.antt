@@ -16,65 +16,66 @@ use Rattle.group_core.proofs.SaneGroups.{run_sane, start_sane}
 use Rattle.group_core.proofs.Settles.{Bounded, run_bounded}
 use Rattle.group_core.proofs.FarCopies.{audit_furthest, audit_fits}
 
--- no event changes the group's least size
+-- no event changes which group it is, nor its least size
 
-abbrev Least : ℕ → Group → Type 0
-Least n g = n ≤ g.min_size
+module _ (Q : GroupId → ℕ → Type 0) where
+  abbrev Named : Group → Type 0
+  Named g = Q g.group g.min_size
 
-least_if : (n : ℕ) (b : Bool) (x y : Group) → Least n x → Least n y → Least n (if b then x else y)
-least_if n true x y p q = p
-least_if n false x y p q = q
+  named_if : (b : Bool) (x y : Group) → Named x → Named y → Named (if b then x else y)
+  named_if true x y p q = p
+  named_if false x y p q = q
 
-answered_least : (n : ℕ) (g : Group) (b : Body) → Least n g → Least n (answered g b)
-answered_least n g (Reply id reply) is = least_if n (is_answered g.answers id) g (record g { answers = g.answers ++ record { id = id; reply = reply } ∷ [] }) is is
-answered_least n g (Interval sets) is = is
-answered_least n g (Query i) is = is
-answered_least n g (Info i base log) is = is
-answered_least n g (Install i log) is = is
-answered_least n g (Installed i) is = is
-answered_least n g (Append i place s) is = is
-answered_least n g (Appended i place) is = is
-answered_least n g (Request s) is = is
-answered_least n g (NotHere id) is = is
+  answered_named : (g : Group) (b : Body) → Named g → Named (answered g b)
+  answered_named g (Reply id reply) is = named_if (is_answered g.answers id) g (record g { answers = g.answers ++ record { id = id; reply = reply } ∷ [] }) is is
+  answered_named g (Interval sets) is = is
+  answered_named g (Query i) is = is
+  answered_named g (Info i base log) is = is
+  answered_named g (Install i log) is = is
+  answered_named g (Installed i) is = is
+  answered_named g (Append i place s) is = is
+  answered_named g (Appended i place) is = is
+  answered_named g (Request s) is = is
+  answered_named g (NotHere id) is = is
 
-hears_least : (n : ℕ) (g : Group) (m : Sent) (d : ℕ) (found : Option Daemon) → Least n g → Least n (copy_hears g m d found)
-hears_least n g m d None is = is
-hears_least n g m d (Some c) is = is
+  hears_named : (g : Group) (m : Sent) (d : ℕ) (found : Option Daemon) → Named g → Named (copy_hears g m d found)
+  hears_named g m d None is = is
+  hears_named g m d (Some c) is = is
 
-arrives_least : (n : ℕ) (g : Group) (m : Sent) (to : Party) → Least n g → Least n (arrives g m to)
-arrives_least n g m Client is = answered_least n g m.body is
-arrives_least n g m (Osd d) is = least_if n (is_in g.up d) (copy_hears g m d (slice_get g.copies d)) g (hears_least n g m d (slice_get g.copies d) is) is
+  arrives_named : (g : Group) (m : Sent) (to : Party) → Named g → Named (arrives g m to)
+  arrives_named g m Client is = answered_named g m.body is
+  arrives_named g m (Osd d) is = named_if (is_in g.up d) (copy_hears g m d (slice_get g.copies d)) g (hears_named g m d (slice_get g.copies d) is) is
 
-step_least : (n : ℕ) (e : Event) (g : Group) → Least n g → Least n (group_step g e)
-step_least n (Submit s) g is = least_if n (is_submitted g.requests s.id) g (if has_all_requests g then g else opens g s) is (least_if n (has_all_requests g) g (opens g s) is is)
-step_least n (Deliver k) g is = go (slice_get g.wire k)
-  where
-    go : (found : Option Sent) → Least n (deliver g k found)
-    go None = is
-    go (Some m) = arrives_least n (without g k) m m.to is
-step_least n (Lose k) g is = go (slice_get g.wire k)
-  where
-    go : (found : Option Sent) → Least n (lose g k found)
-    go None = is
-    go (Some m) = is
-step_least n (Repeat k) g is = go (slice_get g.wire k)
-  where
-    go : (found : Option Sent) → Least n (again g found)
-    go None = is
-    go (Some m) = is
-step_least n (NewInterval acting up) g is = least_if n (same_set acting (last_set g.sets)) (with_up g up) (if has_all_intervals g then g else begin (with_up g up) acting) is
-    (least_if n (has_all_intervals g) g (begin (with_up g up) acting) is is)
-step_least n (Restart d) g is =
-    least_if n (is_in (last_set g.sets) d) (if has_all_intervals g then g else begin (record g { copies = map (λ c. if c.number == d then restarted c else c) g.copies }) (last_set g.sets)) (record g { copies = map (λ c. if c.number == d then restarted c else c) g.copies })
-    (least_if n (has_all_intervals g) g (begin (record g { copies = map (λ c. if c.number == d then restarted c else c) g.copies }) (last_set g.sets)) is is) is
-step_least n Kick g is = is
+  pub step_named : (e : Event) (g : Group) → Named g → Named (group_step g e)
+  step_named (Submit s) g is = named_if (is_submitted g.requests s.id) g (if has_all_requests g then g else opens g s) is (named_if (has_all_requests g) g (opens g s) is is)
+  step_named (Deliver k) g is = go (slice_get g.wire k)
+    where
+      go : (found : Option Sent) → Named (deliver g k found)
+      go None = is
+      go (Some m) = arrives_named (without g k) m m.to is
+  step_named (Lose k) g is = go (slice_get g.wire k)
+    where
+      go : (found : Option Sent) → Named (lose g k found)
+      go None = is
+      go (Some m) = is
+  step_named (Repeat k) g is = go (slice_get g.wire k)
+    where
+      go : (found : Option Sent) → Named (again g found)
+      go None = is
+      go (Some m) = is
+  step_named (NewInterval acting up) g is = named_if (same_set acting (last_set g.sets)) (with_up g up) (if has_all_intervals g then g else begin (with_up g up) acting) is
+      (named_if (has_all_intervals g) g (begin (with_up g up) acting) is is)
+  step_named (Restart d) g is =
+      named_if (is_in (last_set g.sets) d) (if has_all_intervals g then g else begin (record g { copies = map (λ c. if c.number == d then restarted c else c) g.copies }) (last_set g.sets)) (record g { copies = map (λ c. if c.number == d then restarted c else c) g.copies })
+      (named_if (has_all_intervals g) g (begin (record g { copies = map (λ c. if c.number == d then restarted c else c) g.copies }) (last_set g.sets)) is is) is
+  step_named Kick g is = is
 
-run_least : (n : ℕ) (es : List Event) (g : Group) → Least n g → Least n (run es g)
-run_least n [] g is = is
-run_least n (e ∷ es) g is = run_least n es (group_step g e) (step_least n e g is)
+  pub run_named : (es : List Event) (g : Group) → Named g → Named (run es g)
+  run_named [] g is = is
+  run_named (e ∷ es) g is = run_named es (group_step g e) (step_named e g is)
 
 pub reached_least : (g : Group) → IsReached g → 1 ≤ g.min_size
-reached_least g r = subst (λ v. Least 1 v) r.is (run_least 1 r.events (start r.group r.min_size r.daemons r.acting r.up) r.least)
+reached_least g r = subst (λ v. 1 ≤ v.min_size) r.is (run_named (λ group z. 1 ≤ z) r.events (start r.group r.min_size r.daemons r.acting r.up) r.least)
 
 pub reached_good : (g : Group) → IsReached g → Good g
 reached_good g r = subst Good r.is (run_good r.events (start r.group r.min_size r.daemons r.acting r.up) (start_good r.group r.min_size r.daemons r.acting r.up))

@@ -1,9 +1,10 @@
 -- Statement: contracts of public calls use it.
 -- The laws of groups, each over any group that there can be. What `Group::keeps_promises` ensures is not said again.
-use Rattle.std.specs.Prelude.{ℕ, ◌≡◌, ◌≤◌, ◌+◌, ◌*◌, List, [], map, length, replicate, slice_get, Some, None}
-use Rattle.entry_core.specs.Log.{reply_in}
+use Rattle.std.specs.Prelude.{ℕ, ◌≡◌, ◌≤◌, ◌+◌, ◌*◌, true, false, List, [], map, length, replicate, slice_get, Some, None}
+use Rattle.entry_core.specs.Log.{is_in, reply_in}
 use Rattle.entry_core.specs.Request.{Sealed}
-use Rattle.group_core.specs.Types.{Daemon, Sent, Outcome}
+use Rattle.peer_core.specs.Sets.{set_of, is_first}
+use Rattle.group_core.specs.Types.{Idle, Append, Daemon, Party, Osd, Sent, Outcome}
 use Rattle.group_core.specs.Each.{Each}
 use Rattle.group_core.specs.Group.{Group, Event, Submit, Deliver, Lose, EventFits, run, start, group_step, refusal_of, answer_of, settle}
 use Rattle.group_core.specs.History.{Begins, but_last}
@@ -25,6 +26,12 @@ pub record OnlyAdds (g : Group) : Type 0 where
 abbrev pub AnswersAreDecided : Group → Type 0
 AnswersAreDecided g = (id : ℕ) (reply : Outcome) → answer_of g.answers id ≡ Some reply → IsReplied g.audit id reply
 
+-- what came of a group: it is the same placement group, wants as many members, and has these requests
+pub record IsSameGroup (g : Group) (these : List Sealed) (after : Group) : Type 0 where
+  pub group : after.group ≡ g.group
+  pub min_size : after.min_size ≡ g.min_size
+  pub requests : after.requests ≡ these
+
 -- Each delivery and each loss lowers the budget, so delivering message 0 again and again ends: it leaves an empty wire after as many deliveries as the
 -- budget at most, and more change nothing
 pub record SettlingEnds (g : Group) : Type 0 where
@@ -41,6 +48,23 @@ pub record OneEntryIsOpen (g : Group) : Type 0 where
   pub history : HasHistory g
   pub decided : (d : ℕ) (copy : Daemon) → slice_get g.copies d ≡ Some copy → Begins (but_last copy.log) g.audit
   pub keeps : (e : Event) (d : ℕ) (before after : Daemon) → slice_get g.copies d ≡ Some before → slice_get (group_step g e).copies d ≡ Some after → Begins (but_last before.log) after.log
+
+-- the first of interval n's set sends it to another member
+pub record GoesToOther (sets : List (List ℕ)) (n : ℕ) (from to : Party) : Type 0 where
+  pub later : 1 ≤ n
+  pub primary : ℕ
+  pub member : ℕ
+  pub is_from : from ≡ Osd primary
+  pub is_to : to ≡ Osd member
+  pub first : is_first (set_of sets n) primary ≡ true
+  pub is_member : is_in (set_of sets n) member ≡ true
+  pub other : is_first (set_of sets n) member ≡ false
+
+-- Each `Append` on its way goes from the primary of its interval to another member. So a copy that it comes to, and that promised its interval, has no
+-- role: nothing is in flight there
+pub record AppendsGoToOthers (g : Group) : Type 0 where
+  pub goes : (k n place : ℕ) (s : Sealed) (m : Sent) → slice_get g.wire k ≡ Some m → m.body ≡ Append n place s → GoesToOther g.sets n m.from m.to
+  pub idle : (k place : ℕ) (s : Sealed) (m : Sent) (d : ℕ) (c : Daemon) → slice_get g.wire k ≡ Some m → m.to ≡ Osd d → slice_get g.copies d ≡ Some c → m.body ≡ Append c.promise place s → c.role ≡ Idle
 
 -- so many deliveries calm events made from the beginning on
 abbrev pub made_so_far : {min_size count : ℕ} {acting up : List ℕ} {g : Group} → IsCalmGroup min_size count acting up g → ℕ

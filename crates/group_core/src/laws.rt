@@ -1,19 +1,19 @@
 //! The laws of groups: functions that do nothing, whose clauses are the laws. `specs/Laws.antt` says each in words.
 
-ghost use Rattle.std.specs.Prelude.{ℕ, ◌≡◌, ◌<◌, Some, take, List, length, true, [], replicate};
+ghost use Rattle.std.specs.Prelude.{ℕ, ◌≡◌, ◌<◌, Some, None, take, List, length, true, [], ◌∷◌, ◌++◌, replicate};
 ghost use Rattle.entry_core.specs.declared.entry.Entry.{Entry};
 ghost use Rattle.entry_core.specs.declared.sealed.GroupId.{GroupId};
 ghost use Rattle.entry_core.specs.Request.{Sealed};
 ghost use Rattle.group_core.specs.History.{History, IsSound, IsDecided, Begins};
-ghost use Rattle.group_core.specs.Group.{Group, Event, Fault, run, start, group_step, IsSet, refusal_of, left_by, Lose};
+ghost use Rattle.group_core.specs.Group.{Group, Event, Fault, run, start, group_step, IsSet, refusal_of, left_by, settle, Submit, Lose};
 ghost use Rattle.group_core.specs.Asked.{HasSubmit};
 ghost use Rattle.group_core.specs.Each.{Each};
 ghost use Rattle.group_core.specs.Reached.{IsReached};
 ghost use Rattle.group_core.specs.Quiet.{IsQuiet, opening_cost, request_cost};
-ghost use Rattle.group_core.specs.Calm.{IsSmall, IsCalm, IsCalmGroup, unserved_cost, all_taken};
+ghost use Rattle.group_core.specs.Calm.{IsSmall, IsCalm, IsCalmGroup, unserved_cost, taken, all_taken};
 ghost use Rattle.group_core.specs.Budget.{settled_group, settle_count};
 ghost use Rattle.group_core.specs.Recovery.{IsReady, is_ready, lost_all, IsLoss, Recovers};
-ghost use Rattle.group_core.specs.Laws.{OnlyAdds, AnswersAreDecided, SettlingEnds, OneEntryIsOpen, ServesInTime, made_so_far, DecidesInOrder, AnswersNothing, KeepsCount, IsReachedWithin};
+ghost use Rattle.group_core.specs.Laws.{OnlyAdds, IsSameGroup, AnswersAreDecided, SettlingEnds, OneEntryIsOpen, AppendsGoToOthers, ServesInTime, made_so_far, DecidesInOrder, AnswersNothing, KeepsCount, IsReachedWithin};
 ghost use Rattle.group_core.specs.Rows.{IsLostReply, IsLate, IsHalfDone, IsCounted, IsRecovered, IsServedCalmly};
 
 /// Whatever is submitted, delivered, lost, repeated, moved, restarted or kicked, in whatever order, only adds: what was
@@ -32,6 +32,15 @@ pub fn requests_were_submitted()
     ensures { (g : Group) (reached : IsReached g) → Each (HasSubmit reached.events) g.requests }
 {}
 
+/// No event changes which placement group a group is, nor its `min_size`. Its requests are those that it took: a submission that
+/// is not refused adds its own at the end, and nothing else changes them.
+pub fn groups_stay_the_same()
+    ensures steps { (g : Group) (e : Event) → IsSameGroup g (taken g.requests e) (group_step g e) }
+    ensures runs { (g : Group) (events : List Event) → IsSameGroup g (all_taken events g.requests) (run events g) }
+    ensures settles { (g : Group) (n : ℕ) → IsSameGroup g g.requests (settle n g) }
+    ensures submits { (g : Group) (s : Sealed) → refusal_of g (Submit s) ≡ None → taken g.requests (Submit s) ≡ g.requests ++ s ∷ [] }
+{}
+
 /// The sets of a group are small and hold each daemon once, and what is refused leaves the group as it was.
 pub fn limits_hold()
     ensures sets { (g : Group) → IsReached g → Each IsSet g.sets }
@@ -47,6 +56,12 @@ pub fn settling_ends()
 /// before.
 pub fn one_entry_is_open()
     ensures { (g : Group) → IsReached g → OneEntryIsOpen g }
+{}
+
+/// Each entry on its way goes from the primary of its interval to another member. So a copy that has an entry in flight hears of
+/// no other entry of its interval, and its entry in flight stays the last of its log.
+pub fn appends_go_to_others()
+    ensures { (g : Group) → IsReached g → AppendsGoToOthers g }
 {}
 
 /// Whatever was decided stands at the beginning of every log that is chosen later.

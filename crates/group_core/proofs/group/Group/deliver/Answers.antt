@@ -1,7 +1,9 @@
 use Rattle.std.proofs.Common.{◌≡◌, ◌<◌, ap, sym, ◌∙◌, subst, length, false}
 use Rattle.std.specs.Prelude.{Some, slice_get}
 use Rattle.entry_core.specs.Log.{is_in}
+use Rattle.group_core.specs.Reached.{IsReached}
 use Rattle.group_core.proofs.Calls.{get_in, next_answered, whole_dropped, stepped}
+use Rattle.group_core.proofs.Lowering.{delivery_lowers, drop_lowers, found_lowers}
 use Rattle.group_core.proofs.group.Group.deliver.Goals as goal
 
 pub invariant_of-self : goal.invariant_of-self
@@ -10,11 +12,18 @@ invariant_of-self c =
     (next_answered c.self.invariant c.args.k c.in-Some.message.now c.reach_client.new.wire.sent c.reach_client.new.answers here c.in-Client.is
     c.in_ok-reach_client-in-Client.ensures.wire_ok (c.in_ok-reach_client-in-Client.ensures.answers_ok c.in-Some.message.now here)).whole
 
-pub returns-in_ok-reach_client-in-Client : goal.returns-in_ok-reach_client-in-Client
-returns-in_ok-reach_client-in-Client c =
+pub returns-in_ok-reach_client-in-Client-clause-steps : goal.returns-in_ok-reach_client-in-Client-clause-steps
+returns-in_ok-reach_client-in-Client-clause-steps c =
     let here : slice_get c.self.inside.state.wire.sent c.args.k ≡ Some c.in-Some.message.now = ap (λ l. slice_get l c.args.k) (sym c.as_slice.ensures) ∙ sym c.in-Some.ensures in
     stepped c.self.view_is (next_answered c.self.invariant c.args.k c.in-Some.message.now c.reach_client.new.wire.sent c.reach_client.new.answers here c.in-Client.is
     c.in_ok-reach_client-in-Client.ensures.wire_ok (c.in_ok-reach_client-in-Client.ensures.answers_ok c.in-Some.message.now here))
+
+pub returns-in_ok-reach_client-in-Client-clause-delivered : goal.returns-in_ok-reach_client-in-Client-clause-delivered
+returns-in_ok-reach_client-in-Client-clause-delivered c =
+    let here : slice_get c.self.inside.state.wire.sent c.args.k ≡ Some c.in-Some.message.now = ap (λ l. slice_get l c.args.k) (sym c.as_slice.ensures) ∙ sym c.in-Some.ensures in
+    delivery_lowers _ _ c.args.k (subst IsReached c.self.view_is c.self.invariant.reached)
+    (stepped c.self.view_is (next_answered c.self.invariant c.args.k c.in-Some.message.now c.reach_client.new.wire.sent c.reach_client.new.answers here c.in-Client.is
+    c.in_ok-reach_client-in-Client.ensures.wire_ok (c.in_ok-reach_client-in-Client.ensures.answers_ok c.in-Some.message.now here)))
 
 pub remove-requires : goal.remove-requires
 remove-requires c =

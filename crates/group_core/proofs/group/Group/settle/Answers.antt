@@ -6,17 +6,15 @@ use Rattle.group_core.specs.Budget.{budget}
 use Rattle.group_core.specs.Reached.{IsReached, Refuses, Settles}
 use Rattle.group_core.proofs.SettledGrowth.{settle_grows, settle_stands}
 use Rattle.group_core.proofs.Reached.{reached_bounded}
-use Rattle.group_core.proofs.Settling.{lowered, so_far_more, so_far_less, so_far_ended, so_far_done, wire_none, dropped, not_dropped, lowered_drop}
+use Rattle.group_core.proofs.Settling.{so_far_more, so_far_less, so_far_ended, so_far_done, wire_none, dropped, not_dropped}
 use Rattle.group_core.proofs.group.Group.settle.Goals as goal
 
 pub loop-self-smaller-in-Ok : goal.loop-self-smaller-in-Ok
-loop-self-smaller-in-Ok c =
-    let some : (length c.loop-self.self.wire == 0) ≡ false = ap (λ (v : Group). length v.wire == 0) (sym c.self-in-loop-self.view_is) ∙ ap (λ l. length l == 0) (sym c.as_slice.ensures) ∙ sym c.is_empty.ensures ∙ c.loop-self-test.true in
-    lowered c.loop-self.self c.deliver.new.self (reached_bounded c.loop-self.self (subst IsReached c.self-in-loop-self.view_is c.self-in-loop-self.invariant.reached)) some c.in-Ok.ensures.1
+loop-self-smaller-in-Ok c = c.in-Ok.ensures.delivered
 
 pub loop-self-preserved-in-Ok : goal.loop-self-preserved-in-Ok
 loop-self-preserved-in-Ok c =
-    so_far_more c.args.self.now c.loop-self.self c.deliver.new.self c.loop-self.delivered c.saturating_add-delivered.result c.loop-self.invariant c.in-Ok.ensures.0 c.in-Ok.ensures.1 c.saturating_add-delivered.ensures
+    so_far_more c.args.self.now c.loop-self.self c.deliver.new.self c.loop-self.delivered c.saturating_add-delivered.result c.loop-self.invariant c.in-Ok.ensures.steps.0 c.in-Ok.ensures.steps.1 c.saturating_add-delivered.ensures
 
 pub returns : goal.returns
 returns c =
@@ -31,20 +29,16 @@ returns c =
 pub loop-self-preserved : goal.loop-self-preserved
 loop-self-preserved c =
     let down = dropped c.in-Err.fault (sym c.is_unreachable.ensures ∙ c.if-is_unreachable.true) in
-    let said : Refuses c.loop-self.self (Deliver 0) Unreachable c.deliver.new.self = subst (λ f. Refuses c.loop-self.self (Deliver 0) f c.deliver.new.self) down c.in-Err.ensures in
+    let said : Refuses c.loop-self.self (Deliver 0) Unreachable c.deliver.new.self = subst (λ f. Refuses c.loop-self.self (Deliver 0) f c.deliver.new.self) down c.in-Err.ensures.steps in
     so_far_less c.args.self.now c.loop-self.self c.deliver.new.self c.loop-self.delivered c.loop-self.invariant said.0 said.1
 
 pub loop-self-smaller : goal.loop-self-smaller
-loop-self-smaller c =
-    let some : (length c.loop-self.self.wire == 0) ≡ false = ap (λ (v : Group). length v.wire == 0) (sym c.self-in-loop-self.view_is) ∙ ap (λ l. length l == 0) (sym c.as_slice.ensures) ∙ sym c.is_empty.ensures ∙ c.loop-self-test.true in
-    let down = dropped c.in-Err.fault (sym c.is_unreachable.ensures ∙ c.if-is_unreachable.true) in
-    let said : Refuses c.loop-self.self (Deliver 0) Unreachable c.deliver.new.self = subst (λ f. Refuses c.loop-self.self (Deliver 0) f c.deliver.new.self) down c.in-Err.ensures in
-    lowered_drop c.loop-self.self c.deliver.new.self (reached_bounded c.loop-self.self (subst IsReached c.self-in-loop-self.view_is c.self-in-loop-self.invariant.reached)) some said.0 said.1
+loop-self-smaller c = c.in-Err.ensures.dropped (dropped c.in-Err.fault (sym c.is_unreachable.ensures ∙ c.if-is_unreachable.true))
 
 pub returns-in-Err-2 : goal.returns-in-Err-2
 returns-in-Err-2 c =
     let some : (length c.loop-self.self.wire == 0) ≡ false = ap (λ (v : Group). length v.wire == 0) (sym c.self-in-loop-self.view_is) ∙ ap (λ l. length l == 0) (sym c.as_slice.ensures) ∙ sym c.is_empty.ensures ∙ c.loop-self-test.true in
-    let some_of : Settles c.args.self.now (Err c.in-Err.fault) c.deliver.new.self = so_far_ended c.args.self.now c.loop-self.self c.deliver.new.self c.loop-self.delivered c.in-Err.fault c.loop-self.invariant some c.in-Err.ensures
+    let some_of : Settles c.args.self.now (Err c.in-Err.fault) c.deliver.new.self = so_far_ended c.args.self.now c.loop-self.self c.deliver.new.self c.loop-self.delivered c.in-Err.fault c.loop-self.invariant some c.in-Err.ensures.steps
     (not_dropped c.in-Err.fault (sym c.is_unreachable.ensures ∙ c.if-is_unreachable.false)) in
     record {
       settles = some_of;

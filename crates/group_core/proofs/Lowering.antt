@@ -1,0 +1,40 @@
+-- A message that is delivered, dropped or lost lowers the budget.
+use Rattle.std.proofs.Common.{ℕ, ◌≡◌, ◌<◌, refl, sym, ◌∙◌, ap, arith}
+use Rattle.std.specs.Prelude.{Option, Some, None, slice_get}
+use Rattle.group_core.specs.Types.{Sent}
+use Rattle.group_core.specs.Group.{Group, Deliver, Lose, Unreachable, group_step, refusal_of, refusal_at, missing_at, left_by}
+use Rattle.group_core.specs.Budget.{budget}
+use Rattle.group_core.specs.Reached.{IsReached}
+use Rattle.group_core.proofs.Reached.{reached_bounded}
+use Rattle.group_core.proofs.Refusals.{refused_leaves}
+use Rattle.group_core.proofs.Settles.{deliver_lowers, lose_lowers}
+
+pub found_lowers : (old new : Group) (k : ℕ) (m : Sent) → IsReached old → slice_get old.wire k ≡ Some m → new ≡ group_step old (Deliver k) → budget new < budget old
+found_lowers old new k m r here is =
+    let low = deliver_lowers old k m here (reached_bounded old r) in
+    let same : budget new ≡ budget (group_step old (Deliver k)) = ap budget is in
+    omega arith
+
+pub delivery_lowers : (old new : Group) (k : ℕ) → IsReached old → (refusal_of old (Deliver k) ≡ None) × (new ≡ group_step old (Deliver k)) → budget new < budget old
+delivery_lowers old new k r step = go (slice_get old.wire k) refl step.0
+  where
+    go : (found : Option Sent) → slice_get old.wire k ≡ found → refusal_at old k found ≡ None → budget new < budget old
+    go None here free = absurd (cc)
+    go (Some m) here free = found_lowers old new k m r here step.1
+
+pub drop_lowers : (old new : Group) (k : ℕ) → IsReached old → (refusal_of old (Deliver k) ≡ Some Unreachable) × (new ≡ left_by old (Deliver k) Unreachable) → budget new < budget old
+drop_lowers old new k r step = go (slice_get old.wire k) refl step.0
+  where
+    go : (found : Option Sent) → slice_get old.wire k ≡ found → refusal_at old k found ≡ Some Unreachable → budget new < budget old
+    go None here down = absurd (cc)
+    go (Some m) here down = found_lowers old new k m r here (step.1 ∙ sym (refused_leaves old (Deliver k) Unreachable step.0))
+
+pub loss_lowers : (old new : Group) (k : ℕ) → (refusal_of old (Lose k) ≡ None) × (new ≡ group_step old (Lose k)) → budget new < budget old
+loss_lowers old new k step = go (slice_get old.wire k) refl step.0
+  where
+    go : (found : Option Sent) → slice_get old.wire k ≡ found → missing_at k found ≡ None → budget new < budget old
+    go None here free = absurd (cc)
+    go (Some m) here free =
+        let low = lose_lowers old k m here in
+        let same : budget new ≡ budget (group_step old (Lose k)) = ap budget step.1 in
+        omega arith
