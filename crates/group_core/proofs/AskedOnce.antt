@@ -1,6 +1,6 @@
 -- What was decided was submitted, each request once: so it is no longer than the list of requests.
-use Rattle.std.proofs.Common.{ℕ, ◌≡◌, ◌≤◌, Bool, true, false, ◌==◌, ◌||◌, List, [], ◌∷◌, ◌++◌, map, length, refl, sym, subst, arith, inl, inr, if◌then◌else◌}
-use Rattle.std.specs.Prelude.{Some, None, nat_eq}
+use Rattle.std.proofs.Common.{ℕ, ◌≡◌, ◌≤◌, Bool, true, false, ◌==◌, List, [], ◌∷◌, ◌++◌, map, length, refl, sym, subst, arith, inl, inr, if◌then◌else◌}
+use Rattle.std.specs.Prelude.{Some, nat_eq}
 use Rattle.std.specs.List.{list_any, IsDistinct, AllByRecursion}
 use Rattle.std.proofs.Math.ListN.{length-map}
 use Rattle.std.proofs.lemmas.Cmp.{nat_eq_equiv}
@@ -47,12 +47,12 @@ has_number : (requests : List Sealed) (id : ℕ) (s : Sealed) → submitted requ
 has_number [] id s is = absurd (cc)
 has_number (r ∷ requests) id s is = elim (cases_eq id r.id) [
   | inl same ↦ or_left (id == r.id) (list_any (nat_eq id) (map (λ r. r.id) requests)) (eq-eqb id r.id same)
-  | inr other ↦ or_right (id == r.id) (list_any (nat_eq id) (map (λ r. r.id) requests)) (go (r.id == id) (ne_eqb r.id id (λ (same : r.id ≡ id). other (sym same))) is)
+  | inr other ↦ or_right (id == r.id) (list_any (nat_eq id) (map (λ r. r.id) requests)) (go (λ found. has_number requests id s found) (r.id == id) (ne_eqb r.id id (λ (same : r.id ≡ id). other (sym same))) is)
 ]
   where
-    go : (b : Bool) → b ≡ false → (if b then Some r else submitted requests id) ≡ Some s → list_any (nat_eq id) (map (λ r. r.id) requests) ≡ true
-    go true no found = absurd (cc)
-    go false no found = has_number requests id s found
+    go : (submitted requests id ≡ Some s → list_any (nat_eq id) (map (λ r. r.id) requests) ≡ true) → (b : Bool) → b ≡ false → (if b then Some r else submitted requests id) ≡ Some s → list_any (nat_eq id) (map (λ r. r.id) requests) ≡ true
+    go later true other found = absurd (cc)
+    go later false other found = later found
 
 have_numbers : (requests : List Sealed) (log : List Entry) → InLog (IsAsked requests) log → (q : ℕ) → list_any (nat_eq q) (ids log) ≡ true → list_any (nat_eq q) (numbers requests) ≡ true
 have_numbers requests [] asked q here = absurd (both_ways false refl here)

@@ -36,6 +36,18 @@ invariant_of-self-then-not-contains c =
     let down : is_in c.self.inside.state.up c.in-Osd.d ≡ false = ap (λ l. is_in l c.in-Osd.d) (sym c.as_slice-in-Osd.ensures) ∙ sym c.contains.ensures ∙ c.if-not-contains.true in
     whole_dropped c.self.invariant c.args.k c.in-Osd.d c.in-Some.message.now c.remove.new.self.sent here c.in-Osd.is down c.remove.ensures
 
+pub returns-then-not-contains-clause-dropped : goal.returns-then-not-contains-clause-dropped
+returns-then-not-contains-clause-dropped c = λ _. (
+    let here : slice_get c.self.inside.state.wire.sent c.args.k ≡ Some c.in-Some.message.now = ap (λ l. slice_get l c.args.k) (sym c.as_slice.ensures) ∙ sym c.in-Some.ensures in
+    let down : is_in c.self.inside.state.up c.in-Osd.d ≡ false = ap (λ l. is_in l c.in-Osd.d) (sym c.as_slice-in-Osd.ensures) ∙ sym c.contains.ensures ∙ c.if-not-contains.true in
+    drop_lowers c.self.view_is c.self.invariant c.args.k c.in-Osd.d c.in-Some.message.now c.remove.new.self.sent here c.in-Osd.is down c.remove.ensures)
+
+pub returns-in_ok-reach_daemon-in-Osd-clause-delivered : goal.returns-in_ok-reach_daemon-in-Osd-clause-delivered
+returns-in_ok-reach_daemon-in-Osd-clause-delivered c =
+    let here : slice_get c.self.inside.state.wire.sent c.args.k ≡ Some c.in-Some.message.now = ap (λ l. slice_get l c.args.k) (sym c.as_slice.ensures) ∙ sym c.in-Some.ensures in
+    found_lowers c.args.self.now c.reach_daemon.new.self c.args.k c.in-Some.message.now (subst IsReached c.self.view_is c.self.invariant.reached)
+    (subst (λ v. slice_get v.wire c.args.k ≡ Some c.in-Some.message.now) c.self.view_is here) c.in_ok-reach_daemon-in-Osd.ensures.ok
+
 pub reach_daemon-requires-clause-here : goal.reach_daemon-requires-clause-here
 reach_daemon-requires-clause-here c =
     let here : slice_get c.self.inside.state.wire.sent c.args.k ≡ Some c.in-Some.message.now = ap (λ l. slice_get l c.args.k) (sym c.as_slice.ensures) ∙ sym c.in-Some.ensures in
