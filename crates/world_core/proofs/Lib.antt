@@ -1,0 +1,13 @@
+pub mod Bytes
+pub mod Tickets
+pub mod Merge
+pub mod Standing
+pub mod Acting
+pub mod Pools
+pub mod Numbers
+pub mod Places
+pub mod Fronts
+pub mod Worlds
+pub mod Runs
+pub mod Replied
+pub mod Holding
