@@ -11,3 +11,9 @@ pub mod Worlds
 pub mod Runs
 pub mod Replied
 pub mod Holding
+pub mod Limits
+pub mod Sets
+pub mod Requests
+pub mod Intervals
+pub mod Accepted
+pub mod Listings

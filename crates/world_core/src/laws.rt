@@ -5,6 +5,8 @@ ghost use Rattle.world_core.specs.Answers.{DecidedIsOneList, AuditGrows, Answers
 ghost use Rattle.world_core.specs.Tickets.{TicketsAreRead};
 ghost use Rattle.world_core.specs.Audit.{RunsTell};
 ghost use Rattle.world_core.specs.Holds.{WorldHolds, HoldsOn};
+ghost use Rattle.world_core.specs.Accepted.{RequestsAreSubmissions, FrontTellsRequests, AcceptedHasNumbers, AcceptedHolds, AcceptedAnswers, IntervalsAreTheMaps, GroupsAreServed};
+ghost use Rattle.world_core.specs.Listing.{PiecesAreTheNamespace, PiecesAnswerTheNamespace};
 
 /// Entries of different groups touch different objects: lists that are legal in each group are legal together, in any order that keeps each group's own.
 pub fn parts_are_legal_together()
@@ -40,4 +42,37 @@ pub fn runs_tell_the_audit()
 pub fn worlds_hold()
     ensures all { WorldHolds }
     ensures next { HoldsOn }
+{}
+
+/// Where each event was accepted, each group's requests are the submissions for it, in their order; and no group refuses a
+/// request that the front does not, so the front alone says whether a request is accepted.
+pub fn requests_are_submissions()
+    ensures submissions { RequestsAreSubmissions }
+    ensures front { FrontTellsRequests }
+{}
+
+/// Where each event was accepted, there are fewer than 2^32 requests, so what is proved of worlds whose ids have room holds
+/// without that premise.
+pub fn accepted_have_numbers()
+    ensures numbers { AcceptedHasNumbers }
+    ensures holds { AcceptedHolds }
+    ensures answers { AcceptedAnswers }
+{}
+
+/// Where each event was accepted, the sets of each group are the intervals that the map has for its place.
+pub fn intervals_are_the_maps()
+    ensures { IntervalsAreTheMaps }
+{}
+
+/// Where each event was accepted, each group is one that there can be, whose last set is the map's present one, and whose
+/// sets lay within the daemons that were up: what the law of recovery asks of a group.
+pub fn groups_are_served()
+    ensures { GroupsAreServed }
+{}
+
+/// The pieces of a list, one for each group of the pool: where each is decided on a store that has the same objects in that
+/// pool and namespace, their names together, sorted, are exactly those of these objects; and that is what the client is shown where each is allowed.
+pub fn pieces_are_the_namespace()
+    ensures names { PiecesAreTheNamespace }
+    ensures answer { PiecesAnswerTheNamespace }
 {}
