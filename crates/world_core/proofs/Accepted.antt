@@ -1,6 +1,6 @@
 -- What a world keeps whose events were all accepted.
 use Prim.Native.Nat.{zero, suc}
-use Rattle.std.proofs.Common.{◌≡◌, ◌∙◌, ℕ, ◌+◌, ◌*◌, ◌<◌, ◌≤◌, ◌==◌, ◌||◌, List, [], ◌∷◌, ◌++◌, Bool, true, false, not, cond, if◌then◌else◌, Option, Some, None, Result, Ok, Err, map, length, All, fold, refl, sym, ap, subst, arith, append-nil, length-append, nat_lt, unwrap_or, option_to_list}
+use Rattle.std.proofs.Common.{◌≡◌, ◌∙◌, ℕ, ◌+◌, ◌*◌, ◌<◌, ◌≤◌, ◌==◌, ◌||◌, List, [], ◌∷◌, ◌++◌, Bool, true, false, not, cond, if◌then◌else◌, Option, Some, None, Result, Ok, Err, map, length, fold, refl, sym, ap, subst, arith, append-nil, length-append, nat_lt, option_to_list}
 use Rattle.std.specs.List.{filter, flat_map, range_with_len, find, list_any}
 use Rattle.std.specs.Option.{option_map, option_or}
 use Rattle.std.specs.Str.{bytes_eq}
@@ -48,7 +48,7 @@ use Rattle.world_core.proofs.Worlds.{world_stands}
 use Rattle.world_core.proofs.Holding.{step_at, world_holds}
 use Rattle.world_core.proofs.Replied.{answers_are_decided}
 use Rattle.world_core.proofs.Places.{each_filter, numbered, places_once, AtMostOne}
-use Rattle.world_core.proofs.Limits.{or_second, wrapped_none, not_refused, Allowed, allowed, CreatesWell, creates_well, IsSealedFor, FrontKept, once, first_kept, front_kept, few_submissions, limits_now, pool_limits, if_none, each_not, counted_for, not_full, accepted_has_numbers}
+use Rattle.world_core.proofs.Limits.{or_second, wrapped_none, not_refused, Allowed, allowed, CreatesWell, creates_well, IsSealedFor, FrontKept, once, first_kept, front_kept, few_submissions, pool_limits, if_none, each_not, counted_for, not_full, accepted_has_numbers}
 use Rattle.world_core.proofs.Sets.{IsMap, set_acting, members_fit, lies_within}
 use Rattle.world_core.proofs.Requests.{facts, told_one, asked_facts, moved_facts, restarted_facts}
 use Rattle.world_core.proofs.Intervals.{sized_set, members_are, intervals_after, intervals_none, HasSets, later, sets_after, sets_kept}
@@ -512,11 +512,11 @@ front_tells : (w : World) → WorldKept w → FrontStands w.front → FrontTells
 unfolding requests_of
 front_tells w kept stands = record {
   submit = λ ask object ops. told_alone (front_refusal w.front (Submit ask object ops)) (parts_refusal w.groups (parts_of w.front (Submit ask object ops))) (λ none.
-  asking_passes w ask (requests_of w.front (Submit ask object ops)) kept stands none (λ rs is. submit_made w.front ask object ops rs is)
-  (few_submissions (front_step w.front (Submit ask object ops)) (front_kept w.front (Submit ask object ops) kept.front none)));
+      asking_passes w ask (requests_of w.front (Submit ask object ops)) kept stands none (λ rs is. submit_made w.front ask object ops rs is)
+      (few_submissions (front_step w.front (Submit ask object ops)) (front_kept w.front (Submit ask object ops) kept.front none)));
   list = λ ask. told_alone (front_refusal w.front (ListNames ask)) (parts_refusal w.groups (parts_of w.front (ListNames ask))) (λ none.
-  asking_passes w ask (requests_of w.front (ListNames ask)) kept stands none (λ rs is. list_made w.front ask rs is)
-  (few_submissions (front_step w.front (ListNames ask)) (front_kept w.front (ListNames ask) kept.front none)));
+      asking_passes w ask (requests_of w.front (ListNames ask)) kept stands none (λ rs is. list_made w.front ask rs is)
+      (few_submissions (front_step w.front (ListNames ask)) (front_kept w.front (ListNames ask) kept.front none)));
 }
 
 -- ---- the laws

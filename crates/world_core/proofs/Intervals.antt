@@ -1,12 +1,12 @@
 -- The intervals of a group after one more command.
-use Rattle.std.proofs.Common.{◌≡◌, ◌∙◌, ℕ, ◌==◌, ◌&&◌, ◌||◌, List, [], ◌∷◌, ◌++◌, Bool, true, false, not, if◌then◌else◌, Option, Some, None, option_to_list, length, refl, sym, ap, subst, append-nil, length-append, arith, ◌-◌, slice_index_or, fold, unwrap_or}
+use Rattle.std.proofs.Common.{◌≡◌, ◌∙◌, ℕ, ◌==◌, ◌&&◌, ◌||◌, List, [], ◌∷◌, ◌++◌, Bool, true, false, not, if◌then◌else◌, Some, None, option_to_list, length, refl, sym, ap, subst, append-nil, length-append, arith, ◌-◌, slice_index_or, unwrap_or}
 use Rattle.std.specs.List.{list_any}
 use Rattle.std.specs.Option.{option_map}
 use Rattle.std.specs.Str.{bytes_eq}
 use Rattle.place_core.specs.Place.{acting_of, numbers_of}
 use Rattle.map_core.specs.State.{MapState, History}
-use Rattle.map_core.specs.Map.{after, initial, map_of}
-use Rattle.map_core.specs.Intervals.{size_in, set_of, restarts, begun, intervals_from, intervals_of}
+use Rattle.map_core.specs.Map.{after, map_of}
+use Rattle.map_core.specs.Intervals.{size_in, set_of, restarts, begun, intervals_of}
 use Rattle.map_core.specs.declared.command.MapCommand.{MapCommand}
 use Rattle.map_core.specs.declared.command.MapCommand.TheVariants.{PoolCreate, AppEnable, AppSet, AppRm, OsdUp, OsdDown, OsdRestart}
 use Rattle.map_core.specs.Laws.{EndIn}

@@ -4,19 +4,18 @@ use Rattle.std.proofs.Common.{◌≡◌, ◌∙◌, ℕ, ◌+◌, ◌*◌, ◌<�
 use Rattle.std.specs.Prelude.{nat_le}
 use Rattle.std.specs.List.{AllPairs, filter, flat_map, find, list_any}
 use Rattle.std.specs.Option.{option_map, option_or}
-use Rattle.std.specs.Str.{bytes_eq}
 use Rattle.std.proofs.lemmas.Bool.Decides.{nat_tests}
 use Rattle.std.proofs.lemmas.List.Elements.{filter-append, All-head, All-tail}
 use Rattle.std.proofs.lemmas.List.Sums.{length-filter}
 use Rattle.std.proofs.lemmas.List.FromFn.{length-map-range_with_len}
 use Rattle.grant_core.specs.Flat.{Table}
 use Rattle.map_core.specs.State.{MapState, History}
-use Rattle.map_core.specs.Map.{change_first, is_named, tagged, created, pools_after, after, initial, map_after, map_of, epoch_of, pool_in}
+use Rattle.map_core.specs.Map.{is_named, initial, map_of, epoch_of, pool_in}
 use Rattle.map_core.specs.Refusal.{refusal, tests, in_limits, is_last}
 use Rattle.map_core.specs.Limits.{IsAccepted, IsPool}
 use Rattle.map_core.specs.declared.pool.Pool.{Pool}
 use Rattle.map_core.specs.declared.command.MapCommand.{MapCommand}
-use Rattle.map_core.specs.declared.command.MapCommand.TheVariants.{PoolCreate, AppEnable, AppSet, AppRm, OsdUp, OsdDown, OsdRestart}
+use Rattle.map_core.specs.declared.command.MapCommand.TheVariants.{PoolCreate}
 use Rattle.map_core.proofs.Acceptance.{all_fail, limits_of, accepted_push}
 use Rattle.map_core.proofs.Kept.{pools_differ, pools_are_few}
 use Rattle.entry_core.specs.Request.{Sealed}
@@ -35,7 +34,7 @@ use Rattle.world_core.proofs.Pools.{in_later, found_in}
 use Rattle.world_core.proofs.Bytes.{bytes_same}
 use Rattle.world_core.proofs.Acting.{each_join, each_weaker}
 use Rattle.world_core.proofs.Fronts.{IsSealedWell, IsBelow, Requested, submit_made, list_made}
-use Rattle.world_core.proofs.Places.{true_not_false, each_filter, all_pass, group_turned, NamedOnce, places_once, bytes_turned, AtMostOne}
+use Rattle.world_core.proofs.Places.{true_not_false, each_filter, all_pass, group_turned, NamedOnce, places_once, AtMostOne}
 
 -- ---- what an accepted event was let through by
 

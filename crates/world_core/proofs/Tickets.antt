@@ -1,5 +1,5 @@
 -- A user's ticket is a function of its osd text.
-use Rattle.std.proofs.Common.{◌≡◌, ◌∙◌, List, Some, None, sym, ap}
+use Rattle.std.proofs.Common.{◌≡◌, ◌∙◌, Some, None, sym, ap}
 use Rattle.cap_text.proofs.ReadTexts.{reads_the_grammar}
 use Rattle.grant_core.specs.Flat.{flat}
 use Rattle.world_core.specs.Tickets.{grants_or_none, grants_of, TicketsAreRead}

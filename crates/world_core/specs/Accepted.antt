@@ -1,6 +1,6 @@
 -- Statement: contracts of public calls use it.
 -- What worlds keep whose events were all accepted.
-use Rattle.std.specs.Prelude.{◌≡◌, ℕ, List, true, Some}
+use Rattle.std.specs.Prelude.{◌≡◌, ℕ, List, Some}
 use Rattle.std.specs.List.{filter}
 use Rattle.grant_core.specs.Flat.{Table}
 use Rattle.place_core.specs.Place.{IsActingSet, numbers_of}

@@ -1,6 +1,6 @@
 -- Statement: contracts of public calls use it.
 -- Why the users of a world refuse a command, with the first fault of an osd text as the users tell it.
-use Rattle.std.specs.Prelude.{◌≡◌, ℕ, List, Option, Some, None, Result, Ok, Err}
+use Rattle.std.specs.Prelude.{◌≡◌, ℕ, List, Option, Some, None, Err}
 use Rattle.auth_db.specs.Users.{Database, user_at}
 use Rattle.auth_db.specs.Refusals.{known_refusal, add_refusal, caps_refusal, again, Refuses}
 use Rattle.auth_db.specs.declared.caps.Caps.{Caps}

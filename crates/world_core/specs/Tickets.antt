@@ -1,6 +1,6 @@
 -- Statement: contracts of public calls use it.
 -- What a user's osd text comes to, as a function.
-use Rattle.std.specs.Prelude.{◌≡◌, ℕ, List, [], Option, Some, None, Result, Ok, Err}
+use Rattle.std.specs.Prelude.{◌≡◌, ℕ, List, [], Option, Some, None, Ok, Err}
 use Rattle.std.specs.Option.{option_map}
 use Rattle.cap_text.specs.Reading.{Read, read_text}
 use Rattle.cap_text.specs.declared.grant.Grant.{Grant}
