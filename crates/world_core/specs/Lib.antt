@@ -3,7 +3,6 @@ pub mod Merging
 pub mod Tickets
 pub mod Event
 pub mod Front
-pub mod Refusing
 pub mod World
 pub mod Standing
 pub mod Answers
