@@ -1,5 +1,5 @@
 -- Refusals put together, over plain variables.
-use Rattle.std.proofs.Common.{◌≡◌, ℕ, ◌<◌, List, [], length, nat_le, not, Bool, true, false, cond, Option, None, Some, Result, Ok, Err, IfOk, refl, sym, ap, subst, arith, unwrap_or}
+use Rattle.std.proofs.Common.{◌≡◌, ℕ, ◌<◌, List, length, nat_le, not, Bool, true, false, cond, Option, None, Some, Result, Ok, Err, IfOk, refl, sym, ap, subst, arith, unwrap_or}
 use Rattle.std.proofs.lemmas.Bool.Decides.{nat_tests}
 use Rattle.cap_text.specs.declared.fault.CapFault.{CapFault}
 use Rattle.cap_text.specs.declared.fault.FaultKind.{FaultKind}

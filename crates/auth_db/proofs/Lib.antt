@@ -1,3 +1,4 @@
 pub mod Commute
 pub mod Kept
 pub mod Judging
+pub mod Told

@@ -1,6 +1,6 @@
 -- Refinement: only contracts inside the crate use it.
 -- The entries of the map of users.
-use Rattle.std.specs.Prelude.{ℕ, List, map, String, string_bytes}
+use Rattle.std.specs.Prelude.{List, map, String, string_bytes}
 use Rattle.std.specs.declared.alloc.Global.{Global}
 use Rattle.auth_db.specs.Users.{Users}
 use Rattle.auth_db.specs.declared.caps.Caps.{Caps}

@@ -1,11 +1,14 @@
 -- Statement: contracts of public calls use it.
 -- Why a call on the users is refused: this project's profile.
-use Rattle.std.specs.Prelude.{◌≡◌, ℕ, List, [], ◌∷◌, Bool, not, ◌||◌, if◌then◌else◌, Option, None, Some, Result, Ok, Err, unwrap_or, length, nat_le}
+use Rattle.std.specs.Prelude.{◌≡◌, ◌⊎◌, ℕ, List, [], ◌∷◌, Bool, not, ◌||◌, if◌then◌else◌, Option, None, Some, option_map, MatchOption, Result, Ok, Err, unwrap_or, length, nat_le}
+use Rattle.std.specs.Option.{option_or}
+use Rattle.std.specs.Result.{result_err}
 use Rattle.cap_text.specs.declared.fault.CapFault.{CapFault}
 use Rattle.cap_text.specs.declared.fault.FaultKind.{FaultKind}
 use Rattle.cap_text.specs.declared.fault.FaultKind.TheVariants as kinds
 use Rattle.cap_text.specs.declared.grant.Grant.{Grant}
 use Rattle.cap_text.specs.Grammar.{Spells}
+use Rattle.cap_text.specs.Reading.{Read, read_text}
 use Rattle.grant_core.specs.declared.fault.ExpandFault.{ExpandFault}
 use Rattle.grant_core.specs.declared.fault.ExpandFault.TheVariants as expansion
 use Rattle.grant_core.specs.Flat.{Table}
@@ -17,7 +20,7 @@ use Rattle.auth_db.specs.declared.fault.AuthFault.{AuthFault}
 use Rattle.auth_db.specs.declared.fault.AuthFault.TheVariants.{BadName, Exists, NoEntity, CapsDiffer, BadCaps, BadProfile, OutOfMemory, Limit}
 use Rattle.auth_db.specs.Names.{is_user_name}
 use Rattle.auth_db.specs.Texts.{has_long_text, too_long, has_no_text, are_same_caps, IsGood, IsBadText}
-use Rattle.auth_db.specs.Users.{Users, has_user}
+use Rattle.auth_db.specs.Users.{Users, Database, Command, Add, GetOrCreate, SetCaps, Delete, user_at, has_user}
 
 -- ---- what takes no memory to find
 
@@ -80,6 +83,39 @@ Refuses None table osd fault = OsdRefuses table osd fault
 abbrev pub Judged : {T : Type 0} → Option AuthFault → Table → Option (List ℕ) → Result T AuthFault → Type 0
 Judged first table osd (Ok x) = (first ≡ None) × IsGood table osd
 Judged first table osd (Err fault) = Refuses first table osd fault
+
+-- ---- the refusal of a command, as a function
+
+-- what reading an osd text tells, or why its list is not expanded
+abbrev pub read_refusal : Table → Read → Option AuthFault
+read_refusal table (Ok grants) = option_map BadProfile (expand_refusal table grants)
+read_refusal table (Err fault) = Some (BadCaps fault)
+
+-- why an osd text is not taken
+abbrev pub osd_refusal : Table → Option (List ℕ) → Option AuthFault
+osd_refusal table None = None
+osd_refusal table (Some text) = read_refusal table (read_text text)
+
+-- why a user is not made, who has these texts or is not there
+abbrev pub creation_refusal : Database → List ℕ → Caps → Option Caps → Option AuthFault
+creation_refusal database name caps None = option_or (add_refusal database.users name caps) (osd_refusal database.table caps.osd)
+creation_refusal database name caps (Some stored) = result_err (again name stored caps)
+
+-- why a command is refused, where memory does not want
+abbrev pub auth_refusal : Database → Command → Option AuthFault
+auth_refusal database (Add name caps) = option_or (add_refusal database.users name caps) (osd_refusal database.table caps.osd)
+auth_refusal database (GetOrCreate name caps) = creation_refusal database name caps (user_at database.users name)
+auth_refusal database (SetCaps name caps) = option_or (caps_refusal database.users name caps) (osd_refusal database.table caps.osd)
+auth_refusal database (Delete name) = known_refusal database.users name
+
+-- accepted only where there is no such refusal, and refused by it or for want of memory
+abbrev pub RefusedOrMemory : {T : Type 0} → Option AuthFault → Result T AuthFault → Type 0
+RefusedOrMemory refusal (Ok x) = refusal ≡ None
+RefusedOrMemory refusal (Err fault) = (fault ≡ OutOfMemory) ⊎ (refusal ≡ Some fault)
+
+-- An osd text that is not refused is good, and one that is refused is refused by what this tells: its first fault, or why its list is not expanded.
+abbrev pub RefusalsAreTheTexts : Type 0
+RefusalsAreTheTexts = (table : Table) (osd : Option (List ℕ)) → MatchOption (osd_refusal table osd) (IsGood table osd) (OsdRefuses table osd)
 
 -- ---- what the layers below refuse, as a fault of the users
 

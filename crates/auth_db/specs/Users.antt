@@ -37,7 +37,7 @@ with_user users name caps = insert_entry (slice_cmp nat_cmp) users name caps
 abbrev pub without_user : Users → List ℕ → Users
 without_user users name = remove_entry (is_name name) users
 
--- an accepted command
+-- a command on the users
 pub data Command : Type 0 where
   Add : List ℕ → Caps → Command
   GetOrCreate : List ℕ → Caps → Command

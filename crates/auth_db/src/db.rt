@@ -7,7 +7,7 @@ ghost use Rattle.std.specs.Map.{keys_of, values_of};
 ghost use Rattle.std.specs.Ordering.{nat_cmp};
 ghost use Rattle.std.specs.Cmp.Lexicographic.{slice_cmp};
 ghost use Rattle.auth_db.specs.Entries.{users_of};
-ghost use Rattle.auth_db.specs.Refusals.{again, Judged, RefusedExactly, RefusedFirst};
+ghost use Rattle.auth_db.specs.Refusals.{again, auth_refusal, Judged, RefusalsAreTheTexts, RefusedExactly, RefusedFirst, RefusedOrMemory};
 ghost use Rattle.auth_db.specs.Refusals as spec;
 ghost use Rattle.auth_db.specs.Names.{is_user_name};
 ghost use Rattle.auth_db.specs.Texts.{IsGood, has_long_text};
@@ -80,6 +80,7 @@ impl AuthDb {
     pub fn add(&mut self, name: &str, caps: Caps) -> Result<(), AuthFault>
         ensures added { OnOk result (self.new ≡ after self.old (Add name.now caps)) }
         ensures judged { Judged (spec.add_refusal self.old.users name.now caps) self.old.table caps.osd result }
+        ensures refused { RefusedOrMemory (auth_refusal self.old (Add name.now caps)) result }
         ensures unchanged { OnErr result (self.new ≡ self.old) }
     {
         if let Some(fault) = add_refusal(&self.users, name, &caps) {
@@ -101,6 +102,7 @@ impl AuthDb {
         ensures made { IsNone (user_at self.old.users name.now) → IfOk result (λ creation. creation ≡ Creation.Made) }
         ensures judged { IsNone (user_at self.old.users name.now)
             → Judged (spec.add_refusal self.old.users name.now caps) self.old.table caps.osd result }
+        ensures refused { RefusedOrMemory (auth_refusal self.old (GetOrCreate name.now caps)) result }
         ensures unchanged { OnErr result (self.new ≡ self.old) }
     {
         if let Some(stored) = find(&self.users, name) {
@@ -119,6 +121,7 @@ impl AuthDb {
     pub fn caps(&mut self, name: &str, caps: Caps) -> Result<(), AuthFault>
         ensures put { OnOk result (self.new ≡ after self.old (SetCaps name.now caps)) }
         ensures judged { Judged (spec.caps_refusal self.old.users name.now caps) self.old.table caps.osd result }
+        ensures refused { RefusedOrMemory (auth_refusal self.old (SetCaps name.now caps)) result }
         ensures unchanged { OnErr result (self.new ≡ self.old) }
     {
         if let Some(fault) = caps_refusal(&self.users, name, &caps) {
@@ -136,7 +139,7 @@ impl AuthDb {
     /// It is refused by A1 where the name is none, and by A3 where there is no such user.
     pub fn del(&mut self, name: &str) -> Result<(), AuthFault>
         ensures removed { OnOk result (self.new ≡ after self.old (Delete name.now)) }
-        ensures refused { RefusedExactly (spec.known_refusal self.old.users name.now) result }
+        ensures refused { RefusedExactly (auth_refusal self.old (Delete name.now)) result }
         ensures unchanged { OnErr result (self.new ≡ self.old) }
     {
         if !is_user_name(name) {
@@ -206,6 +209,11 @@ impl AuthDb {
 /// The law that one more command is one more step of the users.
 pub fn goes_by_step()
     ensures { GoesByStep }
+{}
+
+/// The law that an osd text is refused by the function of contracts just where it is not good. It does nothing.
+pub fn refusals_are_the_texts()
+    ensures { RefusalsAreTheTexts }
 {}
 
 // Why a user is not added, before its osd text is read.

@@ -12,8 +12,5 @@ mod reading;
 mod users;
 
 pub use caps::Caps;
-pub use db::{AuthDb, Creation, goes_by_step};
+pub use db::{AuthDb, Creation, goes_by_step, refusals_are_the_texts};
 pub use fault::AuthFault;
-
-#[cfg(test)]
-mod tests;

@@ -3,7 +3,8 @@
 ghost use Rattle.std.specs.Prelude.{◌≡◌, IfOk, IfErr, OnOk};
 ghost use Rattle.auth_db.specs.Refusals as spec;
 ghost use Rattle.auth_db.specs.Texts.{IsGood, IsGoodText, IsTicket, ComesTo};
-ghost use Rattle.auth_db.specs.Refusals.{TextRefuses, OsdRefuses};
+ghost use Rattle.auth_db.specs.Refusals.{TextRefuses, OsdRefuses, RefusedOrMemory};
+ghost use Rattle.cap_text.specs.Reading.{read_text};
 
 use crate::fault::AuthFault;
 use cap_text::{CapFault, FaultKind, Name, OutOfMemory, parse};
@@ -16,6 +17,7 @@ fn expand_text(alloc: Global, table: &ProfileTable, text: &str) -> Result<GrantT
     ensures good { OnOk result (IsGoodText table.now text.now) }
     ensures tree { IfOk result (λ tree. ComesTo table.now text.now tree) }
     ensures refused { IfErr result (λ fault. TextRefuses table.now text.now fault) }
+    ensures told { RefusedOrMemory (spec.read_refusal table.now (read_text text.now)) result }
 {
     match parse(alloc, text) {
         Err(fault) => Err(text_fault(fault)),
@@ -54,6 +56,7 @@ pub(crate) fn check_osd(
 ) -> Result<(), AuthFault>
     ensures good { OnOk result (IsGood table.now osd.now) }
     ensures refused { IfErr result (λ fault. OsdRefuses table.now osd.now fault) }
+    ensures told { RefusedOrMemory (spec.osd_refusal table.now osd.now) result }
 {
     match osd {
         None => Ok(()),

@@ -13,12 +13,10 @@ use Rattle.cap_text.specs.declared.fault.FaultKind.TheVariants.{UnknownWord, Bad
 use Rattle.cap_text.specs.declared.keyword.Keyword.{Keyword}
 use Rattle.cap_text.specs.declared.keyword.Keyword.TheVariants as kw
 use Rattle.cap_text.specs.declared.place.ClauseSet.{ClauseSet}
-use Rattle.cap_text.specs.declared.place.Head.{Head}
-use Rattle.cap_text.specs.declared.place.Head.TheVariants as heads
-use Rattle.cap_text.specs.declared.place.Draft.{Draft}
-use Rattle.cap_text.specs.declared.place.Place.{Place}
-use Rattle.cap_text.specs.declared.place.Place.TheVariants as places
-use Rattle.cap_text.specs.declared.state.State.{State}
+use Rattle.cap_text.specs.Draft.{Head, Draft}
+use Rattle.cap_text.specs.Draft as heads
+use Rattle.cap_text.specs.Place.{Place, State}
+use Rattle.cap_text.specs.Place as places
 use Rattle.cap_text.specs.Words.{keyword_of}
 use Rattle.cap_text.specs.Grammar.{begins_clause}
 use Rattle.cap_text.specs.Machine.{after_namespace, with_access, after_access, accessed, wants_access, access_word, where_open, where_due, clause_word, clauses, class_read_word, letters_word, method_word, value_of, mapped, filled, namespace_step, part_at, tag_place, start_word, step, grant_with, close, after_grant, in_grant, advance, ended, finish_at, finish}

@@ -18,14 +18,12 @@ use Rattle.cap_text.specs.declared.fault.FaultKind.{FaultKind}
 use Rattle.cap_text.specs.declared.keyword.Keyword.{Keyword}
 use Rattle.cap_text.specs.declared.keyword.Keyword.TheVariants as kw
 use Rattle.cap_text.specs.declared.place.ClauseSet.{ClauseSet}
-use Rattle.cap_text.specs.declared.place.Head.{Head}
-use Rattle.cap_text.specs.declared.place.Head.TheVariants as heads
-use Rattle.cap_text.specs.declared.place.Draft.{Draft}
+use Rattle.cap_text.specs.Draft.{Head, Draft}
+use Rattle.cap_text.specs.Draft as heads
 use Rattle.cap_text.specs.declared.place.Slot.{Slot}
 use Rattle.cap_text.specs.declared.place.Slot.TheVariants as slots
-use Rattle.cap_text.specs.declared.place.Place.{Place}
-use Rattle.cap_text.specs.declared.place.Place.TheVariants as places
-use Rattle.cap_text.specs.declared.state.State.{State}
+use Rattle.cap_text.specs.Place.{Place, State}
+use Rattle.cap_text.specs.Place as places
 use Rattle.cap_text.specs.Words.{letters, keyword_of}
 use Rattle.cap_text.specs.Grammar.{Optional, Assigned, Behind, Value, Namespace, BeginsApart, namespace_of, part_of, TagPart, PoolClause, NamespaceClause, PrefixClause, TagClause, begins_clause, Method, where_set, flag_words, AccessPhrase, MatchPhrase, GrantPhrase, Separated, Followed, Grants}
 use Rattle.cap_text.specs.Machine.{every, of_profile, no_more, after_pool, after_namespace, draft, fresh, with_access, after_access, accessed, wants_access, flags, where_open, where_due, clause_word, behind_flags, class_read_word, letters_word, method_place, method_word, filled, namespace_place, tag_place, start_word, step, grant_of, after_grant, in_grant, advance, ended, finish}

@@ -16,3 +16,5 @@ pub mod PrintedMarks
 pub mod PrintedPhrases
 pub mod PrintedGrants
 pub mod ReadTexts
+pub mod FirstFaults
+pub mod ReadAnswers

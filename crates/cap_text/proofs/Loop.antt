@@ -6,8 +6,8 @@ use Rattle.cap_text.specs.declared.token.Token.{Token}
 use Rattle.cap_text.specs.declared.grant.Grant.{Grant}
 use Rattle.cap_text.specs.declared.fault.FaultKind.{FaultKind}
 use Rattle.cap_text.specs.declared.fault.FaultKind.TheVariants.{TooLong, TooManyGrants, UnknownWord, BadAccess, BadMatch, BadWord, NetworkClause, OutOfMemory}
-use Rattle.cap_text.specs.declared.state.State.{State}
-use Rattle.cap_text.specs.declared.place.Place.TheVariants as places
+use Rattle.cap_text.specs.Place.{State}
+use Rattle.cap_text.specs.Place as places
 use Rattle.cap_text.specs.Reads.{is_word, ReadsOne, Reads, ends_in_word, IsText, IsUnreadable}
 use Rattle.cap_text.specs.Grammar.{GrantPhrase, Grants, Spells}
 use Rattle.cap_text.specs.Faults.{Next, AtEnd, NoToken, AToken, StandsNext, IsThere, IsKind, IsFaultWithin, IsFirstFault, OrMemory}

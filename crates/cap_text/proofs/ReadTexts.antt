@@ -1,25 +1,26 @@
--- What a text spells is read from it.
+-- How a text is read, and that what it spells is read from it.
 use Prim.Native.Nat.{zero, suc}
 use Rattle.std.proofs.Common.{◌≡◌, ◌∙◌, ℕ, ◌<◌, ◌≤◌, ◌+◌, ◌-◌, ◌⊎◌, inl, inr, Bool, true, false, ◌&&◌, ◌||◌, ◌==◌, cond, if◌then◌else◌, List, [], ◌∷◌, ◌++◌, Option, Some, None, Result, Ok, Err, refl, sym, ap, subst, arith, append-nil, append_assoc, length, take, drop}
 use Rattle.std.specs.Prelude.{nat_lt}
 use Rattle.std.specs.List.{prefix_len}
 use Rattle.std.specs.Cmp.{unsigned_Decides}
 use Rattle.std.proofs.lemmas.Bool.{ltb-true}
-use Rattle.cap_text.specs.Bytes.{is_space, is_word_byte, is_quote, is_quotable, Each, StopsBefore, is_empty}
-use Rattle.cap_text.specs.Reads.{Stands, SaysBehind, is_word, ReadsOne, Reads, IsText}
+use Rattle.cap_text.specs.Bytes.{is_space, is_word_byte, is_quote, is_quotable, Each, StopsBefore, is_empty, SkipsSpaces}
+use Rattle.cap_text.specs.Reads.{Stands, SaysBehind, is_word, ReadsOne, Reads, ends_in_word}
 use Rattle.cap_text.specs.Grammar.{Grants, GrantPhrase}
 use Rattle.cap_text.specs.Machine.{advance, finish, placed}
 use Rattle.cap_text.specs.declared.token.Token.{Token}
 use Rattle.cap_text.specs.declared.token.Token.TheVariants.{Comma, Semicolon, Equals, Star, Word, Quoted}
-use Rattle.cap_text.specs.declared.state.State.{State}
+use Rattle.cap_text.specs.Place.{State}
 use Rattle.cap_text.specs.declared.fault.FaultKind.{FaultKind}
 use Rattle.cap_text.specs.declared.fault.FaultKind.TheVariants.{TooLong, TooManyGrants}
 use Rattle.cap_text.specs.declared.grant.Grant.{Grant}
 use Rattle.cap_text.proofs.Spans.{prefix_len-span, take-span, drop-span}
 use Rattle.cap_text.proofs.Reading.{leads, one_shorter}
-use Rattle.cap_text.proofs.Forth.{◌then◌, run}
-use Rattle.cap_text.proofs.Runs.{whole, all_of, origin, Room, advance_room, run_on, given_on, too_many}
-use Rattle.cap_text.specs.Reading.{quoted_at, token_at, carried, with_token, read_at, read_from, read_text, ReadsTheGrammar}
+use Rattle.cap_text.proofs.Forth.{◌then◌, run, complete}
+use Rattle.cap_text.proofs.Runs.{whole, all_of, origin, Room, advance_room, then_is, run-append, run_on, given_on, too_many}
+use Rattle.cap_text.specs.Place as places
+use Rattle.cap_text.specs.Reading.{quoted_at, token_at, Read, carried, with_token, read_at, read_from, read_text, ReadsTheGrammar}
 
 -- ---- tokens
 
@@ -81,7 +82,7 @@ quoted_found behind q inside after mark each = go (is_mark q mark)
     go (inl e) = by_39 e
     go (inr e) = by_34 e
 
-token_found : (behind : Bool) (t : Token) (start after : List ℕ) → Stands t start after → SaysBehind behind t → token_at behind start ≡ Some (t, after)
+pub token_found : (behind : Bool) (t : Token) (start after : List ℕ) → Stands t start after → SaysBehind behind t → token_at behind start ≡ Some (t, after)
 token_found behind Comma start after h says = ap (token_at behind) h
 token_found behind Semicolon start after h says = ap (token_at behind) h
 token_found behind Equals start after h says = ap (token_at behind) h
@@ -96,7 +97,7 @@ token_found behind (Quoted q) start after h says = ap (token_at behind) h.2 ∙ 
 
 -- ---- the list
 
-starts : (t : Token) (start after : List ℕ) → Stands t start after → (StopsBefore is_space start) × (is_empty start ≡ false)
+pub starts : (t : Token) (start after : List ℕ) → Stands t start after → (StopsBefore is_space start) × (is_empty start ≡ false)
 starts t start after h =
     let l = leads t start after h in
     let P : List ℕ → Type 0 = λ s. StopsBefore is_space s in
@@ -113,64 +114,87 @@ spaces_empty (b ∷ bs) = sym (not_zero (length bs))
         go true e = let same : suc n ≡ 0 = (unsigned_Decides (suc n) 0).0 e in absurd (omega arith)
         go false e = refl
 
-has_room : (p q : List Token) (s : State) (gs : List Grant) (t : Token) → Room s → run origin p ≡ whole s → length gs ≤ 64 → Grants GrantPhrase (p ++ t ∷ q) gs → length s.done < 64
-has_room p q s gs t (inl few) at small h = few
-has_room p q s gs t (inr full) at small h = absurd (too_many p (t ∷ q) s gs at full.0 full.1 small h)
-
-not_full : (n : ℕ) → n < 64 → (n == 64) ≡ false
+pub not_full : (n : ℕ) → n < 64 → (n == 64) ≡ false
 not_full n h = go (n == 64) refl
   where
     go : (b : Bool) → (n == 64) ≡ b → b ≡ false
     go true e = let same : n ≡ 64 = (unsigned_Decides n 64).0 e in absurd (omega arith)
     go false e = refl
 
-advances : (s : State) (t : Token) (q : List Token) (gs : List Grant) → (run s (t ∷ q) then finish) ≡ all_of gs → (u : State) × (advance s t ≡ whole u)
-advances s t q gs h = go (advance s t) refl h
-  where
-    go : (r : Result State FaultKind) → advance s t ≡ r → ((r then λ v. run v q) then finish) ≡ all_of gs → (u : State) × (advance s t ≡ whole u)
-    go (Ok u) e k = (u, e)
-    go (Err k) e bad = absurd (cc)
+-- what stands behind spaces
+pub at_rest : (n total : ℕ) (behind : Bool) (text rest : List ℕ) (s : State) (skips : SkipsSpaces text rest) → read_from (suc n) total s behind text ≡ read_at (total - length rest) s (behind && is_empty skips.0) rest (read_from n total)
+at_rest n total behind text rest s skips =
+    let count : prefix_len is_space text ≡ length skips.0 = ap (prefix_len is_space) skips.2 ∙ prefix_len-span is_space skips.0 rest skips.1 skips.3 in
+    let behind_spaces : drop (prefix_len is_space text) text ≡ rest = ap (λ x. drop (prefix_len is_space x) x) skips.2 ∙ drop-span is_space skips.0 rest skips.1 skips.3 in
+    ap (λ r. read_at (total - length r) s (behind && (prefix_len is_space text == 0)) r (read_from n total)) behind_spaces
+    ∙ ap (λ k. read_at (total - length rest) s (behind && (k == 0)) rest (read_from n total)) count
+    ∙ ap (λ b. read_at (total - length rest) s (behind && b) rest (read_from n total)) (sym (spaces_empty skips.0))
 
-finished : (s : State) (gs : List Grant) (at : ℕ) → finish s ≡ all_of gs → carried at (finish s) (λ grants. Ok grants) ≡ Ok gs
-finished s gs at h = ap (λ r. carried at r (λ grants. Ok grants)) h
+pub at_some : (at : ℕ) (s : State) (behind : Bool) (rest : List ℕ) (next : State → Bool → List ℕ → Read) (full : Bool) → is_empty rest ≡ false → (length s.done == 64) ≡ full
+    → read_at at s behind rest next ≡ (if full then Err (placed TooManyGrants at) else with_token at s (token_at behind rest) next)
+at_some at s behind rest next full some counts =
+    ap (λ b. if b then carried at (finish s) (λ grants. Ok grants) else if length s.done == 64 then Err (placed TooManyGrants at) else with_token at s (token_at behind rest) next) some
+    ∙ ap (λ b. if b then Err (placed TooManyGrants at) else with_token at s (token_at behind rest) next) counts
 
-reads_on : (n total : ℕ) (behind : Bool) (text : List ℕ) (p q : List Token) (spaces : List ℕ) (s : State) (gs : List Grant)
-    → length text < n → Reads behind text q spaces → Each is_space spaces → Room s → run origin p ≡ whole s → length gs ≤ 64 → Grants GrantPhrase (p ++ q) gs
-    → read_from n total s behind text ≡ Ok gs
-reads_on zero total behind text p q spaces s gs fuel reads blank room at small list = absurd (omega arith)
-reads_on (suc n) total behind text p [] spaces s gs fuel reads blank room at small list =
-    let all : drop (prefix_len is_space text) text ≡ [] = ap (λ x. drop (prefix_len is_space x) x) (reads ∙ sym (append-nil spaces)) ∙ drop-span is_space spaces [] blank tt in
-    let done : finish s ≡ all_of gs = given_on p [] s gs at list in
-    ap (λ r. read_at (total - length r) s (behind && (prefix_len is_space text == 0)) r (read_from n total)) all
-    ∙ finished s gs (total - 0) done
-reads_on (suc n) total behind text p (t ∷ q) spaces s gs fuel reads blank room at small list =
+-- one token, where a grant more may come
+pub at_token : (n total : ℕ) (behind : Bool) (text : List ℕ) (t : Token) (after : List ℕ) (s : State) → (one : ReadsOne behind text t after) → length s.done < 64
+    → read_from (suc n) total s behind text ≡ carried (total - length one.1) (advance s t) (λ v. read_from n total v (is_word t) after)
+at_token n total behind text t after s one few =
+    let begin = starts t one.1 after one.4 in
+    at_rest n total behind text one.1 s (one.0, one.2, one.3, begin.0)
+    ∙ at_some (total - length one.1) s (behind && is_empty one.0) one.1 (read_from n total) false begin.1 (not_full (length s.done) few)
+    ∙ ap (λ o. with_token (total - length one.1) s o (read_from n total)) (token_found (behind && is_empty one.0) t one.1 after one.4 one.5)
+
+-- the end of a text
+pub at_end : (n total : ℕ) (behind : Bool) (text : List ℕ) (s : State) → Each is_space text → read_from (suc n) total s behind text ≡ carried (total - 0) (finish s) (λ grants. Ok grants)
+at_end n total behind text s blank = at_rest n total behind text [] s (text, blank, sym (append-nil text), tt)
+
+-- 64 grants and a separator are not all that stands before the last of these tokens
+abbrev pub NotPastBefore : List Token → Type 0
+NotPastBefore ts = (p : List Token) (t : Token) (q : List Token) (s : State) → ts ≡ p ++ t ∷ q → run origin p ≡ whole s → length s.done ≡ 64 → s.place ≡ places.Separator → ⊥
+
+-- where reading comes to behind some tokens
+pub record Comes (r : Read) (total : ℕ) (u : State) (behind : Bool) (rest : List ℕ) : Type 0 where
+  pub fuel : ℕ
+  pub enough : length rest < fuel
+  pub room : Room u
+  pub goes : r ≡ read_from fuel total u behind rest
+
+pub comes_on : (n total : ℕ) (behind : Bool) (text : List ℕ) (p q : List Token) (rest : List ℕ) (s u : State)
+    → length text < n → Reads behind text q rest → Room s → run origin p ≡ whole s → run s q ≡ whole u → NotPastBefore (p ++ q) → Comes (read_from n total s behind text) total u (ends_in_word behind q) rest
+comes_on zero total behind text p q rest s u fuel reads room at on before = absurd (omega arith)
+comes_on (suc n) total behind text p [] rest s u fuel reads room at on before =
+    let same : s ≡ u = (let x : whole s ≡ whole u = on in cc) in
+    let R : State → Type 0 = λ v. Room v in
+    record {
+      fuel = suc n;
+      enough = omega (arith, ap length reads);
+      room = subst R same room;
+      goes = ap (λ v. read_from (suc n) total v behind text) same ∙ ap (λ x. read_from (suc n) total u behind x) reads;
+    }
+comes_on (suc n) total behind text p (t ∷ q) rest s u fuel reads room at on before =
     let after : List ℕ = reads.0 in
     let one : ReadsOne behind text t after = reads.1 in
-    let gap : List ℕ = one.0 in
-    let start : List ℕ = one.1 in
-    let whole_text : text ≡ gap ++ start = one.3 in
-    let stands : Stands t start after = one.4 in
-    let begin = starts t start after stands in
-    let count : prefix_len is_space text ≡ length gap = ap (prefix_len is_space) whole_text ∙ prefix_len-span is_space gap start one.2 begin.0 in
-    let rest : drop (prefix_len is_space text) text ≡ start = ap (λ x. drop (prefix_len is_space x) x) whole_text ∙ drop-span is_space gap start one.2 begin.0 in
-    let says : (behind && (prefix_len is_space text == 0)) ≡ (behind && is_empty gap) = ap (λ k. behind && (k == 0)) count ∙ ap (λ b. behind && b) (sym (spaces_empty gap)) in
-    let token : token_at (behind && is_empty gap) start ≡ Some (t, after) = token_found (behind && is_empty gap) t start after stands one.5 in
-    let few : length s.done < 64 = has_room p q s gs t room at small list in
-    let given = given_on p (t ∷ q) s gs at list in
-    let next = advances s t q gs given in
+    let next = then_is (advance s t) (λ v. run v q) u on in
+    let few : length s.done < 64 = elim room [ inl x ↦ x | inr x ↦ absurd (before p t q s refl at x.0 x.1) ] in
     let shorter : length after < length text = one_shorter behind text t after one in
-    let joined : (p ++ t ∷ []) ++ q ≡ p ++ t ∷ q = append_assoc p (t ∷ []) q in
-    let L : List Token → Type 0 = λ ts. Grants GrantPhrase ts gs in
+    let B : List Token → Type 0 = λ ts. NotPastBefore ts in
     let later : run origin (p ++ t ∷ []) ≡ whole next.0 = run_on p (t ∷ []) s at ∙ ap (λ r. r then λ v. run v []) next.1 in
-    let onward : read_from n total next.0 (is_word t) after ≡ Ok gs =
-    reads_on n total (is_word t) after (p ++ t ∷ []) q spaces next.0 gs (omega arith) reads.2 blank (advance_room s t next.0 few next.1) later small (subst L (sym joined) list) in
-    ap (λ r. read_at (total - length r) s (behind && (prefix_len is_space text == 0)) r (read_from n total)) rest
-    ∙ ap (λ b. read_at (total - length start) s b start (read_from n total)) says
-    ∙ ap (λ b. if b then carried (total - length start) (finish s) (λ grants. Ok grants) else if length s.done == 64 then Err (placed TooManyGrants (total - length start)) else with_token (total - length start) s (token_at (behind && is_empty gap) start) (read_from n total)) begin.1
-    ∙ ap (λ b. if b then Err (placed TooManyGrants (total - length start)) else with_token (total - length start) s (token_at (behind && is_empty gap) start) (read_from n total)) (not_full (length s.done) few)
-    ∙ ap (λ o. with_token (total - length start) s o (read_from n total)) token
-    ∙ ap (λ r. carried (total - length start) r (λ v. read_from n total v (is_word t) after)) next.1
-    ∙ onward
+    let c = comes_on n total (is_word t) after (p ++ t ∷ []) q rest next.0 u (omega arith) reads.2 (advance_room s t next.0 few next.1) later next.2 (subst B (sym (append_assoc p (t ∷ []) q)) before) in
+    record {
+      fuel = c.fuel;
+      enough = c.enough;
+      room = c.room;
+      goes = at_token n total behind text t after s one few ∙ ap (λ r. carried (total - length one.1) r (λ v. read_from n total v (is_word t) after)) next.1 ∙ c.goes;
+    }
+
+-- the state that a list's tokens lead to
+pub led : (p : List Token) (ts : List Token) (gs : List Grant) → Grants GrantPhrase (p ++ ts) gs → (u : State) × (run origin p ≡ whole u)
+led p ts gs h = go (run origin p) refl (sym (ap (λ r. r then finish) (run-append p ts origin)) ∙ complete (p ++ ts) gs h)
+  where
+    go : (r : Result State FaultKind) → run origin p ≡ r → ((r then λ u. run u ts) then finish) ≡ all_of gs → (u : State) × (run origin p ≡ whole u)
+    go (Ok u) e k = (u, e)
+    go (Err x) e bad = absurd (cc)
 
 short_enough : (n : ℕ) → n ≤ 4096 → nat_lt 4096 n ≡ false
 short_enough n h = go (nat_lt 4096 n) refl
@@ -179,11 +203,20 @@ short_enough n h = go (nat_lt 4096 n) refl
     go true e = let more : 4096 < n = ltb-true 4096 n e in absurd (omega arith)
     go false e = refl
 
-pub reads_the_grammar : ReadsTheGrammar
+-- a text that is not too long is read token by token
+pub reads_from_start : (text : List ℕ) → length text ≤ 4096 → read_text text ≡ read_from (length text + 1) (length text) origin false text
 unfolding read_text
-reads_the_grammar text grants h =
-    let ts : List Token = h.2.0 in
-    let is : IsText text ts = h.2.1 in
-    let room : Room origin = inl (omega arith) in
-    ap (λ b. if b then Err (placed TooLong 0) else read_from (length text + 1) (length text) origin false text) (short_enough (length text) h.0)
-    ∙ reads_on (length text + 1) (length text) false text [] ts is.0 origin grants (omega arith) is.2 is.1 room refl h.1 h.2.2
+reads_from_start text short = ap (λ b. if b then Err (placed TooLong 0) else read_from (length text + 1) (length text) origin false text) (short_enough (length text) short)
+
+-- the end of the list that a text spells
+spelled_end : (fuel total : ℕ) (behind : Bool) (spaces : List ℕ) (u : State) (gs : List Grant) → length spaces < fuel → Each is_space spaces → finish u ≡ all_of gs → read_from fuel total u behind spaces ≡ Ok gs
+spelled_end zero total behind spaces u gs enough blank done = absurd (omega arith)
+spelled_end (suc n) total behind spaces u gs enough blank done = at_end n total behind spaces u blank ∙ ap (λ r. carried (total - 0) r (λ grants. Ok grants)) done
+
+pub reads_the_grammar : ReadsTheGrammar
+reads_the_grammar text grants (short, small, (ts, (spaces, blank, reads), list)) =
+    let L : List Token → Type 0 = λ x. Grants GrantPhrase x grants in
+    let to = led ts [] grants (subst L (sym (append-nil ts)) list) in
+    let before : NotPastBefore ts = λ p t q s parts at full place. too_many p (t ∷ q) s grants at full place small (subst L parts list) in
+    let c = comes_on (length text + 1) (length text) false text [] ts spaces origin to.0 (omega arith) reads (inl (omega arith)) refl to.1 before in
+    reads_from_start text short ∙ c.goes ∙ spelled_end c.fuel (length text) (ends_in_word false ts) spaces to.0 grants c.enough blank (given_on ts [] to.0 grants to.1 (subst L (sym (append-nil ts)) list))

@@ -7,9 +7,8 @@ use Rattle.cap_text.specs.declared.token.Token.TheVariants.{Comma, Semicolon, Eq
 use Rattle.cap_text.specs.declared.grant.Grant.{Grant}
 use Rattle.cap_text.specs.declared.fault.FaultKind.{FaultKind}
 use Rattle.cap_text.specs.declared.fault.FaultKind.TheVariants.{UnknownWord}
-use Rattle.cap_text.specs.declared.place.Place.{Place}
-use Rattle.cap_text.specs.declared.place.Place.TheVariants as places
-use Rattle.cap_text.specs.declared.state.State.{State}
+use Rattle.cap_text.specs.Place.{Place, State}
+use Rattle.cap_text.specs.Place as places
 use Rattle.cap_text.specs.Grammar.{BeginsApart, GrantPhrase, Separated, Followed, Grants}
 use Rattle.cap_text.specs.Machine.{step, close, after_grant, in_grant, advance, ended, finish_at, finish}
 use Rattle.std.proofs.Common.{suc, ◌<◌, ◌≤◌, length, arith}
@@ -51,7 +50,8 @@ moves s (Star b) u e = inr (in_is s.done (step s.place (Star b)) u e)
 moves s (Word w) u e = inr (in_is s.done (step s.place (Word w)) u e)
 moves s (Quoted q) u e = inr (in_is s.done (step s.place (Quoted q)) u e)
 
-then_is : {A : Type 0} → (r : Result State FaultKind) (f : State → Result A FaultKind) (x : A) → (r then f) ≡ Ok x → (u : State) × (r ≡ Ok u) × (f u ≡ Ok x)
+-- a run that ends went on from where its front ends
+pub then_is : {A : Type 0} → (r : Result State FaultKind) (f : State → Result A FaultKind) (x : A) → (r then f) ≡ Ok x → (u : State) × (r ≡ Ok u) × (f u ≡ Ok x)
 then_is (Ok u) f x e = (u, refl, e)
 then_is (Err k) f x e = absurd cc
 

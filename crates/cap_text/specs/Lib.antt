@@ -6,6 +6,8 @@ pub mod Gives
 pub mod Faults
 pub mod Spellable
 pub mod Printed
+pub mod Draft
+pub mod Place
 pub mod Machine
 pub mod FaultText
 pub mod Sheet

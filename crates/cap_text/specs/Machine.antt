@@ -1,4 +1,4 @@
--- Refinement: only contracts inside the crate use it.
+-- Statement: contracts of public calls use it.
 -- The grammar, token by token.
 use Rattle.std.specs.Prelude.{ℕ, Bool, true, false, List, [], ◌∷◌, ◌++◌, Option, Some, None, Result, Ok, Err}
 use Rattle.cap_text.specs.declared.token.Token.{Token}
@@ -20,14 +20,12 @@ use Rattle.cap_text.specs.declared.fault.CapFault.{CapFault}
 use Rattle.cap_text.specs.declared.keyword.Keyword.{Keyword}
 use Rattle.cap_text.specs.declared.keyword.Keyword.TheVariants as kw
 use Rattle.cap_text.specs.declared.place.ClauseSet.{ClauseSet}
-use Rattle.cap_text.specs.declared.place.Head.{Head}
-use Rattle.cap_text.specs.declared.place.Head.TheVariants as heads
-use Rattle.cap_text.specs.declared.place.Draft.{Draft}
+use Rattle.cap_text.specs.Draft.{Head, Draft}
+use Rattle.cap_text.specs.Draft as heads
 use Rattle.cap_text.specs.declared.place.Slot.{Slot}
 use Rattle.cap_text.specs.declared.place.Slot.TheVariants as slots
-use Rattle.cap_text.specs.declared.place.Place.{Place}
-use Rattle.cap_text.specs.declared.place.Place.TheVariants as places
-use Rattle.cap_text.specs.declared.state.State.{State}
+use Rattle.cap_text.specs.Place.{Place, State}
+use Rattle.cap_text.specs.Place as places
 use Rattle.cap_text.specs.Words.{keyword_of}
 use Rattle.cap_text.specs.Grammar.{namespace_of, part_of}
 

@@ -1,20 +1,21 @@
 -- Statement: contracts of public calls use it.
 -- What a capability text comes to, as a function: the grammar's lists are a relation, of at most one list to a text.
 use Prim.Native.Nat.{zero, suc}
-use Rattle.std.specs.Prelude.{◌≡◌, ℕ, ◌+◌, ◌-◌, Bool, false, ◌&&◌, ◌==◌, nat_lt, List, [], ◌∷◌, Option, Some, None, Result, Ok, Err, if◌then◌else◌, length, take, drop}
+use Rattle.std.specs.Prelude.{◌≡◌, ℕ, ◌+◌, ◌-◌, Bool, false, ◌&&◌, ◌==◌, nat_lt, List, [], ◌∷◌, Option, Some, None, Result, Ok, Err, if◌then◌else◌, length, take, drop, MatchResult}
 use Rattle.std.specs.List.{prefix_len}
 use Rattle.cap_text.specs.Bytes.{is_space, is_word_byte, is_quote, is_quotable, is_empty}
 use Rattle.cap_text.specs.Reads.{is_word}
 use Rattle.cap_text.specs.Machine.{advance, finish, placed}
 use Rattle.cap_text.specs.declared.token.Token.{Token}
 use Rattle.cap_text.specs.declared.token.Token.TheVariants.{Comma, Semicolon, Equals, Star, Word, Quoted}
-use Rattle.cap_text.specs.declared.place.Place.TheVariants as places
-use Rattle.cap_text.specs.declared.state.State.{State}
+use Rattle.cap_text.specs.Place as places
+use Rattle.cap_text.specs.Place.{State}
 use Rattle.cap_text.specs.declared.fault.CapFault.{CapFault}
 use Rattle.cap_text.specs.declared.fault.FaultKind.{FaultKind}
 use Rattle.cap_text.specs.declared.fault.FaultKind.TheVariants.{TooLong, TooManyGrants, BadWord, OutOfMemory}
 use Rattle.cap_text.specs.declared.grant.Grant.{Grant}
 use Rattle.cap_text.specs.Grammar.{Spells}
+use Rattle.cap_text.specs.Faults.{IsFirstFault}
 
 -- ---- tokens
 
@@ -71,8 +72,16 @@ read_text text =
     if nat_lt 4096 (length text) then Err (placed TooLong 0)
     else read_from (length text + 1) (length text) (record { done = []; place = places.Start }) false text
 
--- ---- the law
+-- ---- the laws
 
 -- what the grammar reads, this function reads too
 abbrev pub ReadsTheGrammar : Type 0
 ReadsTheGrammar = (text : List ℕ) (grants : List Grant) → Spells text grants → read_text text ≡ Ok grants
+
+-- a text's first fault is what this function tells, so that there is one at most, and none where the text spells a list
+abbrev pub TellsTheFirstFault : Type 0
+TellsTheFirstFault = (text : List ℕ) (fault : CapFault) → IsFirstFault text fault → read_text text ≡ Err fault
+
+-- and nothing else is read or told: each text spells a list or has a first fault
+abbrev pub ReadsNothingElse : Type 0
+ReadsNothingElse = (text : List ℕ) → MatchResult (read_text text) (Spells text) (IsFirstFault text)

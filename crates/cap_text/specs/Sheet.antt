@@ -7,15 +7,12 @@ use Rattle.cap_text.specs.declared.grant.Access.TheVariants.{All}
 use Rattle.cap_text.specs.declared.grant.AllowGrant.{AllowGrant}
 use Rattle.cap_text.specs.declared.grant.Grant.{Grant}
 use Rattle.cap_text.specs.declared.grant.Part.{Part}
-use Rattle.cap_text.specs.declared.place.Head.{Head}
-use Rattle.cap_text.specs.declared.place.Head.TheVariants as heads
-use Rattle.cap_text.specs.declared.place.Draft.{Draft}
-use Rattle.cap_text.specs.declared.place.Page.{Page}
-use Rattle.cap_text.specs.declared.place.Place.{Place}
-use Rattle.cap_text.specs.declared.place.Place.TheVariants as places
+use Rattle.cap_text.specs.Draft.{Head, Draft, Page}
+use Rattle.cap_text.specs.Draft as heads
+use Rattle.cap_text.specs.Place.{Place, State}
+use Rattle.cap_text.specs.Place as places
 use Rattle.cap_text.specs.declared.place.Next.{Next}
 use Rattle.cap_text.specs.declared.place.Next.TheVariants as nexts
-use Rattle.cap_text.specs.declared.state.State.{State}
 use Rattle.cap_text.specs.declared.draft.Kind.{Kind}
 use Rattle.cap_text.specs.declared.draft.Kind.TheVariants as kinds
 use Rattle.cap_text.specs.Gives.{Gives}

@@ -4,7 +4,7 @@ ghost use Rattle.std.specs.Prelude.{◌≡◌, None, Some};
 ghost use Rattle.cap_text.specs.Gives.{GivesIn};
 ghost use Rattle.cap_text.specs.Machine.{ended, fresh, grant_of, wants_access, with_access};
 ghost use Rattle.cap_text.specs.Sheet.{empty_allow};
-ghost use Rattle.cap_text.specs.declared.place.Head.TheVariants as heads;
+ghost use Rattle.cap_text.specs.Draft as heads;
 
 use crate::fault::FaultKind;
 use crate::grant::{Access, AllowGrant, Grant, NsMatch, Part, ProfileUse, Tag};
@@ -54,7 +54,7 @@ pub struct Sheet {
 }
 
 impl Model for Sheet {
-    ghost use Rattle.cap_text.specs.declared.place.Page.{Page};
+    ghost use Rattle.cap_text.specs.Draft.{Page};
     ghost use Rattle.cap_text.specs.Sheet.{page_of};
 
     ghost Value = { Page };

@@ -25,12 +25,11 @@ pub use fault::{CapFault, FaultKind, OutOfMemory};
 pub use grant::{Access, AllowGrant, Flags, Grant, NsMatch, Part, ProfileUse, Tag, copy_namespace};
 pub use keyword::Keyword;
 pub use name::{Name, copy_name};
-pub use parser::{parse, reads_the_grammar, spells_at_most_one};
+pub use parser::{
+    parse, reads_nothing_else, reads_the_grammar, spells_at_most_one, tells_the_first_fault,
+};
 pub use printing::{print, push_allow};
 pub use spellable::{spellable_is_spelled, spelled_is_spellable};
 pub use spelling::is_spellable;
 pub use tags::{AppTags, Pairs, Tags};
 pub use token::{Piece, Token};
-
-#[cfg(test)]
-mod tests;

@@ -5,7 +5,7 @@ ghost use Rattle.cap_text.specs.declared.grant.Grant.{Grant};
 ghost use Rattle.cap_text.specs.Grammar.{Spells, AtMostOneList};
 ghost use Rattle.cap_text.specs.Machine.{placed};
 ghost use Rattle.cap_text.specs.Faults.{OrMemory, IsFirstFault};
-ghost use Rattle.cap_text.specs.Reading.{ReadsTheGrammar};
+ghost use Rattle.cap_text.specs.Reading.{ReadsNothingElse, ReadsTheGrammar, TellsTheFirstFault};
 
 use crate::caps::CapList;
 use crate::fault::{CapFault, FaultKind};
@@ -85,4 +85,14 @@ pub fn spells_at_most_one()
 /// The law that what a text spells is what the function `read_text` of contracts reads from it. It does nothing.
 pub fn reads_the_grammar()
     ensures { ReadsTheGrammar }
+{}
+
+/// The law that the first fault of a text is what the function `read_text` of contracts tells of it. It does nothing.
+pub fn tells_the_first_fault()
+    ensures { TellsTheFirstFault }
+{}
+
+/// The law that `read_text` reads and tells nothing else, so that each text spells a list or has a first fault. It does nothing.
+pub fn reads_nothing_else()
+    ensures { ReadsNothingElse }
 {}

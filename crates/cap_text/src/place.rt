@@ -1,7 +1,6 @@
 //! Where in the grammar a text has come to.
 
-use crate::grant::{Access, Flags, NsMatch, Part, Tag};
-use crate::name::Name;
+use crate::grant::Flags;
 
 /// The clauses that may still come in a grant.
 #[derive(Clone, Copy, Debug, PartialEq, Eq)]
@@ -12,31 +11,6 @@ pub struct ClauseSet {
     pub tag: bool,
 }
 
-/// What a grant begins with, as contracts see it. The access of an `allow` may come behind its clauses.
-#[derive(Debug, Drop)]
-pub enum Head {
-    Allow(Option<Access>),
-    Profile(Name),
-}
-
-/// What was read of a grant, as contracts see it.
-#[derive(Debug, Drop)]
-pub struct Draft {
-    pub head: Head,
-    pub pool: Option<Name>,
-    pub namespace: Option<NsMatch>,
-    pub prefix: Option<Name>,
-    pub tag: Option<Tag>,
-}
-
-/// What was read of a grant, with a word or a key that belongs to a clause which is not whole, as contracts see it.
-#[derive(Debug, Drop)]
-pub struct Page {
-    pub draft: Draft,
-    pub word: Name,
-    pub key: Part,
-}
-
 /// What a value is for.
 #[derive(Clone, Copy, Debug, PartialEq, Eq)]
 pub enum Slot {
@@ -45,25 +19,6 @@ pub enum Slot {
     Pool,
     Prefix,
     Application,
-}
-
-/// What may come next, and what was read of the next grant, as contracts see it.
-#[derive(Debug, Drop)]
-pub enum Place {
-    Start,
-    Separator,
-    Clauses(ClauseSet, Draft),
-    Letters(Flags, ClauseSet, Draft),
-    ClassRead(Flags, ClauseSet, Draft),
-    Method(Name, ClauseSet, Draft),
-    Assigned(Slot, ClauseSet, Draft),
-    Value(Slot, ClauseSet, Draft),
-    Namespace(ClauseSet, Draft),
-    NamespaceEquals(ClauseSet, Draft),
-    NamespaceWord(Name, ClauseSet, Draft),
-    Key(Name, Draft),
-    KeyEquals(Name, Part, Draft),
-    KeyValue(Name, Part, Draft),
 }
 
 /// What may come next. It is small, since a step moves it; what was read stays in the sheet.

@@ -9,7 +9,7 @@ use crate::draft::Sheet;
 use crate::fault::{FaultKind, OutOfMemory};
 use crate::grant::Grant;
 use crate::machine::{close, step};
-use crate::place::{Next, Place};
+use crate::place::Next;
 use crate::token::Token;
 use std::alloc::Global;
 use std::marker::Model;
@@ -60,13 +60,6 @@ impl Grants {
     }
 }
 
-/// The grants that are whole, and the place in the next one, as contracts see them.
-#[derive(Debug, Drop)]
-pub struct State {
-    pub done: Grants,
-    pub place: Place,
-}
-
 /// The grants that are whole, what was read of the next one, and what may come next.
 #[derive(Debug, Drop)]
 pub struct Reading {
@@ -76,7 +69,7 @@ pub struct Reading {
 }
 
 impl Model for Reading {
-    ghost use Rattle.cap_text.specs.declared.state.State.{State};
+    ghost use Rattle.cap_text.specs.Place.{State};
     ghost use Rattle.cap_text.specs.Sheet.{state_of};
 
     ghost Value = { State };

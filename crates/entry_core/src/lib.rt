@@ -32,6 +32,3 @@ pub use laws::{
 pub use log::Log;
 pub use reply::{Reply, reply_number};
 pub use sealed::{GroupId, Sealed};
-
-#[cfg(test)]
-mod tests;

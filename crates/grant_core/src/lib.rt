@@ -11,8 +11,6 @@ mod filling;
 mod path;
 mod refusal;
 mod table;
-#[cfg(test)]
-mod tests;
 mod tree;
 
 pub use expansion::expand;

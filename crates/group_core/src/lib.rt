@@ -27,6 +27,3 @@ pub use laws::{
 };
 pub use moves::PreparedGroup;
 pub use opening::GroupMove;
-
-#[cfg(test)]
-mod tests;

@@ -12,8 +12,6 @@ mod pool;
 mod refusals;
 mod replay;
 mod sets;
-#[cfg(test)]
-mod tests;
 
 pub use cap_text::OutOfMemory;
 pub use command::MapCommand;

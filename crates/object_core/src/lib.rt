@@ -28,6 +28,3 @@ pub use object::Object;
 pub use op::Op;
 pub use outcome::{Change, Outcome, Outputs};
 pub use running::run_vector;
-
-#[cfg(test)]
-mod tests;

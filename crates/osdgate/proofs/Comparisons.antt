@@ -4,7 +4,9 @@ use Rattle.std.specs.List.{All}
 use Rattle.grant_core.specs.Flat.{Flat}
 use Rattle.compare_core.specs.Widening.{IsGained, Widens, request_of}
 use Rattle.compare_core.specs.declared.comparing.Example.{Example}
+use Rattle.osdgate.specs.Entities.{IsChangeTold, change_lines, word_of}
 use Rattle.osdgate.specs.declared.compare.Change.{Change}
+use Rattle.osdgate.specs.declared.compare_auth.Presence.{Presence}
 use Rattle.osdgate.specs.Compared.{IsRelation, IsChange, IsCompared, relation_of, relation_word, is_any, is_wider, example_lines}
 
 -- the first of some examples is gained
@@ -22,6 +24,20 @@ pub compared_lines : (old new : Flat) (change : Change) (check : Bool) (text : L
     → text ≡ relation_word (relation_of (is_any change.gained.items) (is_any change.lost.items)) ++ (codes "\n" ++ example_lines change.gained.items change.lost.items)
     → fails ≡ (check && is_wider (relation_of (is_any change.gained.items) (is_any change.lost.items))) → IsCompared old new check text fails
 compared_lines old new change check text fails is printed ends = record {
+  relation = relation_of (is_any change.gained.items) (is_any change.lost.items);
+  gained = change.gained.items;
+  lost = change.lost.items;
+  stands = stands old new change.gained.items change.lost.items is.no_gain is.no_loss is.first_gain is.first_loss;
+  gains = is.gains;
+  loses = is.loses;
+  printed = printed;
+  ends = ends;
+}
+
+pub change_told : (presence : Presence) (name : List ℕ) (old new : Flat) (change : Change) (check : Bool) (text : List ℕ) (fails : Bool) → IsChange old new change
+    → text ≡ change_lines name (word_of presence (relation_of (is_any change.gained.items) (is_any change.lost.items))) change.gained.items change.lost.items
+    → fails ≡ (check && is_wider (relation_of (is_any change.gained.items) (is_any change.lost.items))) → IsChangeTold presence name old new check text fails
+change_told presence name old new change check text fails is printed ends = record {
   relation = relation_of (is_any change.gained.items) (is_any change.lost.items);
   gained = change.gained.items;
   lost = change.lost.items;

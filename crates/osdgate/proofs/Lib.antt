@@ -1,3 +1,4 @@
 pub mod Comparisons
+pub mod EachTold
 pub mod Quotes
 pub mod Told

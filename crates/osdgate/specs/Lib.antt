@@ -5,3 +5,4 @@ pub mod Caret
 pub mod Request
 pub mod Compared
 pub mod Who
+pub mod Entities

@@ -18,7 +18,9 @@ const VERDICT_EXAMPLE: &str =
 
 const EXPLAIN_EXAMPLE: &str = "Example: osdgate explain --caps 'profile rbd pool=vms'";
 
-const COMPARE_EXAMPLE: &str = "Example: osdgate compare --old 'allow r' --new 'allow rw'";
+const COMPARE_EXAMPLE: &str = "\
+Example: osdgate compare --old 'allow r' --new 'allow rw'
+Example: osdgate compare --auth now.json --auth planned.json --check";
 
 const WHO_EXAMPLE: &str =
     "Example: ceph auth ls --format json | osdgate who --auth - --pool data --object x --read";
@@ -27,7 +29,7 @@ const AUTH_HELP: &str =
     "What `ceph auth ls --format json` or `ceph auth get NAME --format json` prints, `-` for standard input";
 
 const AUTHS_HELP: &str =
-    "The present file of entities, and again the one that is to take its place";
+    "A file as `ceph auth ls --format json` prints it, the present one and then the one that is to take its place, `-` for standard input";
 
 /// An option whose value is taken as it is, also where it begins with a dash.
 fn text_option<'a>(alloc: Global, name: &'a str, value: &'a str, help: &'a str) -> Arg<'a> {

@@ -1,5 +1,8 @@
 //! Files of entities, as `ceph auth ls` and `ceph auth get` print them.
 
+ghost use Rattle.std.specs.Prelude.{◌≡◌, option_copied};
+ghost use Rattle.osdgate.specs.Entities.{entity_in};
+
 use cap_text::OutOfMemory;
 use serde_json::Value;
 use std::alloc::{AllocFailed, Global};
@@ -117,8 +120,10 @@ fn entity_of(alloc: Global, entry: &Value, number: usize) -> Result<Entity, Auth
     })
 }
 
-/// The entity of this name, if there is one.
-pub(crate) fn find<'a>(entities: &'a [Entity], name: &str) -> Option<&'a Entity> {
+/// The entity of this name, the first where there are more.
+pub(crate) fn find<'a>(entities: &'a [Entity], name: &str) -> Option<&'a Entity>
+    ensures { option_copied result ≡ entity_in entities.now name.now }
+{
     entities.iter().find(|entity| entity.name.as_str() == name)
 }
 

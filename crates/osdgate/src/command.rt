@@ -304,6 +304,15 @@ fn printed_comparison<F: AuthFiles, R: Read>(
     Ok(compare_text(alloc, old, new, check)?)
 }
 
+/// The text that is refused where a comparison of two texts is.
+fn refused_caps<'a>(matches: &ArgMatches<'a>, printed: &Printed) -> &'a str {
+    if printed.text.as_str().starts_with("refused new ") {
+        value_of(matches, "new")
+    } else {
+        value_of(matches, "old")
+    }
+}
+
 /// What the words ask for.
 fn answer_words<'a, S: AsStr, F: AuthFiles, R: Read>(
     alloc: Global,
@@ -324,10 +333,11 @@ fn answer_words<'a, S: AsStr, F: AuthFiles, R: Read>(
                 caps,
             })
         }
-        Some(("compare", inner)) => Ok(Answered {
-            printed: printed_comparison(alloc, files, reader, inner)?,
-            caps: "",
-        }),
+        Some(("compare", inner)) => {
+            let printed = printed_comparison(alloc, files, reader, inner)?;
+            let caps = refused_caps(inner, &printed);
+            Ok(Answered { printed, caps })
+        }
         Some(("who", inner)) => Ok(Answered {
             printed: printed_who(alloc, files, reader, inner)?,
             caps: "",

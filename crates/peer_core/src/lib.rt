@@ -13,8 +13,6 @@ mod requests;
 mod role;
 mod serve;
 mod state;
-#[cfg(test)]
-mod tests;
 
 pub use daemon::Daemon;
 pub use interval_sets::IntervalSets;

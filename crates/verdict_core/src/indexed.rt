@@ -4,7 +4,7 @@ ghost use Rattle.std.specs.Prelude.{◌≡◌, ◌≤◌, false, map, length, If
 ghost use Rattle.verdict_core.specs.Verdict.{is_allowed, report_of};
 
 use crate::judging::grants_allow;
-use crate::places::Places;
+use crate::places::{Places, share_a_chain};
 use crate::reporting;
 use crate::request::{Needs, Target};
 use crate::ticket::{Report, Ticket};
@@ -19,7 +19,8 @@ const FEW: usize = 4;
 /// A ticket with the places of the grants of each pool, of those without a pool, and of each named class.
 ///
 /// Contracts see it as the ticket. A verdict looks only at the grants that may speak of the request, so it
-/// takes about as long over many grants as over a few. A ticket of one to four grants has no places.
+/// takes about as long over many grants as over a few. A ticket of one to four grants has no places, nor has one
+/// whose grants all name one pool, or none: it is judged as the plain ticket is.
 #[derive(Debug, Drop)]
 pub struct IndexedTicket {
     ticket: Ticket,
@@ -44,7 +45,7 @@ impl IndexedTicket {
         ensures made { IfOk result (λ indexed. indexed ≡ ticket) }
         ensures given_back { IfErr result (λ refused. refused.0 ≡ ticket) }
     {
-        if ticket.grants().len() <= FEW {
+        if ticket.grants().len() <= FEW || share_a_chain(ticket.grants()) {
             return Ok(IndexedTicket {
                 ticket,
                 places: None,

@@ -34,7 +34,8 @@ pub(crate) fn has_usable(grants: &[(Path, AllowGrant)], target: &Target<'_>, nee
         .any(|entry| is_usable(&entry.1, target, needs))
 }
 
-/// Whether each call is covered.
+/// Whether each call is covered. It is a call of its own, since most requests have no calls.
+#[inline(never)]
 fn are_covered(grants: &[(Path, AllowGrant)], target: &Target<'_>, needs: &Needs) -> bool
     ensures { result ≡ list_all (spec.is_covered grants.now target.now needs.now) needs.now.calls }
 {
@@ -46,11 +47,15 @@ fn are_covered(grants: &[(Path, AllowGrant)], target: &Target<'_>, needs: &Needs
 }
 
 /// Whether grants allow a request, whatever the time: what `judge` asks of a ticket that is not expired. It takes
-/// no memory and copies nothing.
+/// no memory and copies nothing. Where all calls are covered, some grant is usable.
 pub fn grants_allow(grants: &[(Path, AllowGrant)], target: &Target<'_>, needs: &Needs) -> bool
     ensures { result ≡ spec.grants_allow grants.now target.now needs.now }
 {
-    has_usable(grants, target, needs) && are_covered(grants, target, needs)
+    if needs.calls.as_slice().is_empty() {
+        has_usable(grants, target, needs)
+    } else {
+        are_covered(grants, target, needs)
+    }
 }
 
 /// Whether the ticket allows a request at a tick: the ticket is not expired, one grant gives all the reads

@@ -11,6 +11,7 @@ mod matching;
 mod places;
 mod reporting;
 mod request;
+mod texts;
 mod ticket;
 
 pub use indexed::IndexedTicket;
@@ -18,6 +19,3 @@ pub use judging::{grants_allow, judge};
 pub use reporting::report;
 pub use request::{Calls, ClassCall, Condition, Needs, Target};
 pub use ticket::{Report, Ticket};
-
-#[cfg(test)]
-mod tests;

@@ -1,29 +1,32 @@
 //! One grant against one request.
 
-ghost use Rattle.std.specs.Prelude.{◌≡◌, ◌&&◌};
+ghost use Rattle.std.specs.Prelude.{◌≡◌, ◌&&◌, ◌||◌, not};
 ghost use Rattle.std.specs.List.{list_any};
 ghost use Rattle.std.specs.Str.{bytes_eq};
 ghost use Rattle.verdict_core.specs.Verdict as spec;
 
 use crate::request::{ClassCall, Condition, Needs, Target};
+use crate::texts::{begins_with, is_text};
 use cap_text::{Access, AllowGrant, AppTags, Name, NsMatch, Pairs, Part, Tag, Tags};
 
 /// No name, or this one.
+#[inline(always)]
 fn names(wanted: &Option<Name>, name: &str) -> bool
     ensures { result ≡ spec.names wanted.now name.now }
 {
     match wanted {
         None => true,
-        Some(wanted) => wanted.as_str() == name,
+        Some(wanted) => is_text(wanted, name),
     }
 }
 
+#[inline(always)]
 fn matches_namespace(wanted: &Option<NsMatch>, namespace: &str) -> bool
     ensures { result ≡ spec.matches_namespace wanted.now namespace.now }
 {
     match wanted {
         None => true,
-        Some(NsMatch::Exact(name)) => name.as_str() == namespace,
+        Some(NsMatch::Exact(name)) => is_text(name, namespace),
         Some(NsMatch::Prefix(prefix)) => {
             namespace.as_bytes().starts_with(prefix.as_str().as_bytes())
         }
@@ -35,7 +38,7 @@ fn matches_part(part: &Part, text: &Name) -> bool
 {
     match part {
         Part::Any => true,
-        Part::Is(name) => name.equals(text),
+        Part::Is(name) => is_text(name, text.as_str()),
     }
 }
 
@@ -43,17 +46,20 @@ fn matches_part(part: &Part, text: &Name) -> bool
 fn has_value(value: &Name, pairs: &Pairs) -> bool
     ensures { result ≡ list_any (λ pair. bytes_eq value.now pair.1) pairs.now }
 {
-    pairs.as_slice().iter().any(|pair| value.equals(&pair.1))
+    pairs
+        .as_slice()
+        .iter()
+        .any(|pair| is_text(value, pair.1.as_str()))
 }
 
-/// Whether some pair has this key, and a value that agrees.
+/// Whether some pair has this key, and a value that agrees. Values are looked at first, since they differ more often.
 fn has_pair(key: &Name, value: &Part, pairs: &Pairs) -> bool
     ensures { result ≡ list_any (λ pair. bytes_eq key.now pair.0 && spec.matches_part value.now pair.1) pairs.now }
 {
     pairs
         .as_slice()
         .iter()
-        .any(|pair| key.equals(&pair.0) && matches_part(value, &pair.1))
+        .any(|pair| matches_part(value, &pair.1) && key.equals(&pair.0))
 }
 
 fn matches_pairs(key: &Part, value: &Part, pairs: &Pairs) -> bool
@@ -66,13 +72,17 @@ fn matches_pairs(key: &Part, value: &Part, pairs: &Pairs) -> bool
     }
 }
 
+/// Whether an application agrees with a tag. Its pairs are looked at first, since a pool has few, and they differ more
+/// often than applications do.
 fn matches_application(tag: &Tag, app: &AppTags) -> bool
     ensures { result ≡ spec.matches_application tag.now app.now }
 {
-    tag.application.equals(&app.application) && matches_pairs(&tag.key, &tag.value, &app.pairs)
+    matches_pairs(&tag.key, &tag.value, &app.pairs) && tag.application.equals(&app.application)
 }
 
-/// Whether some application of the pool agrees with a tag.
+/// Whether some application of the pool agrees with a tag. It is a call of its own, so that a walk over grants without
+/// tags stays small.
+#[inline(never)]
 fn has_application(tag: &Tag, tags: &Tags) -> bool
     ensures { result ≡ list_any (spec.matches_application tag.now) tags.now }
 {
@@ -90,14 +100,13 @@ fn matches_tag(wanted: &Option<Tag>, tags: &Tags) -> bool
     }
 }
 
+#[inline(always)]
 fn matches_prefix(wanted: &Option<Name>, object: &str) -> bool
     ensures { result ≡ spec.matches_prefix wanted.now object.now }
 {
     match wanted {
         None => true,
-        Some(prefix) => {
-            !object.is_empty() && object.as_bytes().starts_with(prefix.as_str().as_bytes())
-        }
+        Some(prefix) => !object.is_empty() && begins_with(object, prefix),
     }
 }
 
@@ -121,33 +130,55 @@ pub(crate) fn can_write(access: &Access) -> bool
     }
 }
 
-/// Whether a grant speaks of the place.
+/// Whether an access reads and writes as far as the request does.
+fn serves(access: &Access, needs: &Needs) -> bool
+    ensures { result ≡ ((not needs.now.reads || spec.can_read access.now) && (not needs.now.writes || spec.can_write access.now)) }
+{
+    match access {
+        Access::All => true,
+        Access::Flags(flags) => (!needs.reads | flags.read) & (!needs.writes | flags.write),
+        Access::Class { .. } => !needs.reads && !needs.writes,
+    }
+}
+
+/// Whether a grant speaks of the place. The order of its parts says nothing here, and the object's name, in which
+/// requests differ most, is looked at first.
+#[inline(always)]
 pub(crate) fn matches(grant: &AllowGrant, target: &Target<'_>) -> bool
     ensures { result ≡ spec.matches grant.now target.now }
 {
-    names(&grant.pool, target.pool)
+    matches_prefix(&grant.prefix, target.object)
+        && names(&grant.pool, target.pool)
         && matches_namespace(&grant.namespace, target.namespace)
         && matches_tag(&grant.tag, target.tags)
-        && matches_prefix(&grant.prefix, target.object)
 }
 
-/// Whether a grant speaks of the place, and reads and writes as far as the request does.
+/// Whether a grant speaks of the place, and reads and writes as far as the request does. It is inlined into the walks
+/// over grants, most of which one test rules out.
+#[inline(always)]
 pub(crate) fn is_usable(grant: &AllowGrant, target: &Target<'_>, needs: &Needs) -> bool
     ensures { result ≡ spec.is_usable grant.now target.now needs.now }
 {
-    matches(grant, target)
-        && (!needs.reads || can_read(&grant.access))
-        && (!needs.writes || can_write(&grant.access))
+    matches(grant, target) && serves(&grant.access, needs)
+}
+
+/// The same in a call of its own, for walks on which few grants come so far.
+#[inline(never)]
+fn is_usable_in_turn(grant: &AllowGrant, target: &Target<'_>, needs: &Needs) -> bool
+    ensures { result ≡ spec.is_usable grant.now target.now needs.now }
+{
+    is_usable(grant, target, needs)
 }
 
 /// Whether an access covers a call.
+#[inline(always)]
 pub(crate) fn covers(access: &Access, call: &ClassCall) -> bool
     ensures { result ≡ spec.covers access.now call.now }
 {
     match access {
         Access::All => true,
         Access::Class { class, method } => {
-            class.equals(&call.class) && names(method, call.method.as_str())
+            is_text(class, call.class.as_str()) && names(method, call.method.as_str())
         }
         Access::Flags(flags) => {
             call.listed
@@ -158,6 +189,7 @@ pub(crate) fn covers(access: &Access, call: &ClassCall) -> bool
 }
 
 /// Whether a usable grant covers a call. What it covers is looked at first, since few grants cover a call.
+#[inline(always)]
 pub(crate) fn allows(
     grant: &AllowGrant,
     target: &Target<'_>,
@@ -166,7 +198,7 @@ pub(crate) fn allows(
 ) -> bool
     ensures { result ≡ (spec.is_usable grant.now target.now needs.now && spec.covers grant.now.access call.now) }
 {
-    covers(&grant.access, call) && is_usable(grant, target, needs)
+    covers(&grant.access, call) && is_usable_in_turn(grant, target, needs)
 }
 
 /// The first call that an access does not cover, by its number.

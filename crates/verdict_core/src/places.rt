@@ -1,6 +1,6 @@
 //! Where the grants of a ticket stand that may speak of a request.
 
-ghost use Rattle.std.specs.Prelude.{◌≡◌, ◌+◌, ◌<◌, ◌≤◌, ◌⊎◌, ◌||◌, true, false, length, option_copied, IsSome, IfOk};
+ghost use Rattle.std.specs.Prelude.{◌≡◌, ◌+◌, ◌<◌, ◌≤◌, ◌⊎◌, ◌||◌, ◌==◌, true, false, length, option_copied, IsSome, IfOk};
 ghost use Rattle.std.specs.List.{list_any, list_all};
 ghost use Rattle.verdict_core.specs.Places.{AreChained, NoneBefore, chains_of};
 ghost use Rattle.verdict_core.specs.Places as spec;
@@ -62,6 +62,22 @@ fn chain_of(grant: &AllowGrant) -> usize
         Access::Class { class, .. } => NAMES + bucket(class.as_str()),
         Access::All => pool_chain(&grant.pool),
         Access::Flags(_) => pool_chain(&grant.pool),
+    }
+}
+
+/// Whether all grants are in this chain.
+fn are_in(chain: usize, grants: &[(Path, AllowGrant)]) -> bool
+    ensures { result ≡ list_all (λ entry. (spec.chain_of entry.1 == chain)) grants.now }
+{
+    grants.iter().all(|entry| chain_of(&entry.1) == chain)
+}
+
+/// Whether all grants are in one chain, as where all name one pool, or none: a walk along it looks at each. No verdict
+/// depends on the answer.
+pub(crate) fn share_a_chain(grants: &[(Path, AllowGrant)]) -> bool {
+    match grants.first() {
+        None => true,
+        Some(first) => are_in(chain_of(&first.1), grants),
     }
 }
 

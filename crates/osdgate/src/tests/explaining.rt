@@ -105,13 +105,36 @@ fn a_refused_verdict_points_too(rt: HostRuntime) -> Result<(), Fail> {
 }
 
 #[test]
+fn a_refused_comparison_points_too(rt: HostRuntime) -> Result<(), Fail> {
+    let refused = "allow rw network 10.0.0.0/8";
+    for (old, new, pointed) in [
+        (refused, "allow r pool=", NETWORK),
+        ("allow r", refused, NETWORK),
+        ("profile osd", refused, ""),
+        ("allow r", "allow rw", ""),
+    ] {
+        let words = ["osdgate", "compare", "--old", old, "--new", new, "--check"];
+        let (_, err, status) = streams(rt.alloc(), words.as_slice())?;
+        assert_eq!(rt; err.as_str(), pointed, "{old} to {new}");
+        assert_eq!(rt; status, 1, "{old} to {new}");
+    }
+    Ok(())
+}
+
+#[test]
 fn the_program_says_what_it_is(rt: HostRuntime) -> Result<(), Fail> {
     let alloc = rt.alloc();
     let (out, err, status) = streams(alloc, ["osdgate", "--version"].as_slice())?;
     assert!(rt; out.starts_with("osdgate ") && err.is_empty() && status == 0);
-    for command in ["verdict", "explain"] {
+    for (command, example) in [
+        ("verdict", "Example: osdgate verdict --caps "),
+        ("explain", "Example: osdgate explain --caps "),
+        ("compare", "Example: osdgate compare --old "),
+        ("compare", "Example: osdgate compare --auth "),
+        ("who", "| osdgate who --auth "),
+    ] {
         let (out, _, status) = streams(alloc, ["osdgate", command, "--help"].as_slice())?;
-        assert!(rt; out.contains("Example: osdgate ") && status == 0);
+        assert!(rt; out.contains(example) && status == 0, "{command}");
     }
     let (out, err, status) = streams(alloc, ["osdgate", "explan"].as_slice())?;
     assert!(rt; out.is_empty() && status == 2);

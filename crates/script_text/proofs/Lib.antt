@@ -1,0 +1,5 @@
+pub mod Cursor
+pub mod Digits
+pub mod FirstLines
+pub mod Known
+pub mod ReadBack

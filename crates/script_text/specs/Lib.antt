@@ -1,0 +1,9 @@
+pub mod Lines
+pub mod Words
+pub mod Numbers
+pub mod Text
+pub mod Faults
+pub mod Streams
+pub mod Laws
+pub mod Inside
+pub mod Left

@@ -1,0 +1,27 @@
+//! The text of scripts: lines, words and numbers as they are read, and texts as they are printed.
+//!
+//! This crate knows no command. What a script's words mean is said by the crates above.
+#![tactic(auto)]
+
+mod fault;
+mod laws;
+mod lines;
+mod numbers;
+mod printing;
+mod streams;
+mod words;
+
+pub use fault::ScriptFault;
+pub use laws::{
+    lines_are_read_back, lines_are_the_text, numbers_are_read_back, pairs_are_read_back,
+    quoted_is_read_back,
+};
+pub use lines::{Line, Lines};
+pub use numbers::{number_of, pair_of};
+pub use printing::{push_item, push_number, push_quoted};
+pub use std::alloc::AllocError as OutOfMemory;
+pub use streams::{read_script, write_text};
+pub use words::Words;
+
+#[cfg(test)]
+mod tests;

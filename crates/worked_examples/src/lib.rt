@@ -1,0 +1,27 @@
+//! The worked examples of the libraries, as tests. Each calls only what is public.
+//!
+//! They stand here and not beside the code, since a crate with tests is proved a second time with them.
+#![tactic(auto)]
+
+#[cfg(test)]
+mod capability_texts;
+#[cfg(test)]
+mod comparisons;
+#[cfg(test)]
+mod comparisons_by_force;
+#[cfg(test)]
+mod copies;
+#[cfg(test)]
+mod groups;
+#[cfg(test)]
+mod logs;
+#[cfg(test)]
+mod maps;
+#[cfg(test)]
+mod objects;
+#[cfg(test)]
+mod profiles;
+#[cfg(test)]
+mod users;
+#[cfg(test)]
+mod verdicts;
