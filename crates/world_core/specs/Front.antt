@@ -7,7 +7,7 @@ use Rattle.grant_core.specs.Flat.{Table}
 use Rattle.verdict_core.specs.Ticket.{Ticket}
 use Rattle.auth_db.specs.Users.{Database, Users, user_at, after}
 use Rattle.auth_db.specs.Users as users
-use Rattle.auth_db.specs.Refusals.{known_refusal, add_refusal, caps_refusal, again}
+use Rattle.auth_db.specs.Refusals.{known_refusal, auth_refusal}
 use Rattle.auth_db.specs.declared.caps.Caps.{Caps}
 use Rattle.auth_db.specs.declared.fault.AuthFault.{AuthFault}
 use Rattle.auth_db.specs.declared.fault.AuthFault.TheVariants as auth_fault
@@ -23,7 +23,7 @@ use Rattle.entry_core.specs.declared.sealed.GroupId.{GroupId}
 use Rattle.group_core.specs.declared.fault.GroupFault.TheVariants as group_fault
 use Rattle.entry_core.specs.Locality.{group_for}
 use Rattle.world_core.specs.Event.{Ask, AuthCommand, Add, GetOrCreate, SetCaps, Delete, Event, Auth, Map, Open, Renew, Close, Submit, ListNames, Deliver, Lose, Repeat, Kick, Told, Done, Made, There, Epoch, OfSession, Request, Pieces, Fault, NoSession, NoPool, BadObjectName, StaleEpoch, Limit, OutOfMemory, StaleTick, OfUsers, OfMap, OfNeeds, OfGroup}
-use Rattle.world_core.specs.Tickets.{ticket_of, text_refusal}
+use Rattle.world_core.specs.Tickets.{ticket_of}
 pub use Rattle.world_core.specs.declared.session.Session.{Session}
 pub use Rattle.world_core.specs.declared.session.Pieced.{Pieced}
 use Rattle.world_core.specs.Groups.{is_for}
@@ -81,23 +81,12 @@ abbrev pub users_fault : AuthFault → Fault
 users_fault auth_fault.OutOfMemory = OutOfMemory
 users_fault fault = OfUsers fault
 
-abbrev pub found_refusal : Database → List ℕ → Caps → Option Caps → Option AuthFault
-found_refusal d name caps None = option_or (add_refusal d.users name caps) (text_refusal d.table caps.osd)
-found_refusal d name caps (Some stored) = error_of (again name stored caps)
-
 -- the command, as the users see it
 abbrev pub command_of : AuthCommand → users.Command
 command_of (Add name caps) = users.Add name caps
 command_of (GetOrCreate name caps) = users.GetOrCreate name caps
 command_of (SetCaps name caps) = users.SetCaps name caps
 command_of (Delete name) = users.Delete name
-
--- why a command on the users is refused
-abbrev pub auth_refusal : Database → AuthCommand → Option AuthFault
-auth_refusal d (Add name caps) = option_or (add_refusal d.users name caps) (text_refusal d.table caps.osd)
-auth_refusal d (GetOrCreate name caps) = found_refusal d name caps (user_at d.users name)
-auth_refusal d (SetCaps name caps) = option_or (caps_refusal d.users name caps) (text_refusal d.table caps.osd)
-auth_refusal d (Delete name) = known_refusal d.users name
 
 abbrev pub told_creation : Option Caps → Told
 told_creation None = Made
@@ -289,7 +278,7 @@ group_refusal front group = option_map OfMap (map_tests.acting_refusal front.his
 
 -- why the front refuses an event, which is all that can be said without a group's messages and intervals
 abbrev pub front_refusal : Front → Event → Option Fault
-front_refusal front (Auth command) = option_map OfUsers (auth_refusal front.database command)
+front_refusal front (Auth command) = option_map OfUsers (auth_refusal front.database (command_of command))
 front_refusal front (Map command) = option_map OfMap (map_tests.refusal (map_of front.history) (epoch_of front.history) command)
 front_refusal front (Open entity until) = opening_refusal front.database.users front.sessions entity
 front_refusal front (Renew n until) = renewal_refusal front.database.users (session_of front.sessions n)

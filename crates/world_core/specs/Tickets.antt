@@ -1,15 +1,11 @@
 -- Statement: contracts of public calls use it.
 -- What a user's osd text comes to, as a function.
 use Rattle.std.specs.Prelude.{◌≡◌, ℕ, List, [], Option, Some, None, Ok, Err}
-use Rattle.std.specs.Option.{option_map}
 use Rattle.cap_text.specs.Reading.{Read, read_text}
 use Rattle.cap_text.specs.declared.grant.Grant.{Grant}
 use Rattle.grant_core.specs.Flat.{Table, Flat, flat}
-use Rattle.grant_core.specs.Refusal.{expand_refusal}
 use Rattle.verdict_core.specs.Ticket.{Ticket}
 use Rattle.auth_db.specs.Texts.{IsTicket}
-use Rattle.auth_db.specs.declared.fault.AuthFault.{AuthFault}
-use Rattle.auth_db.specs.declared.fault.AuthFault.TheVariants.{BadCaps, BadProfile}
 
 abbrev pub grants_or_none : Read → List Grant
 grants_or_none (Ok grants) = grants
@@ -23,15 +19,6 @@ grants_of table (Some text) = flat table (grants_or_none (read_text text))
 -- the ticket of an osd text, until the end that was asked for
 abbrev pub ticket_of : Table → Option (List ℕ) → Option ℕ → Ticket
 ticket_of table osd until = record { grants = grants_of table osd; until = until }
-
-abbrev pub read_refusal : Table → Read → Option AuthFault
-read_refusal table (Ok grants) = option_map BadProfile (expand_refusal table grants)
-read_refusal table (Err fault) = Some (BadCaps fault)
-
--- why an osd text is not taken
-abbrev pub text_refusal : Table → Option (List ℕ) → Option AuthFault
-text_refusal table None = None
-text_refusal table (Some text) = read_refusal table (read_text text)
 
 -- what the users give as a ticket is this function of the osd text
 abbrev pub TicketsAreRead : Type 0
