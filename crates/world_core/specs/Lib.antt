@@ -1,0 +1,12 @@
+pub mod Groups
+pub mod Merging
+pub mod Tickets
+pub mod Event
+pub mod Front
+pub mod World
+pub mod Standing
+pub mod Answers
+pub mod Audit
+pub mod Holds
+pub mod Listing
+pub mod Accepted

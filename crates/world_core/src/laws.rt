@@ -1,0 +1,78 @@
+//! Laws of the world, each the contract of a function that does nothing.
+
+ghost use Rattle.world_core.specs.Merging.{PartsAreLegalTogether};
+ghost use Rattle.world_core.specs.Answers.{DecidedIsOneList, AuditGrows, AnswersStand, AnswersAreDecided};
+ghost use Rattle.world_core.specs.Tickets.{TicketsAreRead};
+ghost use Rattle.world_core.specs.Audit.{RunsTell};
+ghost use Rattle.world_core.specs.Holds.{WorldHolds, HoldsOn};
+ghost use Rattle.world_core.specs.Accepted.{RequestsAreSubmissions, FrontTellsRequests, AcceptedHasNumbers, AcceptedHolds, AcceptedAnswers, IntervalsAreTheMaps, GroupsAreServed};
+ghost use Rattle.world_core.specs.Listing.{PiecesAreTheNamespace, PiecesAnswerTheNamespace};
+
+/// Entries of different groups touch different objects: lists that are legal in each group are legal together, in any order that keeps each group's own.
+pub fn parts_are_legal_together()
+    ensures { PartsAreLegalTogether }
+{}
+
+/// Whatever happens to a world, in whatever order: what was decided is one legal list, merged from the groups' lists; each
+/// request in it was submitted; each answer is the reply that stands there. It only grows, and each answer stands.
+pub fn decided_is_one_list()
+    ensures one { DecidedIsOneList }
+    ensures grows { AuditGrows }
+    ensures stand { AnswersStand }
+{}
+
+/// Whatever happens: each answer is what one store without daemons and groups gives at its place in that list, to the request
+/// that was submitted under the number; it is a denial just where the request's own ticket does not allow it at its own tick.
+pub fn answers_are_decided()
+    ensures { AnswersAreDecided }
+{}
+
+/// A user's ticket is a function of its osd text.
+pub fn tickets_are_read()
+    ensures { TicketsAreRead }
+{}
+
+/// What was decided can be told by places in the groups' own lists, one run for each part of an event that decides something.
+pub fn runs_tell_the_audit()
+    ensures { RunsTell }
+{}
+
+/// Whatever happens to a world: users, map and sessions are what the front says without any group, and each group is what
+/// its own part of the events makes of it alone.
+pub fn worlds_hold()
+    ensures all { WorldHolds }
+    ensures next { HoldsOn }
+{}
+
+/// Where each event was accepted, each group's requests are the submissions for it, in their order; and no group refuses a
+/// request that the front does not, so the front alone says whether a request is accepted.
+pub fn requests_are_submissions()
+    ensures submissions { RequestsAreSubmissions }
+    ensures front { FrontTellsRequests }
+{}
+
+/// Where each event was accepted, there are fewer than 2^32 requests, so what is proved of worlds whose ids have room holds
+/// without that premise.
+pub fn accepted_have_numbers()
+    ensures numbers { AcceptedHasNumbers }
+    ensures holds { AcceptedHolds }
+    ensures answers { AcceptedAnswers }
+{}
+
+/// Where each event was accepted, the sets of each group are the intervals that the map has for its place.
+pub fn intervals_are_the_maps()
+    ensures { IntervalsAreTheMaps }
+{}
+
+/// Where each event was accepted, each group is one that there can be, whose last set is the map's present one, and whose
+/// sets lay within the daemons that were up: what the law of recovery asks of a group.
+pub fn groups_are_served()
+    ensures { GroupsAreServed }
+{}
+
+/// The pieces of a list, one for each group of the pool: where each is decided on a store that has the same objects in that
+/// pool and namespace, their names together, sorted, are exactly those of these objects; and that is what the client is shown where each is allowed.
+pub fn pieces_are_the_namespace()
+    ensures names { PiecesAreTheNamespace }
+    ensures answer { PiecesAnswerTheNamespace }
+{}

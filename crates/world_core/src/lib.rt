@@ -1,0 +1,20 @@
+//! The world: users, map, sessions and groups, one event at a time.
+//!
+//! The definitions are in `specs/`; the laws over all histories of events are `laws.rt`. All of it is this project's profile,
+//! over the commands of the Ceph manual and the placement groups of the RADOS paper.
+#![tactic(auto)]
+
+mod event;
+mod fault;
+mod laws;
+mod ops;
+mod session;
+
+pub use event::{Ask, AuthCommand, Event, Told};
+pub use fault::WorldFault;
+pub use laws::{
+    accepted_have_numbers, answers_are_decided, decided_is_one_list, groups_are_served,
+    intervals_are_the_maps, parts_are_legal_together, pieces_are_the_namespace,
+    requests_are_submissions, runs_tell_the_audit, tickets_are_read, worlds_hold,
+};
+pub use ops::Ops;
