@@ -1,6 +1,9 @@
 -- The numbers of the daemons in a set.
-use Rattle.std.proofs.Common.{◌≡◌, ◌≢◌, ℕ, zero, suc, ◌+◌, ◌<◌, List, [], ◌∷◌, ◌++◌, Bool, false, true, cond, length, take, set, filter, sym, ap, ◌∙◌, arith, All}
-use Rattle.std.specs.List.{range_with_len, AllPairs}
+use Rattle.std.proofs.Common.{◌≡◌, ◌≢◌, ℕ, zero, suc, ◌+◌, ◌<◌, ◌==◌, ◌&&◌, List, [], ◌∷◌, ◌++◌, Bool, false, true, cond, length, take, set, filter, refl, sym, ap, ◌∙◌, arith, All, slice_index_or}
+use Rattle.std.specs.List.{range_with_len, AllPairs, list_any}
+use Rattle.std.proofs.lemmas.Bool.{eqb-true, eq-eqb}
+use Rattle.std.proofs.lemmas.List.Folds.{list_any_at}
+use Rattle.std.proofs.lemmas.Map.Views.{any-filter_same}
 use Rattle.std.proofs.lemmas.List.Elements.{filter-append, All-filter}
 use Rattle.std.proofs.lemmas.List.Kept.{AllPairs-filter}
 use Rattle.std.proofs.lemmas.List.{take_more_set, append-nil}
@@ -42,3 +45,28 @@ numbers_differ flags = AllPairs-filter (λ a b. a ≢ b) _ (range_with_len 0 (le
     let first = get_or-range_with_len 0 (length flags) i d (omega (arith, long)) in
     let second = get_or-range_with_len 0 (length flags) j d (omega (arith, long)) in
     omega (arith, first, second, same))
+
+within : (flags : List Bool) (d : ℕ) → slice_index_or flags d false ≡ true → d < length flags
+within [] d is = absurd (cc)
+within (f ∷ fs) zero is = omega arith
+within (f ∷ fs) (suc d) is = let rest = within fs d is in omega (arith, rest)
+
+-- a flag says whether its number is among them
+pub number_is : (flags : List Bool) (d : ℕ) → slice_index_or flags d false ≡ list_any (λ e. e == d) (numbers_of flags)
+unfolding numbers_of
+number_is flags d = go (slice_index_or flags d false) refl
+  where
+    all : List ℕ
+    all = range_with_len 0 (length flags)
+
+    kept : (b : Bool) → slice_index_or flags d false ≡ b → list_any (λ e. e == d) (filter (λ e. slice_index_or flags e false) all) ≡ (b && list_any (λ e. e == d) all)
+    kept b is = any-filter_same (λ e. e == d) (λ e. slice_index_or flags e false) b (λ k same. ap (λ e. slice_index_or flags e false) (eqb-true k d same) ∙ is) all
+
+    go : (b : Bool) → slice_index_or flags d false ≡ b → slice_index_or flags d false ≡ list_any (λ e. e == d) (filter (λ e. slice_index_or flags e false) all)
+    go false is = is ∙ sym (kept false is)
+    go true is = is ∙ sym (kept true is ∙ there (within flags d is))
+      where
+        there : d < length flags → list_any (λ e. e == d) all ≡ true
+        there low =
+            let here = get_or-range_with_len 0 (length flags) d 0 low in
+            list_any_at (λ e. e == d) all d 0 (omega (arith, low, length-range_with_len 0 (length flags))) (eq-eqb _ d (omega (arith, here)))

@@ -1,7 +1,7 @@
 //! Sets of daemons.
 
-ghost use Rattle.std.specs.Prelude.{◌≡◌, ◌≤◌, ◌<◌, length, slice_index_or, slice_set, take, false, All, AllPairs, ◌≢◌, IfOk, map, nat_lt};
-ghost use Rattle.std.specs.List.{range_with_len};
+ghost use Rattle.std.specs.Prelude.{◌≡◌, ◌≤◌, ◌<◌, ◌==◌, length, slice_index_or, slice_set, take, false, All, AllPairs, ◌≢◌, IfOk, map, nat_lt};
+ghost use Rattle.std.specs.List.{range_with_len, list_any};
 ghost use Rattle.place_core.specs.Place.{numbers_of};
 
 use std::alloc::{AllocError, Global};
@@ -40,6 +40,7 @@ impl DaemonSet {
     /// Whether a daemon is in the set.
     pub fn has(&self, daemon: u8) -> bool
         ensures value { result ≡ slice_index_or self.now daemon false }
+        ensures member { result ≡ list_any (λ d. d == daemon) (numbers_of self.now) }
         ensures long { length self.now ≡ 16 }
     {
         let daemon = usize::from(daemon);
