@@ -5,7 +5,7 @@ ghost use Rattle.std.specs.List.{list_any};
 
 use entry_core::{Id, OutOfMemory, Sealed, TryCopy};
 use std::alloc::Global;
-use std::collections::{HashMap, VecDeque};
+use std::collections::{HashSet, VecDeque};
 use std::marker::Model;
 
 /// Requests in their order, which contracts see as a list.
@@ -15,7 +15,7 @@ use std::marker::Model;
 pub struct Queue {
     requests: VecDeque<Sealed>,
     // the ids that wait, and some that waited
-    seen: HashMap<Id, usize>,
+    seen: HashSet<Id>,
 }
 
 impl Model for Queue {
@@ -38,7 +38,7 @@ impl Queue {
     {
         Queue {
             requests: VecDeque::new(alloc),
-            seen: HashMap::new(alloc),
+            seen: HashSet::new(alloc),
         }
     }
 
@@ -60,17 +60,14 @@ impl Queue {
     pub fn has(&self, id: Id) -> bool
         ensures { result ≡ list_any (λ w. w.id == id) self.now }
     {
-        match self.seen.get(&id) {
-            None => false,
-            Some(_) => self.requests.iter().any(|w| w.id() == id),
-        }
+        self.seen.contains(&id) && self.requests.iter().any(|w| w.id() == id)
     }
 
     pub fn push_back(&mut self, request: Sealed) -> Result<(), OutOfMemory>
         ensures ok { OnOk result (self.new ≡ self.old ++ request ∷ []) }
         ensures err { OnErr result (self.new ≡ self.old) }
     {
-        self.seen.insert(request.id(), 0)?;
+        self.seen.insert(request.id())?;
         self.requests.push_back(request)?;
         Ok(())
     }
@@ -79,7 +76,7 @@ impl Queue {
         ensures ok { OnOk result (self.new ≡ request ∷ self.old) }
         ensures err { OnErr result (self.new ≡ self.old) }
     {
-        self.seen.insert(request.id(), 0)?;
+        self.seen.insert(request.id())?;
         self.requests.push_front(request)?;
         Ok(())
     }
