@@ -2,6 +2,7 @@
 use Rattle.std.proofs.Common.{ℕ, ◌≡◌, Bool, true, false, not, ◌==◌, ◌&&◌, List, [], ◌∷◌, ◌++◌, map, take, refl, sym, ◌∙◌, ap, subst, append_assoc, if◌then◌else◌}
 use Rattle.std.specs.Prelude.{Option, Some, None}
 use Rattle.entry_core.specs.Log.{is_in}
+use Rattle.place_core.specs.Place.{numbers_of}
 use Rattle.peer_core.specs.Steps.{restarted}
 use Rattle.group_core.specs.declared.opening.Opening.{Opening}
 use Rattle.group_core.specs.declared.opening.GroupMove.TheVariants.{NewInterval as Moves, Restart as Restarts}
@@ -32,16 +33,16 @@ comes_again false a c is = absurd (cc)
 abbrev pub Moved : Group → ℕ → List (List ℕ) → List Sent → List ℕ → List Daemon → Group
 Moved g n sets wire up copies = record g { wire = wire; sets = sets; up = up; copies = copies; audit = take n (furthest copies) }
 
-module _ {g : Group} {n room : ℕ} (acting up : List ℕ) (copies : List Daemon) (shown : take n (furthest g.copies) ≡ g.audit)
-    (is_copies : copies ≡ map (λ c. if is_in g.up c.number && not (is_in up c.number) then restarted c else c) g.copies) where
-  pub moved_to : (o : Option Opening) (sets : List (List ℕ)) (wire : List Sent) (up' : List ℕ) → IsReady g n room (Moves acting up) o → HasOpened g.sets g.wire o sets wire → up' ≡ up →
-      Next g (NewInterval acting up) (Moved g n sets wire up' copies) n
+module _ {g : Group} {n room : ℕ} (acting : List ℕ) (up : List Bool) (copies : List Daemon) (shown : take n (furthest g.copies) ≡ g.audit)
+    (is_copies : copies ≡ map (λ c. if is_in g.up c.number && not (is_in (numbers_of up) c.number) then restarted c else c) g.copies) where
+  pub moved_to : (o : Option Opening) (sets : List (List ℕ)) (wire : List Sent) (up' : List Bool) → IsReady g n room (Moves acting up) o → HasOpened g.sets g.wire o sets wire → up' ≡ up →
+      Next g (NewInterval acting (numbers_of up)) (Moved g n sets wire (numbers_of up') copies) n
   moved_to None sets wire up' ready opened is_up =
       let same : same_set acting (last_set g.sets) ≡ true = stays_same (same_set acting (last_set g.sets)) acting ready.made in
-      subst (λ s. Next g (NewInterval acting up) (Moved g n s wire up' copies) n) (sym opened.0)
-      (subst (λ w. Next g (NewInterval acting up) (Moved g n g.sets w up' copies) n) (sym opened.1)
-      (subst (λ u. Next g (NewInterval acting up) (Moved g n g.sets g.wire u copies) n) (sym is_up)
-      (next_same ready.whole acting up copies ready.fits same is_copies shown)))
+      subst (λ s. Next g (NewInterval acting (numbers_of up)) (Moved g n s wire (numbers_of up') copies) n) (sym opened.0)
+      (subst (λ w. Next g (NewInterval acting (numbers_of up)) (Moved g n g.sets w (numbers_of up') copies) n) (sym opened.1)
+      (subst (λ u. Next g (NewInterval acting (numbers_of up)) (Moved g n g.sets g.wire (numbers_of u) copies) n) (sym is_up)
+      (next_same ready.whole acting (numbers_of up) copies ready.fits same is_copies shown)))
   moved_to (Some o) sets wire up' ready opened is_up =
       let made : IsOpening g (Moves acting up) o.sets o.sent.items = ready.made in
       let parts : (same_set acting (last_set g.sets) ≡ false) × (acting ≡ made.acting) = begins_with (same_set acting (last_set g.sets)) acting made.acting made.begins in
@@ -50,8 +51,8 @@ module _ {g : Group} {n room : ℕ} (acting up : List ℕ) (copies : List Daemon
       made.sent_are ∙ ap (λ a. announced (g.sets ++ a ∷ []) ++ resent (g.sets ++ a ∷ []) g.requests g.answers) (sym parts.1) in
       let is_wire : wire ≡ (g.wire ++ announced (g.sets ++ acting ∷ [])) ++ resent (g.sets ++ acting ∷ []) g.requests g.answers =
       opened.1 ∙ ap (λ l. g.wire ++ l) is_sent ∙ sym (append_assoc g.wire (announced (g.sets ++ acting ∷ [])) (resent (g.sets ++ acting ∷ []) g.requests g.answers)) in
-      subst (λ u. Next g (NewInterval acting up) (Moved g n sets wire u copies) n) (sym is_up)
-      (next_begun ready.whole acting up copies sets wire ready.fits parts.0 made.room is_sets is_wire is_copies shown)
+      subst (λ u. Next g (NewInterval acting (numbers_of up)) (Moved g n sets wire (numbers_of u) copies) n) (sym is_up)
+      (next_begun ready.whole acting (numbers_of up) copies sets wire ready.fits parts.0 made.room is_sets is_wire is_copies shown)
 
 module _ {g : Group} {n room : ℕ} (daemon : ℕ) (copies : List Daemon) (shown : take n (furthest g.copies) ≡ g.audit)
     (is_copies : copies ≡ map (λ c. if c.number == daemon then restarted c else c) g.copies) where

@@ -1,13 +1,22 @@
 -- Acting sets.
 use Rattle.std.proofs.Common.{ℕ, ◌≡◌, ◌≤◌, true, ◌==◌, ◌&&◌, ◌||◌, not, List, [], ◌∷◌, length, refl, sym, ap, ◌∙◌}
 use Rattle.std.specs.List.{list_any}
+use Rattle.std.specs.Str.{bytes_eq}
 use Rattle.place_core.specs.Members as members
 use Rattle.entry_core.specs.Log.{is_in}
-use Rattle.group_core.specs.Group.{is_distinct, IsSet}
+use Rattle.group_core.specs.Group.{is_distinct, same_set, IsSet}
 
-has_is_in : (xs : List ℕ) (x : ℕ) → list_any (λ d. d == x) xs ≡ is_in xs x
+-- a set's own tests of a member and of another set
+
+pub has_is_in : (xs : List ℕ) (x : ℕ) → list_any (λ d. d == x) xs ≡ is_in xs x
 has_is_in [] x = refl
 has_is_in (y ∷ ys) x = ap (λ b. (y == x) || b) (has_is_in ys x)
+
+pub equals_is : (xs ys : List ℕ) → bytes_eq xs ys ≡ same_set xs ys
+equals_is [] [] = refl
+equals_is [] (y ∷ ys) = refl
+equals_is (x ∷ xs) [] = refl
+equals_is (x ∷ xs) (y ∷ ys) = ap (λ b. (x == y) && b) (equals_is xs ys)
 
 distinct_is : (xs : List ℕ) → members.is_distinct xs ≡ is_distinct xs
 distinct_is [] = refl

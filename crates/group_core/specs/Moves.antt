@@ -2,6 +2,7 @@
 -- Moves of a group, and what is made before one.
 use Rattle.std.specs.Prelude.{ℕ, ◌≡◌, ◌≤◌, ◌<◌, List, [], ◌∷◌, ◌++◌, length, Option, Some, None, if◌then◌else◌, vec_len}
 use Rattle.entry_core.specs.Log.{is_in}
+use Rattle.place_core.specs.Place.{numbers_of}
 use Rattle.group_core.specs.declared.opening.Opening.{Opening}
 use Rattle.group_core.specs.declared.opening.GroupMove.{GroupMove}
 use Rattle.group_core.specs.declared.opening.GroupMove.TheVariants.{NewInterval as Moves, Restart as Restarts}
@@ -10,7 +11,7 @@ use Rattle.group_core.specs.Group.{Group, Event, NewInterval, Restart, last_set,
 use Rattle.group_core.specs.Whole.{IsWhole}
 
 abbrev pub event_of : GroupMove → Event
-event_of (Moves acting up) = NewInterval acting up
+event_of (Moves acting up) = NewInterval acting (numbers_of up)
 event_of (Restarts daemon) = Restart daemon
 
 -- the set of the interval that a move begins, where it begins one

@@ -8,6 +8,7 @@ mod furthest;
 mod group;
 mod ids;
 mod laws;
+mod members;
 mod moves;
 mod opening;
 mod parts;

@@ -9,9 +9,9 @@ ghost use Rattle.group_core.specs.Reached.{Refuses};
 
 use crate::fault::GroupFault;
 use crate::group::{Group, INTERVALS};
+use crate::members::{has_member, is_same, latest};
 use crate::opening::{GroupMove, Opening, open, prepare};
 use crate::parts::{change_up, restart_one};
-use crate::sending::{contains, equals, latest, same_again};
 use crate::state::GroupState;
 use crate::wire::Wire;
 use peer_core::IntervalSets;
@@ -23,7 +23,8 @@ fn other_set(sets: &IntervalSets, acting: &ActingSet) -> Option<ActingSet>
     ensures value { result ≡ (if same_set acting.now (last_set sets.now) then None else Some acting.now) }
     ensures fits { IsSet acting.now }
 {
-    if equals(acting.as_slice(), latest(sets)) {
+    let _members = acting.as_slice();
+    if is_same(acting, &latest(sets)) {
         return None;
     }
     Some(*acting)
@@ -33,8 +34,9 @@ fn other_set(sets: &IntervalSets, acting: &ActingSet) -> Option<ActingSet>
 fn set_again(sets: &IntervalSets, daemon: u8) -> Option<ActingSet>
     ensures { result ≡ (if is_in (last_set sets.now) daemon then Some (last_set sets.now) else None) }
 {
-    if contains(latest(sets), daemon) {
-        return Some(same_again(sets));
+    let set = latest(sets);
+    if has_member(&set, daemon) {
+        return Some(set);
     }
     None
 }

@@ -5,18 +5,18 @@ ghost use Rattle.group_core.specs.Group.{announced, resent};
 
 use crate::answers::Answers;
 use crate::requests::Requests;
-use crate::sending::{announce, contains, equals, latest, resend, same_again};
+use crate::sending::{announce, resend};
 use crate::wire::Wire;
-use entry_core::{Items, OutOfMemory};
+use entry_core::OutOfMemory;
 use peer_core::{IntervalSets, Sent};
-use place_core::ActingSet;
+use place_core::{ActingSet, DaemonSet};
 use std::alloc::Global;
 
 /// What moves a group: what a map's command makes of it.
 #[derive(Drop)]
 pub enum GroupMove {
     /// The acting set is this one, and these daemons are up. Where the set is the last one, no interval begins.
-    NewInterval { acting: ActingSet, up: Items<u8> },
+    NewInterval { acting: ActingSet, up: DaemonSet },
     /// A daemon restarted. Where it is one of the last set, an interval of the same set begins.
     Restart(u8),
 }

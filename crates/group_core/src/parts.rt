@@ -5,32 +5,32 @@ ghost use Rattle.peer_core.specs.Steps.{blank, restarted};
 ghost use Rattle.peer_core.specs.Sets.{daemons};
 ghost use Rattle.peer_core.specs.Copy.{copy_step};
 ghost use Rattle.entry_core.specs.Log.{is_in};
+ghost use Rattle.place_core.specs.Place.{numbers_of};
 ghost use Rattle.group_core.specs.Types as types;
 ghost use Rattle.group_core.specs.Group.{is_submitted, answers_after, announced, resent};
 ghost use Rattle.group_core.specs.Reached.{unsent};
 
 use crate::answers::{Answer, Answers};
 use crate::at::at;
+use crate::members::is_up;
 use crate::opening::{open, prepare};
 use crate::requests::Requests;
-use crate::sending::contains;
 use crate::wire::Wire;
 use entry_core::{Items, OutOfMemory, Sealed, TryCopy};
 use peer_core::{Body, Daemon, IntervalSets, Message, Sent};
-use place_core::ActingSet;
+use place_core::{ActingSet, DaemonSet};
 use std::alloc::Global;
 
-/// The copies of so many daemons, as they begin.
+/// The copies of so many daemons, or of all 16, as they begin.
 pub(crate) fn blank_copies(
     alloc: Global,
     count: u8,
     min_size: usize,
 ) -> Result<Vec<Daemon>, OutOfMemory>
-    requires { count ≤ 16 }
     ensures { IfOk result (λ v. v.items ≡ map (blank min_size) (take count daemons)) }
 {
     let mut copies = Vec::new(alloc);
-    for number in 0..count {
+    for number in 0..count.min(16) {
         copies.push(Daemon::new(alloc, number, min_size))?;
     }
     Ok(copies)
@@ -57,15 +57,15 @@ fn restart_if(copy: &mut Daemon, asked: bool)
 }
 
 /// Whether a daemon was up and is no more.
-fn goes_down(was_up: &[u8], up: &[u8], daemon: u8) -> bool
-    ensures { result ≡ (is_in was_up.now daemon && not (is_in up.now daemon)) }
+fn goes_down(was_up: &DaemonSet, up: &DaemonSet, daemon: u8) -> bool
+    ensures { result ≡ (is_in (numbers_of was_up.now) daemon && not (is_in (numbers_of up.now) daemon)) }
 {
-    contains(was_up, daemon) && !contains(up, daemon)
+    is_up(was_up, daemon) && !is_up(up, daemon)
 }
 
 /// Restarts the copies of daemons that were up and are no more.
-fn restart_downed(copies: &mut [Daemon], was_up: &[u8], up: &[u8])
-    ensures { copies.new ≡ map (λ c. if is_in was_up.now c.number && not (is_in up.now c.number) then restarted c else c) copies.old }
+fn restart_downed(copies: &mut [Daemon], was_up: &DaemonSet, up: &DaemonSet)
+    ensures { copies.new ≡ map (λ c. if is_in (numbers_of was_up.now) c.number && not (is_in (numbers_of up.now) c.number) then restarted c else c) copies.old }
 {
     for copy in copies.iter_mut() {
         let down = goes_down(was_up, up, copy.number());
@@ -74,11 +74,11 @@ fn restart_downed(copies: &mut [Daemon], was_up: &[u8], up: &[u8])
 }
 
 /// Says who is up, and restarts the copies of daemons that are no more.
-pub(crate) fn change_up(copies: &mut Vec<Daemon>, up: &mut Items<u8>, next: Items<u8>)
-    ensures copies { copies.new.items ≡ map (λ c. if is_in up.old c.number && not (is_in next c.number) then restarted c else c) copies.old.items }
+pub(crate) fn change_up(copies: &mut Vec<Daemon>, up: &mut DaemonSet, next: DaemonSet)
+    ensures copies { copies.new.items ≡ map (λ c. if is_in (numbers_of up.old) c.number && not (is_in (numbers_of next) c.number) then restarted c else c) copies.old.items }
     ensures up { up.new ≡ next }
 {
-    restart_downed(copies, up.as_slice(), next.as_slice());
+    restart_downed(copies, up, &next);
     *up = next;
 }
 
@@ -119,10 +119,10 @@ pub(crate) fn take_request(
 }
 
 /// Takes back the last message, where a request was sent to the first of this set.
-pub(crate) fn take_back_sent(wire: &mut Wire, set: &[u8])
+pub(crate) fn take_back_sent(wire: &mut Wire, set: &ActingSet)
     ensures { wire.new.sent ≡ unsent set.now wire.old.sent }
 {
-    match set.first() {
+    match set.as_slice().first() {
         Some(_) => wire.pop(),
         None => {}
     }

@@ -3,8 +3,9 @@
 use crate::answers::Answers;
 use crate::requests::Requests;
 use crate::wire::Wire;
-use entry_core::{GroupId, Items};
+use entry_core::GroupId;
 use peer_core::{Daemon, IntervalSets};
+use place_core::DaemonSet;
 
 /// The copies of one group, the messages among them, its intervals, its requests and its answers.
 #[derive(Drop)]
@@ -14,7 +15,7 @@ pub(crate) struct GroupState {
     pub copies: Vec<Daemon>,
     pub wire: Wire,
     pub sets: IntervalSets,
-    pub up: Items<u8>,
+    pub up: DaemonSet,
     pub requests: Requests,
     pub answers: Answers,
     pub decided: usize,

@@ -1,6 +1,7 @@
 use Rattle.std.proofs.Common.{◌≡◌, ◌<◌, ap, sym, ◌∙◌, subst, length, false}
 use Rattle.std.specs.Prelude.{Some, slice_get}
 use Rattle.entry_core.specs.Log.{is_in}
+use Rattle.place_core.specs.Place.{numbers_of}
 use Rattle.group_core.specs.Reached.{IsReached}
 use Rattle.group_core.proofs.Calls.{get_in, next_answered, whole_dropped, stepped}
 use Rattle.group_core.proofs.Lowering.{delivery_lowers, drop_lowers, found_lowers}
@@ -30,16 +31,16 @@ remove-requires c =
     let here : slice_get c.self.inside.state.wire.sent c.args.k ≡ Some c.in-Some.message.now = ap (λ l. slice_get l c.args.k) (sym c.as_slice.ensures) ∙ sym c.in-Some.ensures in
     get_in c.self.inside.state.wire.sent c.args.k c.in-Some.message.now here
 
-pub invariant_of-self-then-not-contains : goal.invariant_of-self-then-not-contains
-invariant_of-self-then-not-contains c =
+pub invariant_of-self-then-not-is_up : goal.invariant_of-self-then-not-is_up
+invariant_of-self-then-not-is_up c =
     let here : slice_get c.self.inside.state.wire.sent c.args.k ≡ Some c.in-Some.message.now = ap (λ l. slice_get l c.args.k) (sym c.as_slice.ensures) ∙ sym c.in-Some.ensures in
-    let down : is_in c.self.inside.state.up c.in-Osd.d ≡ false = ap (λ l. is_in l c.in-Osd.d) (sym c.as_slice-in-Osd.ensures) ∙ sym c.contains.ensures ∙ c.if-not-contains.true in
+    let down : is_in (numbers_of c.self.inside.state.up) c.in-Osd.d ≡ false = sym c.is_up.ensures ∙ c.if-not-is_up.true in
     whole_dropped c.self.invariant c.args.k c.in-Osd.d c.in-Some.message.now c.remove.new.self.sent here c.in-Osd.is down c.remove.ensures
 
-pub returns-then-not-contains-clause-dropped : goal.returns-then-not-contains-clause-dropped
-returns-then-not-contains-clause-dropped c = λ _. (
+pub returns-then-not-is_up-clause-dropped : goal.returns-then-not-is_up-clause-dropped
+returns-then-not-is_up-clause-dropped c = λ _. (
     let here : slice_get c.self.inside.state.wire.sent c.args.k ≡ Some c.in-Some.message.now = ap (λ l. slice_get l c.args.k) (sym c.as_slice.ensures) ∙ sym c.in-Some.ensures in
-    let down : is_in c.self.inside.state.up c.in-Osd.d ≡ false = ap (λ l. is_in l c.in-Osd.d) (sym c.as_slice-in-Osd.ensures) ∙ sym c.contains.ensures ∙ c.if-not-contains.true in
+    let down : is_in (numbers_of c.self.inside.state.up) c.in-Osd.d ≡ false = sym c.is_up.ensures ∙ c.if-not-is_up.true in
     drop_lowers c.self.view_is c.self.invariant c.args.k c.in-Osd.d c.in-Some.message.now c.remove.new.self.sent here c.in-Osd.is down c.remove.ensures)
 
 pub returns-in_ok-reach_daemon-in-Osd-clause-delivered : goal.returns-in_ok-reach_daemon-in-Osd-clause-delivered

@@ -1,4 +1,5 @@
 use Rattle.std.proofs.Common.{◌≡◌, ◌<◌, ◌∙◌, sym, ap, subst, refl, length, true, false}
+use Rattle.place_core.specs.Place.{numbers_of}
 use Rattle.group_core.specs.Group.{same_set, last_set}
 use Rattle.group_core.proofs.Sets.{set_is}
 use Rattle.group_core.proofs.Calls.{next_same, next_begun, whole_up, stepped_up}
@@ -6,22 +7,22 @@ use Rattle.group_core.proofs.group.Group.new_interval.Goals as goal
 
 pub invariant_of-self : goal.invariant_of-self
 invariant_of-self c =
-    let same : same_set c.args.acting (last_set c.self.inside.state.sets) ≡ true = ap (λ l. same_set l (last_set c.self.inside.state.sets)) (sym c.as_slice.ensures.value) ∙ ap (λ l. same_set c.as_slice.result.now l) (sym c.latest.ensures) ∙ sym c.equals.ensures ∙ c.if-equals.true in
-    whole_up c.change_up.ensures.up (next_same c.self.invariant c.args.acting c.args.up c.change_up.new.copies.items (set_is c.args.acting (rw (← c.as_slice.ensures.value) c.as_slice.ensures.few) (rw (← c.as_slice.ensures.value) c.as_slice.ensures.once)) same c.change_up.ensures.copies refl)
+    let same : same_set c.args.acting (last_set c.self.inside.state.sets) ≡ true = ap (λ l. same_set c.args.acting l) (sym c.latest.ensures) ∙ sym c.is_same.ensures ∙ c.if-is_same.true in
+    whole_up (ap numbers_of c.change_up.ensures.up) (next_same c.self.invariant c.args.acting (numbers_of c.args.up) c.change_up.new.copies.items (set_is c.args.acting (rw (← c.as_slice-members.ensures.value) c.as_slice-members.ensures.few) (rw (← c.as_slice-members.ensures.value) c.as_slice-members.ensures.once)) same c.change_up.ensures.copies refl)
 
-pub returns-then-equals-clause-steps : goal.returns-then-equals-clause-steps
-returns-then-equals-clause-steps c =
-    let same : same_set c.args.acting (last_set c.self.inside.state.sets) ≡ true = ap (λ l. same_set l (last_set c.self.inside.state.sets)) (sym c.as_slice.ensures.value) ∙ ap (λ l. same_set c.as_slice.result.now l) (sym c.latest.ensures) ∙ sym c.equals.ensures ∙ c.if-equals.true in
-    stepped_up c.self.view_is c.change_up.ensures.up (next_same c.self.invariant c.args.acting c.args.up c.change_up.new.copies.items (set_is c.args.acting (rw (← c.as_slice.ensures.value) c.as_slice.ensures.few) (rw (← c.as_slice.ensures.value) c.as_slice.ensures.once)) same c.change_up.ensures.copies refl)
+pub returns-then-is_same-clause-steps : goal.returns-then-is_same-clause-steps
+returns-then-is_same-clause-steps c =
+    let same : same_set c.args.acting (last_set c.self.inside.state.sets) ≡ true = ap (λ l. same_set c.args.acting l) (sym c.latest.ensures) ∙ sym c.is_same.ensures ∙ c.if-is_same.true in
+    stepped_up c.self.view_is (ap numbers_of c.change_up.ensures.up) (next_same c.self.invariant c.args.acting (numbers_of c.args.up) c.change_up.new.copies.items (set_is c.args.acting (rw (← c.as_slice-members.ensures.value) c.as_slice-members.ensures.few) (rw (← c.as_slice-members.ensures.value) c.as_slice-members.ensures.once)) same c.change_up.ensures.copies refl)
 
 pub invariant_of-self-2 : goal.invariant_of-self-2
 invariant_of-self-2 c =
-    let same : same_set c.args.acting (last_set c.self.inside.state.sets) ≡ false = ap (λ l. same_set l (last_set c.self.inside.state.sets)) (sym c.as_slice.ensures.value) ∙ ap (λ l. same_set c.as_slice.result.now l) (sym c.latest.ensures) ∙ sym c.equals.ensures ∙ c.if-equals.false in
+    let same : same_set c.args.acting (last_set c.self.inside.state.sets) ≡ false = ap (λ l. same_set c.args.acting l) (sym c.latest.ensures) ∙ sym c.is_same.ensures ∙ c.if-is_same.false in
     let room : length c.self.inside.state.sets < 1024 = subst (λ n. n < 1024) c.len.ensures c.if-len-ge-INTERVALS.false in
-    whole_up c.change_up-2.ensures.up (next_begun c.self.invariant c.args.acting c.args.up c.change_up-2.new.copies.items c.begin.new.sets c.begin.new.wire.sent (set_is c.args.acting (rw (← c.as_slice.ensures.value) c.as_slice.ensures.few) (rw (← c.as_slice.ensures.value) c.as_slice.ensures.once)) same room c.in_ok-begin.ensures.sets_ok c.in_ok-begin.ensures.wire_ok c.change_up-2.ensures.copies refl)
+    whole_up (ap numbers_of c.change_up-2.ensures.up) (next_begun c.self.invariant c.args.acting (numbers_of c.args.up) c.change_up-2.new.copies.items c.begin.new.sets c.begin.new.wire.sent (set_is c.args.acting (rw (← c.as_slice-members.ensures.value) c.as_slice-members.ensures.few) (rw (← c.as_slice-members.ensures.value) c.as_slice-members.ensures.once)) same room c.in_ok-begin.ensures.sets_ok c.in_ok-begin.ensures.wire_ok c.change_up-2.ensures.copies refl)
 
 pub returns-clause-steps : goal.returns-clause-steps
 returns-clause-steps c =
-    let same : same_set c.args.acting (last_set c.self.inside.state.sets) ≡ false = ap (λ l. same_set l (last_set c.self.inside.state.sets)) (sym c.as_slice.ensures.value) ∙ ap (λ l. same_set c.as_slice.result.now l) (sym c.latest.ensures) ∙ sym c.equals.ensures ∙ c.if-equals.false in
+    let same : same_set c.args.acting (last_set c.self.inside.state.sets) ≡ false = ap (λ l. same_set c.args.acting l) (sym c.latest.ensures) ∙ sym c.is_same.ensures ∙ c.if-is_same.false in
     let room : length c.self.inside.state.sets < 1024 = subst (λ n. n < 1024) c.len.ensures c.if-len-ge-INTERVALS.false in
-    stepped_up c.self.view_is c.change_up-2.ensures.up (next_begun c.self.invariant c.args.acting c.args.up c.change_up-2.new.copies.items c.begin.new.sets c.begin.new.wire.sent (set_is c.args.acting (rw (← c.as_slice.ensures.value) c.as_slice.ensures.few) (rw (← c.as_slice.ensures.value) c.as_slice.ensures.once)) same room c.in_ok-begin.ensures.sets_ok c.in_ok-begin.ensures.wire_ok c.change_up-2.ensures.copies refl)
+    stepped_up c.self.view_is (ap numbers_of c.change_up-2.ensures.up) (next_begun c.self.invariant c.args.acting (numbers_of c.args.up) c.change_up-2.new.copies.items c.begin.new.sets c.begin.new.wire.sent (set_is c.args.acting (rw (← c.as_slice-members.ensures.value) c.as_slice-members.ensures.few) (rw (← c.as_slice-members.ensures.value) c.as_slice-members.ensures.once)) same room c.in_ok-begin.ensures.sets_ok c.in_ok-begin.ensures.wire_ok c.change_up-2.ensures.copies refl)
