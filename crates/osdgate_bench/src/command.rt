@@ -2,6 +2,7 @@
 
 ghost use Rattle.std.specs.Prelude.{◌≤◌};
 
+use crate::compare::add_comparisons;
 use crate::expand::add_expansions;
 use crate::fault::Fault;
 use crate::group::add_groups;
@@ -31,6 +32,7 @@ PART is one of
   verdict   a verdict, and a verdict with its report where it is no, at 1, 4, 16 and 64 grants
   parse     reading a capability text
   expand    expanding a list by the built-in profiles
+  compare   finding what one ticket allows that another denies, at 1, 16 and 64 grants
   vector    running a vector of operations on an object
   group     a request through a group of three daemons, of 1,000 and of 8,000
 ";
@@ -41,6 +43,7 @@ enum Part {
     Verdict,
     Parse,
     Expand,
+    Compare,
     Vector,
     Group,
 }
@@ -50,6 +53,7 @@ fn part_of(word: &str) -> Option<Part> {
         "verdict" => Some(Part::Verdict),
         "parse" => Some(Part::Parse),
         "expand" => Some(Part::Expand),
+        "compare" => Some(Part::Compare),
         "vector" => Some(Part::Vector),
         "group" => Some(Part::Group),
         _ => None,
@@ -63,6 +67,7 @@ fn table_of<C: Clock>(alloc: Global, clock: &C, part: Part, name: &str) -> Resul
         Part::Verdict => add_verdicts(&mut table, name)?,
         Part::Parse => add_parses(&mut table, name)?,
         Part::Expand => add_expansions(&mut table, name)?,
+        Part::Compare => add_comparisons(&mut table, name)?,
         Part::Vector => add_vectors(&mut table, name)?,
         Part::Group => add_groups(&mut table, name)?,
     }

@@ -1,10 +1,11 @@
 //! What it costs to expand a list by the built-in profiles.
 
 use crate::fault::Fault;
+use crate::grants::push_grant;
 use crate::measure::Work;
 use crate::table::Table;
 use cap_text::{CapList, OutOfMemory, parse};
-use grant_core::{ExpandFault, ProfileTable, expand};
+use grant_core::{ExpandFault, GrantTree, ProfileTable, expand};
 use std::alloc::{AllocError, Global};
 use std::time::Clock;
 use verdict_core::Ticket;
@@ -31,6 +32,11 @@ impl Work for Expand<'_> {
     }
 }
 
+/// Whether the ticket of a tree has grants.
+fn has_grants(alloc: Global, tree: &GrantTree) -> Result<bool, OutOfMemory> {
+    Ok(!Ticket::of(alloc, tree, None)?.grants().is_empty())
+}
+
 /// A list, of which a ticket is made.
 #[derive(Drop)]
 struct MakeTicket<'a>(Expand<'a>);
@@ -38,7 +44,7 @@ struct MakeTicket<'a>(Expand<'a>);
 impl Work for MakeTicket<'_> {
     fn once(&self, _turn: usize) -> Result<bool, OutOfMemory> {
         match expand(self.0.alloc, self.0.table, self.0.list) {
-            Ok(tree) => Ok(!Ticket::of(self.0.alloc, &tree, None)?.grants().is_empty()),
+            Ok(tree) => has_grants(self.0.alloc, &tree),
             Err(ExpandFault::OutOfMemory) => Err(AllocError),
             Err(_) => Ok(false),
         }
@@ -51,14 +57,29 @@ impl Work for MakeTicket<'_> {
 
 /// A profile's use, so many times.
 fn uses(alloc: Global, name: &str, times: usize) -> Result<String, OutOfMemory> {
+    let grant = format!(in alloc; "profile rbd pool={name}")?;
     let mut text = String::new(alloc);
-    for i in 0..times {
-        if i > 0 {
-            text.push_str(", ")?;
-        }
-        text.push_str(format!(in alloc; "profile rbd pool={name}")?.as_str())?;
+    for _ in 0..times {
+        push_grant(&mut text, grant.as_str())?;
     }
     Ok(text)
+}
+
+/// The list of a profile's use, so many times.
+fn list_of(alloc: Global, name: &str, times: usize) -> Result<CapList, Fault> {
+    Ok(parse(alloc, uses(alloc, name, times)?.as_str())?)
+}
+
+/// Adds a row with a number between two words.
+fn add_row<C: Clock, W: Work>(
+    table: &mut Table<'_, C>,
+    call: &str,
+    times: usize,
+    what: &str,
+    work: &W,
+) -> Result<(), Fault> {
+    let row = format!(in table.alloc(); "{call}, {times} of {what}")?;
+    table.row(row.as_str(), work)
 }
 
 /// Adds the rows of expansions, over a given name.
@@ -66,16 +87,15 @@ pub(crate) fn add_expansions<C: Clock>(table: &mut Table<'_, C>, name: &str) -> 
     let alloc = table.alloc();
     let profiles = ProfileTable::builtin(alloc)?;
     for times in [1, 16, 51] {
-        let list = parse(alloc, uses(alloc, name, times)?.as_str())?;
+        let list = list_of(alloc, name, times)?;
         let work = Expand {
             alloc,
             table: &profiles,
             list: &list,
         };
-        let row = format!(in alloc; "expand, {times} of profile rbd with a pool")?;
-        table.row(row.as_str(), &work)?;
-        let row = format!(in alloc; "expand and make the ticket, {times} of them")?;
-        table.row(row.as_str(), &MakeTicket(work))?;
+        add_row(table, "expand", times, "profile rbd with a pool", &work)?;
+        let work = MakeTicket(work);
+        add_row(table, "expand and make the ticket", times, "them", &work)?;
     }
     Ok(())
 }

@@ -1,18 +1,19 @@
 //! What it costs to take requests through a group of three daemons.
 
+ghost use Rattle.std.specs.Prelude.{◌≡◌, IfOk};
+
 use crate::fault::Fault;
+use crate::grants::{indexed, ticket_of};
 use crate::measure::Work;
 use crate::table::Table;
-use cap_text::{Name, OutOfMemory, Tags, parse};
+use cap_text::{Name, OutOfMemory, Tags};
 use entry_core::{GroupId, Id, Items, Sealed, TryCopy};
-use grant_core::{ProfileTable, expand};
 use group_core::Group;
 use map_core::PoolView;
 use object_core::{Bytes, Op};
 use place_core::ActingSet;
 use std::alloc::Global;
 use std::time::Clock;
-use verdict_core::{IndexedTicket, Ticket};
 
 /// Requests that a new group takes and answers.
 #[derive(Drop)]
@@ -31,21 +32,33 @@ fn three(alloc: Global) -> Result<Items<u8>, OutOfMemory> {
     Ok(set)
 }
 
-impl Work for Settling {
-    fn once(&self, _turn: usize) -> Result<bool, OutOfMemory> {
-        let group = GroupId {
-            pool: self.pool.copy()?,
-            number: 0,
-        };
-        let acting = ActingSet::from_slice(&[0, 1, 2]).unwrap_or(ActingSet::new());
-        let up = three(self.alloc)?;
-        let mut group = Group::new(self.alloc, group, 2, 3, acting, up)?;
+/// A group of three daemons, which are all up.
+fn three_daemons(alloc: Global, pool: Name) -> Result<Group, OutOfMemory> {
+    let group = GroupId { pool, number: 0 };
+    let acting = ActingSet::from_slice(&[0, 1, 2]).unwrap_or(ActingSet::new());
+    Group::new(alloc, group, 2, 3, acting, three(alloc)?)
+}
+
+impl Settling {
+    /// Submits the requests, and answers whether all are taken.
+    fn submit_to(&self, group: &mut Group) -> Result<bool, OutOfMemory> {
         for request in self.requests.as_slice() {
             if group.submit(request.copy()?).is_err() {
                 return Ok(false);
             }
         }
-        Ok(group.settle().is_ok() && group.decided_count() == self.requests.len())
+        Ok(true)
+    }
+}
+
+impl Work for Settling {
+    fn once(&self, _turn: usize) -> Result<bool, OutOfMemory> {
+        let mut group = three_daemons(self.alloc, self.pool.copy()?)?;
+        Ok(
+            self.submit_to(&mut group)?
+                && group.settle().is_ok()
+                && group.decided_count() == self.requests.len(),
+        )
     }
 
     fn size(&self) -> u64 {
@@ -53,41 +66,39 @@ impl Work for Settling {
     }
 }
 
-/// A ticket of the one grant `allow *`.
-fn all(alloc: Global) -> Result<IndexedTicket, Fault> {
-    let list = parse(alloc, "allow *")?;
-    let tree = expand(alloc, &ProfileTable::builtin(alloc)?, &list)?;
-    match IndexedTicket::of(Ticket::of(alloc, &tree, None)?) {
-        Ok(ticket) => Ok(ticket),
-        Err((_, error)) => Err(Fault::from(error)),
-    }
-}
-
-/// A request to replace the contents of one of 64 objects by a name.
-fn request(alloc: Global, number: u32, name: &str) -> Result<Sealed, Fault> {
-    let view = PoolView {
+/// What a map says of a pool with one group.
+fn view_of(alloc: Global, pool: &str) -> Result<PoolView, OutOfMemory>
+    ensures { IfOk result (λ view. view.pg_num ≡ 1) }
+{
+    Ok(PoolView {
         epoch: 2,
-        pool: Name::new(alloc, name)?,
+        pool: Name::new(alloc, pool)?,
         pg_num: 1,
         size: 3,
         min_size: 2,
         tags: Tags::from_vec(Vec::new(alloc)),
-    };
-    let mut ops = Vec::with_capacity(alloc, 1)?;
-    ops.push(Op::WriteFull(Bytes::from_slice(alloc, name.as_bytes())?))?;
+    })
+}
+
+/// The replacing of an object's contents.
+fn write_full(alloc: Global, contents: &str) -> Result<Vec<Op>, OutOfMemory> {
+    Ok(vec![in alloc; Op::WriteFull(Bytes::from_slice(alloc, contents.as_bytes())?)]?)
+}
+
+/// A request to replace the contents of one of 64 objects by a name, by a ticket of the one grant `allow *`.
+fn request(alloc: Global, number: u32, name: &str) -> Result<Sealed, Fault> {
     let object = format!(in alloc; "{name}.{}", number % 64)?;
-    let sealed = Sealed::vector(
+    Ok(Sealed::vector(
         alloc,
         Id::new(1, number),
-        all(alloc)?,
+        indexed(ticket_of(alloc, "allow *")?)?,
         0,
-        view,
+        view_of(alloc, name)?,
         0,
         Name::new(alloc, "")?,
         Name::from_string(object),
-        ops,
-    )?;
-    Ok(sealed)
+        write_full(alloc, name)?,
+    )?)
 }
 
 fn through_a_group(alloc: Global, count: u32, name: &str) -> Result<Settling, Fault> {

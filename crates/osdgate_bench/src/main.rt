@@ -1,12 +1,14 @@
-//! The program `osdgate_bench`: what verdicts, capability texts, expansions and vectors of operations cost, in
-//! nanoseconds a call.
+//! The program `osdgate_bench`: what verdicts, capability texts, expansions, comparisons and vectors of operations
+//! cost, in nanoseconds a call.
 //!
 //! Only this crate reads a clock.
 #![tactic(auto)]
 
 mod command;
+mod compare;
 mod expand;
 mod fault;
+mod grants;
 mod group;
 mod measure;
 mod parse;

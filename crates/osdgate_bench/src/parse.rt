@@ -1,8 +1,7 @@
 //! What it costs to read a capability text.
 
-ghost use Rattle.std.specs.Prelude.{◌≤◌};
-
 use crate::fault::Fault;
+use crate::grants::pools;
 use crate::measure::Work;
 use crate::table::Table;
 use cap_text::{CapFault, FaultKind, OutOfMemory, parse};
@@ -11,14 +10,14 @@ use std::time::Clock;
 
 /// A text, which is read and let go.
 #[derive(Drop)]
-struct Parse<'a> {
+struct Parse {
     alloc: Global,
-    text: &'a str,
+    text: String,
 }
 
-impl Work for Parse<'_> {
+impl Work for Parse {
     fn once(&self, _turn: usize) -> Result<bool, OutOfMemory> {
-        match parse(self.alloc, self.text) {
+        match parse(self.alloc, self.text.as_str()) {
             Ok(list) => Ok(!list.grants().is_empty()),
             Err(
                 CapFault {
@@ -35,36 +34,54 @@ impl Work for Parse<'_> {
     }
 }
 
-/// So many grants, each for a pool of its own.
-fn pools(alloc: Global, name: &str, grants: usize) -> Result<String, OutOfMemory>
-    requires { grants ≤ 64 }
-{
-    let mut text = String::new(alloc);
-    for i in 0..grants {
-        if i > 0 {
-            text.push_str(", ")?;
+/// The texts that are measured.
+#[derive(Clone, Copy, Debug)]
+enum Kind {
+    All,
+    OnePool,
+    TwoGrants,
+    ManyPools,
+    Refused,
+}
+
+impl Kind {
+    /// How a row is named.
+    fn name(self) -> &'static str {
+        match self {
+            Kind::All => "parse, allow *",
+            Kind::OnePool => "parse, one grant with a pool",
+            Kind::TwoGrants => "parse, two grants, a prefix and a pool",
+            Kind::ManyPools => "parse, 64 grants with pools",
+            Kind::Refused => "parse, refused at its second grant",
         }
-        let number = i + 10;
-        text.push_str(format!(in alloc; "allow rw pool={name}{number}")?.as_str())?;
     }
-    Ok(text)
+
+    /// The text, over a given name.
+    fn text(self, alloc: Global, name: &str) -> Result<String, OutOfMemory> {
+        match self {
+            Kind::All => String::from_str(alloc, "allow *"),
+            Kind::OnePool => format!(in alloc; "allow rw pool={name}"),
+            Kind::TwoGrants => {
+                format!(in alloc; "allow r object_prefix {name}., allow rw pool={name}")
+            }
+            Kind::ManyPools => pools(alloc, name, 64, ""),
+            Kind::Refused => format!(in alloc; "allow rw pool={name}, permit r"),
+        }
+    }
 }
 
 /// Adds the rows of texts, over a given name.
 pub(crate) fn add_parses<C: Clock>(table: &mut Table<'_, C>, name: &str) -> Result<(), Fault> {
     let alloc = table.alloc();
-    let pool = format!(in alloc; "allow rw pool={name}")?;
-    let two = format!(in alloc; "allow r object_prefix {name}., allow rw pool={name}")?;
-    let long = pools(alloc, name, 64)?;
-    let refused = format!(in alloc; "allow rw pool={name}, permit r")?;
-    for (row, text) in [
-        ("parse, allow *", "allow *"),
-        ("parse, one grant with a pool", pool.as_str()),
-        ("parse, two grants, a prefix and a pool", two.as_str()),
-        ("parse, 64 grants with pools", long.as_str()),
-        ("parse, refused at its second grant", refused.as_str()),
+    for kind in [
+        Kind::All,
+        Kind::OnePool,
+        Kind::TwoGrants,
+        Kind::ManyPools,
+        Kind::Refused,
     ] {
-        table.row(row, &Parse { alloc, text })?;
+        let text = kind.text(alloc, name)?;
+        table.row(kind.name(), &Parse { alloc, text })?;
     }
     Ok(())
 }

@@ -47,13 +47,6 @@ fn repeated(alloc: Global, text: &str, times: usize) -> Result<Object, OutOfMemo
     object_of(alloc, bytes.as_slice())
 }
 
-/// A vector of one operation.
-fn single(alloc: Global, object: Object, op: Op) -> Result<Run, OutOfMemory> {
-    let mut ops = Vec::new(alloc);
-    ops.push(op)?;
-    Ok(Run { alloc, object, ops })
-}
-
 fn read_all() -> Op {
     Op::Read {
         offset: 0,
@@ -74,19 +67,30 @@ fn add_one(alloc: Global) -> Result<Op, OutOfMemory> {
     })
 }
 
-/// Four times a read, an append, a setting of an attribute and a look at it.
-fn sixteen(alloc: Global, object: Object, name: &str) -> Result<Run, OutOfMemory> {
+/// A setting of an attribute.
+fn set_owner(alloc: Global, value: &str) -> Result<Op, OutOfMemory> {
+    Ok(Op::SetAttribute {
+        name: Name::new(alloc, "owner")?,
+        value: Bytes::from_slice(alloc, value.as_bytes())?,
+    })
+}
+
+/// Adds a read, an append, a setting of an attribute and a look at it.
+fn push_four(ops: &mut Vec<Op>, alloc: Global, name: &str) -> Result<(), OutOfMemory> {
+    ops.push(read_all())?;
+    ops.push(append(alloc, name)?)?;
+    ops.push(set_owner(alloc, name)?)?;
+    ops.push(Op::GetAttribute(Name::new(alloc, "owner")?))?;
+    Ok(())
+}
+
+/// Four times these four.
+fn sixteen(alloc: Global, name: &str) -> Result<Vec<Op>, OutOfMemory> {
     let mut ops = Vec::new(alloc);
     for _ in 0..4 {
-        ops.push(read_all())?;
-        ops.push(append(alloc, name)?)?;
-        ops.push(Op::SetAttribute {
-            name: Name::new(alloc, "owner")?,
-            value: Bytes::from_slice(alloc, name.as_bytes())?,
-        })?;
-        ops.push(Op::GetAttribute(Name::new(alloc, "owner")?))?;
+        push_four(&mut ops, alloc, name)?;
     }
-    Ok(Run { alloc, object, ops })
+    Ok(ops)
 }
 
 /// The vectors that are measured.
@@ -108,20 +112,31 @@ impl Kind {
         }
     }
 
-    /// The vector and its object, over contents that repeat a given name.
-    fn work(self, alloc: Global, name: &str) -> Result<Run, OutOfMemory> {
+    /// The object, whose contents repeat a given name, or are a number.
+    fn object(self, alloc: Global, name: &str) -> Result<Object, OutOfMemory> {
         match self {
-            Kind::Read => single(alloc, repeated(alloc, name, 1024)?, read_all()),
-            Kind::Append => {
-                let op = append(alloc, name)?;
-                single(alloc, repeated(alloc, name, 1024)?, op)
-            }
-            Kind::Count => {
-                let op = add_one(alloc)?;
-                single(alloc, object_of(alloc, b"41")?, op)
-            }
-            Kind::Sixteen => sixteen(alloc, repeated(alloc, name, 16)?, name),
+            Kind::Read | Kind::Append => repeated(alloc, name, 1024),
+            Kind::Count => object_of(alloc, b"41"),
+            Kind::Sixteen => repeated(alloc, name, 16),
         }
+    }
+
+    /// The operations.
+    fn ops(self, alloc: Global, name: &str) -> Result<Vec<Op>, OutOfMemory> {
+        match self {
+            Kind::Read => Ok(vec![in alloc; read_all()]?),
+            Kind::Append => Ok(vec![in alloc; append(alloc, name)?]?),
+            Kind::Count => Ok(vec![in alloc; add_one(alloc)?]?),
+            Kind::Sixteen => sixteen(alloc, name),
+        }
+    }
+
+    fn work(self, alloc: Global, name: &str) -> Result<Run, OutOfMemory> {
+        Ok(Run {
+            alloc,
+            object: self.object(alloc, name)?,
+            ops: self.ops(alloc, name)?,
+        })
     }
 }
 

@@ -3,16 +3,13 @@
 ghost use Rattle.std.specs.Prelude.{◌<◌, ◌≤◌};
 
 use crate::fault::Fault;
+use crate::grants::{FIRST, indexed, push_grant, ticket_of};
 use crate::measure::Work;
 use crate::table::Table;
-use cap_text::{AppTags, Name, OutOfMemory, Pairs, Tags, parse};
-use grant_core::{ProfileTable, expand};
+use cap_text::{AppTags, Name, OutOfMemory, Pairs, Tags};
 use std::alloc::Global;
 use std::time::Clock;
 use verdict_core::{Calls, ClassCall, IndexedTicket, Needs, Target, Ticket, judge, report};
-
-/// The number of the first grant. Numbers have two digits, so that all names are equally long.
-const FIRST: usize = 10;
 
 /// A number that no grant has.
 const NOBODY: usize = 99;
@@ -51,27 +48,65 @@ impl Shape {
         }
     }
 
+    /// The calls of a request that the grant with a number gives.
+    fn calls(self, alloc: Global, name: &str, number: usize) -> Result<Calls, OutOfMemory> {
+        let mut calls = Vec::new(alloc);
+        if let Shape::Call = self {
+            calls.push(get_of(alloc, format!(in alloc; "{name}{number}")?)?)?;
+        }
+        Ok(Calls::from_vec(calls))
+    }
+
     /// What a request asks for that the grant with a number gives.
     fn needs(self, alloc: Global, name: &str, number: usize) -> Result<Needs, OutOfMemory> {
-        let mut calls = Vec::new(alloc);
-        let mut plain = true;
-        if let Shape::Call = self {
-            plain = false;
-            let class = format!(in alloc; "{name}{number}")?;
-            calls.push(ClassCall {
-                class: Name::from_string(class),
-                method: Name::new(alloc, "get")?,
-                class_reads: true,
-                class_writes: false,
-                listed: true,
-            })?;
-        }
+        let plain = !matches!(self, Shape::Call);
         Ok(Needs {
             reads: plain,
             writes: plain,
-            calls: Calls::from_vec(calls),
+            calls: self.calls(alloc, name, number)?,
         })
     }
+
+    /// The pool of a request that the grant with a number is for.
+    fn pool(self, alloc: Global, name: &str, number: usize) -> Result<String, OutOfMemory> {
+        match self {
+            Shape::Pool => format!(in alloc; "{name}{number}"),
+            _ => String::from_str(alloc, name),
+        }
+    }
+
+    /// The text of so many grants.
+    fn text(self, alloc: Global, name: &str, grants: usize) -> Result<String, OutOfMemory>
+        requires { grants ≤ 64 }
+    {
+        let mut text = String::new(alloc);
+        for i in 0..grants {
+            push_grant(&mut text, self.grant(alloc, name, FIRST + i)?.as_str())?;
+        }
+        Ok(text)
+    }
+}
+
+/// A call of a class's method `get`, which reads.
+fn get_of(alloc: Global, class: String) -> Result<ClassCall, OutOfMemory> {
+    Ok(ClassCall {
+        class: Name::from_string(class),
+        method: Name::new(alloc, "get")?,
+        class_reads: true,
+        class_writes: false,
+        listed: true,
+    })
+}
+
+/// The tags of a pool: one value of one key.
+fn tags_of(alloc: Global, value: String) -> Result<Tags, OutOfMemory> {
+    let pair = (Name::new(alloc, "data")?, Name::from_string(value));
+    let pairs = Pairs::from_vec(vec![in alloc; pair]?);
+    let application = AppTags {
+        application: Name::new(alloc, "cephfs")?,
+        pairs,
+    };
+    Ok(Tags::from_vec(vec![in alloc; application]?))
 }
 
 /// Where a request goes.
@@ -91,19 +126,9 @@ impl Place {
         number: usize,
         object: usize,
     ) -> Result<Place, OutOfMemory> {
-        let pool = match shape {
-            Shape::Pool => format!(in alloc; "{name}{number}")?,
-            _ => String::from_str(alloc, name)?,
-        };
-        let value = format!(in alloc; "{name}{number}")?;
-        let pair = (Name::new(alloc, "data")?, Name::from_string(value));
-        let application = AppTags {
-            application: Name::new(alloc, "cephfs")?,
-            pairs: Pairs::from_vec(vec![in alloc; pair]?),
-        };
         Ok(Place {
-            pool,
-            tags: Tags::from_vec(vec![in alloc; application]?),
+            pool: shape.pool(alloc, name, number)?,
+            tags: tags_of(alloc, format!(in alloc; "{name}{number}")?)?,
             object: format!(in alloc; "image.{number}.{object}")?,
         })
     }
@@ -116,6 +141,20 @@ impl Place {
             object: self.object.as_str(),
         }
     }
+}
+
+/// Four places that the grant with a number is for, which differ in the object.
+fn places(
+    alloc: Global,
+    shape: Shape,
+    name: &str,
+    number: usize,
+) -> Result<Vec<Place>, OutOfMemory> {
+    let mut places = Vec::with_capacity(alloc, 4)?;
+    for object in 0..4 {
+        places.push(Place::new(alloc, shape, name, number, object)?)?;
+    }
+    Ok(places)
 }
 
 /// A ticket, and requests of it that all have one verdict, four objects in turn.
@@ -131,16 +170,7 @@ struct Asked {
 fn ticket(alloc: Global, shape: Shape, name: &str, grants: usize) -> Result<Ticket, Fault>
     requires { grants ≤ 64 }
 {
-    let mut text = String::new(alloc);
-    for i in 0..grants {
-        if i > 0 {
-            text.push_str(", ")?;
-        }
-        text.push_str(shape.grant(alloc, name, FIRST + i)?.as_str())?;
-    }
-    let list = parse(alloc, text.as_str())?;
-    let tree = expand(alloc, &ProfileTable::builtin(alloc)?, &list)?;
-    Ok(Ticket::of(alloc, &tree, None)?)
+    ticket_of(alloc, shape.text(alloc, name, grants)?.as_str())
 }
 
 impl Asked {
@@ -154,19 +184,11 @@ impl Asked {
     ) -> Result<Asked, Fault>
         requires { grants ≤ 64 }
     {
-        let mut places = Vec::new(alloc);
-        for object in 0..4 {
-            places.push(Place::new(alloc, shape, name, number, object)?)?;
-        }
         let ticket = ticket(alloc, shape, name, grants)?;
-        let indexed = match IndexedTicket::of(ticket.copy()?) {
-            Ok(indexed) => indexed,
-            Err((_, error)) => return Err(Fault::from(error)),
-        };
         Ok(Asked {
+            indexed: indexed(ticket.copy()?)?,
             ticket,
-            indexed,
-            places,
+            places: places(alloc, shape, name, number)?,
             needs: shape.needs(alloc, name, number)?,
         })
     }
@@ -208,14 +230,11 @@ impl Work for JudgeIndexed<'_> {
 
 /// Making a ticket's index, with the copy of the ticket that it takes.
 #[derive(Drop)]
-struct MakeIndex<'a>(&'a Asked);
+struct MakeIndex<'a>(&'a Ticket);
 
 impl Work for MakeIndex<'_> {
     fn once(&self, _turn: usize) -> Result<bool, OutOfMemory> {
-        match IndexedTicket::of(self.0.ticket.copy()?) {
-            Ok(indexed) => Ok(!indexed.grants().is_empty()),
-            Err((_, error)) => Err(error),
-        }
+        Ok(!indexed(self.0.copy()?)?.grants().is_empty())
     }
 
     fn size(&self) -> u64 {
@@ -225,11 +244,11 @@ impl Work for MakeIndex<'_> {
 
 /// The copy of a ticket alone.
 #[derive(Drop)]
-struct CopyTicket<'a>(&'a Asked);
+struct CopyTicket<'a>(&'a Ticket);
 
 impl Work for CopyTicket<'_> {
     fn once(&self, _turn: usize) -> Result<bool, OutOfMemory> {
-        Ok(!self.0.ticket.copy()?.grants().is_empty())
+        Ok(!self.0.copy()?.grants().is_empty())
     }
 
     fn size(&self) -> u64 {
@@ -265,40 +284,79 @@ impl Work for JudgeAndReport<'_> {
     }
 }
 
-/// Adds the rows of a shape: the last grant allows, and no grant does.
-fn add_rows<C: Clock>(
-    table: &mut Table<'_, C>,
+/// The tickets of some rows: by which condition their grants are told apart, and how many there are.
+#[derive(Clone, Copy, Debug)]
+struct Rows {
     shape: Shape,
-    name: &str,
     grants: usize,
-) -> Result<(), Fault>
-    requires { 0 < grants × grants ≤ 64 }
-{
-    let alloc = table.alloc();
-    let by = shape.name();
-    let last = Asked::new(alloc, shape, name, grants, FIRST + grants - 1)?;
-    let row = format!(in alloc; "judge, {by}, last of {grants}")?;
-    table.row(row.as_str(), &Judge(&last))?;
-    let row = format!(in alloc; "judge indexed, {by}, last of {grants}")?;
-    table.row(row.as_str(), &JudgeIndexed(&last))?;
-    let nobody = Asked::new(alloc, shape, name, grants, NOBODY)?;
-    let row = format!(in alloc; "judge, {by}, none of {grants}")?;
-    table.row(row.as_str(), &Judge(&nobody))?;
-    let row = format!(in alloc; "judge indexed, {by}, none of {grants}")?;
-    table.row(row.as_str(), &JudgeIndexed(&nobody))?;
-    let row = format!(in alloc; "judge and report, {by}, none of {grants}")?;
-    table.row(row.as_str(), &JudgeAndReport(&nobody))?;
-    let row = format!(in alloc; "copy a ticket, {by}, of {grants}")?;
-    table.row(row.as_str(), &CopyTicket(&nobody))?;
-    let row = format!(in alloc; "copy and index a ticket, {by}, of {grants}")?;
-    table.row(row.as_str(), &MakeIndex(&nobody))
+}
+
+impl Rows {
+    /// Adds a row: which call it is, and which of the grants the requests are for.
+    fn add<C: Clock, W: Work>(
+        self,
+        table: &mut Table<'_, C>,
+        call: &str,
+        which: &str,
+        work: &W,
+    ) -> Result<(), Fault> {
+        let by = self.shape.name();
+        let row = format!(in table.alloc(); "{call}, {by}, {which} {}", self.grants)?;
+        table.row(row.as_str(), work)
+    }
+
+    /// Adds the rows of verdicts.
+    fn add_judged<C: Clock>(
+        self,
+        table: &mut Table<'_, C>,
+        which: &str,
+        asked: &Asked,
+    ) -> Result<(), Fault> {
+        self.add(table, "judge", which, &Judge(asked))?;
+        self.add(table, "judge indexed", which, &JudgeIndexed(asked))
+    }
+
+    /// Adds the rows of requests that the last grant allows.
+    fn add_allowed<C: Clock>(self, table: &mut Table<'_, C>, name: &str) -> Result<(), Fault>
+        requires { 0 < self.grants × self.grants ≤ 64 }
+    {
+        let last = FIRST + self.grants - 1;
+        let asked = Asked::new(table.alloc(), self.shape, name, self.grants, last)?;
+        self.add_judged(table, "last of", &asked)
+    }
+
+    /// Adds the rows of requests that no grant allows.
+    fn add_denied<C: Clock>(self, table: &mut Table<'_, C>, name: &str) -> Result<(), Fault>
+        requires { self.grants ≤ 64 }
+    {
+        let asked = Asked::new(table.alloc(), self.shape, name, self.grants, NOBODY)?;
+        self.add_judged(table, "none of", &asked)?;
+        self.add(
+            table,
+            "judge and report",
+            "none of",
+            &JudgeAndReport(&asked),
+        )
+    }
+
+    /// Adds the rows of tickets that are copied, and of those that are indexed.
+    fn add_copied<C: Clock>(self, table: &mut Table<'_, C>, name: &str) -> Result<(), Fault>
+        requires { self.grants ≤ 64 }
+    {
+        let ticket = ticket(table.alloc(), self.shape, name, self.grants)?;
+        self.add(table, "copy a ticket", "of", &CopyTicket(&ticket))?;
+        self.add(table, "copy and index a ticket", "of", &MakeIndex(&ticket))
+    }
 }
 
 /// Adds the rows of verdicts, over names that begin with a given one.
 pub(crate) fn add_verdicts<C: Clock>(table: &mut Table<'_, C>, name: &str) -> Result<(), Fault> {
     for shape in [Shape::Pool, Shape::Place, Shape::Tag, Shape::Call] {
         for grants in [1, 4, 16, 64] {
-            add_rows(table, shape, name, grants)?;
+            let rows = Rows { shape, grants };
+            rows.add_allowed(table, name)?;
+            rows.add_denied(table, name)?;
+            rows.add_copied(table, name)?;
         }
     }
     Ok(())
