@@ -7,11 +7,11 @@ use Rattle.entry_core.specs.Log.{is_in}
 use Rattle.entry_core.specs.Request.{Sealed}
 use Rattle.entry_core.specs.declared.sealed.GroupId.{GroupId}
 use Rattle.peer_core.specs.Copy.{copy_step}
-use Rattle.peer_core.specs.Sets.{daemons, set_of, is_first}
+use Rattle.peer_core.specs.ActingSets.{daemons, set_of, is_primary}
 use Rattle.peer_core.specs.Steps.{blank, restarted}
 use Rattle.group_core.specs.Types.{Role, Idle, Peering, Installing, Active, Daemon, Body, Interval, Query, Info, Install, Installed, Append, Appended, Request, Reply, NotHere, Party, Osd, Client, Sent}
 use Rattle.group_core.specs.Each.{Each}
-use Rattle.group_core.specs.Group.{Group, Event, Submit, Deliver, Lose, Repeat, NewInterval, Restart, Kick, last_set, is_answered, open_requests, tell, tell_first, kicked_at, answered, copy_hears, arrives, without, deliver, lose, again, is_submitted, has_all_requests, has_all_intervals, opens, resend, announce, begin, with_up, same_set, kick_first, kick, group_step, run, start}
+use Rattle.group_core.specs.Group.{Group, Event, Submit, Deliver, Lose, Repeat, NewInterval, Restart, Kick, last_set, is_answered, open_requests, to_daemon, to_primary, retransmit_from, answered, copy_hears, arrives, without, deliver, lose, again, is_submitted, has_all_requests, has_all_intervals, take_request, resent_by, announced_by, begin, with_up, same_set, retransmit_of, kick, group_step, run, start}
 use Rattle.group_core.specs.Laws.{GoesToOther, AppendsGoToOthers}
 use Rattle.group_core.specs.Reached.{IsReached}
 use Rattle.group_core.proofs.Eaches.{Each-append, Each-push, Each-remove, Each-get, Each-map_all, Each-weaker}
@@ -27,7 +27,7 @@ AllGo g = Each (SentGoes g.sets) g.wire
 -- one more interval
 
 -- only an interval that there is has a first
-first_within : (sets : List (List ℕ)) (k d : ℕ) → is_first (get_or sets k []) d ≡ true → k < length sets
+first_within : (sets : List (List ℕ)) (k d : ℕ) → is_primary (get_or sets k []) d ≡ true → k < length sets
 first_within [] k d is = absurd (both_ways false refl is)
 first_within (s ∷ sets) zero d is = omega arith
 first_within (s ∷ sets) (suc k) d is = (let rest = first_within sets k d is in omega arith)
@@ -41,9 +41,9 @@ goes_longer sets acting n from to g =
       member = g.member;
       is_from = g.is_from;
       is_to = g.is_to;
-      first = subst (λ v. is_first v g.primary ≡ true) same g.first;
+      first = subst (λ v. is_primary v g.primary ≡ true) same g.first;
       is_member = subst (λ v. is_in v g.member ≡ true) same g.is_member;
-      other = subst (λ v. is_first v g.member ≡ false) same g.other;
+      other = subst (λ v. is_primary v g.member ≡ false) same g.other;
     }
 
 body_longer : (sets : List (List ℕ)) (acting : List ℕ) (from to : Party) (b : Body) → BodyGoes sets from to b → BodyGoes (sets ++ acting ∷ []) from to b
@@ -60,36 +60,36 @@ body_longer sets acting from to (NotHere id) goes = tt
 
 -- what the group itself sends
 
-announce_goes : (sets : List (List ℕ)) (g : Group) → Each (SentGoes sets) (announce g)
-announce_goes sets g = Each-map_all (SentGoes sets) (λ d. tell d (Interval g.sets)) (λ d. tt) (last_set g.sets)
+announce_goes : (sets : List (List ℕ)) (g : Group) → Each (SentGoes sets) (announced_by g)
+announce_goes sets g = Each-map_all (SentGoes sets) (λ d. to_daemon d (Interval g.sets)) (λ d. tt) (last_set g.sets)
 
-tell_first_goes : (sets : List (List ℕ)) (ds : List ℕ) (requests : List Sealed) → Each (SentGoes sets) (tell_first ds (map Request requests))
+tell_first_goes : (sets : List (List ℕ)) (ds : List ℕ) (requests : List Sealed) → Each (SentGoes sets) (to_primary ds (map Request requests))
 tell_first_goes sets [] requests = tt
 tell_first_goes sets (d ∷ ds) requests = told requests
   where
-    told : (rs : List Sealed) → Each (SentGoes sets) (map (tell d) (map Request rs))
+    told : (rs : List Sealed) → Each (SentGoes sets) (map (to_daemon d) (map Request rs))
     told [] = tt
     told (r ∷ rs) = (tt, told rs)
 
 begin_goes : (g : Group) (acting : List ℕ) → AllGo g → AllGo (begin g acting)
 begin_goes g acting go =
     let after : Group = record g { sets = g.sets ++ acting ∷ [] } in
-    Each-append (SentGoes after.sets) (g.wire ++ announce after) (resend after)
-    (Each-append (SentGoes after.sets) g.wire (announce after) (Each-weaker (SentGoes g.sets) (SentGoes after.sets) (λ m. body_longer g.sets acting m.from m.to m.body) g.wire go) (announce_goes after.sets after))
+    Each-append (SentGoes after.sets) (g.wire ++ announced_by after) (resent_by after)
+    (Each-append (SentGoes after.sets) g.wire (announced_by after) (Each-weaker (SentGoes g.sets) (SentGoes after.sets) (λ m. body_longer g.sets acting m.from m.to m.body) g.wire go) (announce_goes after.sets after))
     (tell_first_goes after.sets (last_set after.sets) (open_requests after))
 
-kick_first_goes : (g : Group) → Good g → (ds : List ℕ) → Each (SentGoes g.sets) (kick_first g ds)
+kick_first_goes : (g : Group) → Good g → (ds : List ℕ) → Each (SentGoes g.sets) (retransmit_of g ds)
 kick_first_goes g good [] = tt
 kick_first_goes g good (d ∷ ds) = found (slice_get g.copies d) refl
   where
-    found : (c : Option Daemon) → slice_get g.copies d ≡ c → Each (SentGoes g.sets) (kicked_at c)
+    found : (c : Option Daemon) → slice_get g.copies d ≡ c → Each (SentGoes g.sets) (retransmit_from c)
     found None is = tt
     found (Some c) is = kicked_goes g.min_size g.sets good.promise good.h d c (good.copies d c is).state c.role (good.copies d c is).role
 
 kick_goes : (g : Group) → Good g → AllGo g → AllGo (kick g)
-kick_goes g good go = Each-append (SentGoes g.sets) (g.wire ++ announce g ++ kick_first g (last_set g.sets)) (resend g)
-    (Each-append (SentGoes g.sets) (g.wire ++ announce g) (kick_first g (last_set g.sets))
-    (Each-append (SentGoes g.sets) g.wire (announce g) go (announce_goes g.sets g)) (kick_first_goes g good (last_set g.sets)))
+kick_goes g good go = Each-append (SentGoes g.sets) (g.wire ++ announced_by g ++ retransmit_of g (last_set g.sets)) (resent_by g)
+    (Each-append (SentGoes g.sets) (g.wire ++ announced_by g) (retransmit_of g (last_set g.sets))
+    (Each-append (SentGoes g.sets) g.wire (announced_by g) go (announce_goes g.sets g)) (kick_first_goes g good (last_set g.sets)))
     (tell_first_goes g.sets (last_set g.sets) (open_requests g))
 
 -- a message arrives
@@ -132,8 +132,8 @@ again_goes g k None is go = go
 again_goes g k (Some m) is go = Each-push (SentGoes g.sets) g.wire m go (Each-get (SentGoes g.sets) g.wire k m go is)
 
 step_goes : (e : Event) (g : Group) → Good g → AllGo g → AllGo (group_step g e)
-step_goes (Submit s) g good go = by_test (is_submitted g.requests s.id) g (if has_all_requests g then g else opens g s) go (by_test (has_all_requests g) g (opens g s) go
-    (Each-append (SentGoes g.sets) g.wire (tell_first (last_set g.sets) (Request s ∷ [])) go (tell_first_goes g.sets (last_set g.sets) (s ∷ []))))
+step_goes (Submit s) g good go = by_test (is_submitted g.requests s.id) g (if has_all_requests g then g else take_request g s) go (by_test (has_all_requests g) g (take_request g s) go
+    (Each-append (SentGoes g.sets) g.wire (to_primary (last_set g.sets) (Request s ∷ [])) go (tell_first_goes g.sets (last_set g.sets) (s ∷ []))))
 step_goes (Deliver k) g good go = deliver_goes g k (slice_get g.wire k) refl good go
 step_goes (Lose k) g good go = lose_goes g k (slice_get g.wire k) go
 step_goes (Repeat k) g good go = again_goes g k (slice_get g.wire k) refl go
@@ -158,11 +158,11 @@ reached_goes g r = subst AllGo r.is (run_goes r.events (start r.group r.min_size
 -- who hears of an entry
 
 -- the copy that an entry of the interval that it promised is on its way to has no role
-idle_as : (z : ℕ) (g : Group) (good : Good g) (d : ℕ) (c : Daemon) (r : Role) → RoleOk z g.sets good.promise good.h d c r → is_first (set_of g.sets c.promise) d ≡ false → r ≡ Idle
+idle_as : (z : ℕ) (g : Group) (good : Good g) (d : ℕ) (c : Daemon) (r : Role) → RoleOk z g.sets good.promise good.h d c r → is_primary (set_of g.sets c.promise) d ≡ false → r ≡ Idle
 idle_as z g good d c Idle ok other = refl
-idle_as z g good d c (Peering heard) ok other = absurd (both_ways (is_first (set_of g.sets c.promise) d) other ok.leads.first)
-idle_as z g good d c (Installing done) ok other = absurd (both_ways (is_first (set_of g.sets c.promise) d) other ok.owns.leads.first)
-idle_as z g good d c (Active flight) ok other = absurd (both_ways (is_first (set_of g.sets c.promise) d) other ok.0.leads.first)
+idle_as z g good d c (Peering informed) ok other = absurd (both_ways (is_primary (set_of g.sets c.promise) d) other ok.leads.first)
+idle_as z g good d c (Installing done) ok other = absurd (both_ways (is_primary (set_of g.sets c.promise) d) other ok.owns.leads.first)
+idle_as z g good d c (Active flight) ok other = absurd (both_ways (is_primary (set_of g.sets c.promise) d) other ok.0.leads.first)
 
 goes_at : (g : Group) → AllGo g → (k n place : ℕ) (s : Sealed) (m : Sent) → slice_get g.wire k ≡ Some m → m.body ≡ Append n place s → GoesToOther g.sets n m.from m.to
 goes_at g go k n place s m here is = subst (λ b. BodyGoes g.sets m.from m.to b) is (Each-get (SentGoes g.sets) g.wire k m go here)
@@ -176,5 +176,5 @@ appends_go g r =
       idle = λ k place s m d c here to copy is. (
           let o = goes_at g go k c.promise place s m here is in
           let same : o.member ≡ d = osd_same o.member d (sym o.is_to ∙ to) in
-          idle_as g.min_size g good d c c.role (good.copies d c copy).role (subst (λ v. is_first (set_of g.sets c.promise) v ≡ false) same o.other));
+          idle_as g.min_size g good d c c.role (good.copies d c copy).role (subst (λ v. is_primary (set_of g.sets c.promise) v ≡ false) same o.other));
     }

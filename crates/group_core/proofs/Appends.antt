@@ -5,13 +5,13 @@ use Rattle.std.specs.List.{list_any, filter}
 use Rattle.entry_core.specs.Log.{is_in, find, ids}
 use Rattle.entry_core.specs.Request.{Sealed}
 use Rattle.entry_core.specs.declared.entry.Entry.{Entry}
-use Rattle.peer_core.specs.Choice.{is_heard, can_choose, best, own_offer}
+use Rattle.peer_core.specs.Choice.{is_informed, can_choose, best, own_offer}
 use Rattle.peer_core.specs.Steps.{Stepped, still, send}
-use Rattle.peer_core.specs.Sets.{set_of, is_first, others, all_count, asked, counted}
+use Rattle.peer_core.specs.ActingSets.{set_of, is_primary, others, all_count, asked, counted}
 use Rattle.peer_core.specs.Serve.{serve, serve_one, push_new}
-use Rattle.peer_core.specs.Decided.{with_entry, last, settled}
-use Rattle.peer_core.specs.Copy.{install, try_choice, info_as, installed_as, appended_as, complete, request_as, busy, waits, query, promised, append, append_again, acknowledged, install_comes, interval, leads, lead, told, queries, comes, kicked_as}
-use Rattle.group_core.specs.Types.{Informed, Role, Idle, Peering, Installing, Active, Daemon, Body, Interval, Query, Info, Install, Installed, Append, Appended, Request, Reply, NotHere, Party, Client, Osd, Sent}
+use Rattle.peer_core.specs.Decided.{with_entry, last, not_in_flight}
+use Rattle.peer_core.specs.Copy.{install_chosen, try_choice, on_info, on_installed, on_appended, complete, on_request_as, busy_request, waits, on_query, promise_interval, on_append, append_again, acknowledged, on_install, on_interval, leads, lead, learn_sets, queries, on_body, retransmit_as}
+use Rattle.group_core.specs.Types.{PeerInfo, Role, Idle, Peering, Installing, Active, Daemon, Body, Interval, Query, Info, Install, Installed, Append, Appended, Request, Reply, NotHere, Party, Client, Osd, Sent}
 use Rattle.group_core.specs.Each.{Each}
 use Rattle.group_core.specs.History.{History}
 use Rattle.group_core.specs.Laws.{GoesToOther}
@@ -54,7 +54,7 @@ module _ (sets : List (List ℕ)) (d : ℕ) where
     member = m;
     is_from = refl;
     is_to = refl;
-    first = subst (λ v. is_first (set_of sets c.promise) v ≡ true) (sym o.number) o.first;
+    first = subst (λ v. is_primary (set_of sets c.promise) v ≡ true) (sym o.number) o.first;
     is_member = subst (λ v. is_in v m ≡ true) o.same (filter_kept (λ m. not (m == c.number)) (set_of c.known c.promise) m in_others).is_item;
     other = second sets d c o m (others_other c m in_others);
   }
@@ -79,25 +79,25 @@ module _ (sets : List (List ℕ)) (d : ℕ) where
       go (Some e) after later = (tt, after)
       go None after later = push (others c) later
 
-  install_goes : (c : Daemon) → Opening sets d c → (log : List Entry) (ms : List ℕ) → Goes sets (install c log ms)
+  install_goes : (c : Daemon) → Opening sets d c → (log : List Entry) (ms : List ℕ) → Goes sets (install_chosen c log ms)
   install_goes c o log [] = serve_goes c.waiting (record c { base = c.promise; log = log; role = Active None }) (record { later = o.later; number = o.number; first = o.first; same = o.same })
   install_goes c o log (m ∷ ms) = Each-map_all (SentGoes sets) (λ m. send c (Osd m) (Install c.promise log)) (λ m. tt) (m ∷ ms)
 
-  choice_goes : (c : Daemon) → Opening sets d c → (heard : List Informed) → Goes sets (try_choice c heard)
-  choice_goes c o heard = by_test sets (can_choose c heard) (install c (best (own_offer c) heard).log (others c)) (still (record c { role = Peering heard }))
-      (λ _. install_goes c o (best (own_offer c) heard).log (others c)) (λ _. tt)
+  choice_goes : (c : Daemon) → Opening sets d c → (informed : List PeerInfo) → Goes sets (try_choice c informed)
+  choice_goes c o informed = by_test sets (can_choose c informed) (install_chosen c (best (own_offer c) informed).log (others c)) (still (record c { role = Peering informed }))
+      (λ _. install_goes c o (best (own_offer c) informed).log (others c)) (λ _. tt)
 
 module _ (z : ℕ) (sets : List (List ℕ)) (promise : ℕ → ℕ) (h : History) (d : ℕ) (c : Daemon) (state : StateOk z sets promise h d c) where
-  info_goes : (r : Role) (n : ℕ) (offer : Informed) → RoleOk z sets promise h d c r → Goes sets (info_as r c n offer)
+  info_goes : (r : Role) (n : ℕ) (offer : PeerInfo) → RoleOk z sets promise h d c r → Goes sets (on_info r c n offer)
   info_goes Idle n offer ok = tt
-  info_goes (Peering heard) n offer ok = by_test sets ((c.promise == n) && not (is_heard c heard offer.number)) (try_choice c (heard ++ offer ∷ [])) (still c)
-      (λ _. choice_goes sets d c (opening z sets promise h d c state ok.leads) (heard ++ offer ∷ [])) (λ _. tt)
+  info_goes (Peering informed) n offer ok = by_test sets ((c.promise == n) && not (is_informed c informed offer.number)) (try_choice c (informed ++ offer ∷ [])) (still c)
+      (λ _. choice_goes sets d c (opening z sets promise h d c state ok.leads) (informed ++ offer ∷ [])) (λ _. tt)
   info_goes (Installing done) n offer ok = tt
   info_goes (Active flight) n offer ok = tt
 
-  installed_goes : (r : Role) (n m : ℕ) → RoleOk z sets promise h d c r → Goes sets (installed_as r c n m)
+  installed_goes : (r : Role) (n m : ℕ) → RoleOk z sets promise h d c r → Goes sets (on_installed r c n m)
   installed_goes Idle n m ok = tt
-  installed_goes (Peering heard) n m ok = tt
+  installed_goes (Peering informed) n m ok = tt
   installed_goes (Installing done) n m ok = by_test sets (c.promise == n) (if all_count c (counted c done m) then serve c.waiting c else still (record c { role = Installing (counted c done m) })) (still c)
       (λ _. by_test sets (all_count c (counted c done m)) (serve c.waiting c) (still (record c { role = Installing (counted c done m) })) (λ _. serve_goes sets d c.waiting c (opening z sets promise h d c state ok.owns.leads)) (λ _. tt))
       (λ _. tt)
@@ -107,9 +107,9 @@ module _ (z : ℕ) (sets : List (List ℕ)) (promise : ℕ → ℕ) (h : History
   complete_goes o None = serve_goes sets d c.waiting c o
   complete_goes o (Some e) = (tt, serve_goes sets d c.waiting c o)
 
-  appended_goes : (r : Role) (n place m : ℕ) → RoleOk z sets promise h d c r → Goes sets (appended_as r c n place m)
+  appended_goes : (r : Role) (n place m : ℕ) → RoleOk z sets promise h d c r → Goes sets (on_appended r c n place m)
   appended_goes Idle n place m ok = tt
-  appended_goes (Peering heard) n place m ok = tt
+  appended_goes (Peering informed) n place m ok = tt
   appended_goes (Installing done) n place m ok = tt
   appended_goes (Active None) n place m ok = tt
   appended_goes (Active (Some holders)) n place m ok = by_test sets ((c.promise == n) && (place == length c.log))
@@ -117,28 +117,28 @@ module _ (z : ℕ) (sets : List (List ℕ)) (promise : ℕ → ℕ) (h : History
       (λ _. by_test sets (all_count c (counted c holders m)) (complete c (last c.log)) (still (record c { role = Active (Some (counted c holders m)) })) (λ _. complete_goes (opening z sets promise h d c state ok.0.leads) (last c.log)) (λ _. tt))
       (λ _. tt)
 
-  busy_goes : (s : Sealed) (f : Option Entry) → Goes sets (busy c s f)
+  busy_goes : (s : Sealed) (f : Option Entry) → Goes sets (busy_request c s f)
   busy_goes s (Some e) = (tt, tt)
   busy_goes s None = by_test sets (is_in (ids c.log) s.id) (still c) (waits c s) (λ _. tt) (λ _. tt)
 
-  request_goes : (r : Role) (s : Sealed) → RoleOk z sets promise h d c r → Goes sets (request_as r c s)
+  request_goes : (r : Role) (s : Sealed) → RoleOk z sets promise h d c r → Goes sets (on_request_as r c s)
   request_goes Idle s ok = (tt, tt)
-  request_goes (Peering heard) s ok = tt
+  request_goes (Peering informed) s ok = tt
   request_goes (Installing done) s ok = tt
   request_goes (Active None) s ok = serve_goes sets d (s ∷ c.waiting) c (opening z sets promise h d c state ok.0.leads)
-  request_goes (Active (Some holders)) s ok = busy_goes s (find (settled c.log (Some holders)) s.id)
+  request_goes (Active (Some holders)) s ok = busy_goes s (find (not_in_flight c.log (Some holders)) s.id)
 
-  query_goes : (from : Party) (n : ℕ) → Goes sets (query c from n)
-  query_goes from n = by_test sets (nat_lt n c.promise) (still c) (record { copy = promised c n; sent = send c from (Info n c.base c.log) ∷ [] }) (λ _. tt) (λ _. (tt, tt))
+  query_goes : (from : Party) (n : ℕ) → Goes sets (on_query c from n)
+  query_goes from n = by_test sets (nat_lt n c.promise) (still c) (record { copy = promise_interval c n; sent = send c from (Info n c.base c.log) ∷ [] }) (λ _. tt) (λ _. (tt, tt))
 
-  install_comes_goes : (from : Party) (n : ℕ) (log : List Entry) → Goes sets (install_comes c from n log)
+  install_comes_goes : (from : Party) (n : ℕ) (log : List Entry) → Goes sets (on_install c from n log)
   install_comes_goes from n log = by_test sets (nat_lt n c.promise) (still c)
-      (record { copy = if nat_lt c.base n then record (promised c n) { base = n; log = log } else promised c n; sent = send c from (Installed n) ∷ [] }) (λ _. tt) (λ _. (tt, tt))
+      (record { copy = if nat_lt c.base n then record (promise_interval c n) { base = n; log = log } else promise_interval c n; sent = send c from (Installed n) ∷ [] }) (λ _. tt) (λ _. (tt, tt))
 
   acknowledged_goes : (c' : Daemon) (from : Party) (n place : ℕ) → Goes sets (acknowledged c' from n place)
   acknowledged_goes c' from n place = by_test sets (nat_lt (length c'.log) place) (still c') (record { copy = c'; sent = send c' from (Appended n place) ∷ [] }) (λ _. tt) (λ _. (tt, tt))
 
-  append_goes : (from : Party) (n place : ℕ) (s : Sealed) → Goes sets (append c from n place s)
+  append_goes : (from : Party) (n place : ℕ) (s : Sealed) → Goes sets (on_append c from n place s)
   append_goes from n place s = by_test sets ((c.promise == n) && (c.base == n))
       (if (length c.log + 1 == place) && not (is_in (ids c.log) s.id) then acknowledged (with_entry c s) from n place else acknowledged c from n place) (still c)
       (λ _. by_test sets ((length c.log + 1 == place) && not (is_in (ids c.log) s.id)) (acknowledged (with_entry c s) from n place) (acknowledged c from n place)
@@ -148,13 +148,13 @@ module _ (z : ℕ) (sets : List (List ℕ)) (promise : ℕ → ℕ) (h : History
   lead_goes : (c' : Daemon) → Opening sets d c' → Goes sets (lead c')
   lead_goes c' o = Each-append (SentGoes sets) (queries c') (try_choice c' []).sent (Each-map_all (SentGoes sets) (λ m. send c' (Osd m) (Query c'.promise)) (λ m. tt) (asked c')) (choice_goes sets d c' o [])
 
-  interval_goes : (known : List (List ℕ)) → IsKnown sets known → Goes sets (interval c known)
-  interval_goes known is_known = by_test sets (nat_lt (length c.known) (length known)) (if leads c known then lead (record (told c known) { promise = length known }) else still (told c known)) (still c)
-      (λ newer. by_test sets (leads c known) (lead (record (told c known) { promise = length known })) (still (told c known))
-      (λ it. lead_goes (record (told c known) { promise = length known }) (opening_led z sets promise h d c state known is_known newer it)) (λ _. tt))
+  interval_goes : (known : List (List ℕ)) → IsKnown sets known → Goes sets (on_interval c known)
+  interval_goes known is_known = by_test sets (nat_lt (length c.known) (length known)) (if leads c known then lead (record (learn_sets c known) { promise = length known }) else still (learn_sets c known)) (still c)
+      (λ newer. by_test sets (leads c known) (lead (record (learn_sets c known) { promise = length known })) (still (learn_sets c known))
+      (λ it. lead_goes (record (learn_sets c known) { promise = length known }) (opening_led z sets promise h d c state known is_known newer it)) (λ _. tt))
       (λ _. tt)
 
-  pub comes_goes : (b : Body) (from : Party) → RoleOk z sets promise h d c c.role → BodyOk sets promise h from b → Each (SentGoes sets) (comes b c from).sent
+  pub comes_goes : (b : Body) (from : Party) → RoleOk z sets promise h d c c.role → BodyOk sets promise h from b → Each (SentGoes sets) (on_body b c from).sent
   comes_goes (Interval known) from role ok = interval_goes known ok
   comes_goes (Query n) from role ok = query_goes from n
   comes_goes (Info n base log) (Osd m) role ok = info_goes c.role n (record { number = m; base = base; log = log }) role
@@ -165,13 +165,13 @@ module _ (z : ℕ) (sets : List (List ℕ)) (promise : ℕ → ℕ) (h : History
   comes_goes (Append n place s) from role ok = append_goes from n place s
   comes_goes (Appended n place) (Osd m) role ok = appended_goes c.role n place m role
   comes_goes (Appended n place) Client role ok = tt
-  comes_goes (Request s) from role ok = by_test sets (list_any (λ w. w.id == s.id) c.waiting) (still c) (request_as c.role c s) (λ _. tt) (λ _. request_goes c.role s role)
+  comes_goes (Request s) from role ok = by_test sets (list_any (λ w. w.id == s.id) c.waiting) (still c) (on_request_as c.role c s) (λ _. tt) (λ _. request_goes c.role s role)
   comes_goes (Reply id reply) from role ok = tt
   comes_goes (NotHere id) from role ok = tt
 
-  pub kicked_goes : (r : Role) → RoleOk z sets promise h d c r → Each (SentGoes sets) (kicked_as r c)
+  pub kicked_goes : (r : Role) → RoleOk z sets promise h d c r → Each (SentGoes sets) (retransmit_as r c)
   kicked_goes Idle ok = tt
-  kicked_goes (Peering heard) ok = Each-map_all (SentGoes sets) (λ m. send c (Osd m) (Query c.promise)) (λ m. tt) (filter (λ m. not (is_heard c heard m)) (asked c))
+  kicked_goes (Peering informed) ok = Each-map_all (SentGoes sets) (λ m. send c (Osd m) (Query c.promise)) (λ m. tt) (filter (λ m. not (is_informed c informed m)) (asked c))
   kicked_goes (Installing done) ok = Each-map_all (SentGoes sets) (λ m. send c (Osd m) (Install c.promise c.log)) (λ m. tt) (filter (λ m. not (is_in done m)) (others c))
   kicked_goes (Active None) ok = tt
   kicked_goes (Active (Some holders)) ok = again_go sets d c (opening z sets promise h d c state ok.0.leads) (last c.log) (λ m. not (is_in holders m))

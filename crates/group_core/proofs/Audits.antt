@@ -131,7 +131,7 @@ module _ (p : ℕ → ℕ) (z : ℕ) (sets : List (List ℕ)) (h : History) (sou
   -- what a copy shows to be decided is
   pub shown_decided : (d : ℕ) (c : Daemon) (r : Role) → StateOk z sets p h d c → RoleOk z sets p h d c r → IsDecidedList sets h (decided_by r c.log)
   shown_decided d c Idle state ok = none_decided sets h
-  shown_decided d c (Peering heard) state ok = none_decided sets h
+  shown_decided d c (Peering informed) state ok = none_decided sets h
   shown_decided d c (Installing done) state ok = none_decided sets h
   shown_decided d c (Active None) state ok =
       let owns = ok.0 in

@@ -6,18 +6,18 @@ use Rattle.entry_core.specs.Log.{find, is_in, ids}
 use Rattle.entry_core.specs.Request.{Sealed}
 use Rattle.entry_core.specs.declared.entry.Entry.{Entry}
 use Rattle.peer_core.specs.Steps.{Stepped, still}
-use Rattle.peer_core.specs.Copy.{promised, request, request_as, busy, waits, query, append, acknowledged, complete, appended_as}
-use Rattle.peer_core.specs.Sets.{others, all_count, counted}
+use Rattle.peer_core.specs.Copy.{promise_interval, on_request, on_request_as, busy_request, waits, on_query, on_append, acknowledged, complete, on_appended}
+use Rattle.peer_core.specs.ActingSets.{others, all_count, counted}
 use Rattle.peer_core.specs.Serve.{serve, serve_one, push_new}
-use Rattle.peer_core.specs.Decided.{with_entry, settled, last}
+use Rattle.peer_core.specs.Decided.{with_entry, not_in_flight, last}
 use Rattle.group_core.specs.Types.{Role, Idle, Peering, Installing, Active, Daemon, Info, Append, Appended, Party, Osd}
 use Rattle.group_core.specs.Budget.{sent_budget, role_budget, copy_budget, Lowers}
 
-pub promised_budget : (c : Daemon) (n : ℕ) → copy_budget (promised c n) ≤ copy_budget c
+pub promised_budget : (c : Daemon) (n : ℕ) → copy_budget (promise_interval c n) ≤ copy_budget c
 promised_budget c n = elim (nat_lt c.promise n) as (λ b. copy_budget (if b then record c { promise = n; role = Idle; waiting = [] } else c) ≤ copy_budget c) [ true ↦ omega arith | false ↦ omega arith ]
 
-pub query_lowers : (c : Daemon) (from : Party) (n : ℕ) → Lowers 2 c (query c from n)
-query_lowers c from n = elim (nat_lt n c.promise) as (λ b. Lowers 2 c (if b then still c else record { copy = promised c n; sent = record { from = Osd c.number; to = from; body = Info n c.base c.log } ∷ [] })) [
+pub query_lowers : (c : Daemon) (from : Party) (n : ℕ) → Lowers 2 c (on_query c from n)
+query_lowers c from n = elim (nat_lt n c.promise) as (λ b. Lowers 2 c (if b then still c else record { copy = promise_interval c n; sent = record { from = Osd c.number; to = from; body = Info n c.base c.log } ∷ [] })) [
   | true ↦ omega arith
   | false ↦ omega (arith, promised_budget c n)
 ]
@@ -49,24 +49,24 @@ by_test most c false x y p q = q
 pub waits_lowers : (c : Daemon) (s : Sealed) → Lowers 10 c (waits c s)
 waits_lowers c s = omega (arith, length-append c.waiting (s ∷ []))
 
-pub busy_lowers : (c : Daemon) (s : Sealed) (found : Option Entry) → Lowers 10 c (busy c s found)
+pub busy_lowers : (c : Daemon) (s : Sealed) (found : Option Entry) → Lowers 10 c (busy_request c s found)
 busy_lowers c s (Some e) = omega arith
 busy_lowers c s None = by_test 10 c (is_in (ids c.log) s.id) (still c) (waits c s) (omega arith) (waits_lowers c s)
 
-pub request_as_lowers : (r : Role) (c : Daemon) (s : Sealed) → c.role ≡ r → length (others c) ≤ 4 → Lowers 10 c (request_as r c s)
+pub request_as_lowers : (r : Role) (c : Daemon) (s : Sealed) → c.role ≡ r → length (others c) ≤ 4 → Lowers 10 c (on_request_as r c s)
 request_as_lowers Idle c s is few = omega arith
-request_as_lowers (Peering heard) c s is few = waits_lowers c s
+request_as_lowers (Peering informed) c s is few = waits_lowers c s
 request_as_lowers (Installing done) c s is few = waits_lowers c s
 request_as_lowers (Active None) c s is few = omega (arith, serve_budget (s ∷ c.waiting) c few)
-request_as_lowers (Active (Some holders)) c s is few = busy_lowers c s (find (settled c.log (Some holders)) s.id)
+request_as_lowers (Active (Some holders)) c s is few = busy_lowers c s (find (not_in_flight c.log (Some holders)) s.id)
 
-pub request_lowers : (c : Daemon) (s : Sealed) → length (others c) ≤ 4 → Lowers 10 c (request c s)
-request_lowers c s few = by_test 10 c (list_any (λ w. w.id == s.id) c.waiting) (still c) (request_as c.role c s) (omega arith) (request_as_lowers c.role c s refl few)
+pub request_lowers : (c : Daemon) (s : Sealed) → length (others c) ≤ 4 → Lowers 10 c (on_request c s)
+request_lowers c s few = by_test 10 c (list_any (λ w. w.id == s.id) c.waiting) (still c) (on_request_as c.role c s) (omega arith) (request_as_lowers c.role c s refl few)
 
 acknowledged_lowers : (c d : Daemon) (from : Party) (n place : ℕ) → copy_budget d ≤ copy_budget c → Lowers 2 c (acknowledged d from n place)
 acknowledged_lowers c d from n place le = by_test 2 c (nat_lt (length d.log) place) (still d) (record { copy = d; sent = record { from = Osd d.number; to = from; body = Appended n place } ∷ [] }) (omega (arith, le)) (omega (arith, le))
 
-pub append_lowers : (c : Daemon) (from : Party) (n place : ℕ) (s : Sealed) → Lowers 2 c (append c from n place s)
+pub append_lowers : (c : Daemon) (from : Party) (n place : ℕ) (s : Sealed) → Lowers 2 c (on_append c from n place s)
 append_lowers c from n place s = by_test 2 c ((c.promise == n) && (c.base == n))
     (if (length c.log + 1 == place) && not (is_in (ids c.log) s.id) then acknowledged (with_entry c s) from n place else acknowledged c from n place) (still c)
     (by_test 2 c ((length c.log + 1 == place) && not (is_in (ids c.log) s.id)) (acknowledged (with_entry c s) from n place) (acknowledged c from n place)
@@ -77,7 +77,7 @@ complete_budget : (c : Daemon) (e : Option Entry) → length (others c) ≤ 4 �
 complete_budget c None few = omega (arith, serve_budget c.waiting c few)
 complete_budget c (Some e) few = omega (arith, serve_budget c.waiting c few)
 
-pub appended_as_lowers : (r : Role) (c : Daemon) (n place m : ℕ) → c.role ≡ r → length (others c) ≤ 4 → Lowers 1 c (appended_as r c n place m)
+pub appended_as_lowers : (r : Role) (c : Daemon) (n place m : ℕ) → c.role ≡ r → length (others c) ≤ 4 → Lowers 1 c (on_appended r c n place m)
 appended_as_lowers (Active (Some holders)) c n place m is few =
     let in_flight : role_budget c.role ≡ 1 = rw is in
     by_test 1 c ((c.promise == n) && (place == length c.log))
@@ -88,5 +88,5 @@ appended_as_lowers (Active (Some holders)) c n place m is few =
     (omega arith)
 appended_as_lowers (Active None) c n place m is few = omega arith
 appended_as_lowers Idle c n place m is few = omega arith
-appended_as_lowers (Peering heard) c n place m is few = omega arith
+appended_as_lowers (Peering informed) c n place m is few = omega arith
 appended_as_lowers (Installing done) c n place m is few = omega arith

@@ -6,16 +6,16 @@ use Rattle.std.proofs.Math.Seq.{take-append_seam}
 use Rattle.std.proofs.lemmas.List.{append-nil}
 use Rattle.entry_core.specs.Log.{is_in}
 use Rattle.entry_core.specs.Request.{Sealed}
-use Rattle.peer_core.specs.Sets.{daemons}
+use Rattle.peer_core.specs.ActingSets.{daemons}
 use Rattle.peer_core.specs.Steps.{Stepped, blank, restarted}
 use Rattle.peer_core.specs.Copy.{copy_step}
 use Rattle.peer_core.specs.Decided.{decided_by}
 use Rattle.entry_core.specs.declared.sealed.GroupId.{GroupId}
 use Rattle.group_core.specs.Types.{Daemon, Body, Interval, Query, Info, Install, Installed, Append, Appended, Request, Reply, NotHere, Osd, Client, Sent}
-use Rattle.group_core.specs.Group.{Group, Answer, Event, Submit, Deliver, Lose, Repeat, NewInterval, Restart, Kick, Unreachable, Full, Doubled, last_set, is_answered, answers_after, answered, tell, tell_first, steps, copy_hears, arrives, without, deliver, lose, again, is_submitted, has_all_requests, has_all_intervals, opens, begin, with_up, same_set, announced, resent, first_again, group_step, refusal_of, refusal_at, refusal_to, missing_at, IsSet, EventFits, start}
+use Rattle.group_core.specs.Group.{Group, Answer, Event, Submit, Deliver, Lose, Repeat, NewInterval, Restart, Kick, Unreachable, Full, Doubled, last_set, is_answered, answers_after, answered, to_daemon, to_primary, steps, copy_hears, arrives, without, deliver, lose, again, is_submitted, has_all_requests, has_all_intervals, take_request, begin, with_up, same_set, announced, resent, retransmit_primary, group_step, refusal_of, refusal_at, refusal_to, missing_at, IsSet, EventFits, start}
 use Rattle.group_core.specs.Furthest.{furthest}
 use Rattle.group_core.specs.Reached.{IsReached, HasJustTaken, unsent}
-use Rattle.group_core.specs.Whole.{IsWhole}
+use Rattle.group_core.specs.Sound.{IsSound}
 use Rattle.group_core.proofs.Reached.{reached_step, reached_start, reached_good, reached_audit}
 use Rattle.group_core.proofs.FarCopies.{audit_count}
 use Rattle.group_core.proofs.Groups.{get-set_same}
@@ -23,11 +23,11 @@ use Rattle.group_core.proofs.Daemons.{furthest-map, restarted_if}
 
 -- the event was not refused, and the group is the next one
 pub record Next (g : Group) (e : Event) (new : Group) (decided : ℕ) : Type 0 where
-  pub whole : IsWhole new decided
+  pub whole : IsSound new decided
   pub free : refusal_of g e ≡ None
   pub is : new ≡ group_step g e
 
-next : {g : Group} {n : ℕ} → IsWhole g n → (e : Event) → EventFits e → (new : Group) (m : ℕ) → refusal_of g e ≡ None → new ≡ group_step g e → length new.audit ≡ m → Next g e new m
+next : {g : Group} {n : ℕ} → IsSound g n → (e : Event) → EventFits e → (new : Group) (m : ℕ) → refusal_of g e ≡ None → new ≡ group_step g e → length new.audit ≡ m → Next g e new m
 next {g} w e fits new m free is long = record {
   whole = record { reached = subst IsReached (sym is) (reached_step g e w.reached fits); count = long };
   free = free;
@@ -57,7 +57,7 @@ get_in (y ∷ xs) (suc k) x is = (let rest = get_in xs k x is in omega arith)
 
 -- a message is lost, or repeated
 
-pub next_lost : {g : Group} {n : ℕ} → IsWhole g n → (k : ℕ) (wire : List Sent) → k < length g.wire → wire ≡ remove g.wire k → Next g (Lose k) (record g { wire = wire }) n
+pub next_lost : {g : Group} {n : ℕ} → IsSound g n → (k : ℕ) (wire : List Sent) → k < length g.wire → wire ≡ remove g.wire k → Next g (Lose k) (record g { wire = wire }) n
 next_lost {g} {n} w k wire lt is =
     let m = get_below g.wire k lt in
     next w (Lose k) tt (record g { wire = wire }) n
@@ -65,7 +65,7 @@ next_lost {g} {n} w k wire lt is =
     (ap (λ l. record g { wire = l }) is ∙ sym (ap (λ o. lose g k o) m.is))
     w.count
 
-pub next_repeated : {g : Group} {n : ℕ} → IsWhole g n → (k : ℕ) (m : Sent) (wire : List Sent) → slice_get g.wire k ≡ Some m → wire ≡ g.wire ++ m ∷ [] → Next g (Repeat k) (record g { wire = wire }) n
+pub next_repeated : {g : Group} {n : ℕ} → IsSound g n → (k : ℕ) (m : Sent) (wire : List Sent) → slice_get g.wire k ≡ Some m → wire ≡ g.wire ++ m ∷ [] → Next g (Repeat k) (record g { wire = wire }) n
 next_repeated {g} {n} w k m wire here is =
     next w (Repeat k) tt (record g { wire = wire }) n
     (ap (λ o. missing_at k o) here)
@@ -74,13 +74,13 @@ next_repeated {g} {n} w k m wire here is =
 
 -- a request is taken
 
-pub next_taken : {g : Group} {n : ℕ} → IsWhole g n → (s : Sealed) (wire : List Sent) (requests : List Sealed) → is_submitted g.requests s.id ≡ false → length g.requests < 16384 →
-    wire ≡ g.wire ++ tell_first (last_set g.sets) (Request s ∷ []) → requests ≡ g.requests ++ s ∷ [] → Next g (Submit s) (record g { wire = wire; requests = requests }) n
+pub next_taken : {g : Group} {n : ℕ} → IsSound g n → (s : Sealed) (wire : List Sent) (requests : List Sealed) → is_submitted g.requests s.id ≡ false → length g.requests < 16384 →
+    wire ≡ g.wire ++ to_primary (last_set g.sets) (Request s ∷ []) → requests ≡ g.requests ++ s ∷ [] → Next g (Submit s) (record g { wire = wire; requests = requests }) n
 next_taken {g} {n} w s wire requests new room is_wire is_requests =
     let full : has_all_requests g ≡ false = grind (arith) in
     next w (Submit s) tt (record g { wire = wire; requests = requests }) n
     (free (is_submitted g.requests s.id) (has_all_requests g) new full)
-    (ap (λ l. record g { wire = l; requests = requests }) is_wire ∙ ap (λ l. record g { wire = g.wire ++ tell_first (last_set g.sets) (Request s ∷ []); requests = l }) is_requests
+    (ap (λ l. record g { wire = l; requests = requests }) is_wire ∙ ap (λ l. record g { wire = g.wire ++ to_primary (last_set g.sets) (Request s ∷ []); requests = l }) is_requests
     ∙ sym (opened (is_submitted g.requests s.id) (has_all_requests g) new full))
     w.count
   where
@@ -89,19 +89,19 @@ next_taken {g} {n} w s wire requests new room is_wire is_requests =
     free false true e f = absurd (cc)
     free false false e f = refl
 
-    opened : (b q : Bool) → b ≡ false → q ≡ false → (if b then g else (if q then g else opens g s)) ≡ opens g s
+    opened : (b q : Bool) → b ≡ false → q ≡ false → (if b then g else (if q then g else take_request g s)) ≡ take_request g s
     opened true q e f = absurd (cc)
     opened false true e f = absurd (cc)
     opened false false e f = refl
 
 -- a kick
 
-pub next_kicked : {g : Group} {n : ℕ} → IsWhole g n → (wire : List Sent) → wire ≡ g.wire ++ ((announced g.sets ++ first_again g.copies (last_set g.sets)) ++ resent g.sets g.requests g.answers) → Next g Kick (record g { wire = wire }) n
+pub next_kicked : {g : Group} {n : ℕ} → IsSound g n → (wire : List Sent) → wire ≡ g.wire ++ ((announced g.sets ++ retransmit_primary g.copies (last_set g.sets)) ++ resent g.sets g.requests g.answers) → Next g Kick (record g { wire = wire }) n
 next_kicked {g} {n} w wire is =
-    let same : g.wire ++ ((announced g.sets ++ first_again g.copies (last_set g.sets)) ++ resent g.sets g.requests g.answers)
-    ≡ ((g.wire ++ announced g.sets) ++ first_again g.copies (last_set g.sets)) ++ resent g.sets g.requests g.answers =
-    sym (append_assoc g.wire (announced g.sets ++ first_again g.copies (last_set g.sets)) (resent g.sets g.requests g.answers))
-    ∙ ap (λ l. l ++ resent g.sets g.requests g.answers) (sym (append_assoc g.wire (announced g.sets) (first_again g.copies (last_set g.sets)))) in
+    let same : g.wire ++ ((announced g.sets ++ retransmit_primary g.copies (last_set g.sets)) ++ resent g.sets g.requests g.answers)
+    ≡ ((g.wire ++ announced g.sets) ++ retransmit_primary g.copies (last_set g.sets)) ++ resent g.sets g.requests g.answers =
+    sym (append_assoc g.wire (announced g.sets ++ retransmit_primary g.copies (last_set g.sets)) (resent g.sets g.requests g.answers))
+    ∙ ap (λ l. l ++ resent g.sets g.requests g.answers) (sym (append_assoc g.wire (announced g.sets) (retransmit_primary g.copies (last_set g.sets)))) in
     next w Kick tt (record g { wire = wire }) n refl (ap (λ l. record g { wire = l }) (is ∙ same)) w.count
 
 -- a message reaches the client
@@ -126,7 +126,7 @@ answered_is g (NotHere id) = refl
 to_client : (g : Group) (k : ℕ) (m : Sent) → m.to ≡ Client → arrives (without g k) m m.to ≡ record g { wire = remove g.wire k; answers = answers_after g.answers m.body }
 to_client g k m is = ap (λ p. arrives (without g k) m p) is ∙ answered_is (without g k) m.body
 
-pub next_answered : {g : Group} {n : ℕ} → IsWhole g n → (k : ℕ) (m : Sent) (wire : List Sent) (answers : List Answer) → slice_get g.wire k ≡ Some m → m.to ≡ Client →
+pub next_answered : {g : Group} {n : ℕ} → IsSound g n → (k : ℕ) (m : Sent) (wire : List Sent) (answers : List Answer) → slice_get g.wire k ≡ Some m → m.to ≡ Client →
     wire ≡ remove g.wire k → answers ≡ answers_after g.answers m.body → Next g (Deliver k) (record g { wire = wire; answers = answers }) n
 next_answered {g} {n} w k m wire answers here to is_wire is_answers =
     next w (Deliver k) tt (record g { wire = wire; answers = answers }) n
@@ -150,13 +150,13 @@ arrived_is : (g : Group) (k d : ℕ) (m : Sent) (found : Option Daemon) → slic
 arrived_is g k d m found here to up is = ap (λ o. deliver g k o) here ∙ ap (λ p. arrives (without g k) m p) to ∙ ap (λ b. if b then copy_hears (without g k) m d (slice_get g.copies d) else without g k) up
     ∙ ap (λ o. copy_hears (without g k) m d o) is
 
-pub next_swallowed : {g : Group} {n : ℕ} → IsWhole g n → (k d : ℕ) (m : Sent) (wire : List Sent) → slice_get g.wire k ≡ Some m → m.to ≡ Osd d → is_in g.up d ≡ true → length g.copies ≤ d →
+pub next_swallowed : {g : Group} {n : ℕ} → IsSound g n → (k d : ℕ) (m : Sent) (wire : List Sent) → slice_get g.wire k ≡ Some m → m.to ≡ Osd d → is_in g.up d ≡ true → length g.copies ≤ d →
     wire ≡ remove g.wire k → Next g (Deliver k) (record g { wire = wire }) n
 next_swallowed {g} {n} w k d m wire here to up past is =
     next w (Deliver k) tt (record g { wire = wire }) n (free_up g k d m here to up)
     (ap (λ l. record g { wire = l }) is ∙ sym (arrived_is g k d m None here to up (get_past g.copies d past))) w.count
 
-pub next_heard : {g : Group} {n : ℕ} → IsWhole g n → (k d : ℕ) (m : Sent) (c c' : Daemon) (wire : List Sent) (copies : List Daemon) (decided : ℕ) → slice_get g.wire k ≡ Some m → m.to ≡ Osd d → is_in g.up d ≡ true →
+pub next_heard : {g : Group} {n : ℕ} → IsSound g n → (k d : ℕ) (m : Sent) (c c' : Daemon) (wire : List Sent) (copies : List Daemon) (decided : ℕ) → slice_get g.wire k ≡ Some m → m.to ≡ Osd d → is_in g.up d ≡ true →
     slice_get g.copies d ≡ Some c → c' ≡ (copy_step c (record { from = m.from; body = m.body })).copy → wire ≡ remove g.wire k ++ (copy_step c (record { from = m.from; body = m.body })).sent →
     copies ≡ slice_set g.copies d c' → decided ≡ max n (length (decided_by c'.role c'.log)) →
     Next g (Deliver k) (record g { wire = wire; copies = copies; audit = take decided (furthest copies) }) decided
@@ -183,7 +183,7 @@ next_heard {g} {n} w k d m c c' wire copies decided here to up found is_copy is_
 downed : List ℕ → List ℕ → Daemon → Bool
 downed was up c = is_in was c.number && not (is_in up c.number)
 
-pub next_same : {g : Group} {n : ℕ} → IsWhole g n → (acting up : List ℕ) (copies : List Daemon) → IsSet acting → same_set acting (last_set g.sets) ≡ true →
+pub next_same : {g : Group} {n : ℕ} → IsSound g n → (acting up : List ℕ) (copies : List Daemon) → IsSet acting → same_set acting (last_set g.sets) ≡ true →
     copies ≡ map (λ c. if is_in g.up c.number && not (is_in up c.number) then restarted c else c) g.copies → take n (furthest g.copies) ≡ g.audit →
     Next g (NewInterval acting up) (record g { up = up; copies = copies; audit = take n (furthest copies) }) n
 next_same {g} {n} w acting up copies fits same is_copies shown =
@@ -196,7 +196,7 @@ next_same {g} {n} w acting up copies fits same is_copies shown =
     (ap (λ b. if b then None else (if has_all_intervals g then Some Full else None)) same)
     (new ∙ sym step) (ap (λ l. length l) audit ∙ w.count)
 
-pub next_begun : {g : Group} {n : ℕ} → IsWhole g n → (acting up : List ℕ) (copies : List Daemon) (sets : List (List ℕ)) (wire : List Sent) → IsSet acting → same_set acting (last_set g.sets) ≡ false → length g.sets < 1024 →
+pub next_begun : {g : Group} {n : ℕ} → IsSound g n → (acting up : List ℕ) (copies : List Daemon) (sets : List (List ℕ)) (wire : List Sent) → IsSet acting → same_set acting (last_set g.sets) ≡ false → length g.sets < 1024 →
     sets ≡ g.sets ++ acting ∷ [] → wire ≡ (g.wire ++ announced (g.sets ++ acting ∷ [])) ++ resent (g.sets ++ acting ∷ []) g.requests g.answers →
     copies ≡ map (λ c. if is_in g.up c.number && not (is_in up c.number) then restarted c else c) g.copies → take n (furthest g.copies) ≡ g.audit →
     Next g (NewInterval acting up) (record g { wire = wire; sets = sets; up = up; copies = copies; audit = take n (furthest copies) }) n
@@ -213,7 +213,7 @@ next_begun {g} {n} w acting up copies sets wire fits other room is_sets is_wire 
     (ap (λ b. if b then None else (if has_all_intervals g then Some Full else None)) other ∙ ap (λ b. if b then Some Full else None) full)
     (new ∙ sym step) (ap (λ l. length l) audit ∙ w.count)
 
-pub next_restarted : {g : Group} {n : ℕ} → IsWhole g n → (d : ℕ) (copies : List Daemon) → is_in (last_set g.sets) d ≡ false →
+pub next_restarted : {g : Group} {n : ℕ} → IsSound g n → (d : ℕ) (copies : List Daemon) → is_in (last_set g.sets) d ≡ false →
     copies ≡ map (λ c. if c.number == d then restarted c else c) g.copies → take n (furthest g.copies) ≡ g.audit →
     Next g (Restart d) (record g { copies = copies; audit = take n (furthest copies) }) n
 next_restarted {g} {n} w d copies out is_copies shown =
@@ -226,7 +226,7 @@ next_restarted {g} {n} w d copies out is_copies shown =
     (ap (λ b. if b then (if has_all_intervals g then Some Full else None) else None) out)
     (new ∙ sym step) (ap (λ l. length l) audit ∙ w.count)
 
-pub next_rejoined : {g : Group} {n : ℕ} → IsWhole g n → (d : ℕ) (copies : List Daemon) (sets : List (List ℕ)) (wire : List Sent) → is_in (last_set g.sets) d ≡ true → length g.sets < 1024 →
+pub next_rejoined : {g : Group} {n : ℕ} → IsSound g n → (d : ℕ) (copies : List Daemon) (sets : List (List ℕ)) (wire : List Sent) → is_in (last_set g.sets) d ≡ true → length g.sets < 1024 →
     sets ≡ g.sets ++ last_set g.sets ∷ [] → wire ≡ (g.wire ++ announced (g.sets ++ last_set g.sets ∷ [])) ++ resent (g.sets ++ last_set g.sets ∷ []) g.requests g.answers →
     copies ≡ map (λ c. if c.number == d then restarted c else c) g.copies → take n (furthest g.copies) ≡ g.audit →
     Next g (Restart d) (record g { wire = wire; sets = sets; copies = copies; audit = take n (furthest copies) }) n
@@ -249,7 +249,7 @@ next_rejoined {g} {n} w d copies sets wire inside room is_sets is_wire is_copies
 pub stepped : {g old new : Group} {e : Event} {m : ℕ} → g ≡ old → Next g e new m → (refusal_of old e ≡ None) × (new ≡ group_step old e)
 stepped {new = new} {e = e} same n = subst (λ v. (refusal_of v e ≡ None) × (new ≡ group_step v e)) same (n.free, n.is)
 
-pub whole_dropped : {g : Group} {n : ℕ} → IsWhole g n → (k d : ℕ) (m : Sent) (wire : List Sent) → slice_get g.wire k ≡ Some m → m.to ≡ Osd d → is_in g.up d ≡ false → wire ≡ remove g.wire k → IsWhole (record g { wire = wire }) n
+pub whole_dropped : {g : Group} {n : ℕ} → IsSound g n → (k d : ℕ) (m : Sent) (wire : List Sent) → slice_get g.wire k ≡ Some m → m.to ≡ Osd d → is_in g.up d ≡ false → wire ≡ remove g.wire k → IsSound (record g { wire = wire }) n
 whole_dropped {g} {n} w k d m wire here to down is = record {
   reached = subst IsReached (dropped_is g k d m here to down ∙ ap (λ l. record g { wire = l }) (sym is)) (reached_step g (Deliver k) w.reached tt);
   count = w.count;
@@ -260,7 +260,7 @@ get_or_some [] d e lt = absurd (omega arith)
 get_or_some (x ∷ xs) zero e lt = refl
 get_or_some (x ∷ xs) (suc d) e lt = get_or_some xs d e (omega arith)
 
-pub whole_start : (group : GroupId) (z count : ℕ) (acting up : List ℕ) (g : Group) → 1 ≤ z → IsSet acting → g ≡ start group z count acting up → IsWhole g 0
+pub whole_start : (group : GroupId) (z count : ℕ) (acting up : List ℕ) (g : Group) → 1 ≤ z → IsSet acting → g ≡ start group z count acting up → IsSound g 0
 whole_start group z count acting up g least fits is = record { reached = subst IsReached (sym is) (reached_start group z count acting up least fits); count = ap (λ (v : Group). length v.audit) is }
 
 pub begun_is : (group : GroupId) (z count : ℕ) (acting up : List ℕ) (copies : List Daemon) (wire wire' : List Sent) (sets sets' : List (List ℕ)) (requests : List Sealed) (answers : List Answer) →
@@ -282,8 +282,8 @@ begun_is group z count acting up copies wire wire' sets sets' requests answers i
 
 -- the same, where who is up is told by an equation
 
-pub whole_up : {g new : Group} {e : Event} {m : ℕ} {up : List ℕ} → up ≡ new.up → Next g e new m → IsWhole (record new { up = up }) m
-whole_up {new = new} {m = m} is n = subst (λ u. IsWhole (record new { up = u }) m) (sym is) n.whole
+pub whole_up : {g new : Group} {e : Event} {m : ℕ} {up : List ℕ} → up ≡ new.up → Next g e new m → IsSound (record new { up = up }) m
+whole_up {new = new} {m = m} is n = subst (λ u. IsSound (record new { up = u }) m) (sym is) n.whole
 
 pub stepped_up : {g old new : Group} {e : Event} {m : ℕ} {up : List ℕ} → g ≡ old → up ≡ new.up → Next g e new m → (refusal_of old e ≡ None) × (record new { up = up } ≡ group_step old e)
 stepped_up {new = new} same is n = (let s = stepped same n in (s.0, ap (λ u. record new { up = u }) is ∙ s.1))
@@ -293,14 +293,14 @@ stepped_up {new = new} same is n = (let s = stepped same n in (s.0, ap (λ u. re
 take-front : {X : Type 0} (xs : List X) (x : X) → take (length (xs ++ x ∷ []) - 1) (xs ++ x ∷ []) ≡ xs
 take-front xs x = (let same : length (xs ++ x ∷ []) - 1 ≡ length xs = omega (arith, length-append xs (x ∷ [])) in ap (λ n. take n (xs ++ x ∷ [])) same ∙ take-append_seam xs (x ∷ []))
 
-unsent_is : (set : List ℕ) (wire : List Sent) (s : Sealed) → unsent set (wire ++ tell_first set (Request s ∷ [])) ≡ wire
+unsent_is : (set : List ℕ) (wire : List Sent) (s : Sealed) → unsent set (wire ++ to_primary set (Request s ∷ [])) ≡ wire
 unsent_is [] wire s = append-nil wire
-unsent_is (d ∷ ds) wire s = take-front wire (tell d (Request s))
+unsent_is (d ∷ ds) wire s = take-front wire (to_daemon d (Request s))
 
-pub opens_is : (before : Group) (s : Sealed) → refusal_of before (Submit s) ≡ None → group_step before (Submit s) ≡ opens before s
+pub opens_is : (before : Group) (s : Sealed) → refusal_of before (Submit s) ≡ None → group_step before (Submit s) ≡ take_request before s
 opens_is before s free = go (is_submitted before.requests s.id) (has_all_requests before) free
   where
-    go : (b q : Bool) → (if b then Some Doubled else (if q then Some Full else None)) ≡ None → (if b then before else (if q then before else opens before s)) ≡ opens before s
+    go : (b q : Bool) → (if b then Some Doubled else (if q then Some Full else None)) ≡ None → (if b then before else (if q then before else take_request before s)) ≡ take_request before s
     go true q e = absurd (cc)
     go false true e = absurd (cc)
     go false false e = refl
@@ -311,12 +311,12 @@ without_last g = record g { wire = unsent (last_set g.sets) g.wire; requests = t
 
 pub taken_back : (g before : Group) (s : Sealed) → HasJustTaken g before s → without_last g ≡ before
 taken_back g before s t =
-    let is : g ≡ opens before s = t.is ∙ opens_is before s t.taken in
+    let is : g ≡ take_request before s = t.is ∙ opens_is before s t.taken in
     ap without_last is ∙ ap (λ l. record before { wire = l; requests = take (length (before.requests ++ s ∷ []) - 1) (before.requests ++ s ∷ []) }) (unsent_is (last_set before.sets) before.wire s)
     ∙ ap (λ l. record before { requests = l }) (take-front before.requests s)
 
-pub whole_back : (g before : Group) (s : Sealed) (n : ℕ) (wire : List Sent) (requests : List Sealed) → HasJustTaken g before s → IsWhole g n →
-    wire ≡ unsent (last_set g.sets) g.wire → requests ≡ take (length g.requests - 1) g.requests → IsWhole (record g { wire = wire; requests = requests }) n
+pub whole_back : (g before : Group) (s : Sealed) (n : ℕ) (wire : List Sent) (requests : List Sealed) → HasJustTaken g before s → IsSound g n →
+    wire ≡ unsent (last_set g.sets) g.wire → requests ≡ take (length g.requests - 1) g.requests → IsSound (record g { wire = wire; requests = requests }) n
 whole_back g before s n wire requests t w is_wire is_requests =
     let is : record g { wire = wire; requests = requests } ≡ before =
     ap (λ l. record g { wire = l; requests = requests }) is_wire ∙ ap (λ l. record g { wire = unsent (last_set g.sets) g.wire; requests = l }) is_requests ∙ taken_back g before s t in

@@ -4,7 +4,7 @@ use Rattle.std.specs.Prelude.{Some, None, slice_get}
 use Rattle.entry_core.specs.Log.{is_in}
 use Rattle.entry_core.specs.Request.{Sealed}
 use Rattle.group_core.specs.Types.{Sent}
-use Rattle.group_core.specs.Group.{Group, Event, Submit, Deliver, Lose, Repeat, NewInterval, Restart, Kick, is_submitted, has_all_requests, opens, deliver, group_step, run, settle, delivered, delivered_now, delivered_to}
+use Rattle.group_core.specs.Group.{Group, Event, Submit, Deliver, Lose, Repeat, NewInterval, Restart, Kick, is_submitted, has_all_requests, take_request, deliver, group_step, run, settle, delivered, delivered_now, delivered_to}
 use Rattle.group_core.specs.Quiet.{found_one, made_by, deliveries_made}
 use Rattle.group_core.specs.Calm.{KeepsSet, IsCalm, OnlyCalm}
 
@@ -51,7 +51,7 @@ module _ (cost : ℕ) (D : Group → ℕ → Type 0) where
 
 -- how each calm event changes what is due
 pub record Counting (acting : List ℕ) (cost : ℕ) (D : Group → ℕ → Type 0) : Type 0 where
-  pub takes : (g : Group) (s : Sealed) (due : ℕ) → is_submitted g.requests s.id ≡ false → D g due → D (opens g s) (due + cost)
+  pub takes : (g : Group) (s : Sealed) (due : ℕ) → is_submitted g.requests s.id ≡ false → D g due → D (take_request g s) (due + cost)
   pub next : (g : Group) (m : Sent) (rest : List Sent) (due : ℕ) → D g due → g.wire ≡ m ∷ rest → Next D g m due
   pub moves : (g : Group) (due : ℕ) (set up : List ℕ) → KeepsSet acting set up → D g due → Kept D g (group_step g (NewInterval set up)) due
   pub restarts : (g : Group) (due : ℕ) (d : ℕ) → is_in acting d ≡ false → D g due → Kept D g (group_step g (Restart d)) due
@@ -94,7 +94,7 @@ module _ (acting : List ℕ) (cost : ℕ) (D : Group → ℕ → Type 0) (c : Co
       stays : Ran cost D g g due 0
       stays = record { left = due; now = now; sum = omega arith }
 
-      grows : is_submitted g.requests s.id ≡ false → Ran cost D g (opens g s) due 0
+      grows : is_submitted g.requests s.id ≡ false → Ran cost D g (take_request g s) due 0
       grows new = record {
         left = due + cost;
         now = c.takes g s due new now;
@@ -104,11 +104,11 @@ module _ (acting : List ℕ) (cost : ℕ) (D : Group → ℕ → Type 0) (c : Co
             omega arith);
       }
 
-      room : (full : Bool) → is_submitted g.requests s.id ≡ false → Ran cost D g (if full then g else opens g s) due 0
+      room : (full : Bool) → is_submitted g.requests s.id ≡ false → Ran cost D g (if full then g else take_request g s) due 0
       room true new = stays
       room false new = grows new
 
-      go : (b : Bool) → is_submitted g.requests s.id ≡ b → Ran cost D g (if b then g else (if has_all_requests g then g else opens g s)) due 0
+      go : (b : Bool) → is_submitted g.requests s.id ≡ b → Ran cost D g (if b then g else (if has_all_requests g then g else take_request g s)) due 0
       go true is = stays
       go false is = room (has_all_requests g) is
   ran_step g due (Deliver k) fits now =

@@ -4,7 +4,7 @@ use Rattle.std.specs.Prelude.{Some, None}
 use Rattle.std.proofs.lemmas.Bool.{cases_eq, eq-eqb, ne_eqb}
 use Rattle.entry_core.specs.Log.{Legal}
 use Rattle.entry_core.specs.declared.entry.Entry.{Entry}
-use Rattle.peer_core.specs.Sets.{set_of, is_first}
+use Rattle.peer_core.specs.ActingSets.{set_of, is_primary}
 use Rattle.group_core.specs.History.{Begins, History, Held, IsOpened, IsSound, but_last, IsSettled}
 use Rattle.group_core.proofs.Prefixes.{Begins-refl}
 use Rattle.group_core.proofs.Invariant.{Extends}
@@ -74,7 +74,7 @@ pub record CanChange (min_size : ℕ) (sets : List (List ℕ)) (promise : ℕ �
   pub legal : Legal grown
   pub opened : IsOpened promise min_size sets h n basis log
   pub but_one : IsSettled sets h n (but_last grown)
-  pub by_first : ((h.chosen n ≡ Some log) × (h.grown n ≡ grown)) ⊎ (is_first (set_of sets n) d ≡ true)
+  pub by_first : ((h.chosen n ≡ Some log) × (h.grown n ≡ grown)) ⊎ (is_primary (set_of sets n) d ≡ true)
 
 module _ (min_size : ℕ) (sets : List (List ℕ)) (promise : ℕ → ℕ) (h : History) (d n : ℕ) (log grown : List Entry) (basis k : ℕ)
     (can : CanChange min_size sets promise h d n log grown basis k) where
@@ -105,7 +105,7 @@ module _ (min_size : ℕ) (sets : List (List ℕ)) (promise : ℕ → ℕ) (h : 
     by_first = λ j. (elim (cases_eq j n) [
       | inl same ↦ (elim can.by_first [
         | inl as_was ↦ inl (subst (λ v. (put h.chosen n (Some log) v ≡ h.chosen v) × (put h.grown n grown v ≡ h.grown v)) (sym same) (put-same h.chosen n (Some log) ∙ sym as_was.0, put-same h.grown n grown ∙ sym as_was.1))
-        | inr mine ↦ inr (subst (λ v. is_first (set_of sets v) d ≡ true) (sym same) mine)
+        | inr mine ↦ inr (subst (λ v. is_primary (set_of sets v) d ≡ true) (sym same) mine)
       ])
       | inr other ↦ inl (put-other h.chosen n (Some log) j other, put-other h.grown n grown j other)
     ]);

@@ -6,7 +6,7 @@ use Rattle.entry_core.specs.Request.{Sealed}
 use Rattle.peer_core.specs.Steps.{restarted}
 use Rattle.group_core.specs.Types.{Daemon, Body, Interval, Query, Info, Install, Installed, Append, Appended, Request, Reply, NotHere, Party, Osd, Client, Sent}
 use Rattle.group_core.specs.Each.{Each}
-use Rattle.group_core.specs.Group.{Group, Answer, Event, Submit, Deliver, Lose, Repeat, NewInterval, Restart, Kick, last_set, is_answered, answered, copy_hears, arrives, without, deliver, lose, again, is_submitted, has_all_requests, has_all_intervals, opens, begin, with_up, same_set, group_step, run}
+use Rattle.group_core.specs.Group.{Group, Answer, Event, Submit, Deliver, Lose, Repeat, NewInterval, Restart, Kick, last_set, is_answered, answered, copy_hears, arrives, without, deliver, lose, again, is_submitted, has_all_requests, has_all_intervals, take_request, begin, with_up, same_set, group_step, run}
 
 module _ (Q : List Sealed → List Answer → Type 0) (hears : (requests : List Sealed) (answers : List Answer) (a : Answer) → Q requests answers → Q requests (answers ++ a ∷ [])) where
   abbrev Holds : Group → Type 0
@@ -47,7 +47,7 @@ module _ (Q : List Sealed → List Answer → Type 0) (hears : (requests : List 
   arrives_holds g m (Osd d) is = holds_if (is_in g.up d) (copy_hears g m d (slice_get g.copies d)) g (hears_holds g m d (slice_get g.copies d) is) is
 
   pub step_holds : (e : Event) (g : Group) → Takes e → Holds g → Holds (group_step g e)
-  step_holds (Submit s) g takes is = holds_if (is_submitted g.requests s.id) g (if has_all_requests g then g else opens g s) is (holds_if (has_all_requests g) g (opens g s) is (takes g.requests g.answers is))
+  step_holds (Submit s) g takes is = holds_if (is_submitted g.requests s.id) g (if has_all_requests g then g else take_request g s) is (holds_if (has_all_requests g) g (take_request g s) is (takes g.requests g.answers is))
   step_holds (Deliver k) g takes is = go (slice_get g.wire k)
     where
       go : (found : Option Sent) → Holds (deliver g k found)

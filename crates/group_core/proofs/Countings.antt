@@ -3,7 +3,7 @@ use Rattle.std.proofs.Common.{ℕ, ◌≡◌, Bool, true, false, cond, ◌==◌,
 use Rattle.std.specs.List.{filter}
 use Rattle.std.proofs.lemmas.Bool.{eqb-true, eq-eqb, both_ways, or_cases}
 use Rattle.entry_core.specs.Log.{is_in}
-use Rattle.peer_core.specs.Sets.{others, counted}
+use Rattle.peer_core.specs.ActingSets.{others, counted}
 use Rattle.group_core.specs.Each.{Each}
 use Rattle.group_core.specs.Types.{Daemon}
 

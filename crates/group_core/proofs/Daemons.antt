@@ -1,7 +1,7 @@
 -- The daemons in rising order, and lists of their copies.
 use Rattle.std.proofs.Common.{ℕ, zero, suc, ◌≡◌, ◌<◌, ◌+◌, Bool, true, false, List, [], ◌∷◌, ◌++◌, map, length, take, drop, get_or, refl, sym, ◌∙◌, ap, arith, if◌then◌else◌}
 use Rattle.std.specs.Prelude.{slice_set}
-use Rattle.peer_core.specs.Sets.{daemons}
+use Rattle.peer_core.specs.ActingSets.{daemons}
 use Rattle.peer_core.specs.Steps.{restarted}
 use Rattle.peer_core.specs.Choice.{best, own_offer}
 use Rattle.group_core.specs.Types.{Daemon}

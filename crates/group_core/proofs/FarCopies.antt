@@ -4,10 +4,10 @@ use Rattle.std.specs.Prelude.{Option, Some, None, slice_get}
 use Rattle.std.proofs.Math.Seq.{take-append_seam}
 use Rattle.entry_core.specs.Log.{is_in, Legal}
 use Rattle.entry_core.specs.declared.entry.Entry.{Entry}
-use Rattle.peer_core.specs.Sets.{set_of, is_first}
+use Rattle.peer_core.specs.ActingSets.{set_of, is_primary}
 use Rattle.peer_core.specs.Choice.{best, own_offer}
 use Rattle.peer_core.specs.Decided.{decided_by}
-use Rattle.group_core.specs.Types.{Daemon, Informed}
+use Rattle.group_core.specs.Types.{Daemon, PeerInfo}
 use Rattle.group_core.specs.History.{Begins, IsDecided}
 use Rattle.group_core.specs.Group.{Group, audit_after}
 use Rattle.group_core.specs.Furthest.{furthest}
@@ -19,24 +19,24 @@ use Rattle.group_core.proofs.Groups.{Good, audit_legal}
 use Rattle.group_core.proofs.Audits.{audit_length}
 
 -- a copy in the list, as it is offered
-record Stands (cs : List Daemon) (i : Informed) : Type 0 where
+record Stands (cs : List Daemon) (i : PeerInfo) : Type 0 where
   place : ℕ
   copy : Daemon
   is_there : slice_get cs place ≡ Some copy
   is : own_offer copy ≡ i
 
-stands_next : (x : Daemon) (cs : List Daemon) (i : Informed) → Stands cs i → Stands (x ∷ cs) i
+stands_next : (x : Daemon) (cs : List Daemon) (i : PeerInfo) → Stands cs i → Stands (x ∷ cs) i
 stands_next x cs i s = record { place = suc s.place; copy = s.copy; is_there = s.is_there; is = s.is }
 
 each_stands : (cs : List Daemon) → Each (Stands cs) (map own_offer cs)
 each_stands [] = tt
 each_stands (c ∷ cs) = (record { place = 0; copy = c; is_there = refl; is = refl }, weaker (map own_offer cs) (each_stands cs))
   where
-    weaker : (is : List Informed) → Each (Stands cs) is → Each (Stands (c ∷ cs)) is
+    weaker : (is : List PeerInfo) → Each (Stands cs) is → Each (Stands (c ∷ cs)) is
     weaker [] each = tt
     weaker (i ∷ is) each = (stands_next c cs i each.0, weaker is each.1)
 
-at_offers : (cs : List Daemon) (b : Informed) (m : ℕ) (c : Daemon) → Each (λ i. AtMost i b) (map own_offer cs) → slice_get cs m ≡ Some c → AtMost (own_offer c) b
+at_offers : (cs : List Daemon) (b : PeerInfo) (m : ℕ) (c : Daemon) → Each (λ i. AtMost i b) (map own_offer cs) → slice_get cs m ≡ Some c → AtMost (own_offer c) b
 at_offers [] b m c each is = absurd (cc)
 at_offers (x ∷ cs) b zero c each is = (let same : x ≡ c = cc in subst (λ v. AtMost (own_offer v) b) same each.0)
 at_offers (x ∷ cs) b (suc m) c each is = at_offers cs b m c each.1 is
@@ -51,7 +51,7 @@ record Furthest (cs : List Daemon) (log : List Entry) : Type 0 where
 
 furthest_is : (c : Daemon) (cs : List Daemon) → Furthest (c ∷ cs) (furthest (c ∷ cs))
 furthest_is c cs =
-    let b : Informed = best (own_offer c) (map own_offer cs) in
+    let b : PeerInfo = best (own_offer c) (map own_offer cs) in
     let all = each_stands (c ∷ cs) in
     let s : Stands (c ∷ cs) b = best_among (Stands (c ∷ cs)) (own_offer c) (map own_offer cs) all.0 all.1 in
     let each : Each (λ i. AtMost i b) (map own_offer (c ∷ cs)) = (first_at_most (own_offer c) (map own_offer cs), each_at_most (own_offer c) (map own_offer cs)) in
@@ -59,15 +59,15 @@ furthest_is c cs =
       place = s.place;
       copy = s.copy;
       is_there = s.is_there;
-      is = ap (λ (i : Informed). i.log) s.is;
+      is = ap (λ (i : PeerInfo). i.log) s.is;
       most = λ m x is. subst (λ v. AtMost (own_offer x) v) (sym s.is) (at_offers (c ∷ cs) b m x each is);
     }
 
-first_member : (ms : List ℕ) → 1 ≤ length ms → (m : ℕ) × (is_first ms m ≡ true) × (is_in ms m ≡ true)
+first_member : (ms : List ℕ) → 1 ≤ length ms → (m : ℕ) × (is_primary ms m ≡ true) × (is_in ms m ≡ true)
 first_member [] some = absurd (omega arith)
 first_member (m ∷ ms) some = (m, same m, here m)
   where
-    same : (x : ℕ) → is_first (x ∷ ms) x ≡ true
+    same : (x : ℕ) → is_primary (x ∷ ms) x ≡ true
     same x = grind (arith)
 
     here : (x : ℕ) → is_in (x ∷ ms) x ≡ true
@@ -77,7 +77,7 @@ first_member (m ∷ ms) some = (m, same m, here m)
 module _ (g : Group) (good : Good g) (least : 1 ≤ g.min_size) where
   -- the first member of an interval that chose a log has a copy
   module _ (n k : ℕ) (one : IsDecided g.sets good.h n k) where
-    member : (m : ℕ) × (is_first (set_of g.sets n) m ≡ true) × (is_in (set_of g.sets n) m ≡ true)
+    member : (m : ℕ) × (is_primary (set_of g.sets n) m ≡ true) × (is_in (set_of g.sets n) m ≡ true)
     member = (let o = good.sound.opened n one.log one.later one.begun in first_member (set_of g.sets n) (omega (arith, o.members)))
 
     at_furthest : (log : List Entry) → Furthest g.copies log → Begins (take k (good.h.grown n)) log

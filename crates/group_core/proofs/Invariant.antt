@@ -4,8 +4,8 @@ use Rattle.std.specs.Prelude.{Option, Some, None}
 use Rattle.entry_core.specs.Log.{is_in}
 use Rattle.entry_core.specs.Request.{Sealed}
 use Rattle.entry_core.specs.declared.entry.Entry.{Entry}
-use Rattle.peer_core.specs.Sets.{set_of, is_first}
-use Rattle.group_core.specs.Types.{Informed, Role, Idle, Peering, Installing, Active, Daemon, Body, Interval, Query, Info, Install, Installed, Append, Appended, Request, Reply, NotHere, Party, Osd, Client, Sent}
+use Rattle.peer_core.specs.ActingSets.{set_of, is_primary}
+use Rattle.group_core.specs.Types.{PeerInfo, Role, Idle, Peering, Installing, Active, Daemon, Body, Interval, Query, Info, Install, Installed, Append, Appended, Request, Reply, NotHere, Party, Osd, Client, Sent}
 use Rattle.group_core.specs.Each.{Each}
 use Rattle.group_core.specs.History.{Begins, History, Held}
 use Rattle.group_core.specs.Offer.{IsTold, IsOffer}
@@ -19,17 +19,17 @@ pub record IsKnown (sets known : List (List ℕ)) : Type 0 where
 pub record Leads (min_size : ℕ) (sets : List (List ℕ)) (d : ℕ) (c : Daemon) : Type 0 where
   pub is_known : c.promise ≡ length c.known
   pub later : 1 ≤ c.promise
-  pub first : is_first (set_of sets c.promise) d ≡ true
+  pub first : is_primary (set_of sets c.promise) d ≡ true
   pub members : min_size ≤ length (set_of sets c.promise)
 
 -- every member of set n held k entries of its log
 abbrev pub AllHold : List (List ℕ) → History → ℕ → ℕ → Type 0
 AllHold sets h n k = (m : ℕ) → is_in (set_of sets n) m ≡ true → Held h m n k
 
-pub record IsPeering (min_size : ℕ) (sets : List (List ℕ)) (promise : ℕ → ℕ) (h : History) (d : ℕ) (c : Daemon) (heard : List Informed) : Type 0 where
+pub record IsPeering (min_size : ℕ) (sets : List (List ℕ)) (promise : ℕ → ℕ) (h : History) (d : ℕ) (c : Daemon) (informed : List PeerInfo) : Type 0 where
   pub leads : Leads min_size sets d c
   pub unchosen : h.chosen c.promise ≡ None
-  pub offers : Each (IsOffer promise h c.promise) heard
+  pub offers : Each (IsOffer promise h c.promise) informed
 
 -- the copy's log is all of its interval's log
 pub record Owns (min_size : ℕ) (sets : List (List ℕ)) (h : History) (d : ℕ) (c : Daemon) : Type 0 where
@@ -53,7 +53,7 @@ FlightOk sets h c (Some holders) = IsFlight sets h c holders
 
 abbrev pub RoleOk : ℕ → List (List ℕ) → (ℕ → ℕ) → History → ℕ → Daemon → Role → Type 0
 RoleOk min_size sets promise h d c Idle = Unit {0}
-RoleOk min_size sets promise h d c (Peering heard) = IsPeering min_size sets promise h d c heard
+RoleOk min_size sets promise h d c (Peering informed) = IsPeering min_size sets promise h d c informed
 RoleOk min_size sets promise h d c (Installing done) = IsInstalling min_size sets h d c done
 RoleOk min_size sets promise h d c (Active flight) = Owns min_size sets h d c × FlightOk sets h c flight
 
@@ -118,4 +118,4 @@ pub record Extends (sets : List (List ℕ)) (d : ℕ) (promise : ℕ → ℕ) (h
   pub grows : (n : ℕ) → Begins (h.grown n) (h'.grown n)
   pub frozen : (j : ℕ) → j < promise d → h'.held d j ≡ h.held d j
   pub kept : (j k : ℕ) → Held h d j k → Held h' d j k
-  pub by_first : (n : ℕ) → ((h'.chosen n ≡ h.chosen n) × (h'.grown n ≡ h.grown n)) ⊎ (is_first (set_of sets n) d ≡ true)
+  pub by_first : (n : ℕ) → ((h'.chosen n ≡ h.chosen n) × (h'.grown n ≡ h.grown n)) ⊎ (is_primary (set_of sets n) d ≡ true)

@@ -8,11 +8,11 @@ use Rattle.entry_core.specs.Request.{Sealed}
 use Rattle.entry_core.specs.declared.entry.Entry.{Entry}
 use Rattle.peer_core.specs.Steps.{Stepped, blank, restarted}
 use Rattle.peer_core.specs.Copy.{copy_step}
-use Rattle.peer_core.specs.Sets.{daemons}
+use Rattle.peer_core.specs.ActingSets.{daemons}
 use Rattle.entry_core.specs.declared.sealed.GroupId.{GroupId}
-use Rattle.group_core.specs.Group.{Group, Answer, Event, Submit, Deliver, Lose, Repeat, NewInterval, Restart, Kick, kicked_at, last_set, open_requests, is_answered, answer_of, tell, tell_first, audit_after, steps, answered, copy_hears, arrives, without, deliver, lose, again, submitted, is_submitted, has_all_requests, has_all_intervals, opens, is_distinct, submit, resend, announce, begin, with_up, same_set, new_interval, restart, kick_first, kick, group_step, run, start}
+use Rattle.group_core.specs.Group.{Group, Answer, Event, Submit, Deliver, Lose, Repeat, NewInterval, Restart, Kick, retransmit_from, last_set, open_requests, is_answered, answer_of, to_daemon, to_primary, audit_after, steps, answered, copy_hears, arrives, without, deliver, lose, again, submitted, is_submitted, has_all_requests, has_all_intervals, take_request, is_distinct, submit, resent_by, announced_by, begin, with_up, same_set, new_interval, restart, retransmit_of, kick, group_step, run, start}
 use Rattle.peer_core.specs.Decided.{decided_by}
-use Rattle.group_core.specs.Types.{Role, Idle, Peering, Installing, Active, Daemon, Body, Interval, Query, Info, Install, Installed, Append, Appended, Request, Reply, NotHere, Party, Osd, Client, Sent, Outcome}
+use Rattle.group_core.specs.Types.{Role, Idle, Peering, Installing, Active, Daemon, Body, Interval, Query, Info, Install, Installed, Append, Appended, Request, Reply, NotHere, Party, Osd, Client, Sent, EntryReply}
 use Rattle.group_core.specs.Each.{Each}
 use Rattle.group_core.specs.History.{Begins}
 use Rattle.group_core.specs.Asked.{IsAsked, InLog, InRole, InCopy, InBody, AllAsked, IsReplied, InReply}
@@ -39,7 +39,7 @@ InLog-weaker P Q to log each = Each-weaker (λ e. P e.sealed) (λ e. Q e.sealed)
 
 InRole-weaker : (P Q : Sealed → Type 0) → ((s : Sealed) → P s → Q s) → (r : Role) → InRole P r → InRole Q r
 InRole-weaker P Q to Idle ok = tt
-InRole-weaker P Q to (Peering heard) ok = Each-weaker (λ i. InLog P i.log) (λ i. InLog Q i.log) (λ i. InLog-weaker P Q to i.log) heard ok
+InRole-weaker P Q to (Peering informed) ok = Each-weaker (λ i. InLog P i.log) (λ i. InLog Q i.log) (λ i. InLog-weaker P Q to i.log) informed ok
 InRole-weaker P Q to (Installing done) ok = tt
 InRole-weaker P Q to (Active flight) ok = tt
 
@@ -145,7 +145,7 @@ sends g more kept asks replies = record {
 
 shown_asked : (P : Sealed → Type 0) (r : Role) (log : List Entry) → InLog P log → InLog P (decided_by r log)
 shown_asked P Idle log each = tt
-shown_asked P (Peering heard) log each = tt
+shown_asked P (Peering informed) log each = tt
 shown_asked P (Installing done) log each = tt
 shown_asked P (Active None) log each = each
 shown_asked P (Active (Some holders)) log each = Each-take (λ e. P e.sealed) (length log - 1) log each
@@ -234,29 +234,29 @@ again_kept : (g : Group) (k : ℕ) (found : Option Sent) → slice_get g.wire k 
 again_kept g k None is kept = kept
 again_kept g k (Some m) is kept = (let fine = fine_at g k m is kept in sends g (m ∷ []) kept (fine.0, tt) (fine.1, tt))
 
-tell_first_asked : (P : Sealed → Type 0) (ds : List ℕ) (requests : List Sealed) → Each P requests → Each (λ m. InBody P m.body) (tell_first ds (map Request requests))
+tell_first_asked : (P : Sealed → Type 0) (ds : List ℕ) (requests : List Sealed) → Each P requests → Each (λ m. InBody P m.body) (to_primary ds (map Request requests))
 tell_first_asked P [] requests each = tt
 tell_first_asked P (d ∷ ds) requests each = told requests each
   where
-    told : (rs : List Sealed) → Each P rs → Each (λ m. InBody P m.body) (map (tell d) (map Request rs))
+    told : (rs : List Sealed) → Each P rs → Each (λ m. InBody P m.body) (map (to_daemon d) (map Request rs))
     told [] each = tt
     told (r ∷ rs) each = (each.0, told rs each.1)
 
-tell_first_replies : (es : List Entry) (ds : List ℕ) (requests : List Sealed) → Each (λ m. InReply es m.body) (tell_first ds (map Request requests))
+tell_first_replies : (es : List Entry) (ds : List ℕ) (requests : List Sealed) → Each (λ m. InReply es m.body) (to_primary ds (map Request requests))
 tell_first_replies es [] requests = tt
 tell_first_replies es (d ∷ ds) requests = told requests
   where
-    told : (rs : List Sealed) → Each (λ m. InReply es m.body) (map (tell d) (map Request rs))
+    told : (rs : List Sealed) → Each (λ m. InReply es m.body) (map (to_daemon d) (map Request rs))
     told [] = tt
     told (r ∷ rs) = (tt, told rs)
 
-opens_kept : (g : Group) (s : Sealed) → is_submitted g.requests s.id ≡ false → has_all_requests g ≡ false → Kept g → Kept (opens g s)
+opens_kept : (g : Group) (s : Sealed) → is_submitted g.requests s.id ≡ false → has_all_requests g ≡ false → Kept g → Kept (take_request g s)
 opens_kept g s new room kept =
     let P : Sealed → Type 0 = IsAsked g.requests in
     let to : (r : Sealed) → IsAsked g.requests r → IsAsked (g.requests ++ s ∷ []) r = λ r. submitted-append g.requests (s ∷ []) r.id r in
     let this : IsAsked (g.requests ++ s ∷ []) s = submitted-push g.requests s new in
     let less : length g.requests < 16384 = ltb-true (length g.requests) 16384 (not-false (nat_lt (length g.requests) 16384) room) in
-    sends (record g { requests = g.requests ++ s ∷ [] }) (tell_first (last_set g.sets) (Request s ∷ [])) (record {
+    sends (record g { requests = g.requests ++ s ∷ [] }) (to_primary (last_set g.sets) (Request s ∷ [])) (record {
       asked = record {
         requests = Each-push (IsAsked (g.requests ++ s ∷ [])) g.requests s (Each-weaker (IsAsked g.requests) (IsAsked (g.requests ++ s ∷ [])) to g.requests kept.asked.requests) this;
         copies = Each-weaker (InCopy (IsAsked g.requests)) (InCopy (IsAsked (g.requests ++ s ∷ []))) (InCopy-weaker (IsAsked g.requests) (IsAsked (g.requests ++ s ∷ [])) to) g.copies kept.asked.copies;
@@ -273,18 +273,18 @@ opens_kept g s new room kept =
 submit_kept : (g : Group) (s : Sealed) → Kept g → Kept (submit g s)
 submit_kept g s kept = go (is_submitted g.requests s.id) (has_all_requests g) refl refl
   where
-    go : (b q : Bool) → is_submitted g.requests s.id ≡ b → has_all_requests g ≡ q → Kept (if b then g else (if q then g else opens g s))
+    go : (b q : Bool) → is_submitted g.requests s.id ≡ b → has_all_requests g ≡ q → Kept (if b then g else (if q then g else take_request g s))
     go true q e f = kept
     go false true e f = kept
     go false false e f = opens_kept g s e f kept
 
-announce_kept : (g : Group) → Kept g → Kept (record g { wire = g.wire ++ announce g })
-announce_kept g kept = sends g (announce g) kept
-    (Each-map_all (λ m. InBody (IsAsked g.requests) m.body) (λ d. tell d (Interval g.sets)) (λ d. tt) (last_set g.sets))
-    (Each-map_all (λ m. InReply g.audit m.body) (λ d. tell d (Interval g.sets)) (λ d. tt) (last_set g.sets))
+announce_kept : (g : Group) → Kept g → Kept (record g { wire = g.wire ++ announced_by g })
+announce_kept g kept = sends g (announced_by g) kept
+    (Each-map_all (λ m. InBody (IsAsked g.requests) m.body) (λ d. to_daemon d (Interval g.sets)) (λ d. tt) (last_set g.sets))
+    (Each-map_all (λ m. InReply g.audit m.body) (λ d. to_daemon d (Interval g.sets)) (λ d. tt) (last_set g.sets))
 
-resend_kept : (g : Group) (wire : List Sent) → Kept (record g { wire = wire }) → Kept (record g { wire = wire ++ resend g })
-resend_kept g wire kept = sends (record g { wire = wire }) (resend g) kept
+resend_kept : (g : Group) (wire : List Sent) → Kept (record g { wire = wire }) → Kept (record g { wire = wire ++ resent_by g })
+resend_kept g wire kept = sends (record g { wire = wire }) (resent_by g) kept
     (tell_first_asked (IsAsked g.requests) (last_set g.sets) (open_requests g) (Each-filter (IsAsked g.requests) (λ s. not (is_answered g.answers s.id)) g.requests kept.asked.requests))
     (tell_first_replies g.audit (last_set g.sets) (open_requests g))
 
@@ -298,7 +298,7 @@ begin_kept g acting room kept =
       room = kept.room;
       intervals = omega (arith, length-append g.sets (acting ∷ []));
     } in
-    resend_kept (record g { sets = g.sets ++ acting ∷ [] }) (g.wire ++ announce (record g { sets = g.sets ++ acting ∷ [] })) (announce_kept (record g { sets = g.sets ++ acting ∷ [] }) longer)
+    resend_kept (record g { sets = g.sets ++ acting ∷ [] }) (g.wire ++ announced_by (record g { sets = g.sets ++ acting ∷ [] })) (announce_kept (record g { sets = g.sets ++ acting ∷ [] }) longer)
 
 restarts_kept : (g : Group) (up : List ℕ) (which : Daemon → Bool) → Kept g → Kept (record g { up = up; copies = map (λ c. if which c then restarted c else c) g.copies })
 restarts_kept g up which kept = record {
@@ -339,25 +339,25 @@ restart_kept g d kept =
     by_test (is_in (last_set g.sets) d) (if has_all_intervals g then g else begin (record g { copies = map (λ c. if c.number == d then restarted c else c) g.copies }) (last_set g.sets)) (record g { copies = map (λ c. if c.number == d then restarted c else c) g.copies })
     (begin_if_room g (record g { copies = map (λ c. if c.number == d then restarted c else c) g.copies }) (last_set g.sets) refl kept ready) ready
 
-kick_first_asked : (g : Group) (ds : List ℕ) → Kept g → Each (λ m. InBody (IsAsked g.requests) m.body) (kick_first g ds)
+kick_first_asked : (g : Group) (ds : List ℕ) → Kept g → Each (λ m. InBody (IsAsked g.requests) m.body) (retransmit_of g ds)
 kick_first_asked g [] kept = tt
 kick_first_asked g (d ∷ ds) kept = found (slice_get g.copies d) refl
   where
-    found : (c : Option Daemon) → slice_get g.copies d ≡ c → Each (λ m. InBody (IsAsked g.requests) m.body) (kicked_at c)
+    found : (c : Option Daemon) → slice_get g.copies d ≡ c → Each (λ m. InBody (IsAsked g.requests) m.body) (retransmit_from c)
     found None is = tt
     found (Some c) is = kicked_in (IsAsked g.requests) c (Each-get (InCopy (IsAsked g.requests)) g.copies d c kept.asked.copies is)
 
-kick_first_replies : (g : Group) (ds : List ℕ) → Each (λ m. InReply g.audit m.body) (kick_first g ds)
+kick_first_replies : (g : Group) (ds : List ℕ) → Each (λ m. InReply g.audit m.body) (retransmit_of g ds)
 kick_first_replies g [] = tt
 kick_first_replies g (d ∷ ds) = found (slice_get g.copies d)
   where
-    found : (c : Option Daemon) → Each (λ m. InReply g.audit m.body) (kicked_at c)
+    found : (c : Option Daemon) → Each (λ m. InReply g.audit m.body) (retransmit_from c)
     found None = tt
     found (Some c) = kicked_replies c g.audit
 
 kick_kept : (g : Group) → Kept g → Kept (kick g)
-kick_kept g kept = resend_kept g (g.wire ++ announce g ++ kick_first g (last_set g.sets))
-    (sends (record g { wire = g.wire ++ announce g }) (kick_first g (last_set g.sets)) (announce_kept g kept) (kick_first_asked g (last_set g.sets) kept) (kick_first_replies g (last_set g.sets)))
+kick_kept g kept = resend_kept g (g.wire ++ announced_by g ++ retransmit_of g (last_set g.sets))
+    (sends (record g { wire = g.wire ++ announced_by g }) (retransmit_of g (last_set g.sets)) (announce_kept g kept) (kick_first_asked g (last_set g.sets) kept) (kick_first_replies g (last_set g.sets)))
 
 step_kept : (e : Event) (g : Group) → Good g → Kept g → Kept (group_step g e)
 step_kept (Submit s) g good kept = submit_kept g s kept
@@ -385,7 +385,7 @@ start_kept group z count acting up =
 
 -- answers
 
-pub answer_replied : (es : List Entry) (answers : List Answer) (id : ℕ) (reply : Outcome) → Each (λ a. IsReplied es a.id a.reply) answers → answer_of answers id ≡ Some reply → IsReplied es id reply
+pub answer_replied : (es : List Entry) (answers : List Answer) (id : ℕ) (reply : EntryReply) → Each (λ a. IsReplied es a.id a.reply) answers → answer_of answers id ≡ Some reply → IsReplied es id reply
 answer_replied es [] id reply each is = absurd (cc)
 answer_replied es (a ∷ rest) id reply each is = go (a.id == id) refl is (answer_replied es rest id reply each.1)
   where
@@ -393,7 +393,7 @@ answer_replied es (a ∷ rest) id reply each is = go (a.id == id) refl is (answe
     go true same here later = (let it : a.reply ≡ reply = cc in subst (λ v. IsReplied es v reply) (eqb-true a.id id same) (subst (λ v. IsReplied es a.id v) it each.0))
     go false other there later = later there
 
-module _ (id : ℕ) (reply : Outcome) where
+module _ (id : ℕ) (reply : EntryReply) where
   abbrev Has : Group → Type 0
   Has g = answer_of g.answers id ≡ Some reply
 

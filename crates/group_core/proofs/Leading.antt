@@ -7,7 +7,7 @@ use Rattle.entry_core.specs.Log.{find}
 use Rattle.entry_core.specs.Request.{Sealed}
 use Rattle.entry_core.specs.declared.entry.Entry.{Entry}
 use Rattle.peer_core.specs.Steps.{Stepped}
-use Rattle.peer_core.specs.Sets.{others}
+use Rattle.peer_core.specs.ActingSets.{others}
 use Rattle.peer_core.specs.Copy.{leads}
 use Rattle.peer_core.specs.Decided.{with_entry}
 use Rattle.peer_core.specs.Serve.{push_new, serve_one, serve}
@@ -27,7 +27,7 @@ but_last-push xs x =
 -- a role that has chosen
 abbrev pub IsLeading : Role → Type 0
 IsLeading Idle = ⊥
-IsLeading (Peering heard) = ⊥
+IsLeading (Peering informed) = ⊥
 IsLeading (Installing done) = Unit {0}
 IsLeading (Active flight) = Unit {0}
 

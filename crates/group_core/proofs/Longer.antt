@@ -4,7 +4,7 @@ use Rattle.std.specs.Prelude.{Some, None}
 use Rattle.std.proofs.Math.ListN.{get_or-append}
 use Rattle.entry_core.specs.Log.{is_in}
 use Rattle.entry_core.specs.declared.entry.Entry.{Entry}
-use Rattle.peer_core.specs.Sets.{set_of, is_first}
+use Rattle.peer_core.specs.ActingSets.{set_of, is_primary}
 use Rattle.group_core.specs.Types.{Role, Idle, Peering, Installing, Active, Daemon, Body, Interval, Query, Info, Install, Installed, Append, Appended, Request, Reply, NotHere, Party}
 use Rattle.group_core.specs.History.{History, IsDecided, IsOpened, IsSound, Witness, but_last, IsSettled}
 use Rattle.group_core.proofs.Invariant.{IsKnown, Leads, AllHold, Owns, RoleOk, CopyOk, BodyOk}
@@ -34,7 +34,7 @@ module _ (z : ℕ) (sets : List (List ℕ)) (acting : List ℕ) (p : ℕ → ℕ
     source_is = o.source_is;
     begins = o.begins;
     within = o.within;
-    led = λ e first. o.led e (subst (λ l. is_first l e ≡ true) (set_of-longer n later o.is_interval) first);
+    led = λ e first. o.led e (subst (λ l. is_primary l e ≡ true) (set_of-longer n later o.is_interval) first);
     witness = λ j from above below enough. (
         let upto : j ≤ length sets = omega (arith, o.is_interval) in
         Witness-longer n basis log j from upto (o.witness j from above below (subst (λ l. z ≤ length l) (set_of-longer j from upto) enough)));
@@ -69,7 +69,7 @@ module _ (z : ℕ) (sets : List (List ℕ)) (acting : List ℕ) (p : ℕ → ℕ
   Leads-longer d c reached l = record {
     is_known = l.is_known;
     later = l.later;
-    first = subst (λ s. is_first s d ≡ true) (sym (set_of-longer c.promise l.later reached)) l.first;
+    first = subst (λ s. is_primary s d ≡ true) (sym (set_of-longer c.promise l.later reached)) l.first;
     members = subst (λ s. z ≤ length s) (sym (set_of-longer c.promise l.later reached)) l.members;
   }
 
@@ -78,7 +78,7 @@ module _ (z : ℕ) (sets : List (List ℕ)) (acting : List ℕ) (p : ℕ → ℕ
 
   RoleOk-longer : (d : ℕ) (c : Daemon) (r : Role) → c.promise ≤ length sets → RoleOk z sets p h d c r → RoleOk z (sets ++ acting ∷ []) p h d c r
   RoleOk-longer d c Idle reached ok = tt
-  RoleOk-longer d c (Peering heard) reached ok = record { leads = Leads-longer d c reached ok.leads; unchosen = ok.unchosen; offers = ok.offers }
+  RoleOk-longer d c (Peering informed) reached ok = record { leads = Leads-longer d c reached ok.leads; unchosen = ok.unchosen; offers = ok.offers }
   RoleOk-longer d c (Installing done) reached ok = record { owns = Owns-longer d c reached ok.owns; chosen = ok.chosen; holders = ok.holders }
   RoleOk-longer d c (Active None) reached ok = (Owns-longer d c reached ok.0, AllHold-longer c.promise (length c.log) ok.0.leads.later reached ok.1)
   RoleOk-longer d c (Active (Some holders)) reached ok = (Owns-longer d c reached ok.0, record { one = ok.1.one; before = AllHold-longer c.promise (length c.log - 1) ok.0.leads.later reached ok.1.before; holders_hold = ok.1.holders_hold })

@@ -7,7 +7,7 @@ use Rattle.group_core.specs.Types.{Sent, Osd}
 use Rattle.group_core.specs.Group.{Group, Deliver, Lose, group_step, refusal_of, refusal_at, missing_at}
 use Rattle.group_core.specs.Budget.{budget}
 use Rattle.group_core.specs.Reached.{IsReached}
-use Rattle.group_core.specs.Whole.{IsWhole}
+use Rattle.group_core.specs.Sound.{IsSound}
 use Rattle.group_core.proofs.Calls.{dropped_is}
 use Rattle.group_core.proofs.Reached.{reached_bounded}
 use Rattle.group_core.proofs.Settles.{deliver_lowers, lose_lowers}
@@ -25,7 +25,7 @@ delivery_lowers old new k r step = go (slice_get old.wire k) refl step.0
     go None here free = absurd (cc)
     go (Some m) here free = found_lowers old new k m r here step.1
 
-pub drop_lowers : {g old : Group} {n : ℕ} → g ≡ old → IsWhole g n → (k d : ℕ) (m : Sent) (wire : List Sent) → slice_get g.wire k ≡ Some m → m.to ≡ Osd d → is_in g.up d ≡ false → wire ≡ remove g.wire k →
+pub drop_lowers : {g old : Group} {n : ℕ} → g ≡ old → IsSound g n → (k d : ℕ) (m : Sent) (wire : List Sent) → slice_get g.wire k ≡ Some m → m.to ≡ Osd d → is_in g.up d ≡ false → wire ≡ remove g.wire k →
     budget (record g { wire = wire }) < budget old
 drop_lowers {g} same w k d m wire here to down is =
     let step : record g { wire = wire } ≡ group_step g (Deliver k) = ap (λ l. record g { wire = l }) is ∙ sym (dropped_is g k d m here to down) in

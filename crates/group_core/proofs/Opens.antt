@@ -6,7 +6,7 @@ use Rattle.entry_core.specs.Log.{is_in}
 use Rattle.entry_core.specs.declared.entry.Entry.{Entry}
 use Rattle.peer_core.specs.Steps.{Stepped, restarted}
 use Rattle.peer_core.specs.Copy.{copy_step}
-use Rattle.group_core.specs.Group.{Group, Event, Submit, Deliver, Lose, Repeat, NewInterval, Restart, Kick, last_set, is_answered, answered, copy_hears, arrives, without, deliver, lose, again, is_submitted, has_all_requests, has_all_intervals, opens, begin, with_up, same_set, group_step}
+use Rattle.group_core.specs.Group.{Group, Event, Submit, Deliver, Lose, Repeat, NewInterval, Restart, Kick, last_set, is_answered, answered, copy_hears, arrives, without, deliver, lose, again, is_submitted, has_all_requests, has_all_intervals, take_request, begin, with_up, same_set, group_step}
 use Rattle.group_core.specs.Types.{Daemon, Body, Interval, Query, Info, Install, Installed, Append, Appended, Request, Reply, NotHere, Party, Osd, Client, Sent}
 use Rattle.group_core.specs.History.{Begins, History, IsSound, but_last, IsSettled}
 use Rattle.group_core.specs.Open.{HasHistory}
@@ -108,8 +108,8 @@ arrives_keeps g m Client good ok d c is = answered_keeps g m.body d c is
 arrives_keeps g m (Osd e) good ok d c is = keeps_if d c.log (is_in g.up e) (copy_hears g m e (slice_get g.copies e)) g (hears_keeps g m e (slice_get g.copies e) good refl ok d c is) (same_keeps g d c is)
 
 pub step_keeps : (e : Event) (g : Group) → Good g → (d : ℕ) (c : Daemon) → slice_get g.copies d ≡ Some c → Keeps d c.log (group_step g e)
-step_keeps (Submit s) g good d c is = keeps_if d c.log (is_submitted g.requests s.id) g (if has_all_requests g then g else opens g s) (same_keeps g d c is)
-    (keeps_if d c.log (has_all_requests g) g (opens g s) (same_keeps g d c is) (same_keeps g d c is))
+step_keeps (Submit s) g good d c is = keeps_if d c.log (is_submitted g.requests s.id) g (if has_all_requests g then g else take_request g s) (same_keeps g d c is)
+    (keeps_if d c.log (has_all_requests g) g (take_request g s) (same_keeps g d c is) (same_keeps g d c is))
 step_keeps (Deliver k) g good d c is = go (slice_get g.wire k) refl
   where
     go : (found : Option Sent) → slice_get g.wire k ≡ found → Keeps d c.log (deliver g k found)

@@ -5,10 +5,10 @@ use Rattle.std.specs.Prelude.{Some, None, replicate}
 use Rattle.std.proofs.lemmas.Bool.{or_right}
 use Rattle.entry_core.specs.Log.{is_in, reply_in, Legal}
 use Rattle.entry_core.specs.Request.{Sealed}
-use Rattle.peer_core.specs.Sets.{daemons}
+use Rattle.peer_core.specs.ActingSets.{daemons}
 use Rattle.group_core.specs.Each.{Each}
-use Rattle.group_core.specs.Group.{Group, Event, IsSet, is_distinct, Submit, Deliver, Lose, Repeat, NewInterval, Restart, Kick, Doubled, Full, EventFits, is_submitted, has_all_requests, opens, group_step, run, start, settle, answer_of, refusal_of}
-use Rattle.group_core.specs.Types.{Outcome}
+use Rattle.group_core.specs.Group.{Group, Event, IsSet, is_distinct, Submit, Deliver, Lose, Repeat, NewInterval, Restart, Kick, Doubled, Full, EventFits, is_submitted, has_all_requests, take_request, group_step, run, start, settle, answer_of, refusal_of}
+use Rattle.group_core.specs.Types.{EntryReply}
 use Rattle.group_core.specs.Replicated.{IsReplicated}
 use Rattle.group_core.specs.Asked.{IsReplied}
 use Rattle.group_core.specs.Budget.{budget, settled_group, settle_count}
@@ -58,7 +58,7 @@ module _ (n : ℕ) (group : GroupId) (z count : ℕ) (acting up : List ℕ) (eve
   settled_legal : Legal (settle n (run events begun)).audit
   settled_legal = audit_legal (settle n (run events begun)) settled_good
 
-  settled_replied : (id : ℕ) (reply : Outcome) → answer_of (settle n (run events begun)).answers id ≡ Some reply → IsReplied (settle n (run events begun)).audit id reply
+  settled_replied : (id : ℕ) (reply : EntryReply) → answer_of (settle n (run events begun)).answers id ≡ Some reply → IsReplied (settle n (run events begun)).audit id reply
   settled_replied id reply is =
       let kept : Kept (settle n (run events begun)) =
       subst Kept (sym (settle_is_run n events begun)) (run_kept (events ++ replicate n (Deliver 0)) begun (start_good group z count acting up) (start_kept group z count acting up)) in
@@ -81,8 +81,8 @@ pub record Counted (group : GroupId) (z count : ℕ) (acting up : List ℕ) (eve
   pub in_order : InOrder (settled_group (run events (start group z count acting up)))
   pub requests : (settled_group (run events (start group z count acting up))).requests ≡ (run events (start group z count acting up)).requests
 
-pub opened_is : (g : Group) (s : Sealed) → is_submitted g.requests s.id ≡ false → has_all_requests g ≡ false → group_step g (Submit s) ≡ opens g s
-opened_is g s new room = ap (λ b. if b then g else (if has_all_requests g then g else opens g s)) new ∙ ap (λ b. if b then g else opens g s) room
+pub opened_is : (g : Group) (s : Sealed) → is_submitted g.requests s.id ≡ false → has_all_requests g ≡ false → group_step g (Submit s) ≡ take_request g s
+opened_is g s new room = ap (λ b. if b then g else (if has_all_requests g then g else take_request g s)) new ∙ ap (λ b. if b then g else take_request g s) room
 
 pub accepted_parts : (a b : Bool) → (if a then Some Doubled else (if b then Some Full else None)) ≡ None → (a ≡ false) × (b ≡ false)
 accepted_parts true b is = absurd (cc)

@@ -5,7 +5,7 @@ use Rattle.entry_core.specs.Log.{is_in}
 use Rattle.entry_core.specs.declared.sealed.GroupId.{GroupId}
 use Rattle.peer_core.specs.Steps.{restarted}
 use Rattle.group_core.specs.Types.{Daemon, Body, Interval, Query, Info, Install, Installed, Append, Appended, Request, Reply, NotHere, Party, Osd, Client, Sent}
-use Rattle.group_core.specs.Group.{Group, Event, Submit, Deliver, Lose, Repeat, NewInterval, Restart, Kick, last_set, is_answered, answered, copy_hears, arrives, without, deliver, lose, again, is_submitted, has_all_requests, has_all_intervals, opens, begin, with_up, same_set, group_step, run, start, IsSet, EventFits}
+use Rattle.group_core.specs.Group.{Group, Event, Submit, Deliver, Lose, Repeat, NewInterval, Restart, Kick, last_set, is_answered, answered, copy_hears, arrives, without, deliver, lose, again, is_submitted, has_all_requests, has_all_intervals, take_request, begin, with_up, same_set, group_step, run, start, IsSet, EventFits}
 use Rattle.group_core.specs.Furthest.{furthest}
 use Rattle.group_core.specs.Reached.{IsReached}
 use Rattle.group_core.proofs.Eaches.{Each-append}
@@ -47,7 +47,7 @@ module _ (Q : GroupId → ℕ → Type 0) where
   arrives_named g m (Osd d) is = named_if (is_in g.up d) (copy_hears g m d (slice_get g.copies d)) g (hears_named g m d (slice_get g.copies d) is) is
 
   pub step_named : (e : Event) (g : Group) → Named g → Named (group_step g e)
-  step_named (Submit s) g is = named_if (is_submitted g.requests s.id) g (if has_all_requests g then g else opens g s) is (named_if (has_all_requests g) g (opens g s) is is)
+  step_named (Submit s) g is = named_if (is_submitted g.requests s.id) g (if has_all_requests g then g else take_request g s) is (named_if (has_all_requests g) g (take_request g s) is is)
   step_named (Deliver k) g is = go (slice_get g.wire k)
     where
       go : (found : Option Sent) → Named (deliver g k found)

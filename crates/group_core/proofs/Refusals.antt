@@ -5,14 +5,14 @@ use Rattle.entry_core.specs.Log.{is_in}
 use Rattle.group_core.specs.Types.{Daemon, Body, Interval, Query, Info, Install, Installed, Append, Appended, Request, Reply, NotHere, Party, Osd, Client, Sent}
 use Rattle.group_core.specs.Each.{Each}
 use Rattle.entry_core.specs.declared.sealed.GroupId.{GroupId}
-use Rattle.group_core.specs.Group.{Group, Event, Submit, Deliver, Lose, Repeat, NewInterval, Restart, Kick, Fault, NoMessage, Unreachable, Full, Doubled, last_set, is_answered, answered, copy_hears, arrives, without, deliver, lose, again, is_submitted, has_all_requests, has_all_intervals, opens, refusal_to, refusal_at, missing_at, refusal_of, left_by, IsSet, EventFits, begin, with_up, same_set, group_step, run, start}
+use Rattle.group_core.specs.Group.{Group, Event, Submit, Deliver, Lose, Repeat, NewInterval, Restart, Kick, Fault, NoMessage, Unreachable, Full, Doubled, last_set, is_answered, answered, copy_hears, arrives, without, deliver, lose, again, is_submitted, has_all_requests, has_all_intervals, take_request, refusal_to, refusal_at, missing_at, refusal_of, left_by, IsSet, EventFits, begin, with_up, same_set, group_step, run, start}
 use Rattle.peer_core.specs.Steps.{restarted}
 use Rattle.group_core.proofs.Eaches.{Each-push, Each-get_or}
 
 pub refused_leaves : (g : Group) (e : Event) (fault : Fault) → refusal_of g e ≡ Some fault → group_step g e ≡ left_by g e fault
 refused_leaves g (Submit s) fault is = go (is_submitted g.requests s.id) (has_all_requests g) is
   where
-    go : (b q : Bool) → (if b then Some Doubled else (if q then Some Full else None)) ≡ Some fault → (if b then g else (if q then g else opens g s)) ≡ g
+    go : (b q : Bool) → (if b then Some Doubled else (if q then Some Full else None)) ≡ Some fault → (if b then g else (if q then g else take_request g s)) ≡ g
     go true q e = refl
     go false true e = refl
     go false false e = absurd (cc)
@@ -94,7 +94,7 @@ empty_set = record { few = omega arith; once = refl }
 step_sets : (e : Event) (g : Group) → EventFits e → Each IsSet g.sets → Each IsSet (group_step g e).sets
 step_sets (Submit s) g fits each = go (is_submitted g.requests s.id) (has_all_requests g)
   where
-    go : (b q : Bool) → Each IsSet (if b then g else (if q then g else opens g s)).sets
+    go : (b q : Bool) → Each IsSet (if b then g else (if q then g else take_request g s)).sets
     go true q = each
     go false true = each
     go false false = each

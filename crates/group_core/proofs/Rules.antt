@@ -7,12 +7,12 @@ use Rattle.entry_core.specs.Log.{is_in, ids, Legal, decide, decide-sealed, find}
 use Rattle.entry_core.specs.Request.{Sealed}
 use Rattle.entry_core.specs.declared.entry.Entry.{Entry}
 use Rattle.peer_core.specs.Steps.{Stepped, still, send}
-use Rattle.peer_core.specs.Sets.{set_of, is_first, others, asked, all_count, counted}
-use Rattle.peer_core.specs.Copy.{promised, waits, busy, request_as, request, install, try_choice, queries, told, leads, lead, interval, query, info_as, install_comes, installed_as, acknowledged, append, complete, appended_as, comes}
-use Rattle.peer_core.specs.Decided.{settled, with_entry, last}
+use Rattle.peer_core.specs.ActingSets.{set_of, is_primary, others, asked, all_count, counted}
+use Rattle.peer_core.specs.Copy.{promise_interval, waits, busy_request, on_request_as, on_request, install_chosen, try_choice, queries, learn_sets, leads, lead, on_interval, on_query, on_info, on_install, on_installed, acknowledged, on_append, complete, on_appended, on_body}
+use Rattle.peer_core.specs.Decided.{not_in_flight, with_entry, last}
 use Rattle.peer_core.specs.Serve.{push_new, serve_one, serve, reply_with}
-use Rattle.peer_core.specs.Choice.{best, own_offer, is_heard, can_choose}
-use Rattle.group_core.specs.Types.{Informed, Role, Idle, Peering, Installing, Active, Daemon, Body, Interval, Query, Info, Install, Installed, Append, Appended, Request, Reply, NotHere, Party, Osd, Client, Sent}
+use Rattle.peer_core.specs.Choice.{best, own_offer, is_informed, can_choose}
+use Rattle.group_core.specs.Types.{PeerInfo, Role, Idle, Peering, Installing, Active, Daemon, Body, Interval, Query, Info, Install, Installed, Append, Appended, Request, Reply, NotHere, Party, Osd, Client, Sent}
 use Rattle.group_core.specs.Each.{Each}
 use Rattle.group_core.specs.History.{Begins, History, Held, IsOpened, IsSound, but_last, IsSettled}
 use Rattle.group_core.specs.Offer.{IsTold, IsOffer}
@@ -139,8 +139,8 @@ module _ (z : ℕ) (sets : List (List ℕ)) (d : ℕ) where
         ));
   }
 
-  pub query_after : (p : ℕ → ℕ) (h : History) (c : Daemon) (from : Party) (n : ℕ) → IsSound p z sets h → CopyOk z sets p h d c → n ≤ length sets → After z sets p h d (query c from n)
-  query_after p h c from n sound ok known = by_test p h (nat_lt n c.promise) (still c) (record { copy = promised c n; sent = send c from (Info n c.base c.log) ∷ [] })
+  pub query_after : (p : ℕ → ℕ) (h : History) (c : Daemon) (from : Party) (n : ℕ) → IsSound p z sets h → CopyOk z sets p h d c → n ≤ length sets → After z sets p h d (on_query c from n)
+  query_after p h c from n sound ok known = by_test p h (nat_lt n c.promise) (still c) (record { copy = promise_interval c n; sent = send c from (Info n c.base c.log) ∷ [] })
       (λ _. still_after p h c sound ok)
       (λ late. (let forward = ltb-false n c.promise late in answer (nat_lt c.promise n) refl forward))
     where
@@ -313,7 +313,7 @@ module _ (z : ℕ) (sets : List (List ℕ)) (d : ℕ) where
   -- no fact of a role is about the role that the copy shows or about what waits
   RoleOk-same : (p : ℕ → ℕ) (h : History) (c : Daemon) (shown : Role) (w : List Sealed) (r : Role) → RoleOk z sets p h d c r → RoleOk z sets p h d (record c { role = shown; waiting = w }) r
   RoleOk-same p h c shown w Idle ok = tt
-  RoleOk-same p h c shown w (Peering heard) ok = record {
+  RoleOk-same p h c shown w (Peering informed) ok = record {
     leads = record { is_known = ok.leads.is_known; later = ok.leads.later; first = ok.leads.first; members = ok.leads.members };
     unchosen = ok.unchosen;
     offers = ok.offers;
@@ -329,19 +329,19 @@ module _ (z : ℕ) (sets : List (List ℕ)) (d : ℕ) where
   waits_after p h c s sound ok = plain_after p h (record c { waiting = c.waiting ++ s ∷ [] }) [] sound
       (record { state = StateOk-same p h c c.role (c.waiting ++ s ∷ []) ok.state; role = RoleOk-same p h c c.role (c.waiting ++ s ∷ []) c.role ok.role }) tt
 
-  busy_after : (found : Option Entry) (p : ℕ → ℕ) (h : History) (c : Daemon) (s : Sealed) → IsSound p z sets h → CopyOk z sets p h d c → After z sets p h d (busy c s found)
+  busy_after : (found : Option Entry) (p : ℕ → ℕ) (h : History) (c : Daemon) (s : Sealed) → IsSound p z sets h → CopyOk z sets p h d c → After z sets p h d (busy_request c s found)
   busy_after (Some e) p h c s sound ok = plain_after p h c (reply_with c e) sound ok (tt, tt)
   busy_after None p h c s sound ok = by_test p h (is_in (ids c.log) s.id) (still c) (waits c s) (λ _. still_after p h c sound ok) (λ _. waits_after p h c s sound ok)
 
-  request_as_after : (r : Role) (p : ℕ → ℕ) (h : History) (c : Daemon) (s : Sealed) → c.role ≡ r → IsSound p z sets h → CopyOk z sets p h d c → After z sets p h d (request_as r c s)
+  request_as_after : (r : Role) (p : ℕ → ℕ) (h : History) (c : Daemon) (s : Sealed) → c.role ≡ r → IsSound p z sets h → CopyOk z sets p h d c → After z sets p h d (on_request_as r c s)
   request_as_after Idle p h c s is sound ok = plain_after p h c (send c Client (NotHere s.id) ∷ []) sound ok (tt, tt)
-  request_as_after (Peering heard) p h c s is sound ok = waits_after p h c s sound ok
+  request_as_after (Peering informed) p h c s is sound ok = waits_after p h c s sound ok
   request_as_after (Installing done) p h c s is sound ok = waits_after p h c s sound ok
   request_as_after (Active None) p h c s is sound ok = let role = role_at p h c (Active None) is ok in serve_after (s ∷ c.waiting) p h c sound ok.state role.0 role.1
-  request_as_after (Active (Some holders)) p h c s is sound ok = busy_after (find (settled c.log (Some holders)) s.id) p h c s sound ok
+  request_as_after (Active (Some holders)) p h c s is sound ok = busy_after (find (not_in_flight c.log (Some holders)) s.id) p h c s sound ok
 
-  pub request_after : (p : ℕ → ℕ) (h : History) (c : Daemon) (s : Sealed) → IsSound p z sets h → CopyOk z sets p h d c → After z sets p h d (request c s)
-  request_after p h c s sound ok = by_test p h (list_any (λ w. w.id == s.id) c.waiting) (still c) (request_as c.role c s)
+  pub request_after : (p : ℕ → ℕ) (h : History) (c : Daemon) (s : Sealed) → IsSound p z sets h → CopyOk z sets p h d c → After z sets p h d (on_request c s)
+  request_after p h c s sound ok = by_test p h (list_any (λ w. w.id == s.id) c.waiting) (still c) (on_request_as c.role c s)
       (λ _. still_after p h c sound ok) (λ _. request_as_after c.role p h c s refl sound ok)
 
   all_in : (test : ℕ → Bool) (ms : List ℕ) (m : ℕ) → list_all test ms ≡ true → is_in ms m ≡ true → test m ≡ true
@@ -360,7 +360,7 @@ module _ (z : ℕ) (sets : List (List ℕ)) (d : ℕ) where
       all_members (λ m. Held h m c.promise (length c.log)) c state.number state.known owns.leads mine
       (λ m is. at_member (λ m. Held h m c.promise (length c.log)) ms m each (all_in (λ i. is_in ms i) (others c) m all is))
 
-  installed_as_after : (r : Role) (p : ℕ → ℕ) (h : History) (c : Daemon) (n m : ℕ) → c.role ≡ r → IsSound p z sets h → CopyOk z sets p h d c → HasInstalled h m n → After z sets p h d (installed_as r c n m)
+  installed_as_after : (r : Role) (p : ℕ → ℕ) (h : History) (c : Daemon) (n m : ℕ) → c.role ≡ r → IsSound p z sets h → CopyOk z sets p h d c → HasInstalled h m n → After z sets p h d (on_installed r c n m)
   installed_as_after (Installing done) p h c n m is sound ok has = by_test p h (c.promise == n)
       (if all_count c (counted c done m) then serve c.waiting c else still (record c { role = Installing (counted c done m) })) (still c)
       (λ same. (
@@ -379,14 +379,14 @@ module _ (z : ℕ) (sets : List (List ℕ)) (d : ℕ) where
       }))))
       (λ _. still_after p h c sound ok)
   installed_as_after Idle p h c n m is sound ok has = still_after p h c sound ok
-  installed_as_after (Peering heard) p h c n m is sound ok has = still_after p h c sound ok
+  installed_as_after (Peering informed) p h c n m is sound ok has = still_after p h c sound ok
   installed_as_after (Active flight) p h c n m is sound ok has = still_after p h c sound ok
 
   complete_after : (e : Option Entry) (p : ℕ → ℕ) (h : History) (c : Daemon) → After z sets p h d (serve c.waiting c) → After z sets p h d (complete c e)
   complete_after None p h c next = next
   complete_after (Some e) p h c next = sent_before p h (reply_with c e) (serve c.waiting c) (tt, tt) next
 
-  appended_as_after : (r : Role) (p : ℕ → ℕ) (h : History) (c : Daemon) (n place m : ℕ) → c.role ≡ r → IsSound p z sets h → CopyOk z sets p h d c → Held h m n place → After z sets p h d (appended_as r c n place m)
+  appended_as_after : (r : Role) (p : ℕ → ℕ) (h : History) (c : Daemon) (n place m : ℕ) → c.role ≡ r → IsSound p z sets h → CopyOk z sets p h d c → Held h m n place → After z sets p h d (on_appended r c n place m)
   appended_as_after (Active (Some holders)) p h c n place m is sound ok has = by_test p h ((c.promise == n) && (place == length c.log))
       (if all_count c (counted c holders m) then complete c (last c.log) else still (record c { role = Active (Some (counted c holders m)) })) (still c)
       (λ both. (
@@ -405,14 +405,14 @@ module _ (z : ℕ) (sets : List (List ℕ)) (d : ℕ) where
       (λ _. still_after p h c sound ok)
   appended_as_after (Active None) p h c n place m is sound ok has = still_after p h c sound ok
   appended_as_after Idle p h c n place m is sound ok has = still_after p h c sound ok
-  appended_as_after (Peering heard) p h c n place m is sound ok has = still_after p h c sound ok
+  appended_as_after (Peering informed) p h c n place m is sound ok has = still_after p h c sound ok
   appended_as_after (Installing done) p h c n place m is sound ok has = still_after p h c sound ok
 
   -- a copy that lacks a part of its interval's chosen or grown log has no role
   without_role : (p : ℕ → ℕ) (h : History) (c : Daemon) (r : Role) → RoleOk z sets p h d c r → (log : List Entry) → h.chosen c.promise ≡ Some log → (c.base ≡ c.promise → c.log ≡ h.grown c.promise → ⊥) →
       (p' : ℕ → ℕ) (h' : History) (c' : Daemon) → RoleOk z sets p' h' d c' r
   without_role p h c Idle ok log chosen lacks p' h' c' = tt
-  without_role p h c (Peering heard) ok log chosen lacks p' h' c' = let none = ok.unchosen in absurd (cc)
+  without_role p h c (Peering informed) ok log chosen lacks p' h' c' = let none = ok.unchosen in absurd (cc)
   without_role p h c (Installing done) ok log chosen lacks p' h' c' = absurd (lacks ok.owns.is_base ok.owns.whole)
   without_role p h c (Active flight) ok log chosen lacks p' h' c' = absurd (lacks ok.0.is_base ok.0.whole)
 
@@ -454,9 +454,9 @@ module _ (z : ℕ) (sets : List (List ℕ)) (d : ℕ) where
         );
       }
 
-  pub install_comes_after : (p : ℕ → ℕ) (h : History) (c : Daemon) (from : Party) (n : ℕ) (log : List Entry) → IsSound p z sets h → CopyOk z sets p h d c → n ≤ length sets → h.chosen n ≡ Some log → After z sets p h d (install_comes c from n log)
+  pub install_comes_after : (p : ℕ → ℕ) (h : History) (c : Daemon) (from : Party) (n : ℕ) (log : List Entry) → IsSound p z sets h → CopyOk z sets p h d c → n ≤ length sets → h.chosen n ≡ Some log → After z sets p h d (on_install c from n log)
   install_comes_after p h c from n log sound ok reached chosen = by_test p h (nat_lt n c.promise) (still c)
-      (record { copy = if nat_lt c.base n then record (promised c n) { base = n; log = log } else promised c n; sent = send c from (Installed n) ∷ [] })
+      (record { copy = if nat_lt c.base n then record (promise_interval c n) { base = n; log = log } else promise_interval c n; sent = send c from (Installed n) ∷ [] })
       (λ _. still_after p h c sound ok)
       (λ late. step (nat_lt c.base n) (nat_lt c.promise n) refl refl (ltb-false n c.promise late))
     where
@@ -558,7 +558,7 @@ module _ (z : ℕ) (sets : List (List ℕ)) (d : ℕ) where
       (acknowledged_after (put p d n) h' (with_entry c s) from n place sound' (record { state = state'; role = role' })
       (changed-held h d n state.source (h.grown n) (h.basis n) (length log)))
 
-  pub append_after : (p : ℕ → ℕ) (h : History) (c : Daemon) (from : Party) (n place : ℕ) (s : Sealed) → IsSound p z sets h → CopyOk z sets p h d c → IsPlaced h n place s → After z sets p h d (append c from n place s)
+  pub append_after : (p : ℕ → ℕ) (h : History) (c : Daemon) (from : Party) (n place : ℕ) (s : Sealed) → IsSound p z sets h → CopyOk z sets p h d c → IsPlaced h n place s → After z sets p h d (on_append c from n place s)
   append_after p h c from n place s sound ok placed = by_test p h ((c.promise == n) && (c.base == n))
       (if (length c.log + 1 == place) && not (is_in (ids c.log) s.id) then acknowledged (with_entry c s) from n place else acknowledged c from n place) (still c)
       (λ both. (
@@ -571,8 +571,8 @@ module _ (z : ℕ) (sets : List (List ℕ)) (d : ℕ) where
       (λ _. still_after p h c sound ok)
 
   -- a copy that leads a peering
-  module _ (p : ℕ → ℕ) (h : History) (c : Daemon) (heard : List Informed) (sound : IsSound p z sets h) (state : StateOk z sets p h d c)
-      (leads : Leads z sets d c) (unchosen : h.chosen c.promise ≡ None) (offers : Each (IsOffer p h c.promise) heard) where
+  module _ (p : ℕ → ℕ) (h : History) (c : Daemon) (informed : List PeerInfo) (sound : IsSound p z sets h) (state : StateOk z sets p h d c)
+      (leads : Leads z sets d c) (unchosen : h.chosen c.promise ≡ None) (offers : Each (IsOffer p h c.promise) informed) where
     base_below : c.base < c.promise
     base_below = elim (cases_eq c.base c.promise) [
       | inl same ↦ (let some : h.chosen c.promise ≡ Some state.source = subst (λ v. h.chosen v ≡ Some state.source) same state.source_is in absurd (cc))
@@ -584,30 +584,30 @@ module _ (z : ℕ) (sets : List (List ℕ)) (d : ℕ) where
         let t = told_of p h c c.promise state (omega arith) p state.promised in
         record { moved = t.moved; below = base_below; source = t.source; source_is = t.source_is; begins = t.begins; within = t.within; most = t.most }
 
-    winner_ok : IsOffer p h c.promise (best (own_offer c) heard)
-    winner_ok = best_among (IsOffer p h c.promise) (own_offer c) heard own_offers offers
+    winner_ok : IsOffer p h c.promise (best (own_offer c) informed)
+    winner_ok = best_among (IsOffer p h c.promise) (own_offer c) informed own_offers offers
 
-    can_open : can_choose c heard ≡ true → CanChange z sets p h d c.promise (best (own_offer c) heard).log (best (own_offer c) heard).log (best (own_offer c) heard).base (length (best (own_offer c) heard).log)
+    can_open : can_choose c informed ≡ true → CanChange z sets p h d c.promise (best (own_offer c) informed).log (best (own_offer c) informed).log (best (own_offer c) informed).base (length (best (own_offer c) informed).log)
     can_open chosen =
         let known = state.known in
-        let opened = chosen_opened p sets h c heard own_offers offers (λ j from upto. known.same j from (omega (arith, leads.is_known))) leads.is_known chosen state.reached
+        let opened = chosen_opened p sets h c informed own_offers offers (λ j from upto. known.same j from (omega (arith, leads.is_known))) leads.is_known chosen state.reached
         (subst (λ v. v ≤ length (set_of sets c.promise)) (sym state.same_size) leads.members)
         (λ e first. (let same : e ≡ d = is_first_unique (set_of sets c.promise) e d first leads.first in subst (λ v. c.promise ≤ p v) (sym same) (omega (arith, state.promised)))) in
         record {
           forward = omega (arith, state.promised);
           later = leads.later;
           same = λ old is. absurd (cc);
-          grows = subst (λ l. Begins l (best (own_offer c) heard).log) (sym (sound.empty c.promise unchosen)) (Begins-nil (best (own_offer c) heard).log);
-          begins = Begins-refl (best (own_offer c) heard).log;
+          grows = subst (λ l. Begins l (best (own_offer c) informed).log) (sym (sound.empty c.promise unchosen)) (Begins-nil (best (own_offer c) informed).log);
+          begins = Begins-refl (best (own_offer c) informed).log;
           more = λ q is. (let low = state.held_below c.promise q is in let below = base_below in absurd (omega arith));
-          legal = LegalFrom-front [] (best (own_offer c) heard).log winner_ok.within.rest (subst (λ l. Legal l) (sym winner_ok.within.whole) (sound.legal (best (own_offer c) heard).base));
-          opened = subst (λ v. IsOpened p v sets h c.promise (best (own_offer c) heard).base (best (own_offer c) heard).log) state.same_size opened;
-          but_one = IsSettled-later sets h (best (own_offer c) heard).base c.promise (but_last (best (own_offer c) heard).log) (omega (arith, winner_ok.below))
-              (IsSettled-shorter sets h (best (own_offer c) heard).base (but_last (best (own_offer c) heard).log) (but_last (h.grown (best (own_offer c) heard).base)) (but_last-begins winner_ok.within) (sound.but_one (best (own_offer c) heard).base));
+          legal = LegalFrom-front [] (best (own_offer c) informed).log winner_ok.within.rest (subst (λ l. Legal l) (sym winner_ok.within.whole) (sound.legal (best (own_offer c) informed).base));
+          opened = subst (λ v. IsOpened p v sets h c.promise (best (own_offer c) informed).base (best (own_offer c) informed).log) state.same_size opened;
+          but_one = IsSettled-later sets h (best (own_offer c) informed).base c.promise (but_last (best (own_offer c) informed).log) (omega (arith, winner_ok.below))
+              (IsSettled-shorter sets h (best (own_offer c) informed).base (but_last (best (own_offer c) informed).log) (but_last (h.grown (best (own_offer c) informed).base)) (but_last-begins winner_ok.within) (sound.but_one (best (own_offer c) informed).base));
           by_first = inr leads.first;
         }
 
-    install_after : (log : List Entry) (basis : ℕ) (ms : List ℕ) → others c ≡ ms → CanChange z sets p h d c.promise log log basis (length log) → After z sets p h d (install c log ms)
+    install_after : (log : List Entry) (basis : ℕ) (ms : List ℕ) → others c ≡ ms → CanChange z sets p h d c.promise log log basis (length log) → After z sets p h d (install_chosen c log ms)
     install_after log basis [] alone can =
         let h' : History = changed h d c.promise log log basis (length log) in
         let next : Daemon = record c { base = c.promise; log = log; role = Active None } in
@@ -649,41 +649,41 @@ module _ (z : ℕ) (sets : List (List ℕ)) (d : ℕ) where
           sent = Each-map_all (SentOk sets (put p d c.promise) h') (λ i. send c (Osd i) (Install c.promise log)) (λ i. (state.reached, changed-chosen h d c.promise log log basis (length log))) (m ∷ ms);
         }
 
-    try_choice_after : After z sets p h d (try_choice c heard)
-    try_choice_after = by_test p h (can_choose c heard) (install c (best (own_offer c) heard).log (others c)) (still (record c { role = Peering heard }))
-        (λ chosen. install_after (best (own_offer c) heard).log (best (own_offer c) heard).base (others c) refl (can_open chosen))
-        (λ _. still_after p h (record c { role = Peering heard }) sound (record {
-          state = StateOk-same p h c (Peering heard) c.waiting state;
+    try_choice_after : After z sets p h d (try_choice c informed)
+    try_choice_after = by_test p h (can_choose c informed) (install_chosen c (best (own_offer c) informed).log (others c)) (still (record c { role = Peering informed }))
+        (λ chosen. install_after (best (own_offer c) informed).log (best (own_offer c) informed).base (others c) refl (can_open chosen))
+        (λ _. still_after p h (record c { role = Peering informed }) sound (record {
+          state = StateOk-same p h c (Peering informed) c.waiting state;
           role = record { leads = record { is_known = leads.is_known; later = leads.later; first = leads.first; members = leads.members }; unchosen = unchosen; offers = offers };
         }))
 
-  offer_of : (p : ℕ → ℕ) (h : History) (n : ℕ) (i : Informed) → h.chosen n ≡ None → IsTold p h n i → IsOffer p h n i
-  offer_of p h n i none told = record {
-    moved = told.moved;
-    source = told.source;
-    source_is = told.source_is;
-    begins = told.begins;
-    within = told.within;
-    most = told.most;
+  offer_of : (p : ℕ → ℕ) (h : History) (n : ℕ) (i : PeerInfo) → h.chosen n ≡ None → IsTold p h n i → IsOffer p h n i
+  offer_of p h n i none learn_sets = record {
+    moved = learn_sets.moved;
+    source = learn_sets.source;
+    source_is = learn_sets.source_is;
+    begins = learn_sets.begins;
+    within = learn_sets.within;
+    most = learn_sets.most;
     below = elim (cases_eq i.base n) [
-      | inl same ↦ (let some : h.chosen n ≡ Some told.source = subst (λ v. h.chosen v ≡ Some told.source) same told.source_is in absurd (cc))
-      | inr other ↦ omega (arith, told.reach)
+      | inl same ↦ (let some : h.chosen n ≡ Some learn_sets.source = subst (λ v. h.chosen v ≡ Some learn_sets.source) same learn_sets.source_is in absurd (cc))
+      | inr other ↦ omega (arith, learn_sets.reach)
     ];
   }
 
-  info_as_after : (r : Role) (p : ℕ → ℕ) (h : History) (c : Daemon) (n : ℕ) (offer : Informed) → c.role ≡ r → IsSound p z sets h → CopyOk z sets p h d c → IsTold p h n offer → After z sets p h d (info_as r c n offer)
-  info_as_after (Peering heard) p h c n offer is sound ok told = by_test p h ((c.promise == n) && not (is_heard c heard offer.number)) (try_choice c (heard ++ offer ∷ [])) (still c)
+  info_as_after : (r : Role) (p : ℕ → ℕ) (h : History) (c : Daemon) (n : ℕ) (offer : PeerInfo) → c.role ≡ r → IsSound p z sets h → CopyOk z sets p h d c → IsTold p h n offer → After z sets p h d (on_info r c n offer)
+  info_as_after (Peering informed) p h c n offer is sound ok learn_sets = by_test p h ((c.promise == n) && not (is_informed c informed offer.number)) (try_choice c (informed ++ offer ∷ [])) (still c)
       (λ both. (
-      let now : c.promise ≡ n = eqb-true c.promise n (and_parts (c.promise == n) (not (is_heard c heard offer.number)) both).0 in
-      let role = role_at p h c (Peering heard) is ok in
-      let more : IsOffer p h c.promise offer = offer_of p h c.promise offer role.unchosen (subst (λ v. IsTold p h v offer) (sym now) told) in
-      try_choice_after p h c (heard ++ offer ∷ []) sound ok.state role.leads role.unchosen (Each-push (IsOffer p h c.promise) heard offer role.offers more)))
+      let now : c.promise ≡ n = eqb-true c.promise n (and_parts (c.promise == n) (not (is_informed c informed offer.number)) both).0 in
+      let role = role_at p h c (Peering informed) is ok in
+      let more : IsOffer p h c.promise offer = offer_of p h c.promise offer role.unchosen (subst (λ v. IsTold p h v offer) (sym now) learn_sets) in
+      try_choice_after p h c (informed ++ offer ∷ []) sound ok.state role.leads role.unchosen (Each-push (IsOffer p h c.promise) informed offer role.offers more)))
       (λ _. still_after p h c sound ok)
-  info_as_after Idle p h c n offer is sound ok told = still_after p h c sound ok
-  info_as_after (Installing done) p h c n offer is sound ok told = still_after p h c sound ok
-  info_as_after (Active flight) p h c n offer is sound ok told = still_after p h c sound ok
+  info_as_after Idle p h c n offer is sound ok learn_sets = still_after p h c sound ok
+  info_as_after (Installing done) p h c n offer is sound ok learn_sets = still_after p h c sound ok
+  info_as_after (Active flight) p h c n offer is sound ok learn_sets = still_after p h c sound ok
 
-  told_state : (p : ℕ → ℕ) (h : History) (c : Daemon) (known : List (List ℕ)) → StateOk z sets p h d c → IsKnown sets known → StateOk z sets p h d (told c known)
+  told_state : (p : ℕ → ℕ) (h : History) (c : Daemon) (known : List (List ℕ)) → StateOk z sets p h d c → IsKnown sets known → StateOk z sets p h d (learn_sets c known)
   told_state p h c known ok is = record {
     number = ok.number;
     same_size = ok.same_size;
@@ -700,42 +700,42 @@ module _ (z : ℕ) (sets : List (List ℕ)) (d : ℕ) where
   }
 
   lead_after : (p : ℕ → ℕ) (h : History) (c : Daemon) (known : List (List ℕ)) → IsSound p z sets h → StateOk z sets p h d c → IsKnown sets known → 1 ≤ length known → c.promise < length known →
-      is_first (set_of sets (length known)) d ≡ true → z ≤ length (set_of sets (length known)) →
-      After z sets p h d (lead (record (told c known) { promise = length known }))
+      is_primary (set_of sets (length known)) d ≡ true → z ≤ length (set_of sets (length known)) →
+      After z sets p h d (lead (record (learn_sets c known) { promise = length known }))
   lead_after p h c known sound ok is later newer first members =
       let n : ℕ = length known in
-      let c' : Daemon = record (told c known) { promise = length known } in
+      let c' : Daemon = record (learn_sets c known) { promise = length known } in
       let forward : p d ≤ length known = omega (arith, ok.promised) in
-      let state' = StateOk-promise p h (told c known) (length known) Idle [] (told_state p h c known ok is) (omega arith) is.fits in
+      let state' = StateOk-promise p h (learn_sets c known) (length known) Idle [] (told_state p h c known ok is) (omega arith) is.fits in
       let sound' = promise_sound z sets p h d (length known) forward sound in
       let unchosen : h.chosen (length known) ≡ None = none_chosen (h.chosen (length known)) refl in
-      let next = try_choice_after (put p d (length known)) h (record (told c known) { promise = length known }) [] sound' state' (record { is_known = refl; later = later; first = first; members = members }) unchosen tt in
-      later_after p h (put p d (length known)) h (lead (record (told c known) { promise = length known })) (promise_extends sets p h d (length known) forward)
+      let next = try_choice_after (put p d (length known)) h (record (learn_sets c known) { promise = length known }) [] sound' state' (record { is_known = refl; later = later; first = first; members = members }) unchosen tt in
+      later_after p h (put p d (length known)) h (lead (record (learn_sets c known) { promise = length known })) (promise_extends sets p h d (length known) forward)
       (λ j. inl refl)
-      (sent_before (put p d (length known)) h (queries (record (told c known) { promise = length known })) (try_choice (record (told c known) { promise = length known }) [])
-      (Each-map_all (SentOk sets (put p d (length known)) h) (λ i. send c (Osd i) (Query (length known))) (λ i. is.fits) (asked (record (told c known) { promise = length known }))) next)
+      (sent_before (put p d (length known)) h (queries (record (learn_sets c known) { promise = length known })) (try_choice (record (learn_sets c known) { promise = length known }) [])
+      (Each-map_all (SentOk sets (put p d (length known)) h) (λ i. send c (Osd i) (Query (length known))) (λ i. is.fits) (asked (record (learn_sets c known) { promise = length known }))) next)
     where
       none_chosen : (found : Option (List Entry)) → h.chosen (length known) ≡ found → h.chosen (length known) ≡ None
       none_chosen None e = e
       none_chosen (Some log) e = (let o = sound.opened (length known) log later e in let led = o.led d first in absurd (omega (arith, led, ok.promised)))
 
-  interval_after : (p : ℕ → ℕ) (h : History) (c : Daemon) (known : List (List ℕ)) → IsSound p z sets h → CopyOk z sets p h d c → IsKnown sets known → After z sets p h d (interval c known)
-  interval_after p h c known sound ok is = by_test p h (nat_lt (length c.known) (length known)) (if leads c known then lead (record (told c known) { promise = length known }) else still (told c known)) (still c)
+  interval_after : (p : ℕ → ℕ) (h : History) (c : Daemon) (known : List (List ℕ)) → IsSound p z sets h → CopyOk z sets p h d c → IsKnown sets known → After z sets p h d (on_interval c known)
+  interval_after p h c known sound ok is = by_test p h (nat_lt (length c.known) (length known)) (if leads c known then lead (record (learn_sets c known) { promise = length known }) else still (learn_sets c known)) (still c)
       (λ more. (
       let longer = ltb-true (length c.known) (length known) more in
-      by_test p h (leads c known) (lead (record (told c known) { promise = length known })) (still (told c known))
+      by_test p h (leads c known) (lead (record (learn_sets c known) { promise = length known })) (still (learn_sets c known))
       (λ all. (
-      let parts = and_parts (not (nat_lt (length (set_of known (length known))) c.min_size) && is_first (set_of known (length known)) c.number) (nat_lt c.promise (length known)) all in
-      let two = and_parts (not (nat_lt (length (set_of known (length known))) c.min_size)) (is_first (set_of known (length known)) c.number) parts.0 in
+      let parts = and_parts (not (nat_lt (length (set_of known (length known))) c.min_size) && is_primary (set_of known (length known)) c.number) (nat_lt c.promise (length known)) all in
+      let two = and_parts (not (nat_lt (length (set_of known (length known))) c.min_size)) (is_primary (set_of known (length known)) c.number) parts.0 in
       let same : set_of known (length known) ≡ set_of sets (length known) = is.same (length known) (omega arith) (omega arith) in
       let enough : c.min_size ≤ length (set_of known (length known)) = ltb-false (length (set_of known (length known))) c.min_size (not-true (nat_lt (length (set_of known (length known))) c.min_size) two.0) in
       let members : z ≤ length (set_of sets (length known)) = subst (λ v. v ≤ length (set_of sets (length known))) ok.state.same_size (subst (λ l. c.min_size ≤ length l) same enough) in
-      let first : is_first (set_of sets (length known)) d ≡ true = subst (λ v. is_first (set_of sets (length known)) v ≡ true) ok.state.number (subst (λ l. is_first l c.number ≡ true) same two.1) in
+      let first : is_primary (set_of sets (length known)) d ≡ true = subst (λ v. is_primary (set_of sets (length known)) v ≡ true) ok.state.number (subst (λ l. is_primary l c.number ≡ true) same two.1) in
       lead_after p h c known sound ok.state is (omega arith) (ltb-true c.promise (length known) parts.1) first members))
-      (λ _. still_after p h (told c known) sound (record { state = told_state p h c known ok.state is; role = tt }))))
+      (λ _. still_after p h (learn_sets c known) sound (record { state = told_state p h c known ok.state is; role = tt }))))
       (λ _. still_after p h c sound ok)
 
-  pub comes_after : (b : Body) (p : ℕ → ℕ) (h : History) (c : Daemon) (from : Party) → IsSound p z sets h → CopyOk z sets p h d c → BodyOk sets p h from b → After z sets p h d (comes b c from)
+  pub comes_after : (b : Body) (p : ℕ → ℕ) (h : History) (c : Daemon) (from : Party) → IsSound p z sets h → CopyOk z sets p h d c → BodyOk sets p h from b → After z sets p h d (on_body b c from)
   comes_after (Interval known) p h c from sound ok good = interval_after p h c known sound ok good
   comes_after (Query n) p h c from sound ok good = query_after p h c from n sound ok good
   comes_after (Info n base log) p h c (Osd m) sound ok good = info_as_after c.role p h c n (record { number = m; base = base; log = log }) refl sound ok good

@@ -4,9 +4,9 @@ use Rattle.std.specs.Prelude.{Option, Some, None, slice_get}
 use Rattle.entry_core.specs.Log.{is_in}
 use Rattle.entry_core.specs.Request.{Sealed}
 use Rattle.peer_core.specs.Copy.{copy_step}
-use Rattle.peer_core.specs.Sets.{daemons}
+use Rattle.peer_core.specs.ActingSets.{daemons}
 use Rattle.entry_core.specs.declared.sealed.GroupId.{GroupId}
-use Rattle.group_core.specs.Group.{Group, Event, Submit, Deliver, Lose, Repeat, NewInterval, Restart, Kick, kicked_at, last_set, open_requests, is_answered, tell, tell_first, answered, copy_hears, arrives, without, deliver, lose, again, is_submitted, has_all_requests, has_all_intervals, opens, submit, resend, announce, begin, with_up, same_set, restart, kick_first, kick, group_step, run, start}
+use Rattle.group_core.specs.Group.{Group, Event, Submit, Deliver, Lose, Repeat, NewInterval, Restart, Kick, retransmit_from, last_set, open_requests, is_answered, to_daemon, to_primary, answered, copy_hears, arrives, without, deliver, lose, again, is_submitted, has_all_requests, has_all_intervals, take_request, submit, resent_by, announced_by, begin, with_up, same_set, restart, retransmit_of, kick, group_step, run, start}
 use Rattle.peer_core.specs.Steps.{blank, restarted}
 use Rattle.group_core.specs.Types.{Daemon, Body, Interval, Query, Info, Install, Installed, Append, Appended, Request, Reply, NotHere, Party, Osd, Client, Sent}
 use Rattle.group_core.specs.Each.{Each}
@@ -27,21 +27,21 @@ restarted_if_sane : (b : Bool) (c : Daemon) → IsSane c → IsSane (if b then r
 restarted_if_sane true c ok = restarted_sane c ok
 restarted_if_sane false c ok = ok
 
-tell_first_legal : (ds : List ℕ) (bodies : List Body) → Each BodyIsLegal bodies → Each IsLegalSent (tell_first ds bodies)
+tell_first_legal : (ds : List ℕ) (bodies : List Body) → Each BodyIsLegal bodies → Each IsLegalSent (to_primary ds bodies)
 tell_first_legal [] bodies legal = tt
-tell_first_legal (d ∷ ds) bodies legal = Each-map IsLegalSent BodyIsLegal (tell d) (λ b p. p) bodies legal
+tell_first_legal (d ∷ ds) bodies legal = Each-map IsLegalSent BodyIsLegal (to_daemon d) (λ b p. p) bodies legal
 
-resend_legal : (g : Group) → Each IsLegalSent (resend g)
+resend_legal : (g : Group) → Each IsLegalSent (resent_by g)
 resend_legal g = tell_first_legal (last_set g.sets) (map Request (open_requests g)) (Each-map_all BodyIsLegal Request (λ s. tt) (open_requests g))
 
-announce_legal : (g : Group) → Each IsLegalSent (announce g)
-announce_legal g = Each-map_all IsLegalSent (λ d. tell d (Interval g.sets)) (λ d. tt) (last_set g.sets)
+announce_legal : (g : Group) → Each IsLegalSent (announced_by g)
+announce_legal g = Each-map_all IsLegalSent (λ d. to_daemon d (Interval g.sets)) (λ d. tt) (last_set g.sets)
 
 begin_sane : (g : Group) (acting : List ℕ) → AllSane g → AllSane (begin g acting)
 begin_sane g acting ok = record {
   copies = ok.copies;
-  wire = Each-append IsLegalSent (g.wire ++ announce (record g { sets = g.sets ++ acting ∷ [] })) (resend (record g { sets = g.sets ++ acting ∷ [] }))
-      (Each-append IsLegalSent g.wire (announce (record g { sets = g.sets ++ acting ∷ [] })) ok.wire (announce_legal (record g { sets = g.sets ++ acting ∷ [] })))
+  wire = Each-append IsLegalSent (g.wire ++ announced_by (record g { sets = g.sets ++ acting ∷ [] })) (resent_by (record g { sets = g.sets ++ acting ∷ [] }))
+      (Each-append IsLegalSent g.wire (announced_by (record g { sets = g.sets ++ acting ∷ [] })) ok.wire (announce_legal (record g { sets = g.sets ++ acting ∷ [] })))
       (resend_legal (record g { sets = g.sets ++ acting ∷ [] }));
 }
 
@@ -90,8 +90,8 @@ again_sane g k None is ok = ok
 again_sane g k (Some m) is ok = record { copies = ok.copies; wire = Each-push IsLegalSent g.wire m ok.wire (Each-get IsLegalSent g.wire k m ok.wire is) }
 
 submit_sane : (g : Group) (s : Sealed) → AllSane g → AllSane (submit g s)
-submit_sane g s ok = by_test (is_submitted g.requests s.id) g (if has_all_requests g then g else opens g s) ok (by_test (has_all_requests g) g (opens g s) ok
-    (record { copies = ok.copies; wire = Each-append IsLegalSent g.wire (tell_first (last_set g.sets) (Request s ∷ [])) ok.wire (tell_first_legal (last_set g.sets) (Request s ∷ []) (tt, tt)) }))
+submit_sane g s ok = by_test (is_submitted g.requests s.id) g (if has_all_requests g then g else take_request g s) ok (by_test (has_all_requests g) g (take_request g s) ok
+    (record { copies = ok.copies; wire = Each-append IsLegalSent g.wire (to_primary (last_set g.sets) (Request s ∷ [])) ok.wire (tell_first_legal (last_set g.sets) (Request s ∷ []) (tt, tt)) }))
 
 with_up_sane : (g : Group) (up : List ℕ) → AllSane g → AllSane (with_up g up)
 with_up_sane g up ok = record { copies = Each-map IsSane IsSane (λ c. if is_in g.up c.number && not (is_in up c.number) then restarted c else c) (λ c p. restarted_if_sane (is_in g.up c.number && not (is_in up c.number)) c p) g.copies ok.copies; wire = ok.wire }
@@ -103,20 +103,20 @@ restart_sane g d ok =
     by_test (is_in (last_set g.sets) d) (if has_all_intervals g then g else begin (record g { copies = map (λ c. if c.number == d then restarted c else c) g.copies }) (last_set g.sets)) (record g { copies = map (λ c. if c.number == d then restarted c else c) g.copies })
     (by_test (has_all_intervals g) g (begin (record g { copies = map (λ c. if c.number == d then restarted c else c) g.copies }) (last_set g.sets)) ok (begin_sane (record g { copies = map (λ c. if c.number == d then restarted c else c) g.copies }) (last_set g.sets) next)) next
 
-kick_first_legal : (g : Group) (ds : List ℕ) → AllSane g → Each IsLegalSent (kick_first g ds)
+kick_first_legal : (g : Group) (ds : List ℕ) → AllSane g → Each IsLegalSent (retransmit_of g ds)
 kick_first_legal g [] ok = tt
 kick_first_legal g (d ∷ ds) ok = found (slice_get g.copies d) refl
   where
-    found : (c : Option Daemon) → slice_get g.copies d ≡ c → Each IsLegalSent (kicked_at c)
+    found : (c : Option Daemon) → slice_get g.copies d ≡ c → Each IsLegalSent (retransmit_from c)
     found None is = tt
     found (Some c) is = kicked_legal c (Each-get IsSane g.copies d c ok.copies is)
 
 kick_sane : (g : Group) → AllSane g → AllSane (kick g)
 kick_sane g ok = record {
   copies = ok.copies;
-  wire = Each-append IsLegalSent (g.wire ++ announce g ++ kick_first g (last_set g.sets)) (resend g)
-      (Each-append IsLegalSent (g.wire ++ announce g) (kick_first g (last_set g.sets))
-      (Each-append IsLegalSent g.wire (announce g) ok.wire (announce_legal g)) (kick_first_legal g (last_set g.sets) ok))
+  wire = Each-append IsLegalSent (g.wire ++ announced_by g ++ retransmit_of g (last_set g.sets)) (resent_by g)
+      (Each-append IsLegalSent (g.wire ++ announced_by g) (retransmit_of g (last_set g.sets))
+      (Each-append IsLegalSent g.wire (announced_by g) ok.wire (announce_legal g)) (kick_first_legal g (last_set g.sets) ok))
       (resend_legal g);
 }
 

@@ -8,13 +8,13 @@ use Rattle.entry_core.specs.Log.{is_in}
 use Rattle.entry_core.specs.Request.{Sealed}
 use Rattle.entry_core.specs.declared.entry.Entry.{Entry}
 use Rattle.peer_core.specs.Steps.{Stepped, still, send, blank, restarted}
-use Rattle.peer_core.specs.Copy.{promised, request_as, told, leads, lead, interval, queries, installed_as, appended_as, install_comes, comes, copy_step, install, try_choice, info_as}
-use Rattle.peer_core.specs.Sets.{others, asked, set_of, is_first, all_count, daemons, counted}
+use Rattle.peer_core.specs.Copy.{promise_interval, on_request_as, learn_sets, leads, lead, on_interval, queries, on_installed, on_appended, on_install, on_body, copy_step, install_chosen, try_choice, on_info}
+use Rattle.peer_core.specs.ActingSets.{others, asked, set_of, is_primary, all_count, daemons, counted}
 use Rattle.peer_core.specs.Serve.{serve}
-use Rattle.peer_core.specs.Choice.{can_choose, best, own_offer, is_heard}
+use Rattle.peer_core.specs.Choice.{can_choose, best, own_offer, is_informed}
 use Rattle.entry_core.specs.declared.sealed.GroupId.{GroupId}
-use Rattle.group_core.specs.Group.{Group, Event, Submit, Deliver, Lose, Repeat, NewInterval, Restart, Kick, last_set, is_answered, answered, copy_hears, arrives, without, deliver, lose, again, is_submitted, has_all_requests, has_all_intervals, opens, begin, with_up, same_set, group_step, run, start, IsSet, EventFits, settle, delivered, delivered_now, delivered_to}
-use Rattle.group_core.specs.Types.{Informed, Role, Idle, Peering, Installing, Active, Daemon, Body, Interval, Query, Info, Install, Installed, Append, Appended, Request, Reply, NotHere, Party, Osd, Client, Sent}
+use Rattle.group_core.specs.Group.{Group, Event, Submit, Deliver, Lose, Repeat, NewInterval, Restart, Kick, last_set, is_answered, answered, copy_hears, arrives, without, deliver, lose, again, is_submitted, has_all_requests, has_all_intervals, take_request, begin, with_up, same_set, group_step, run, start, IsSet, EventFits, settle, delivered, delivered_now, delivered_to}
+use Rattle.group_core.specs.Types.{PeerInfo, Role, Idle, Peering, Installing, Active, Daemon, Body, Interval, Query, Info, Install, Installed, Append, Appended, Request, Reply, NotHere, Party, Osd, Client, Sent}
 use Rattle.group_core.specs.Each.{Each}
 use Rattle.group_core.specs.History.{History}
 use Rattle.group_core.specs.Budget.{body_budget, sent_budget, role_budget, copy_budget, copies_budget, budget, Lowers}
@@ -45,7 +45,7 @@ filter-other n q (x ∷ xs) is = go (x == n) (q x) is (filter-other n q xs) (fil
     go false true is rest le = (let r = rest is in omega arith)
     go false false is rest le = omega arith
 
-first_other : (n : ℕ) (ms : List ℕ) → is_first ms n ≡ true → length (filter (λ m. not (m == n)) ms) + 1 ≤ length ms
+first_other : (n : ℕ) (ms : List ℕ) → is_primary ms n ≡ true → length (filter (λ m. not (m == n)) ms) + 1 ≤ length ms
 first_other n [] is = absurd (cc)
 first_other n (m ∷ ms) is = rw is (let le = filter-short (λ m. not (m == n)) ms in omega arith)
 
@@ -91,28 +91,28 @@ body_positive (NotHere id) = omega arith
 
 -- rules
 
-install_budget : (c : Daemon) (log : List Entry) (ms : List ℕ) → length ms ≤ 4 → length (others c) ≤ 4 → Serves (8 + 9 * length c.waiting) (install c log ms)
+install_budget : (c : Daemon) (log : List Entry) (ms : List ℕ) → length ms ≤ 4 → length (others c) ≤ 4 → Serves (8 + 9 * length c.waiting) (install_chosen c log ms)
 install_budget c log [] fits few = omega (arith, serve_budget c.waiting (record c { base = c.promise; log = log; role = Active None }) few)
 install_budget c log (m ∷ ms) fits few = omega (arith, sent_budget-installs c c.promise log (m ∷ ms))
 
-try_choice_budget : (c : Daemon) (heard : List Informed) → length (others c) ≤ 4 → Serves (8 + 9 * length c.waiting) (try_choice c heard)
-try_choice_budget c heard few = go (can_choose c heard)
+try_choice_budget : (c : Daemon) (informed : List PeerInfo) → length (others c) ≤ 4 → Serves (8 + 9 * length c.waiting) (try_choice c informed)
+try_choice_budget c informed few = go (can_choose c informed)
   where
-    go : (b : Bool) → Serves (8 + 9 * length c.waiting) (if b then install c (best (own_offer c) heard).log (others c) else still (record c { role = Peering heard }))
-    go true = install_budget c (best (own_offer c) heard).log (others c) few few
+    go : (b : Bool) → Serves (8 + 9 * length c.waiting) (if b then install_chosen c (best (own_offer c) informed).log (others c) else still (record c { role = Peering informed }))
+    go true = install_budget c (best (own_offer c) informed).log (others c) few few
     go false = omega arith
 
 -- the first of a set has at most four others
-pub leads_few : (c : Daemon) (sets : List (List ℕ)) → length (set_of sets (length sets)) ≤ 5 → leads c sets ≡ true → length (others (record (told c sets) { promise = length sets })) ≤ 4
+pub leads_few : (c : Daemon) (sets : List (List ℕ)) → length (set_of sets (length sets)) ≤ 5 → leads c sets ≡ true → length (others (record (learn_sets c sets) { promise = length sets })) ≤ 4
 leads_few c sets fits all =
-    let parts = and_parts (not (nat_lt (length (set_of sets (length sets))) c.min_size) && is_first (set_of sets (length sets)) c.number) (nat_lt c.promise (length sets)) all in
-    let two = and_parts (not (nat_lt (length (set_of sets (length sets))) c.min_size)) (is_first (set_of sets (length sets)) c.number) parts.0 in
+    let parts = and_parts (not (nat_lt (length (set_of sets (length sets))) c.min_size) && is_primary (set_of sets (length sets)) c.number) (nat_lt c.promise (length sets)) all in
+    let two = and_parts (not (nat_lt (length (set_of sets (length sets))) c.min_size)) (is_primary (set_of sets (length sets)) c.number) parts.0 in
     let short = first_other c.number (set_of sets (length sets)) two.1 in
     omega arith
 
-lead_lowers : (c : Daemon) (sets : List (List ℕ)) → length (set_of sets (length sets)) ≤ 5 → c.number < 16 → leads c sets ≡ true → Lowers 39 c (lead (record (told c sets) { promise = length sets }))
+lead_lowers : (c : Daemon) (sets : List (List ℕ)) → length (set_of sets (length sets)) ≤ 5 → c.number < 16 → leads c sets ≡ true → Lowers 39 c (lead (record (learn_sets c sets) { promise = length sets }))
 lead_lowers c sets fits small all =
-    let c' : Daemon = record (told c sets) { promise = length sets } in
+    let c' : Daemon = record (learn_sets c sets) { promise = length sets } in
     let few : length (others c') ≤ 4 = leads_few c sets fits all in
     let most : Serves 8 (try_choice c' []) = try_choice_budget c' [] few in
     let asks : length (asked c') ≤ 15 = asked_few c' small in
@@ -120,56 +120,56 @@ lead_lowers c sets fits small all =
     let joined : sent_budget (queries c' ++ (try_choice c' []).sent) ≡ sent_budget (queries c') + sent_budget (try_choice c' []).sent = sent_budget-append (queries c') (try_choice c' []).sent in
     omega arith
 
-interval_lowers : (c : Daemon) (sets : List (List ℕ)) → length (set_of sets (length sets)) ≤ 5 → c.number < 16 → Lowers 39 c (interval c sets)
-interval_lowers c sets fits small = by_test 39 c (nat_lt (length c.known) (length sets)) (if leads c sets then lead (record (told c sets) { promise = length sets }) else still (told c sets)) (still c)
+interval_lowers : (c : Daemon) (sets : List (List ℕ)) → length (set_of sets (length sets)) ≤ 5 → c.number < 16 → Lowers 39 c (on_interval c sets)
+interval_lowers c sets fits small = by_test 39 c (nat_lt (length c.known) (length sets)) (if leads c sets then lead (record (learn_sets c sets) { promise = length sets }) else still (learn_sets c sets)) (still c)
     (go (leads c sets) refl) (omega arith)
   where
-    go : (b : Bool) → leads c sets ≡ b → Lowers 39 c (if b then lead (record (told c sets) { promise = length sets }) else still (told c sets))
+    go : (b : Bool) → leads c sets ≡ b → Lowers 39 c (if b then lead (record (learn_sets c sets) { promise = length sets }) else still (learn_sets c sets))
     go true e = lead_lowers c sets fits small e
     go false e = omega arith
 
 -- a copy with a role has at most four others in its set
 abbrev pub Few : Role → Daemon → Type 0
 Few Idle c = Unit {0}
-Few (Peering heard) c = length (others c) ≤ 4
+Few (Peering informed) c = length (others c) ≤ 4
 Few (Installing done) c = length (others c) ≤ 4
 Few (Active flight) c = length (others c) ≤ 4
 
-info_as_lowers : (r : Role) (c : Daemon) (n : ℕ) (offer : Informed) → c.role ≡ r → Few r c → Lowers 1 c (info_as r c n offer)
-info_as_lowers (Peering heard) c n offer is few =
+info_as_lowers : (r : Role) (c : Daemon) (n : ℕ) (offer : PeerInfo) → c.role ≡ r → Few r c → Lowers 1 c (on_info r c n offer)
+info_as_lowers (Peering informed) c n offer is few =
     let now : role_budget c.role ≡ 8 = rw is refl in
-    by_test 1 c ((c.promise == n) && not (is_heard c heard offer.number)) (try_choice c (heard ++ offer ∷ [])) (still c) (omega (arith, try_choice_budget c (heard ++ offer ∷ []) few)) (omega arith)
+    by_test 1 c ((c.promise == n) && not (is_informed c informed offer.number)) (try_choice c (informed ++ offer ∷ [])) (still c) (omega (arith, try_choice_budget c (informed ++ offer ∷ []) few)) (omega arith)
 info_as_lowers Idle c n offer is few = omega arith
 info_as_lowers (Installing done) c n offer is few = omega arith
 info_as_lowers (Active flight) c n offer is few = omega arith
 
-install_comes_lowers : (c : Daemon) (from : Party) (n : ℕ) (log : List Entry) → Lowers 2 c (install_comes c from n log)
+install_comes_lowers : (c : Daemon) (from : Party) (n : ℕ) (log : List Entry) → Lowers 2 c (on_install c from n log)
 install_comes_lowers c from n log = by_test 2 c (nat_lt n c.promise) (still c)
-    (record { copy = if nat_lt c.base n then record (promised c n) { base = n; log = log } else promised c n; sent = send c from (Installed n) ∷ [] }) (omega arith) (go (nat_lt c.base n))
+    (record { copy = if nat_lt c.base n then record (promise_interval c n) { base = n; log = log } else promise_interval c n; sent = send c from (Installed n) ∷ [] }) (omega arith) (go (nat_lt c.base n))
   where
-    go : (b : Bool) → Lowers 2 c (record { copy = if b then record (promised c n) { base = n; log = log } else promised c n; sent = send c from (Installed n) ∷ [] })
+    go : (b : Bool) → Lowers 2 c (record { copy = if b then record (promise_interval c n) { base = n; log = log } else promise_interval c n; sent = send c from (Installed n) ∷ [] })
     go true = omega (arith, promised_budget c n)
     go false = omega (arith, promised_budget c n)
 
-installed_as_lowers : (r : Role) (c : Daemon) (n m : ℕ) → c.role ≡ r → Few r c → Lowers 1 c (installed_as r c n m)
+installed_as_lowers : (r : Role) (c : Daemon) (n m : ℕ) → c.role ≡ r → Few r c → Lowers 1 c (on_installed r c n m)
 installed_as_lowers (Installing done) c n m is few =
     let now : role_budget c.role ≡ 0 = rw is refl in
     by_test 1 c (c.promise == n) (if all_count c (counted c done m) then serve c.waiting c else still (record c { role = Installing (counted c done m) })) (still c)
     (by_test 1 c (all_count c (counted c done m)) (serve c.waiting c) (still (record c { role = Installing (counted c done m) })) (omega (arith, serve_budget c.waiting c few)) (omega arith)) (omega arith)
 installed_as_lowers Idle c n m is few = omega arith
-installed_as_lowers (Peering heard) c n m is few = omega arith
+installed_as_lowers (Peering informed) c n m is few = omega arith
 installed_as_lowers (Active flight) c n m is few = omega arith
 
-request_lowers : (r : Role) (c : Daemon) (s : Sealed) → c.role ≡ r → Few r c → Lowers 10 c (request_as r c s)
+request_lowers : (r : Role) (c : Daemon) (s : Sealed) → c.role ≡ r → Few r c → Lowers 10 c (on_request_as r c s)
 request_lowers Idle c s is few = omega arith
-request_lowers (Peering heard) c s is few = waits_lowers c s
+request_lowers (Peering informed) c s is few = waits_lowers c s
 request_lowers (Installing done) c s is few = waits_lowers c s
 request_lowers (Active flight) c s is few = request_as_lowers (Active flight) c s is few
 
-appended_lowers : (r : Role) (c : Daemon) (n place m : ℕ) → c.role ≡ r → Few r c → Lowers 1 c (appended_as r c n place m)
+appended_lowers : (r : Role) (c : Daemon) (n place m : ℕ) → c.role ≡ r → Few r c → Lowers 1 c (on_appended r c n place m)
 appended_lowers (Active flight) c n place m is few = appended_as_lowers (Active flight) c n place m is few
 appended_lowers Idle c n place m is few = omega arith
-appended_lowers (Peering heard) c n place m is few = omega arith
+appended_lowers (Peering informed) c n place m is few = omega arith
 appended_lowers (Installing done) c n place m is few = omega arith
 
 abbrev pub SetFits : Body → Type 0
@@ -187,7 +187,7 @@ SetFits (NotHere id) = Unit {0}
 still_lowers : (most : ℕ) (c : Daemon) → 1 ≤ most → Lowers most c (still c)
 still_lowers most c some = omega arith
 
-comes_lowers : (b : Body) (c : Daemon) (from : Party) → Few c.role c → c.number < 16 → SetFits b → Lowers (body_budget b) c (comes b c from)
+comes_lowers : (b : Body) (c : Daemon) (from : Party) → Few c.role c → c.number < 16 → SetFits b → Lowers (body_budget b) c (on_body b c from)
 comes_lowers (Interval sets) c from few small fits = interval_lowers c sets fits small
 comes_lowers (Query n) c from few small fits = query_lowers c from n
 comes_lowers (Info n base log) c (Osd m) few small fits = info_as_lowers c.role c n (record { number = m; base = base; log = log }) refl few
@@ -198,7 +198,7 @@ comes_lowers (Installed n) c Client few small fits = still_lowers 1 c (omega ari
 comes_lowers (Append n place s) c from few small fits = append_lowers c from n place s
 comes_lowers (Appended n place) c (Osd m) few small fits = appended_lowers c.role c n place m refl few
 comes_lowers (Appended n place) c Client few small fits = still_lowers 1 c (omega arith)
-comes_lowers (Request s) c from few small fits = by_test 10 c (list_any (λ w. w.id == s.id) c.waiting) (still c) (request_as c.role c s) (omega arith) (request_lowers c.role c s refl few)
+comes_lowers (Request s) c from few small fits = by_test 10 c (list_any (λ w. w.id == s.id) c.waiting) (still c) (on_request_as c.role c s) (omega arith) (request_lowers c.role c s refl few)
 comes_lowers (Reply id reply) c from few small fits = still_lowers 1 c (omega arith)
 comes_lowers (NotHere id) c from few small fits = still_lowers 1 c (omega arith)
 
@@ -210,14 +210,14 @@ small_set sets n each = (Each-get_or IsSet sets (n - 1) [] each (record { few = 
 few_leads : (z : ℕ) (sets : List (List ℕ)) (d : ℕ) (c : Daemon) → c.number ≡ d → IsKnown sets c.known → Leads z sets d c → Each IsSet sets → length (others c) ≤ 4
 few_leads z sets d c number known leads each =
     let read : set_of c.known c.promise ≡ set_of sets c.promise = known.same c.promise leads.later (omega (arith, leads.is_known)) in
-    let first : is_first (set_of c.known c.promise) c.number ≡ true = subst (λ l. is_first l c.number ≡ true) (sym read) (subst (λ v. is_first (set_of sets c.promise) v ≡ true) (sym number) leads.first) in
+    let first : is_primary (set_of c.known c.promise) c.number ≡ true = subst (λ l. is_primary l c.number ≡ true) (sym read) (subst (λ v. is_primary (set_of sets c.promise) v ≡ true) (sym number) leads.first) in
     let short = first_other c.number (set_of c.known c.promise) first in
     let fits : length (set_of c.known c.promise) ≤ 5 = subst (λ l. length l ≤ 5) (sym read) (small_set sets c.promise each) in
     omega arith
 
 pub few_as : (z : ℕ) (sets : List (List ℕ)) (p : ℕ → ℕ) (h : History) (d : ℕ) (c : Daemon) (r : Role) → StateOk z sets p h d c → RoleOk z sets p h d c r → Each IsSet sets → Few r c
 few_as z sets p h d c Idle state ok each = tt
-few_as z sets p h d c (Peering heard) state ok each = few_leads z sets d c state.number state.known ok.leads each
+few_as z sets p h d c (Peering informed) state ok each = few_leads z sets d c state.number state.known ok.leads each
 few_as z sets p h d c (Installing done) state ok each = few_leads z sets d c state.number state.known ok.owns.leads each
 few_as z sets p h d c (Active flight) state ok each = few_leads z sets d c state.number state.known ok.0.leads each
 
@@ -350,7 +350,7 @@ arrives_count n g m Client is = answered_count n g m.body is
 arrives_count n g m (Osd d) is = count_if n (is_in g.up d) (copy_hears g m d (slice_get g.copies d)) g (hears_count n g m d (slice_get g.copies d) is) is
 
 step_count : (n : ℕ) (e : Event) (g : Group) → Count n g → Count n (group_step g e)
-step_count n (Submit s) g is = count_if n (is_submitted g.requests s.id) g (if has_all_requests g then g else opens g s) is (count_if n (has_all_requests g) g (opens g s) is is)
+step_count n (Submit s) g is = count_if n (is_submitted g.requests s.id) g (if has_all_requests g then g else take_request g s) is (count_if n (has_all_requests g) g (take_request g s) is is)
 step_count n (Deliver k) g is = go (slice_get g.wire k)
   where
     go : (found : Option Sent) → Count n (deliver g k found)

@@ -4,15 +4,15 @@ use Rattle.std.specs.Prelude.{Option, Some, None}
 use Rattle.std.proofs.lemmas.Bool.{cases_eq, eqb-true}
 use Rattle.entry_core.specs.Request.{Sealed}
 use Rattle.entry_core.specs.declared.entry.Entry.{Entry}
-use Rattle.peer_core.specs.Sets.{set_of, is_first}
-use Rattle.group_core.specs.Types.{Informed, Role, Idle, Peering, Installing, Active, Daemon, Body, Interval, Query, Info, Install, Installed, Append, Appended, Request, Reply, NotHere, Party, Osd, Client}
+use Rattle.peer_core.specs.ActingSets.{set_of, is_primary}
+use Rattle.group_core.specs.Types.{PeerInfo, Role, Idle, Peering, Installing, Active, Daemon, Body, Interval, Query, Info, Install, Installed, Append, Appended, Request, Reply, NotHere, Party, Osd, Client}
 use Rattle.group_core.specs.History.{History, Held, IsDecided, IsOpened, Witness, IsSettled}
 use Rattle.group_core.specs.Offer.{IsTold, IsOffer}
 use Rattle.group_core.proofs.Eaches.{Each-weaker}
 use Rattle.group_core.proofs.Prefixes.{Begins-trans}
 use Rattle.group_core.proofs.Invariant.{AllHold, Owns, FlightOk, RoleOk, CopyOk, IsPlaced, BodyOk, Extends}
 
-pub is_first_unique : (set : List ℕ) (d e : ℕ) → is_first set d ≡ true → is_first set e ≡ true → d ≡ e
+pub is_first_unique : (set : List ℕ) (d e : ℕ) → is_primary set d ≡ true → is_primary set e ≡ true → d ≡ e
 is_first_unique [] d e p q = cc
 is_first_unique (m ∷ ms) d e p q = let a = eqb-true m d p in let b = eqb-true m e q in cc
 
@@ -31,7 +31,7 @@ module _ (min_size : ℕ) (sets : List (List ℕ)) (d : ℕ) (promise : ℕ → 
     | inr other ↦ (to.others m other).1 j
   ]
 
-  pub IsTold-stays : (n : ℕ) (i : Informed) → IsTold promise h n i → IsTold promise' h' n i
+  pub IsTold-stays : (n : ℕ) (i : PeerInfo) → IsTold promise h n i → IsTold promise' h' n i
   IsTold-stays n i told = record {
     moved = omega (arith, told.moved, to.promises i.number);
     reach = told.reach;
@@ -42,7 +42,7 @@ module _ (min_size : ℕ) (sets : List (List ℕ)) (d : ℕ) (promise : ℕ → 
     most = λ j k early held. (let was : h.held i.number j ≡ Some k = sym (frozen_at i.number j (omega (arith, told.moved))) ∙ held in told.most j k early was);
   }
 
-  pub IsOffer-stays : (n : ℕ) (i : Informed) → IsOffer promise h n i → IsOffer promise' h' n i
+  pub IsOffer-stays : (n : ℕ) (i : PeerInfo) → IsOffer promise h n i → IsOffer promise' h' n i
   IsOffer-stays n i told = record {
     moved = omega (arith, told.moved, to.promises i.number);
     below = told.below;
@@ -85,7 +85,7 @@ module _ (min_size : ℕ) (sets : List (List ℕ)) (d : ℕ) (promise : ℕ → 
   AllHold-stays n k all m is = Held-stays m n k (all m is)
 
   -- the interval of another first member is as it was
-  same_interval : (e n : ℕ) → (e ≡ d → ⊥) → is_first (set_of sets n) e ≡ true → (h'.chosen n ≡ h.chosen n) × (h'.grown n ≡ h.grown n)
+  same_interval : (e n : ℕ) → (e ≡ d → ⊥) → is_primary (set_of sets n) e ≡ true → (h'.chosen n ≡ h.chosen n) × (h'.grown n ≡ h.grown n)
   same_interval e n other first = elim (to.by_first n) [
     | inl same ↦ same
     | inr mine ↦ absurd (other (is_first_unique (set_of sets n) e d first mine))
@@ -104,10 +104,10 @@ module _ (min_size : ℕ) (sets : List (List ℕ)) (d : ℕ) (promise : ℕ → 
 
   RoleOk-stays : (e : ℕ) (c : Daemon) (r : Role) → (e ≡ d → ⊥) → RoleOk min_size sets promise h e c r → RoleOk min_size sets promise' h' e c r
   RoleOk-stays e c Idle other ok = tt
-  RoleOk-stays e c (Peering heard) other ok = record {
+  RoleOk-stays e c (Peering informed) other ok = record {
     leads = ok.leads;
     unchosen = (same_interval e c.promise other ok.leads.first).0 ∙ ok.unchosen;
-    offers = Each-weaker (IsOffer promise h c.promise) (IsOffer promise' h' c.promise) (IsOffer-stays c.promise) heard ok.offers;
+    offers = Each-weaker (IsOffer promise h c.promise) (IsOffer promise' h' c.promise) (IsOffer-stays c.promise) informed ok.offers;
   }
   RoleOk-stays e c (Installing done) other ok = record {
     owns = Owns-stays e c other ok.owns;

@@ -4,7 +4,7 @@ use Rattle.std.specs.Prelude.{ℕ, ◌≡◌, List, ◌∷◌, ◌++◌, Some}
 use Rattle.entry_core.specs.Log.{find}
 use Rattle.entry_core.specs.Request.{Sealed}
 use Rattle.entry_core.specs.declared.entry.Entry.{Entry}
-use Rattle.group_core.specs.Types.{Role, Idle, Peering, Installing, Active, Daemon, Body, Interval, Query, Info, Install, Installed, Append, Appended, Request, Reply, NotHere, Outcome}
+use Rattle.group_core.specs.Types.{Role, Idle, Peering, Installing, Active, Daemon, Body, Interval, Query, Info, Install, Installed, Append, Appended, Request, Reply, NotHere, EntryReply}
 use Rattle.group_core.specs.Each.{Each}
 use Rattle.group_core.specs.Group.{Group, Event, Submit, submitted}
 
@@ -25,7 +25,7 @@ InLog P log = Each (λ e. P e.sealed) log
 
 abbrev pub InRole : (Sealed → Type 0) → Role → Type 0
 InRole P Idle = Unit {0}
-InRole P (Peering heard) = Each (λ i. InLog P i.log) heard
+InRole P (Peering informed) = Each (λ i. InLog P i.log) informed
 InRole P (Installing done) = Unit {0}
 InRole P (Active flight) = Unit {0}
 
@@ -54,7 +54,7 @@ pub record AllAsked (g : Group) : Type 0 where
   pub audit : InLog (IsAsked g.requests) g.audit
 
 -- these entries have that reply to the request of that number
-pub record IsReplied (es : List Entry) (id : ℕ) (reply : Outcome) : Type 0 where
+pub record IsReplied (es : List Entry) (id : ℕ) (reply : EntryReply) : Type 0 where
   pub entry : Entry
   pub found : find es id ≡ Some entry
   pub is : entry.reply ≡ reply

@@ -27,7 +27,7 @@ flight_budget (Some holders) = 1
 
 abbrev pub role_budget : Role → ℕ
 role_budget Idle = 0
-role_budget (Peering heard) = 8
+role_budget (Peering informed) = 8
 role_budget (Installing done) = 0
 role_budget (Active flight) = flight_budget flight
 

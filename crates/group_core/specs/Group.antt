@@ -8,10 +8,10 @@ use Rattle.entry_core.specs.Request.{Sealed}
 use Rattle.entry_core.specs.declared.entry.Entry.{Entry}
 use Rattle.entry_core.specs.declared.sealed.GroupId.{GroupId}
 use Rattle.peer_core.specs.Steps.{Stepped, blank, restarted}
-use Rattle.peer_core.specs.Copy.{copy_step, kicked}
+use Rattle.peer_core.specs.Copy.{copy_step, retransmit}
 use Rattle.peer_core.specs.Decided.{decided_by}
-use Rattle.peer_core.specs.Sets.{daemons, set_of}
-use Rattle.group_core.specs.Types.{Party, Client, Osd, Body, Interval, Query, Info, Install, Installed, Append, Appended, Request, Reply, NotHere, Sent, Daemon, Outcome}
+use Rattle.peer_core.specs.ActingSets.{daemons, set_of}
+use Rattle.group_core.specs.Types.{Party, Client, Osd, Body, Interval, Query, Info, Install, Installed, Append, Appended, Request, Reply, NotHere, Sent, Daemon, EntryReply}
 pub use Rattle.group_core.specs.declared.answers.Answer.{Answer}
 pub use Rattle.group_core.specs.declared.fault.GroupFault.{GroupFault as Fault}
 pub use Rattle.group_core.specs.declared.fault.GroupFault.TheVariants.{NoMessage, Unreachable, Full, OutOfMemory, Doubled}
@@ -43,13 +43,13 @@ abbrev pub is_answered : List Answer → ℕ → Bool
 is_answered answers id = list_any (λ a. a.id == id) answers
 
 -- what the group itself sends
-abbrev pub tell : ℕ → Body → Sent
-tell d body = record { from = Client; to = Osd d; body = body }
+abbrev pub to_daemon : ℕ → Body → Sent
+to_daemon d body = record { from = Client; to = Osd d; body = body }
 
 -- to the first of the set, if there is one
-abbrev pub tell_first : List ℕ → List Body → List Sent
-tell_first [] bodies = []
-tell_first (d ∷ ds) bodies = map (tell d) bodies
+abbrev pub to_primary : List ℕ → List Body → List Sent
+to_primary [] bodies = []
+to_primary (d ∷ ds) bodies = map (to_daemon d) bodies
 
 -- a copy adds to the audit, in log order, what it shows to be decided and the audit lacks
 abbrev pub audit_after : List Entry → Daemon → List Entry
@@ -121,34 +121,34 @@ has_all_requests g = not (nat_lt (length g.requests) 16384)
 abbrev pub has_all_intervals : Group → Bool
 has_all_intervals g = not (nat_lt (length g.sets) 1024)
 
-abbrev pub opens : Group → Sealed → Group
-opens g s = record g { requests = g.requests ++ s ∷ []; wire = g.wire ++ tell_first (last_set g.sets) (Request s ∷ []) }
+abbrev pub take_request : Group → Sealed → Group
+take_request g s = record g { requests = g.requests ++ s ∷ []; wire = g.wire ++ to_primary (last_set g.sets) (Request s ∷ []) }
 
 abbrev pub submit : Group → Sealed → Group
-submit g s = if is_submitted g.requests s.id then g else (if has_all_requests g then g else opens g s)
+submit g s = if is_submitted g.requests s.id then g else (if has_all_requests g then g else take_request g s)
 
 abbrev pub open_requests : Group → List Sealed
 open_requests g = filter (λ s. not (is_answered g.answers s.id)) g.requests
 
 -- to the first of the last set: each request that has no answer
 abbrev pub resent : List (List ℕ) → List Sealed → List Answer → List Sent
-resent sets requests answers = tell_first (last_set sets) (map Request (filter (λ s. not (is_answered answers s.id)) requests))
+resent sets requests answers = to_primary (last_set sets) (map Request (filter (λ s. not (is_answered answers s.id)) requests))
 
-abbrev pub resend : Group → List Sent
-resend g = resent g.sets g.requests g.answers
+abbrev pub resent_by : Group → List Sent
+resent_by g = resent g.sets g.requests g.answers
 
 -- to each of the last set: all sets
 abbrev pub announced : List (List ℕ) → List Sent
-announced sets = map (λ d. tell d (Interval sets)) (last_set sets)
+announced sets = map (λ d. to_daemon d (Interval sets)) (last_set sets)
 
-abbrev pub announce : Group → List Sent
-announce g = announced g.sets
+abbrev pub announced_by : Group → List Sent
+announced_by g = announced g.sets
 
 -- a new interval begins
 abbrev pub begin : Group → List ℕ → Group
 begin g acting =
     let h : Group = record g { sets = g.sets ++ acting ∷ [] } in
-    record h { wire = g.wire ++ announce h ++ resend h }
+    record h { wire = g.wire ++ announced_by h ++ resent_by h }
 
 abbrev pub with_up : Group → List ℕ → Group
 with_up g up = record g {
@@ -172,19 +172,19 @@ restart g d =
     if is_in (last_set g.sets) d then (if has_all_intervals g then g else begin h (last_set g.sets)) else h
 
 -- what the copy of the first of a set sends again, if there is one
-abbrev pub kicked_at : Option Daemon → List Sent
-kicked_at None = []
-kicked_at (Some c) = kicked c
+abbrev pub retransmit_from : Option Daemon → List Sent
+retransmit_from None = []
+retransmit_from (Some c) = retransmit c
 
-abbrev pub first_again : List Daemon → List ℕ → List Sent
-first_again copies [] = []
-first_again copies (d ∷ ds) = kicked_at (slice_get copies d)
+abbrev pub retransmit_primary : List Daemon → List ℕ → List Sent
+retransmit_primary copies [] = []
+retransmit_primary copies (d ∷ ds) = retransmit_from (slice_get copies d)
 
-abbrev pub kick_first : Group → List ℕ → List Sent
-kick_first g set = first_again g.copies set
+abbrev pub retransmit_of : Group → List ℕ → List Sent
+retransmit_of g set = retransmit_primary g.copies set
 
 abbrev pub kick : Group → Group
-kick g = record g { wire = g.wire ++ announce g ++ kick_first g (last_set g.sets) ++ resend g }
+kick g = record g { wire = g.wire ++ announced_by g ++ retransmit_of g (last_set g.sets) ++ resent_by g }
 
 abbrev pub group_step : Group → Event → Group
 group_step g (Submit s) = submit g s
@@ -252,7 +252,7 @@ EventFits (Restart d) = Unit {0}
 EventFits Kick = Unit {0}
 
 -- the reply that a request's number was answered with first
-abbrev pub answer_of : List Answer → ℕ → Option Outcome
+abbrev pub answer_of : List Answer → ℕ → Option EntryReply
 answer_of [] id = None
 answer_of (a ∷ as') id = if a.id == id then Some a.reply else answer_of as' id
 

@@ -3,7 +3,7 @@
 use Rattle.std.specs.Prelude.{ℕ, ◌≡◌, ◌≤◌, ◌<◌, ◌-◌, ◌⊎◌, true, List, [], ◌++◌, length, take, Option, Some, None}
 use Rattle.entry_core.specs.Log.{is_in, Legal}
 use Rattle.entry_core.specs.declared.entry.Entry.{Entry}
-use Rattle.peer_core.specs.Sets.{set_of, is_first}
+use Rattle.peer_core.specs.ActingSets.{set_of, is_primary}
 
 -- the first list is the beginning of the second
 pub record Begins (xs ys : List Entry) : Type 0 where
@@ -59,7 +59,7 @@ pub record IsOpened (promise : ℕ → ℕ) (min_size : ℕ) (sets : List (List 
   pub source_is : h.chosen basis ≡ Some source
   pub begins : Begins source log
   pub within : Begins log (h.grown basis)
-  pub led : (d : ℕ) → is_first (set_of sets n) d ≡ true → n ≤ promise d
+  pub led : (d : ℕ) → is_primary (set_of sets n) d ≡ true → n ≤ promise d
   pub witness : (j : ℕ) → 1 ≤ j → basis ≤ j → j < n → min_size ≤ length (set_of sets j) → Witness promise sets h n basis log j
 
 pub record IsSound (promise : ℕ → ℕ) (min_size : ℕ) (sets : List (List ℕ)) (h : History) : Type 0 where

@@ -3,8 +3,8 @@
 use Rattle.std.specs.Prelude.{ℕ, ◌≡◌, ◌≤◌, ◌+◌, ◌*◌, true, false, List, [], map, length, replicate, slice_get, Some, None}
 use Rattle.entry_core.specs.Log.{is_in, reply_in}
 use Rattle.entry_core.specs.Request.{Sealed}
-use Rattle.peer_core.specs.Sets.{set_of, is_first}
-use Rattle.group_core.specs.Types.{Idle, Append, Daemon, Party, Osd, Sent, Outcome}
+use Rattle.peer_core.specs.ActingSets.{set_of, is_primary}
+use Rattle.group_core.specs.Types.{Idle, Append, Daemon, Party, Osd, Sent, EntryReply}
 use Rattle.group_core.specs.Each.{Each}
 use Rattle.group_core.specs.Group.{Group, Event, Submit, Deliver, Lose, EventFits, run, start, group_step, refusal_of, answer_of, settle}
 use Rattle.group_core.specs.History.{Begins, but_last}
@@ -19,12 +19,12 @@ use Rattle.group_core.specs.Recovery.{LiesWithin, ActsWithin}
 -- whatever happens to the group only adds: what was decided begins what is decided later, each answer stands, and it stays a group that there can be
 pub record OnlyAdds (g : Group) : Type 0 where
   pub audit : (events : List Event) → Begins g.audit (run events g).audit
-  pub answers : (events : List Event) (id : ℕ) (reply : Outcome) → answer_of g.answers id ≡ Some reply → answer_of (run events g).answers id ≡ Some reply
+  pub answers : (events : List Event) (id : ℕ) (reply : EntryReply) → answer_of g.answers id ≡ Some reply → answer_of (run events g).answers id ≡ Some reply
   pub reached : (e : Event) → EventFits e → IsReached (group_step g e)
 
 -- each answer is the reply that was decided under its number
 abbrev pub AnswersAreDecided : Group → Type 0
-AnswersAreDecided g = (id : ℕ) (reply : Outcome) → answer_of g.answers id ≡ Some reply → IsReplied g.audit id reply
+AnswersAreDecided g = (id : ℕ) (reply : EntryReply) → answer_of g.answers id ≡ Some reply → IsReplied g.audit id reply
 
 -- what came of a group: it is the same placement group, wants as many members, and has these requests
 pub record IsSameGroup (g : Group) (these : List Sealed) (after : Group) : Type 0 where
@@ -56,9 +56,9 @@ pub record GoesToOther (sets : List (List ℕ)) (n : ℕ) (from to : Party) : Ty
   pub member : ℕ
   pub is_from : from ≡ Osd primary
   pub is_to : to ≡ Osd member
-  pub first : is_first (set_of sets n) primary ≡ true
+  pub first : is_primary (set_of sets n) primary ≡ true
   pub is_member : is_in (set_of sets n) member ≡ true
-  pub other : is_first (set_of sets n) member ≡ false
+  pub other : is_primary (set_of sets n) member ≡ false
 
 -- Each `Append` on its way goes from the primary of its interval to another member. So a copy that it comes to, and that promised its interval, has no
 -- role: nothing is in flight there

@@ -8,7 +8,7 @@ use Rattle.group_core.specs.declared.opening.GroupMove.{GroupMove}
 use Rattle.group_core.specs.declared.opening.GroupMove.TheVariants.{NewInterval as Moves, Restart as Restarts}
 use Rattle.group_core.specs.Types.{Sent}
 use Rattle.group_core.specs.Group.{Group, Event, NewInterval, Restart, last_set, same_set, announced, resent, EventFits}
-use Rattle.group_core.specs.Whole.{IsWhole}
+use Rattle.group_core.specs.Sound.{IsSound}
 
 abbrev pub event_of : GroupMove → Event
 event_of (Moves acting up) = NewInterval acting (numbers_of up)
@@ -43,7 +43,7 @@ HasRoom room (Some o) = vec_len o.sent ≤ room
 
 -- the group is ready for the move
 pub record IsReady (g : Group) (decided room : ℕ) (change : GroupMove) (opening : Option Opening) : Type 0 where
-  pub whole : IsWhole g decided
+  pub whole : IsSound g decided
   pub fits : EventFits (event_of change)
   pub made : IsMadeFor g change opening
   pub has_room : HasRoom room opening

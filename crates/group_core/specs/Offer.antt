@@ -2,11 +2,11 @@
 -- What a copy that was heard stands for.
 use Rattle.std.specs.Prelude.{ℕ, ◌≡◌, ◌≤◌, ◌<◌, List, length, Some}
 use Rattle.entry_core.specs.declared.entry.Entry.{Entry}
-use Rattle.group_core.specs.Types.{Informed}
+use Rattle.group_core.specs.Types.{PeerInfo}
 use Rattle.group_core.specs.History.{Begins, History}
 
 -- what a copy told on behalf of interval n: its daemon promised interval n, and had then of each earlier interval's log no more than it told
-pub record IsTold (promise : ℕ → ℕ) (h : History) (n : ℕ) (i : Informed) : Type 0 where
+pub record IsTold (promise : ℕ → ℕ) (h : History) (n : ℕ) (i : PeerInfo) : Type 0 where
   pub moved : n ≤ promise i.number
   pub reach : i.base ≤ n
   pub source : List Entry
@@ -16,7 +16,7 @@ pub record IsTold (promise : ℕ → ℕ) (h : History) (n : ℕ) (i : Informed)
   pub most : (j k : ℕ) → j < n → h.held i.number j ≡ Some k → (j ≤ i.base) × (j ≡ i.base → k ≤ length i.log)
 
 -- the same, of a base before n
-pub record IsOffer (promise : ℕ → ℕ) (h : History) (n : ℕ) (i : Informed) : Type 0 where
+pub record IsOffer (promise : ℕ → ℕ) (h : History) (n : ℕ) (i : PeerInfo) : Type 0 where
   pub moved : n ≤ promise i.number
   pub below : i.base < n
   pub source : List Entry

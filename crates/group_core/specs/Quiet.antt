@@ -2,7 +2,7 @@
 -- A set that can serve, what its interval costs in deliveries, and what is left once it settled.
 use Rattle.std.specs.Prelude.{ℕ, ◌≡◌, ◌≤◌, ◌<◌, ◌+◌, ◌*◌, ◌-◌, true, List, [], ◌∷◌, length, take, Option, Some, None, slice_get}
 use Rattle.entry_core.specs.Log.{is_in}
-use Rattle.peer_core.specs.Sets.{daemons}
+use Rattle.peer_core.specs.ActingSets.{daemons}
 use Rattle.group_core.specs.Types.{Sent}
 use Rattle.group_core.specs.Group.{Group, Event, Submit, Deliver, Lose, Repeat, NewInterval, Restart, Kick, IsSet, group_step, open_requests}
 use Rattle.group_core.specs.Budget.{settled_group}

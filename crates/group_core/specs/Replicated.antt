@@ -2,7 +2,7 @@
 -- What every group keeps, whatever happens.
 use Rattle.std.specs.Prelude.{ℕ, ◌≡◌, ◌≤◌, true, List, Option, Some, slice_get}
 use Rattle.entry_core.specs.Log.{is_in}
-use Rattle.peer_core.specs.Sets.{set_of}
+use Rattle.peer_core.specs.ActingSets.{set_of}
 use Rattle.group_core.specs.Group.{Group}
 use Rattle.group_core.specs.Types.{Active, Daemon}
 use Rattle.group_core.specs.History.{Begins}

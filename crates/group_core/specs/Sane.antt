@@ -9,7 +9,7 @@ use Rattle.group_core.specs.Group.{Group}
 -- a role is that of the interval that was promised, which is the last one known
 abbrev pub RoleIsSane : Role → ℕ → ℕ → Type 0
 RoleIsSane Idle promise known = Unit {0}
-RoleIsSane (Peering heard) promise known = (promise ≡ known) × Each (λ i. Legal i.log) heard
+RoleIsSane (Peering informed) promise known = (promise ≡ known) × Each (λ i. Legal i.log) informed
 RoleIsSane (Installing done) promise known = promise ≡ known
 RoleIsSane (Active flight) promise known = promise ≡ known
 

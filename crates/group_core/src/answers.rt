@@ -3,7 +3,7 @@
 ghost use Rattle.std.specs.Prelude.{◌≡◌, ◌+◌, ◌<◌, ◌++◌, [], ◌∷◌, false, OnOk, OnErr, option_copied};
 ghost use Rattle.group_core.specs.Group.{is_answered, answer_of};
 
-use crate::at::at;
+use crate::element_at::at;
 use crate::ids::Ids;
 use entry_core::{Id, Items, OutOfMemory, Reply, TryCopy};
 use std::alloc::Global;

@@ -14,7 +14,7 @@ ghost use Rattle.group_core.specs.Calm.{IsSmall, IsCalm, IsCalmGroup, unserved_c
 ghost use Rattle.group_core.specs.Budget.{settled_group, settle_count};
 ghost use Rattle.group_core.specs.Recovery.{IsReady, is_ready, lost_all, IsLoss, Recovers};
 ghost use Rattle.group_core.specs.Laws.{OnlyAdds, IsSameGroup, AnswersAreDecided, SettlingEnds, OneEntryIsOpen, AppendsGoToOthers, ServesInTime, made_so_far, DecidesInOrder, AnswersNothing, KeepsCount, IsReachedWithin};
-ghost use Rattle.group_core.specs.Rows.{IsLostReply, IsLate, IsHalfDone, IsCounted, IsRecovered, IsServedCalmly};
+ghost use Rattle.group_core.specs.WorkedCases.{IsLostReply, IsLate, IsHalfDone, IsCounted, IsRecovered, IsServedCalmly};
 
 /// Whatever is submitted, delivered, lost, repeated, moved, restarted or kicked, in whatever order, only adds: what was
 /// decided is one growing list, and each answer stands.

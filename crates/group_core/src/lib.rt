@@ -2,16 +2,16 @@
 #![tactic(auto)]
 
 mod answers;
-mod at;
+mod daemon_sets;
+mod effects;
+mod element_at;
 mod fault;
 mod furthest;
 mod group;
 mod ids;
 mod laws;
-mod members;
 mod moves;
 mod opening;
-mod parts;
 mod ready;
 mod requests;
 mod sending;

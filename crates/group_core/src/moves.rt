@@ -7,11 +7,11 @@ ghost use Rattle.group_core.specs.Inside.{group_of};
 ghost use Rattle.group_core.specs.Moves as moves;
 ghost use Rattle.group_core.specs.Reached.{Refuses};
 
+use crate::daemon_sets::{has_member, last_set, same_set};
+use crate::effects::{change_up, restart_one};
 use crate::fault::GroupFault;
 use crate::group::{Group, INTERVALS};
-use crate::members::{has_member, is_same, latest};
 use crate::opening::{GroupMove, Opening, open, prepare};
-use crate::parts::{change_up, restart_one};
 use crate::state::GroupState;
 use crate::wire::Wire;
 use peer_core::IntervalSets;
@@ -24,7 +24,7 @@ fn other_set(sets: &IntervalSets, acting: &ActingSet) -> Option<ActingSet>
     ensures fits { IsSet acting.now }
 {
     let _members = acting.as_slice();
-    if is_same(acting, &latest(sets)) {
+    if same_set(acting, &last_set(sets)) {
         return None;
     }
     Some(*acting)
@@ -34,7 +34,7 @@ fn other_set(sets: &IntervalSets, acting: &ActingSet) -> Option<ActingSet>
 fn set_again(sets: &IntervalSets, daemon: u8) -> Option<ActingSet>
     ensures { result ≡ (if is_in (last_set sets.now) daemon then Some (last_set sets.now) else None) }
 {
-    let set = latest(sets);
+    let set = last_set(sets);
     if has_member(&set, daemon) {
         return Some(set);
     }

@@ -5,7 +5,7 @@ ghost use Rattle.group_core.specs.Group.{announced, resent};
 
 use crate::answers::Answers;
 use crate::requests::Requests;
-use crate::sending::{announce, resend};
+use crate::sending::{announced, resent};
 use crate::wire::Wire;
 use entry_core::OutOfMemory;
 use peer_core::{IntervalSets, Sent};
@@ -43,8 +43,8 @@ pub(crate) fn prepare(
     ensures same { wire.new.sent ≡ wire.old.sent }
 {
     let next = sets.followed_by(alloc, acting)?;
-    let mut sent = announce(alloc, &next)?;
-    let mut again = resend(alloc, &next, requests, answers)?;
+    let mut sent = announced(alloc, &next)?;
+    let mut again = resent(alloc, &next, requests, answers)?;
     sent.append(&mut again)?;
     wire.reserve(sent.len())?;
     Ok(Opening { sets: next, sent })

@@ -2,11 +2,11 @@
 
 ghost use Rattle.std.specs.Prelude.{◌≡◌, ◌∷◌, [], IfOk};
 ghost use Rattle.group_core.specs.Types.{Request};
-ghost use Rattle.group_core.specs.Group.{tell, tell_first, last_set, announced, resent, first_again};
+ghost use Rattle.group_core.specs.Group.{to_daemon, to_primary, last_set, announced, resent, retransmit_primary};
 
 use crate::answers::Answers;
-use crate::at::at;
-use crate::members::latest;
+use crate::daemon_sets::last_set;
+use crate::element_at::at;
 use crate::requests::Requests;
 use entry_core::{OutOfMemory, Sealed, TryCopy};
 use peer_core::{Body, Daemon, IntervalSets, Party, Sent};
@@ -15,7 +15,7 @@ use std::alloc::Global;
 
 /// A message of the group's own to a daemon.
 fn to_daemon(daemon: u8, body: Body) -> Sent
-    ensures { result ≡ tell daemon body }
+    ensures { result ≡ to_daemon daemon body }
 {
     Sent {
         from: Party::Client,
@@ -25,12 +25,12 @@ fn to_daemon(daemon: u8, body: Body) -> Sent
 }
 
 /// A request to the first of a set, if there is one.
-pub(crate) fn to_first(
+pub(crate) fn to_primary(
     alloc: Global,
     set: &ActingSet,
     request: &Sealed,
 ) -> Result<Vec<Sent>, OutOfMemory>
-    ensures { IfOk result (λ v. v.items ≡ tell_first set.now (Request request.now ∷ [])) }
+    ensures { IfOk result (λ v. v.items ≡ to_primary set.now (Request request.now ∷ [])) }
 {
     let mut sent = Vec::new(alloc);
     if let Some(first) = set.as_slice().first() {
@@ -40,11 +40,11 @@ pub(crate) fn to_first(
 }
 
 /// Tells each of the last set of all sets.
-pub(crate) fn announce(alloc: Global, sets: &IntervalSets) -> Result<Vec<Sent>, OutOfMemory>
+pub(crate) fn announced(alloc: Global, sets: &IntervalSets) -> Result<Vec<Sent>, OutOfMemory>
     ensures { IfOk result (λ v. v.items ≡ announced sets.now) }
 {
     let mut sent = Vec::new(alloc);
-    let set = latest(sets);
+    let set = last_set(sets);
     for member in set.as_slice() {
         sent.push(to_daemon(*member, Body::Interval(sets.copy()?)))?;
     }
@@ -52,7 +52,7 @@ pub(crate) fn announce(alloc: Global, sets: &IntervalSets) -> Result<Vec<Sent>, 
 }
 
 /// Sends the requests that have no answer to the first of the last set.
-pub(crate) fn resend(
+pub(crate) fn resent(
     alloc: Global,
     sets: &IntervalSets,
     requests: &Requests,
@@ -61,7 +61,7 @@ pub(crate) fn resend(
     ensures { IfOk result (λ v. v.items ≡ resent sets.now requests.now answers.now) }
 {
     let mut sent = Vec::new(alloc);
-    let set = latest(sets);
+    let set = last_set(sets);
     let Some(first) = set.as_slice().first() else {
         return Ok(sent);
     };
@@ -74,14 +74,14 @@ pub(crate) fn resend(
 }
 
 /// What the copy of the last set's first daemon sends again.
-pub(crate) fn kick_first(
+pub(crate) fn retransmit_primary(
     alloc: Global,
     sets: &IntervalSets,
     copies: &[Daemon],
 ) -> Result<Vec<Sent>, OutOfMemory>
-    ensures { IfOk result (λ v. v.items ≡ first_again copies.now (last_set sets.now)) }
+    ensures { IfOk result (λ v. v.items ≡ retransmit_primary copies.now (last_set sets.now)) }
 {
-    let set = latest(sets);
+    let set = last_set(sets);
     match set.as_slice().first() {
         Some(first) => match at(copies, *first as usize) {
             Some(copy) => Ok(copy.kick()?.into_vec()),

@@ -18,9 +18,9 @@ pub(crate) struct Wire {
 }
 
 impl Model for Wire {
-    ghost use Rattle.group_core.specs.Line.{Line};
+    ghost use Rattle.group_core.specs.WireRoom.{WireRoom};
 
-    ghost Value = { Line };
+    ghost Value = { WireRoom };
 
     ghost use Rattle.std.specs.Prelude.{◌-◌, ◌≤◌, drop, length};
     ghost use Rattle.std.specs.Vec.{vec_len, vec_capacity};

@@ -5,7 +5,7 @@ use Rattle.std.specs.declared.alloc.AllocError.{AllocError}
 use Rattle.peer_core.specs.Types.{Entry, Daemon, Sent}
 use Rattle.peer_core.specs.Decided.{last}
 use Rattle.peer_core.specs.Serve.{serve}
-use Rattle.peer_core.specs.Parts.{replies}
+use Rattle.peer_core.specs.Stages.{replies}
 use Rattle.peer_core.specs.Copy.{complete}
 
 pub last_get : (log : List Entry) → last log ≡ slice_get log (length log - 1)

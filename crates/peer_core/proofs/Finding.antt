@@ -4,25 +4,25 @@ use Rattle.std.specs.Prelude.{Option, Some, None, if◌then◌else◌}
 use Rattle.std.specs.Option.{option_map}
 use Rattle.std.proofs.lemmas.Bool.{eqb-true}
 use Rattle.entry_core.specs.Log.{Decision, decision, decide-sealed, find, reply_in, ids, is_in}
-use Rattle.peer_core.specs.Types.{Sealed, Entry, Daemon, Outcome, Client, Osd, Reply, Sent}
-use Rattle.peer_core.specs.Parts.{log_with, entry_of, answer}
-use Rattle.peer_core.specs.Copy.{busy}
+use Rattle.peer_core.specs.Types.{Sealed, Entry, Daemon, EntryReply, Client, Osd, Reply, Sent}
+use Rattle.peer_core.specs.Stages.{log_with, entry_of, reply_of}
+use Rattle.peer_core.specs.Copy.{busy_request}
 
 -- the entry that was found, with its id and reply
-pub record Found (log : List Entry) (id : ℕ) (reply : Outcome) : Type 0 where
+pub record Found (log : List Entry) (id : ℕ) (reply : EntryReply) : Type 0 where
   pub entry : Entry
   pub is : find log id ≡ Some entry
   pub id_is : entry.sealed.id ≡ id
   pub reply_is : entry.reply ≡ reply
 
-found_head : (e : Entry) (es : List Entry) (id : ℕ) (reply : Outcome) (b : Bool) → (e.sealed.id == id) ≡ b → option_map (λ x. x.reply) (if b then Some e else find es id) ≡ Some reply →
+found_head : (e : Entry) (es : List Entry) (id : ℕ) (reply : EntryReply) (b : Bool) → (e.sealed.id == id) ≡ b → option_map (λ x. x.reply) (if b then Some e else find es id) ≡ Some reply →
     (reply_in es id ≡ Some reply → Found es id reply) → Found (e ∷ es) id reply
 found_head e es id reply true same is rest = record { entry = e; is = rw same refl; id_is = eqb-true e.sealed.id id same; reply_is = cc }
 found_head e es id reply false other is rest =
     let f : Found es id reply = rest is in
     record { entry = f.entry; is = rw other f.is; id_is = f.id_is; reply_is = f.reply_is }
 
-pub found : (log : List Entry) (id : ℕ) (reply : Outcome) → reply_in log id ≡ Some reply → Found log id reply
+pub found : (log : List Entry) (id : ℕ) (reply : EntryReply) → reply_in log id ≡ Some reply → Found log id reply
 found [] id reply is = absurd (cc)
 found (e ∷ es) id reply is = found_head e es id reply (e.sealed.id == id) refl is (found es id reply)
 
@@ -64,18 +64,18 @@ pub own_absent : (log : List Entry) (s : Sealed) (d : Decision) → d ≡ decisi
 own_absent log s d is none = rw (own_request log s d is) (absent log s.id (unfound log s.id none))
 
 -- the answer to a request that the log has
-pub answer_found : (number : ℕ) (log : List Entry) (s : Sealed) (reply : Outcome) → reply_in log s.id ≡ Some reply →
-    ◌≡◌ {A = Sent} (record { from = Osd number; to = Client; body = Reply s.id reply }) (answer number (entry_of (find log s.id) log s))
+pub answer_found : (number : ℕ) (log : List Entry) (s : Sealed) (reply : EntryReply) → reply_in log s.id ≡ Some reply →
+    ◌≡◌ {A = Sent} (record { from = Osd number; to = Client; body = Reply s.id reply }) (reply_of number (entry_of (find log s.id) log s))
 answer_found number log s reply is =
     let f : Found log s.id reply = found log s.id reply is in
     rw (f.is, f.id_is, f.reply_is) refl
 
-pub log_found : (log : List Entry) (s : Sealed) (reply : Outcome) → reply_in log s.id ≡ Some reply → log_with (find log s.id) log s ≡ log
+pub log_found : (log : List Entry) (s : Sealed) (reply : EntryReply) → reply_in log s.id ≡ Some reply → log_with (find log s.id) log s ≡ log
 log_found log s reply is = let f : Found log s.id reply = found log s.id reply is in rw f.is refl
 
 -- the answer to a request that is new
 pub answer_new : (number : ℕ) (log : List Entry) (s : Sealed) (d : Decision) → reply_in log s.id ≡ None → d ≡ decision log s →
-    ◌≡◌ {A = Sent} (record { from = Osd number; to = Client; body = Reply s.id d.entry.reply }) (answer number (entry_of (find log s.id) log s))
+    ◌≡◌ {A = Sent} (record { from = Osd number; to = Client; body = Reply s.id d.entry.reply }) (reply_of number (entry_of (find log s.id) log s))
 answer_new number log s d none is = rw (unfound log s.id none, is, decide-sealed log s) refl
 
 pub log_new : (log : List Entry) (s : Sealed) (d : Decision) → reply_in log s.id ≡ None → d ≡ decision log s → log ++ d.entry ∷ [] ≡ log_with (find log s.id) log s
@@ -88,11 +88,11 @@ pub absent_in : (log : List Entry) (s : Sealed) (d : Decision) → d ≡ decisio
 absent_in log s d is none = rw (own_request log s d is) none
 
 -- a request while an entry is in flight
-pub busy_known : (c : Daemon) (s : Sealed) (reply : Outcome) → reply_in (take (length c.log - 1) c.log) s.id ≡ Some reply →
-    busy c s (find (take (length c.log - 1) c.log) s.id) ≡ record { copy = c; sent = record { from = Osd c.number; to = Client; body = Reply s.id reply } ∷ [] }
+pub busy_known : (c : Daemon) (s : Sealed) (reply : EntryReply) → reply_in (take (length c.log - 1) c.log) s.id ≡ Some reply →
+    busy_request c s (find (take (length c.log - 1) c.log) s.id) ≡ record { copy = c; sent = record { from = Osd c.number; to = Client; body = Reply s.id reply } ∷ [] }
 busy_known c s reply is =
     let f : Found (take (length c.log - 1) c.log) s.id reply = found (take (length c.log - 1) c.log) s.id reply is in
     rw (f.is, f.id_is, f.reply_is) refl
 
-pub busy_new : (c : Daemon) (s : Sealed) → reply_in (take (length c.log - 1) c.log) s.id ≡ None → busy c s (find (take (length c.log - 1) c.log) s.id) ≡ busy c s None
+pub busy_new : (c : Daemon) (s : Sealed) → reply_in (take (length c.log - 1) c.log) s.id ≡ None → busy_request c s (find (take (length c.log - 1) c.log) s.id) ≡ busy_request c s None
 busy_new c s none = rw (unfound (take (length c.log - 1) c.log) s.id none) refl

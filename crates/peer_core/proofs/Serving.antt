@@ -4,13 +4,13 @@ use Rattle.std.proofs.lemmas.Bool.{eqb-true}
 use Rattle.std.specs.List.{filter}
 use Rattle.std.specs.Prelude.{Option, Some, None}
 use Rattle.entry_core.specs.Log.{find, reply_in, is_in}
-use Rattle.peer_core.specs.Types.{Sealed, Entry, Outcome, Daemon, Active, Sent, Client, Osd, Append, Reply}
-use Rattle.peer_core.specs.Sets.{others, missing}
+use Rattle.peer_core.specs.Types.{Sealed, Entry, EntryReply, Daemon, Active, Sent, Client, Osd, Append, Reply}
+use Rattle.peer_core.specs.ActingSets.{others, missing}
 use Rattle.peer_core.specs.Decided.{with_entry}
 use Rattle.peer_core.specs.Steps.{Stepped, send}
 use Rattle.peer_core.specs.Serve.{serve, serve_one, append_to, reply_with}
 use Rattle.peer_core.proofs.Finding.{Found, found}
-use Rattle.peer_core.specs.Parts.{log_with, entry_of, answer, log_after, answers}
+use Rattle.peer_core.specs.Stages.{log_with, entry_of, reply_of, log_after, replies_to}
 
 -- with no other member
 
@@ -19,22 +19,22 @@ none_left [] is = refl
 none_left (x ∷ xs) is = absurd (omega (arith, eqb-true (length (x ∷ xs)) 0 is))
 
 alone_one : (f : Option Entry) (c : Daemon) (s : Sealed) (rest : List Sealed) → others c ≡ [] →
-    serve rest c ≡ record { copy = record c { log = log_after rest c.log; role = Active None; waiting = [] }; sent = answers c.number rest c.log } →
-    serve rest (with_entry c s) ≡ record { copy = record (with_entry c s) { log = log_after rest (with_entry c s).log; role = Active None; waiting = [] }; sent = answers c.number rest (with_entry c s).log } →
+    serve rest c ≡ record { copy = record c { log = log_after rest c.log; role = Active None; waiting = [] }; sent = replies_to c.number rest c.log } →
+    serve rest (with_entry c s) ≡ record { copy = record (with_entry c s) { log = log_after rest (with_entry c s).log; role = Active None; waiting = [] }; sent = replies_to c.number rest (with_entry c s).log } →
     serve_one f c s rest (serve rest c) (serve rest (with_entry c s))
-    ≡ record { copy = record c { log = log_after rest (log_with f c.log s); role = Active None; waiting = [] }; sent = answer c.number (entry_of f c.log s) ∷ answers c.number rest (log_with f c.log s) }
+    ≡ record { copy = record c { log = log_after rest (log_with f c.log s); role = Active None; waiting = [] }; sent = reply_of c.number (entry_of f c.log s) ∷ replies_to c.number rest (log_with f c.log s) }
 alone_one (Some e) c s rest alone there new = rw there refl
 alone_one None c s rest alone there new = rw (alone, new) refl
 
 pub alone : (waiting : List Sealed) (c : Daemon) → others c ≡ [] →
-    serve waiting c ≡ record { copy = record c { log = log_after waiting c.log; role = Active None; waiting = [] }; sent = answers c.number waiting c.log }
+    serve waiting c ≡ record { copy = record c { log = log_after waiting c.log; role = Active None; waiting = [] }; sent = replies_to c.number waiting c.log }
 alone [] c none = refl
 alone (s ∷ rest) c none = alone_one (find c.log s.id) c s rest none (alone rest c none) (alone rest (with_entry c s) none)
 
 pub alone_copy : (c new : Daemon) → (length (others c) == 0) ≡ true → new ≡ record c { log = log_after c.waiting c.log; role = Active None; waiting = [] } → (serve c.waiting c).copy ≡ new
 alone_copy c new none is = ap (λ s. s.copy) (alone c.waiting c (none_left (others c) none)) ∙ sym is
 
-pub alone_sent : (c : Daemon) (before sent : List Sent) → (length (others c) == 0) ≡ true → sent ≡ before ++ answers c.number c.waiting c.log → sent ≡ before ++ (serve c.waiting c).sent
+pub alone_sent : (c : Daemon) (before sent : List Sent) → (length (others c) == 0) ≡ true → sent ≡ before ++ replies_to c.number c.waiting c.log → sent ≡ before ++ (serve c.waiting c).sent
 alone_sent c before sent none is = is ∙ ap (λ m. before ++ m) (sym (ap (λ s. s.sent) (alone c.waiting c (none_left (others c) none))))
 
 -- with other members
@@ -57,7 +57,7 @@ known_one : (f : Option Entry) (e : Entry) (c : Daemon) (s : Sealed) (rest : Lis
 known_one (Some x) e c s rest there after is = let same : x ≡ e = cc in rw same refl
 known_one None e c s rest there after is = absurd (cc)
 
-module _ (c : Daemon) (k : ℕ) (s : Sealed) (reply : Outcome) (below : k < length c.waiting) (is : s ≡ get_or c.waiting k s) (known : reply_in c.log s.id ≡ Some reply) where
+module _ (c : Daemon) (k : ℕ) (s : Sealed) (reply : EntryReply) (below : k < length c.waiting) (is : s ≡ get_or c.waiting k s) (known : reply_in c.log s.id ≡ Some reply) where
   it : Found c.log s.id reply
   it = found c.log s.id reply known
 

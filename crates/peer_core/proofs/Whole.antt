@@ -2,14 +2,14 @@
 use Rattle.std.proofs.Common.{ℕ, ◌≡◌, ◌==◌, ◌&&◌, not, true, List, [], ◌∷◌, ◌++◌, length, refl, sym, ◌∙◌, ap}
 use Rattle.std.specs.Prelude.{Option, Some, None}
 use Rattle.entry_core.specs.Log.{find}
-use Rattle.peer_core.specs.Types.{Sealed, Entry, Daemon, Sent, Informed, Role, Idle, Peering, Installing, Active}
-use Rattle.peer_core.specs.Choice.{is_heard}
+use Rattle.peer_core.specs.Types.{Sealed, Entry, Daemon, Sent, PeerInfo, Role, Idle, Peering, Installing, Active}
+use Rattle.peer_core.specs.Choice.{is_informed}
 use Rattle.peer_core.specs.Decided.{with_entry}
 use Rattle.peer_core.specs.Steps.{Stepped}
-use Rattle.peer_core.specs.Sets.{others}
+use Rattle.peer_core.specs.ActingSets.{others}
 use Rattle.peer_core.specs.Serve.{serve, serve_one, push_new}
-use Rattle.peer_core.specs.Copy.{info_as, try_choice, told, lead}
-use Rattle.peer_core.specs.Parts.{awaits}
+use Rattle.peer_core.specs.Copy.{on_info, try_choice, learn_sets, lead}
+use Rattle.peer_core.specs.Stages.{awaits}
 
 pub whole : (v : Stepped) (new : Daemon) (first all : List Sent) → v.copy ≡ new → first ≡ [] → all ≡ first ++ v.sent → v ≡ record { copy = new; sent = all }
 whole v new first all copy none sent = rw (← copy, sent, none) refl
@@ -34,38 +34,38 @@ serve_waiting (s ∷ rest) c w =
 -- an offer that is awaited
 
 pub record Awaited (r : Role) (c : Daemon) (n m : ℕ) : Type 0 where
-  pub heard : List Informed
-  pub is : r ≡ Peering heard
-  pub test : ((c.promise == n) && not (is_heard c heard m)) ≡ true
+  pub informed : List PeerInfo
+  pub is : r ≡ Peering informed
+  pub test : ((c.promise == n) && not (is_informed c informed m)) ≡ true
 
 pub awaited : (r : Role) (c : Daemon) (n m : ℕ) → awaits r c n m ≡ true → Awaited r c n m
-awaited (Peering heard) c n m is = record { heard = heard; is = refl; test = is }
+awaited (Peering informed) c n m is = record { informed = informed; is = refl; test = is }
 awaited Idle c n m is = absurd (cc)
 awaited (Installing done) c n m is = absurd (cc)
 awaited (Active flight) c n m is = absurd (cc)
 
-unawaited_test : (c : Daemon) (n : ℕ) (offer : Informed) (heard : List Informed) → ((c.promise == n) && not (is_heard c heard offer.number)) ≡ true → info_as (Peering heard) c n offer ≡ try_choice c (heard ++ offer ∷ [])
-unawaited_test c n offer heard test = rw test refl
+unawaited_test : (c : Daemon) (n : ℕ) (offer : PeerInfo) (informed : List PeerInfo) → ((c.promise == n) && not (is_informed c informed offer.number)) ≡ true → on_info (Peering informed) c n offer ≡ try_choice c (informed ++ offer ∷ [])
+unawaited_test c n offer informed test = rw test refl
 
-pub hears : (c : Daemon) (n : ℕ) (offer : Informed) (w : Awaited c.role c n offer.number) → info_as c.role c n offer ≡ try_choice c (w.heard ++ offer ∷ [])
-hears c n offer w = ap (λ r. info_as r c n offer) w.is ∙ unawaited_test c n offer w.heard w.test
+pub hears : (c : Daemon) (n : ℕ) (offer : PeerInfo) (w : Awaited c.role c n offer.number) → on_info c.role c n offer ≡ try_choice c (w.informed ++ offer ∷ [])
+hears c n offer w = ap (λ r. on_info r c n offer) w.is ∙ unawaited_test c n offer w.informed w.test
 
 -- the choice does not look at the role
-pub choice_role : (c : Daemon) (r : Role) (heard : List Informed) → try_choice (record c { role = r }) heard ≡ try_choice c heard
-choice_role c r heard = refl
+pub choice_role : (c : Daemon) (r : Role) (informed : List PeerInfo) → try_choice (record c { role = r }) informed ≡ try_choice c informed
+choice_role c r informed = refl
 
 pub lead_role : (c : Daemon) (r : Role) → lead (record c { role = r }) ≡ lead c
 lead_role c r = refl
 
 -- an offer that is forgotten again
-pub forgotten : (old now : Daemon) (heard : List Informed) (offer : Informed) → old.role ≡ Peering heard → now ≡ record old { role = Peering (heard ++ offer ∷ []) } → record now { role = Peering heard } ≡ old
-forgotten old now heard offer is now_is = rw (now_is, ← is) refl
+pub forgotten : (old now : Daemon) (informed : List PeerInfo) (offer : PeerInfo) → old.role ≡ Peering informed → now ≡ record old { role = Peering (informed ++ offer ∷ []) } → record now { role = Peering informed } ≡ old
+forgotten old now informed offer is now_is = rw (now_is, ← is) refl
 
 -- the turn to the next interval
 pub led_next : (c : Daemon) (sets : List (List ℕ)) (n : ℕ) (known : List (List ℕ)) (role : Role) (waiting : List Sealed) (new : Daemon) (sent : List Sent) → n ≡ length sets → known ≡ sets → role ≡ Peering [] → waiting ≡ [] →
-    (role ≡ Peering [] → lead (record c { promise = n; known = known; role = role; waiting = waiting }) ≡ record { copy = new; sent = sent }) → lead (record (told c sets) { promise = length sets }) ≡ record { copy = new; sent = sent }
+    (role ≡ Peering [] → lead (record c { promise = n; known = known; role = role; waiting = waiting }) ≡ record { copy = new; sent = sent }) → lead (record (learn_sets c sets) { promise = length sets }) ≡ record { copy = new; sent = sent }
 led_next c sets n known role waiting new sent n_is known_is role_is none led =
-    ap (λ m. lead (record (told c sets) { promise = m })) (sym n_is)
+    ap (λ m. lead (record (learn_sets c sets) { promise = m })) (sym n_is)
     ∙ ap (λ k. lead (record c { promise = n; known = k; role = Idle; waiting = [] })) (sym known_is)
     ∙ ap (λ w. lead (record c { promise = n; known = known; role = role; waiting = w })) (sym none)
     ∙ led role_is

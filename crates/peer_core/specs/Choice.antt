@@ -2,35 +2,35 @@
 -- Which copy's log begins an interval, and when it may be chosen.
 use Rattle.std.specs.Prelude.{ℕ, ◌+◌, ◌-◌, Bool, true, ◌==◌, ◌||◌, ◌&&◌, nat_lt, List, [], ◌∷◌, length, take, if◌then◌else◌}
 use Rattle.std.specs.List.{list_any, list_all}
-use Rattle.peer_core.specs.Types.{Informed, Daemon}
-use Rattle.peer_core.specs.Sets.{set_of}
+use Rattle.peer_core.specs.Types.{PeerInfo, Daemon}
+use Rattle.peer_core.specs.ActingSets.{set_of}
 
 -- the first is the better offer: the greater base, then the longer log, then the smaller number
-abbrev pub is_better : Informed → Informed → Bool
+abbrev pub is_better : PeerInfo → PeerInfo → Bool
 is_better a b =
     nat_lt b.base a.base
     || (a.base == b.base) && (nat_lt (length b.log) (length a.log)
     || (length a.log == length b.log) && nat_lt a.number b.number)
 
-abbrev pub best : Informed → List Informed → Informed
+abbrev pub best : PeerInfo → List PeerInfo → PeerInfo
 best a [] = a
 best a (b ∷ bs) = best (if is_better b a then b else a) bs
 
 -- each of these intervals, from j on, that is at least base and has enough members has one that was heard
 abbrev pub covers : ℕ → ℕ → (ℕ → Bool) → ℕ → List (List ℕ) → Bool
-covers min_size base heard j [] = true
-covers min_size base heard j (members ∷ sets) =
-    (nat_lt j base || nat_lt (length members) min_size || list_any heard members)
-    && covers min_size base heard (j + 1) sets
+covers min_size base informed j [] = true
+covers min_size base informed j (members ∷ sets) =
+    (nat_lt j base || nat_lt (length members) min_size || list_any informed members)
+    && covers min_size base informed (j + 1) sets
 
-abbrev pub own_offer : Daemon → Informed
+abbrev pub own_offer : Daemon → PeerInfo
 own_offer c = record { number = c.number; base = c.base; log = c.log }
 
-abbrev pub is_heard : Daemon → List Informed → ℕ → Bool
-is_heard c heard m = (m == c.number) || list_any (λ i. i.number == m) heard
+abbrev pub is_informed : Daemon → List PeerInfo → ℕ → Bool
+is_informed c informed m = (m == c.number) || list_any (λ i. i.number == m) informed
 
 -- every member was heard, and no interval since the greatest base is without a copy that was
-abbrev pub can_choose : Daemon → List Informed → Bool
-can_choose c heard =
-    list_all (is_heard c heard) (set_of c.known c.promise)
-    && covers c.min_size (best (own_offer c) heard).base (is_heard c heard) 1 (take (c.promise - 1) c.known)
+abbrev pub can_choose : Daemon → List PeerInfo → Bool
+can_choose c informed =
+    list_all (is_informed c informed) (set_of c.known c.promise)
+    && covers c.min_size (best (own_offer c) informed).base (is_informed c informed) 1 (take (c.promise - 1) c.known)

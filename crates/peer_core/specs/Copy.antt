@@ -3,16 +3,16 @@
 use Rattle.std.specs.Prelude.{ℕ, ◌+◌, Bool, ◌==◌, ◌&&◌, not, nat_lt, List, [], ◌∷◌, ◌++◌, map, filter, length, Option, Some, None, if◌then◌else◌}
 use Rattle.std.specs.List.{list_any}
 use Rattle.entry_core.specs.Log.{find, is_in, ids}
-use Rattle.peer_core.specs.Types.{Sealed, Entry, Party, Client, Osd, Body, Interval, Query, Info, Install, Installed, Append, Appended, Request, Reply, NotHere, Message, Sent, Informed, Role, Idle, Peering, Installing, Active, Daemon}
-use Rattle.peer_core.specs.Sets.{set_of, is_first, others, counted, all_count, missing, asked}
-use Rattle.peer_core.specs.Decided.{settled, last, with_entry}
-use Rattle.peer_core.specs.Choice.{best, own_offer, is_heard, can_choose}
+use Rattle.peer_core.specs.Types.{Sealed, Entry, Party, Client, Osd, Body, Interval, Query, Info, Install, Installed, Append, Appended, Request, Reply, NotHere, Message, Sent, PeerInfo, Role, Idle, Peering, Installing, Active, Daemon}
+use Rattle.peer_core.specs.ActingSets.{set_of, is_primary, others, counted, all_count, missing, asked}
+use Rattle.peer_core.specs.Decided.{not_in_flight, last, with_entry}
+use Rattle.peer_core.specs.Choice.{best, own_offer, is_informed, can_choose}
 use Rattle.peer_core.specs.Steps.{Stepped, still, send}
 use Rattle.peer_core.specs.Serve.{reply_with, serve}
 
 -- a copy that hears of interval n promises it, and drops its role if that is new
-abbrev pub promised : Daemon → ℕ → Daemon
-promised c n = if nat_lt c.promise n then record c { promise = n; role = Idle; waiting = [] } else c
+abbrev pub promise_interval : Daemon → ℕ → Daemon
+promise_interval c n = if nat_lt c.promise n then record c { promise = n; role = Idle; waiting = [] } else c
 
 -- requests
 
@@ -20,91 +20,91 @@ abbrev pub waits : Daemon → Sealed → Stepped
 waits c s = still (record c { waiting = c.waiting ++ s ∷ [] })
 
 -- a request while an entry is in flight
-abbrev pub busy : Daemon → Sealed → Option Entry → Stepped
-busy c s (Some e) = record { copy = c; sent = reply_with c e }
-busy c s None = if is_in (ids c.log) s.id then still c else waits c s
+abbrev pub busy_request : Daemon → Sealed → Option Entry → Stepped
+busy_request c s (Some e) = record { copy = c; sent = reply_with c e }
+busy_request c s None = if is_in (ids c.log) s.id then still c else waits c s
 
-abbrev pub request_as : Role → Daemon → Sealed → Stepped
-request_as Idle c s = record { copy = c; sent = send c Client (NotHere s.id) ∷ [] }
-request_as (Peering heard) c s = waits c s
-request_as (Installing done) c s = waits c s
-request_as (Active None) c s = serve (s ∷ c.waiting) c
-request_as (Active (Some holders)) c s = busy c s (find (settled c.log (Some holders)) s.id)
+abbrev pub on_request_as : Role → Daemon → Sealed → Stepped
+on_request_as Idle c s = record { copy = c; sent = send c Client (NotHere s.id) ∷ [] }
+on_request_as (Peering informed) c s = waits c s
+on_request_as (Installing done) c s = waits c s
+on_request_as (Active None) c s = serve (s ∷ c.waiting) c
+on_request_as (Active (Some holders)) c s = busy_request c s (find (not_in_flight c.log (Some holders)) s.id)
 
-abbrev pub request : Daemon → Sealed → Stepped
-request c s = if list_any (λ w. w.id == s.id) c.waiting then still c else request_as c.role c s
+abbrev pub on_request : Daemon → Sealed → Stepped
+on_request c s = if list_any (λ w. w.id == s.id) c.waiting then still c else on_request_as c.role c s
 
 -- peering
 
 -- the chosen log is this copy's, and goes to each other member
-abbrev pub install : Daemon → List Entry → List ℕ → Stepped
-install c log [] = serve c.waiting (record c { base = c.promise; log = log; role = Active None })
-install c log (m ∷ ms) = record {
+abbrev pub install_chosen : Daemon → List Entry → List ℕ → Stepped
+install_chosen c log [] = serve c.waiting (record c { base = c.promise; log = log; role = Active None })
+install_chosen c log (m ∷ ms) = record {
   copy = record c { base = c.promise; log = log; role = Installing [] };
   sent = map (λ m. send c (Osd m) (Install c.promise log)) (m ∷ ms);
 }
 
-abbrev pub try_choice : Daemon → List Informed → Stepped
-try_choice c heard =
-    if can_choose c heard
-    then install c (best (own_offer c) heard).log (others c)
-    else still (record c { role = Peering heard })
+abbrev pub try_choice : Daemon → List PeerInfo → Stepped
+try_choice c informed =
+    if can_choose c informed
+    then install_chosen c (best (own_offer c) informed).log (others c)
+    else still (record c { role = Peering informed })
 
 abbrev pub queries : Daemon → List Sent
 queries c = map (λ d. send c (Osd d) (Query c.promise)) (asked c)
 
 -- a copy that was told these sets
-abbrev pub told : Daemon → List (List ℕ) → Daemon
-told c sets = record c { known = sets; role = Idle; waiting = [] }
+abbrev pub learn_sets : Daemon → List (List ℕ) → Daemon
+learn_sets c sets = record c { known = sets; role = Idle; waiting = [] }
 
 abbrev pub leads : Daemon → List (List ℕ) → Bool
 leads c sets =
     not (nat_lt (length (set_of sets (length sets))) c.min_size)
-    && is_first (set_of sets (length sets)) c.number && nat_lt c.promise (length sets)
+    && is_primary (set_of sets (length sets)) c.number && nat_lt c.promise (length sets)
 
 -- it asks every daemon of any set
 abbrev pub lead : Daemon → Stepped
 lead c = record { copy = (try_choice c []).copy; sent = queries c ++ (try_choice c []).sent }
 
-abbrev pub interval : Daemon → List (List ℕ) → Stepped
-interval c sets =
+abbrev pub on_interval : Daemon → List (List ℕ) → Stepped
+on_interval c sets =
     if nat_lt (length c.known) (length sets)
-    then (if leads c sets then lead (record (told c sets) { promise = length sets }) else still (told c sets))
+    then (if leads c sets then lead (record (learn_sets c sets) { promise = length sets }) else still (learn_sets c sets))
     else still c
 
-abbrev pub query : Daemon → Party → ℕ → Stepped
-query c from n =
+abbrev pub on_query : Daemon → Party → ℕ → Stepped
+on_query c from n =
     if nat_lt n c.promise
     then still c
-    else record { copy = promised c n; sent = send c from (Info n c.base c.log) ∷ [] }
+    else record { copy = promise_interval c n; sent = send c from (Info n c.base c.log) ∷ [] }
 
-abbrev pub info_as : Role → Daemon → ℕ → Informed → Stepped
-info_as (Peering heard) c n offer =
-    if (c.promise == n) && not (is_heard c heard offer.number) then try_choice c (heard ++ offer ∷ []) else still c
-info_as Idle c n offer = still c
-info_as (Installing done) c n offer = still c
-info_as (Active flight) c n offer = still c
+abbrev pub on_info : Role → Daemon → ℕ → PeerInfo → Stepped
+on_info (Peering informed) c n offer =
+    if (c.promise == n) && not (is_informed c informed offer.number) then try_choice c (informed ++ offer ∷ []) else still c
+on_info Idle c n offer = still c
+on_info (Installing done) c n offer = still c
+on_info (Active flight) c n offer = still c
 
-abbrev pub install_comes : Daemon → Party → ℕ → List Entry → Stepped
-install_comes c from n log =
+abbrev pub on_install : Daemon → Party → ℕ → List Entry → Stepped
+on_install c from n log =
     if nat_lt n c.promise
     then still c
     else (
-    let next : Daemon = promised c n in
+    let next : Daemon = promise_interval c n in
     record {
       copy = if nat_lt c.base n then record next { base = n; log = log } else next;
       sent = send c from (Installed n) ∷ [];
     }
     )
 
-abbrev pub installed_as : Role → Daemon → ℕ → ℕ → Stepped
-installed_as (Installing done) c n m =
+abbrev pub on_installed : Role → Daemon → ℕ → ℕ → Stepped
+on_installed (Installing done) c n m =
     if c.promise == n
     then (if all_count c (counted c done m) then serve c.waiting c else still (record c { role = Installing (counted c done m) }))
     else still c
-installed_as Idle c n m = still c
-installed_as (Peering heard) c n m = still c
-installed_as (Active flight) c n m = still c
+on_installed Idle c n m = still c
+on_installed (Peering informed) c n m = still c
+on_installed (Active flight) c n m = still c
 
 -- entries
 
@@ -113,8 +113,8 @@ abbrev pub acknowledged : Daemon → Party → ℕ → ℕ → Stepped
 acknowledged c from n place =
     if nat_lt (length c.log) place then still c else record { copy = c; sent = send c from (Appended n place) ∷ [] }
 
-abbrev pub append : Daemon → Party → ℕ → ℕ → Sealed → Stepped
-append c from n place s =
+abbrev pub on_append : Daemon → Party → ℕ → ℕ → Sealed → Stepped
+on_append c from n place s =
     if (c.promise == n) && (c.base == n)
     then (if (length c.log + 1 == place) && not (is_in (ids c.log) s.id) then acknowledged (with_entry c s) from n place else acknowledged c from n place)
     else still c
@@ -124,15 +124,15 @@ abbrev pub complete : Daemon → Option Entry → Stepped
 complete c None = serve c.waiting c
 complete c (Some e) = record { copy = (serve c.waiting c).copy; sent = reply_with c e ++ (serve c.waiting c).sent }
 
-abbrev pub appended_as : Role → Daemon → ℕ → ℕ → ℕ → Stepped
-appended_as (Active (Some holders)) c n place m =
+abbrev pub on_appended : Role → Daemon → ℕ → ℕ → ℕ → Stepped
+on_appended (Active (Some holders)) c n place m =
     if (c.promise == n) && (place == length c.log)
     then (if all_count c (counted c holders m) then complete c (last c.log) else still (record c { role = Active (Some (counted c holders m)) }))
     else still c
-appended_as (Active None) c n place m = still c
-appended_as Idle c n place m = still c
-appended_as (Peering heard) c n place m = still c
-appended_as (Installing done) c n place m = still c
+on_appended (Active None) c n place m = still c
+on_appended Idle c n place m = still c
+on_appended (Peering informed) c n place m = still c
+on_appended (Installing done) c n place m = still c
 
 -- any message
 
@@ -141,20 +141,20 @@ abbrev pub of_daemon : Party → (ℕ → Stepped) → Stepped → Stepped
 of_daemon (Osd m) f other = f m
 of_daemon Client f other = other
 
-abbrev pub comes : Body → Daemon → Party → Stepped
-comes (Interval sets) c from = interval c sets
-comes (Query n) c from = query c from n
-comes (Info n base log) c from = of_daemon from (λ m. info_as c.role c n (record { number = m; base = base; log = log })) (still c)
-comes (Install n log) c from = install_comes c from n log
-comes (Installed n) c from = of_daemon from (λ m. installed_as c.role c n m) (still c)
-comes (Append n place s) c from = append c from n place s
-comes (Appended n place) c from = of_daemon from (λ m. appended_as c.role c n place m) (still c)
-comes (Request s) c from = request c s
-comes (Reply id reply) c from = still c
-comes (NotHere id) c from = still c
+abbrev pub on_body : Body → Daemon → Party → Stepped
+on_body (Interval sets) c from = on_interval c sets
+on_body (Query n) c from = on_query c from n
+on_body (Info n base log) c from = of_daemon from (λ m. on_info c.role c n (record { number = m; base = base; log = log })) (still c)
+on_body (Install n log) c from = on_install c from n log
+on_body (Installed n) c from = of_daemon from (λ m. on_installed c.role c n m) (still c)
+on_body (Append n place s) c from = on_append c from n place s
+on_body (Appended n place) c from = of_daemon from (λ m. on_appended c.role c n place m) (still c)
+on_body (Request s) c from = on_request c s
+on_body (Reply id reply) c from = still c
+on_body (NotHere id) c from = still c
 
 abbrev pub copy_step : Daemon → Message → Stepped
-copy_step c m = comes m.body c m.from
+copy_step c m = on_body m.body c m.from
 
 -- what a copy sends again
 
@@ -163,15 +163,15 @@ append_again c None ms = []
 append_again c (Some e) ms = map (λ m. send c (Osd m) (Append c.promise (length c.log) e.sealed)) ms
 
 -- the daemons that were asked and did not answer
-abbrev pub unheard : Daemon → List Informed → List ℕ
-unheard c heard = filter (λ d. not (is_heard c heard d)) (asked c)
+abbrev pub uninformed : Daemon → List PeerInfo → List ℕ
+uninformed c informed = filter (λ d. not (is_informed c informed d)) (asked c)
 
-abbrev pub kicked_as : Role → Daemon → List Sent
-kicked_as Idle c = []
-kicked_as (Peering heard) c = map (λ d. send c (Osd d) (Query c.promise)) (unheard c heard)
-kicked_as (Installing done) c = map (λ m. send c (Osd m) (Install c.promise c.log)) (missing c done)
-kicked_as (Active None) c = []
-kicked_as (Active (Some holders)) c = append_again c (last c.log) (missing c holders)
+abbrev pub retransmit_as : Role → Daemon → List Sent
+retransmit_as Idle c = []
+retransmit_as (Peering informed) c = map (λ d. send c (Osd d) (Query c.promise)) (uninformed c informed)
+retransmit_as (Installing done) c = map (λ m. send c (Osd m) (Install c.promise c.log)) (missing c done)
+retransmit_as (Active None) c = []
+retransmit_as (Active (Some holders)) c = append_again c (last c.log) (missing c holders)
 
-abbrev pub kicked : Daemon → List Sent
-kicked c = kicked_as c.role c
+abbrev pub retransmit : Daemon → List Sent
+retransmit c = retransmit_as c.role c

@@ -1,9 +1,9 @@
 pub mod Types
-pub mod Sets
+pub mod ActingSets
 pub mod Decided
 pub mod Choice
 pub mod Steps
 pub mod Serve
 pub mod Copy
-pub mod Parts
+pub mod Stages
 pub mod Waiting

@@ -3,7 +3,7 @@
 use Rattle.std.specs.Prelude.{ℕ, ◌+◌, List, [], ◌∷◌, ◌++◌, map, length, Option, Some, None}
 use Rattle.entry_core.specs.Log.{decide, find}
 use Rattle.peer_core.specs.Types.{Sealed, Entry, Client, Osd, Append, Reply, Sent, Active, Daemon}
-use Rattle.peer_core.specs.Sets.{others}
+use Rattle.peer_core.specs.ActingSets.{others}
 use Rattle.peer_core.specs.Decided.{with_entry}
 use Rattle.peer_core.specs.Steps.{Stepped, send}
 

@@ -1,7 +1,7 @@
 //! What a message makes of a copy.
 
 use crate::message::{Body, Message, Party, Sent};
-use crate::role::Informed;
+use crate::role::PeerInfo;
 use crate::state::State;
 use entry_core::{BoxedLog, Items, OutOfMemory};
 
@@ -11,25 +11,25 @@ impl State {
     ghost use Rattle.peer_core.specs.Copy as rules;
 
     /// A copy is told, by a daemon alone.
-    fn on_told(
+    fn on_info_from(
         &mut self,
         from: Party,
         n: u64,
         base: u64,
         log: BoxedLog,
     ) -> Result<Items<Sent>, OutOfMemory>
-        ensures ok { IfOk result (λ sent. rules.of_daemon from (λ m. rules.info_as self.old.role self.old n (record { number = m; base = base; log = log })) (still self.old) ≡ record { copy = self.new; sent = sent }) }
+        ensures ok { IfOk result (λ sent. rules.of_daemon from (λ m. rules.on_info self.old.role self.old n (record { number = m; base = base; log = log })) (still self.old) ≡ record { copy = self.new; sent = sent }) }
         ensures err { OnErr result (self.new ≡ self.old) }
     {
         match from {
-            Party::Osd(number) => self.on_info(n, Informed { number, base, log }),
+            Party::Osd(number) => self.on_info(n, PeerInfo { number, base, log }),
             Party::Client => Ok(Items::new(self.log.allocator())),
         }
     }
 
     /// A daemon has the chosen log.
-    fn on_installed_by(&mut self, from: Party, n: u64) -> Result<Items<Sent>, OutOfMemory>
-        ensures ok { IfOk result (λ sent. rules.of_daemon from (λ m. rules.installed_as self.old.role self.old n m) (still self.old) ≡ record { copy = self.new; sent = sent }) }
+    fn on_installed_from(&mut self, from: Party, n: u64) -> Result<Items<Sent>, OutOfMemory>
+        ensures ok { IfOk result (λ sent. rules.of_daemon from (λ m. rules.on_installed self.old.role self.old n m) (still self.old) ≡ record { copy = self.new; sent = sent }) }
         ensures err { OnErr result (self.new ≡ self.old) }
     {
         match from {
@@ -39,13 +39,13 @@ impl State {
     }
 
     /// A daemon has the entry at a place.
-    fn on_appended_by(
+    fn on_appended_from(
         &mut self,
         from: Party,
         n: u64,
         place: usize,
     ) -> Result<Items<Sent>, OutOfMemory>
-        ensures ok { IfOk result (λ sent. rules.of_daemon from (λ m. rules.appended_as self.old.role self.old n place m) (still self.old) ≡ record { copy = self.new; sent = sent }) }
+        ensures ok { IfOk result (λ sent. rules.of_daemon from (λ m. rules.on_appended self.old.role self.old n place m) (still self.old) ≡ record { copy = self.new; sent = sent }) }
         ensures err { OnErr result (self.new ≡ self.old) }
     {
         match from {
@@ -67,15 +67,15 @@ impl State {
                 interval,
                 base,
                 log,
-            } => self.on_told(from, interval, base, log),
+            } => self.on_info_from(from, interval, base, log),
             Body::Install { interval, log } => self.on_install(from, interval, log),
-            Body::Installed { interval } => self.on_installed_by(from, interval),
+            Body::Installed { interval } => self.on_installed_from(from, interval),
             Body::Append {
                 interval,
                 place,
                 request,
             } => self.on_append(from, interval, place, request),
-            Body::Appended { interval, place } => self.on_appended_by(from, interval, place),
+            Body::Appended { interval, place } => self.on_appended_from(from, interval, place),
             Body::Request(request) => self.on_request(request),
             Body::Reply { .. } | Body::NotHere(_) => Ok(Items::new(self.log.allocator())),
         }

@@ -3,13 +3,13 @@
 ghost use Rattle.std.specs.Prelude.{◌≡◌};
 ghost use Rattle.peer_core.specs.Choice.{is_better};
 
-use crate::role::Informed;
+use crate::role::PeerInfo;
 use crate::state::State;
 use entry_core::Log;
 use place_core::ActingSet;
 
 /// Whether an offer is better than the other, which is given by its parts.
-fn is_better(offer: &Informed, number: u8, base: u64, log: &Log) -> bool
+fn is_better(offer: &PeerInfo, number: u8, base: u64, log: &Log) -> bool
     ensures { result ≡ is_better offer.now (record { number = number; base = base; log = log.now }) }
 {
     if offer.base != base {
@@ -24,17 +24,17 @@ fn is_better(offer: &Informed, number: u8, base: u64, log: &Log) -> bool
 impl State {
     ghost use Rattle.std.specs.Prelude.{◌≡◌, ◌-◌, ◌||◌, nat_lt, length, take};
     ghost use Rattle.std.specs.List.{list_any, list_all};
-    ghost use Rattle.peer_core.specs.Choice.{best, own_offer, is_heard, covers, can_choose};
+    ghost use Rattle.peer_core.specs.Choice.{best, own_offer, is_informed, covers, can_choose};
 
     /// The base and the log of the best offer, this copy's own among them.
-    pub fn chosen<'a>(&'a self, heard: &'a [Informed]) -> (u64, &'a Log)
-        ensures base { result.0 ≡ (best (own_offer self.now) heard.now).base }
-        ensures log { result.1.now ≡ (best (own_offer self.now) heard.now).log }
+    pub fn chosen<'a>(&'a self, informed: &'a [PeerInfo]) -> (u64, &'a Log)
+        ensures base { result.0 ≡ (best (own_offer self.now) informed.now).base }
+        ensures log { result.1.now ≡ (best (own_offer self.now) informed.now).log }
     {
         let mut number = self.number;
         let mut base = self.base;
         let mut log = &self.log;
-        for offer in heard {
+        for offer in informed {
             if is_better(offer, number, base, log) {
                 number = offer.number;
                 base = offer.base;
@@ -44,22 +44,22 @@ impl State {
         (base, log)
     }
 
-    fn any_heard(&self, members: &[u8], heard: &[Informed]) -> bool
-        ensures { result ≡ list_any (is_heard self.now heard.now) members.now }
+    fn any_informed(&self, members: &[u8], informed: &[PeerInfo]) -> bool
+        ensures { result ≡ list_any (is_informed self.now informed.now) members.now }
     {
         for m in members {
-            if self.is_heard(heard, *m) {
+            if self.is_informed(informed, *m) {
                 return true;
             }
         }
         false
     }
 
-    fn all_heard(&self, members: &[u8], heard: &[Informed]) -> bool
-        ensures { result ≡ list_all (is_heard self.now heard.now) members.now }
+    fn all_informed(&self, members: &[u8], informed: &[PeerInfo]) -> bool
+        ensures { result ≡ list_all (is_informed self.now informed.now) members.now }
     {
         for m in members {
-            if !self.is_heard(heard, *m) {
+            if !self.is_informed(informed, *m) {
                 return false;
             }
         }
@@ -80,18 +80,18 @@ impl State {
     }
 
     /// Whether interval j can't have taken entries that no copy that was heard has.
-    fn is_covered(&self, j: u64, members: &[u8], base: u64, heard: &[Informed]) -> bool
-        ensures { result ≡ (nat_lt j base || nat_lt (length members.now) self.now.min_size || list_any (is_heard self.now heard.now) members.now) }
+    fn is_covered(&self, j: u64, members: &[u8], base: u64, informed: &[PeerInfo]) -> bool
+        ensures { result ≡ (nat_lt j base || nat_lt (length members.now) self.now.min_size || list_any (is_informed self.now informed.now) members.now) }
     {
-        j < base || members.len() < self.min_size || self.any_heard(members, heard)
+        j < base || members.len() < self.min_size || self.any_informed(members, informed)
     }
 
-    fn covers(&self, base: u64, heard: &[Informed]) -> bool
-        ensures { result ≡ covers self.now.min_size base (is_heard self.now heard.now) 1 (take (self.now.promise - 1) self.now.known) }
+    fn covers(&self, base: u64, informed: &[PeerInfo]) -> bool
+        ensures { result ≡ covers self.now.min_size base (is_informed self.now informed.now) 1 (take (self.now.promise - 1) self.now.known) }
     {
         let mut j = 1;
         for members in self.earlier_sets() {
-            if !self.is_covered(j, members.as_slice(), base, heard) {
+            if !self.is_covered(j, members.as_slice(), base, informed) {
                 return false;
             }
             j += 1;
@@ -100,9 +100,9 @@ impl State {
     }
 
     /// Whether every member was heard, and each earlier interval that the best copy may lack.
-    pub fn can_choose(&self, heard: &[Informed]) -> bool
-        ensures { result ≡ can_choose self.now heard.now }
+    pub fn can_choose(&self, informed: &[PeerInfo]) -> bool
+        ensures { result ≡ can_choose self.now informed.now }
     {
-        self.all_heard(self.set(), heard) && self.covers(self.chosen(heard).0, heard)
+        self.all_informed(self.set(), informed) && self.covers(self.chosen(informed).0, informed)
     }
 }

@@ -3,7 +3,7 @@
 ghost use Rattle.std.specs.Prelude.{◌≡◌, length, IfOk, OnErr};
 ghost use Rattle.peer_core.specs.Steps.{blank, restarted};
 ghost use Rattle.peer_core.specs.Decided.{decided_by};
-ghost use Rattle.peer_core.specs.Copy.{copy_step, kicked};
+ghost use Rattle.peer_core.specs.Copy.{copy_step, retransmit};
 
 use crate::message::{Message, Sent};
 use crate::role::Role;
@@ -57,9 +57,9 @@ impl Daemon {
 
     /// What it sends again, to those who did not answer yet.
     pub fn kick(&self) -> Result<Items<Sent>, OutOfMemory>
-        ensures { IfOk result (λ sent. sent ≡ kicked self.now) }
+        ensures { IfOk result (λ sent. sent ≡ retransmit self.now) }
     {
-        self.state.kick()
+        self.state.retransmit()
     }
 
     /// Which daemon this is.

@@ -1,11 +1,11 @@
 //! How the members of an interval agree on a log.
 
 use crate::interval_sets::IntervalSets;
-use crate::members::{is_first, set_of};
 use crate::message::{Body, Party, Sent};
+use crate::peers::{is_primary, set_of};
 use crate::queue::Queue;
-use crate::role::{Informed, Role};
-use crate::serve::complete_each;
+use crate::role::{PeerInfo, Role};
+use crate::serve::decide_each;
 use crate::state::State;
 use entry_core::{BoxedLog, Items, Log, OutOfMemory, TryCopy};
 use place_core::ActingSet;
@@ -14,13 +14,13 @@ use std::mem;
 impl State {
     ghost use Rattle.std.specs.Prelude.{◌≡◌, ◌==◌, ◌++◌, [], ◌∷◌, true, List, length, IfOk, OnOk, OnErr, None};
     ghost use Rattle.peer_core.specs.Types as types;
-    ghost use Rattle.peer_core.specs.Sets.{others};
+    ghost use Rattle.peer_core.specs.ActingSets.{others};
     ghost use Rattle.peer_core.specs.Serve.{serve};
-    ghost use Rattle.peer_core.specs.Copy.{interval, told, leads, lead, query, info_as, install_comes, installed_as, try_choice, install};
-    ghost use Rattle.peer_core.specs.Parts.{awaits};
+    ghost use Rattle.peer_core.specs.Copy.{on_interval, learn_sets, leads, lead, on_query, on_info, on_install, on_installed, try_choice, install_chosen};
+    ghost use Rattle.peer_core.specs.Stages.{awaits};
 
     /// Begins its interval with this log, and takes what waits: the set has no other member.
-    fn begin_alone(
+    fn install_alone(
         &mut self,
         mut log: Log,
         mut sent: Items<Sent>,
@@ -30,7 +30,7 @@ impl State {
         ensures sent { IfOk result (λ all. all ≡ sent ++ (serve self.old.waiting (record self.old { base = self.old.promise; log = log; role = types.Active None })).sent) }
         ensures err { OnErr result (self.new ≡ self.old) }
     {
-        complete_each(self.number, &self.waiting, &mut log, &mut sent)?;
+        decide_each(self.number, &self.waiting, &mut log, &mut sent)?;
         self.base = self.promise;
         self.log = log;
         self.become_active();
@@ -38,17 +38,17 @@ impl State {
     }
 
     /// Begins its interval with this log, and sends it to each other member.
-    fn begin_interval(
+    fn install_chosen(
         &mut self,
         log: Log,
         mut sent: Items<Sent>,
     ) -> Result<Items<Sent>, OutOfMemory>
-        ensures copy { OnOk result ((install self.old log (others self.old)).copy ≡ self.new) }
-        ensures sent { IfOk result (λ all. all ≡ sent ++ (install self.old log (others self.old)).sent) }
+        ensures copy { OnOk result ((install_chosen self.old log (others self.old)).copy ≡ self.new) }
+        ensures sent { IfOk result (λ all. all ≡ sent ++ (install_chosen self.old log (others self.old)).sent) }
         ensures err { OnErr result (self.new ≡ self.old) }
     {
         if self.is_alone() {
-            return self.begin_alone(log, sent);
+            return self.install_alone(log, sent);
         }
         self.send_install(&log, &ActingSet::new(), &mut sent)?;
         self.base = self.promise;
@@ -59,17 +59,17 @@ impl State {
 
     /// Chooses a log where the copies that were told suffice, and adds to what was sent. It copies the chosen log once more than it sends it.
     fn try_choice(&mut self, sent: Items<Sent>) -> Result<Items<Sent>, OutOfMemory>
-        ensures copy { (heard : List types.Informed) → self.old.role ≡ types.Peering heard → OnOk result ((try_choice self.old heard).copy ≡ self.new) }
-        ensures sent { (heard : List types.Informed) → self.old.role ≡ types.Peering heard → IfOk result (λ all. all ≡ sent ++ (try_choice self.old heard).sent) }
+        ensures copy { (informed : List types.PeerInfo) → self.old.role ≡ types.Peering informed → OnOk result ((try_choice self.old informed).copy ≡ self.new) }
+        ensures sent { (informed : List types.PeerInfo) → self.old.role ≡ types.Peering informed → IfOk result (λ all. all ≡ sent ++ (try_choice self.old informed).sent) }
         ensures err { OnErr result (self.new ≡ self.old) }
     {
         let log = match &self.role {
-            Role::Peering(heard) if self.can_choose(heard.as_slice()) => {
-                self.chosen(heard.as_slice()).1.copy()?
+            Role::Peering(informed) if self.can_choose(informed.as_slice()) => {
+                self.chosen(informed.as_slice()).1.copy()?
             }
             _ => return Ok(sent),
         };
-        self.begin_interval(log, sent)
+        self.install_chosen(log, sent)
     }
 
     /// Asks for the copies of its group, and chooses at once where none is needed.
@@ -84,7 +84,7 @@ impl State {
 
     /// Leads the last of these sets.
     fn lead_next(&mut self, sets: IntervalSets) -> Result<Items<Sent>, OutOfMemory>
-        ensures ok { IfOk result (λ sent. lead (record (told self.old sets) { promise = length sets }) ≡ record { copy = self.new; sent = sent }) }
+        ensures ok { IfOk result (λ sent. lead (record (learn_sets self.old sets) { promise = length sets }) ≡ record { copy = self.new; sent = sent }) }
         ensures err { OnErr result (self.new ≡ self.old) }
     {
         let alloc = self.log.allocator();
@@ -109,12 +109,14 @@ impl State {
         ensures { result ≡ leads self.now sets.now }
     {
         let set = set_of(sets, sets.len() as u64);
-        set.len() >= self.min_size && is_first(set, self.number) && self.promise < sets.len() as u64
+        set.len() >= self.min_size
+            && is_primary(set, self.number)
+            && self.promise < sets.len() as u64
     }
 
     /// Hears of a new interval. The first member of its set leads it.
     pub fn on_interval(&mut self, sets: IntervalSets) -> Result<Items<Sent>, OutOfMemory>
-        ensures ok { IfOk result (λ sent. interval self.old sets ≡ record { copy = self.new; sent = sent }) }
+        ensures ok { IfOk result (λ sent. on_interval self.old sets ≡ record { copy = self.new; sent = sent }) }
         ensures err { OnErr result (self.new ≡ self.old) }
     {
         let alloc = self.log.allocator();
@@ -135,35 +137,36 @@ impl State {
         ensures { result ≡ awaits self.now.role self.now n number }
     {
         match &self.role {
-            Role::Peering(heard) => self.promise == n && !self.is_heard(heard.as_slice(), number),
+            Role::Peering(informed) => self.promise == n
+                && !self.is_informed(informed.as_slice(), number),
             _ => false,
         }
     }
 
     /// Adds an offer to those that it heard.
-    fn hear(&mut self, offer: Informed) -> Result<(), OutOfMemory>
-        ensures ok { (heard : List types.Informed) → self.old.role ≡ types.Peering heard → OnOk result (self.new ≡ record self.old { role = types.Peering (heard ++ offer ∷ []) }) }
+    fn hear(&mut self, offer: PeerInfo) -> Result<(), OutOfMemory>
+        ensures ok { (informed : List types.PeerInfo) → self.old.role ≡ types.Peering informed → OnOk result (self.new ≡ record self.old { role = types.Peering (informed ++ offer ∷ []) }) }
         ensures err { OnErr result (self.new ≡ self.old) }
     {
         match &mut self.role {
-            Role::Peering(heard) => heard.push(offer),
+            Role::Peering(informed) => informed.push(offer),
             _ => Ok(()),
         }
     }
 
     /// Forgets the last offer.
     fn unhear(&mut self)
-        ensures { (heard : List types.Informed) (offer : types.Informed) → self.old.role ≡ types.Peering (heard ++ offer ∷ []) → self.new ≡ record self.old { role = types.Peering heard } }
+        ensures { (informed : List types.PeerInfo) (offer : types.PeerInfo) → self.old.role ≡ types.Peering (informed ++ offer ∷ []) → self.new ≡ record self.old { role = types.Peering informed } }
     {
-        if let Role::Peering(heard) = &mut self.role {
-            let count = heard.len().saturating_sub(1);
-            heard.truncate(count);
+        if let Role::Peering(informed) = &mut self.role {
+            let count = informed.len().saturating_sub(1);
+            informed.truncate(count);
         }
     }
 
     /// Hears of a copy.
-    pub fn on_info(&mut self, n: u64, offer: Informed) -> Result<Items<Sent>, OutOfMemory>
-        ensures ok { IfOk result (λ sent. info_as self.old.role self.old n offer ≡ record { copy = self.new; sent = sent }) }
+    pub fn on_info(&mut self, n: u64, offer: PeerInfo) -> Result<Items<Sent>, OutOfMemory>
+        ensures ok { IfOk result (λ sent. on_info self.old.role self.old n offer ≡ record { copy = self.new; sent = sent }) }
         ensures err { OnErr result (self.new ≡ self.old) }
     {
         let sent = Items::new(self.log.allocator());
@@ -182,7 +185,7 @@ impl State {
 
     /// Counts a member that has the chosen log. Once all have it, the copy is active and takes what waits.
     pub fn on_installed(&mut self, n: u64, m: u8) -> Result<Items<Sent>, OutOfMemory>
-        ensures ok { IfOk result (λ sent. installed_as self.old.role self.old n m ≡ record { copy = self.new; sent = sent }) }
+        ensures ok { IfOk result (λ sent. on_installed self.old.role self.old n m ≡ record { copy = self.new; sent = sent }) }
         ensures err { OnErr result (self.new ≡ self.old) }
     {
         let sent = Items::new(self.log.allocator());
@@ -200,7 +203,7 @@ impl State {
 
     /// Tells the asker of this copy, and promises its interval where that is new.
     pub fn on_query(&mut self, from: Party, n: u64) -> Result<Items<Sent>, OutOfMemory>
-        ensures ok { IfOk result (λ sent. query self.old from n ≡ record { copy = self.new; sent = sent }) }
+        ensures ok { IfOk result (λ sent. on_query self.old from n ≡ record { copy = self.new; sent = sent }) }
         ensures err { OnErr result (self.new ≡ self.old) }
     {
         let mut sent = Items::new(self.log.allocator());
@@ -212,8 +215,8 @@ impl State {
             base: self.base,
             log: BoxedLog::new(self.log.copy()?)?,
         };
-        sent.push(self.tell(from, body))?;
-        self.hear_of(n);
+        sent.push(self.send(from, body))?;
+        self.promise_interval(n);
         Ok(sent)
     }
 
@@ -224,15 +227,15 @@ impl State {
         n: u64,
         log: BoxedLog,
     ) -> Result<Items<Sent>, OutOfMemory>
-        ensures ok { IfOk result (λ sent. install_comes self.old from n log ≡ record { copy = self.new; sent = sent }) }
+        ensures ok { IfOk result (λ sent. on_install self.old from n log ≡ record { copy = self.new; sent = sent }) }
         ensures err { OnErr result (self.new ≡ self.old) }
     {
         let mut sent = Items::new(self.log.allocator());
         if n < self.promise {
             return Ok(sent);
         }
-        sent.push(self.tell(from, Body::Installed { interval: n }))?;
-        self.hear_of(n);
+        sent.push(self.send(from, Body::Installed { interval: n }))?;
+        self.promise_interval(n);
         if self.base < n {
             self.base = n;
             self.log = log.into_inner();

@@ -11,9 +11,9 @@ impl State {
     ghost use Rattle.std.specs.Prelude.{◌≡◌, ◌++◌, ◌∷◌, length, take, ◌-◌, IfOk, OnOk, OnErr};
     ghost use Rattle.entry_core.specs.Log.{find};
     ghost use Rattle.peer_core.specs.Types as types;
-    ghost use Rattle.peer_core.specs.Sets.{missing};
+    ghost use Rattle.peer_core.specs.ActingSets.{missing};
     ghost use Rattle.peer_core.specs.Decided.{last};
-    ghost use Rattle.peer_core.specs.Parts.{replies};
+    ghost use Rattle.peer_core.specs.Stages.{replies};
     ghost use Rattle.peer_core.specs.Serve.{serve};
     ghost use Rattle.peer_core.specs.Copy as rules;
 
@@ -25,7 +25,7 @@ impl State {
         place: usize,
         request: Sealed,
     ) -> Result<Items<Sent>, OutOfMemory>
-        ensures ok { IfOk result (λ sent. rules.append self.old from n place request ≡ record { copy = self.new; sent = sent }) }
+        ensures ok { IfOk result (λ sent. rules.on_append self.old from n place request ≡ record { copy = self.new; sent = sent }) }
         ensures err { OnErr result (self.new ≡ self.old) }
     {
         let mut sent = Items::new(self.log.allocator());
@@ -35,7 +35,7 @@ impl State {
         let is_next = self.log.entries().len() + 1 == place && !self.log.contains(request.id());
         if is_next || place <= self.log.len() {
             let body = Body::Appended { interval: n, place };
-            sent.push(self.tell(from, body))?;
+            sent.push(self.send(from, body))?;
         }
         if is_next {
             let decided = self.log.decide(&request)?;
@@ -56,7 +56,7 @@ impl State {
     }
 
     /// Answers the last entry's request, since all members have it, and takes what waits.
-    fn finish(&mut self) -> Result<Items<Sent>, OutOfMemory>
+    fn complete(&mut self) -> Result<Items<Sent>, OutOfMemory>
         ensures ok { IfOk result (λ sent. rules.complete self.old (last self.old.log) ≡ record { copy = self.new; sent = sent }) }
         ensures err { OnErr result (self.new ≡ self.old) }
     {
@@ -67,7 +67,7 @@ impl State {
 
     /// Counts a member that has the entry in flight. Once all have it, it is answered, and what waits is taken.
     pub fn on_appended(&mut self, n: u64, place: usize, m: u8) -> Result<Items<Sent>, OutOfMemory>
-        ensures ok { IfOk result (λ sent. rules.appended_as self.old.role self.old n place m ≡ record { copy = self.new; sent = sent }) }
+        ensures ok { IfOk result (λ sent. rules.on_appended self.old.role self.old n place m ≡ record { copy = self.new; sent = sent }) }
         ensures err { OnErr result (self.new ≡ self.old) }
     {
         let sent = Items::new(self.log.allocator());
@@ -77,14 +77,14 @@ impl State {
         };
         let holders = self.counted(&holders, m);
         if self.all_count(&holders) {
-            return self.finish();
+            return self.complete();
         }
         self.role = Role::Active(Some(holders));
         Ok(sent)
     }
 
     /// Takes a request while nothing is in flight.
-    fn take_request(&mut self, request: Sealed) -> Result<Items<Sent>, OutOfMemory>
+    fn serve_request(&mut self, request: Sealed) -> Result<Items<Sent>, OutOfMemory>
         ensures ok { IfOk result (λ sent. serve (request ∷ self.old.waiting) self.old ≡ record { copy = self.new; sent = sent }) }
         ensures err { OnErr result (self.new ≡ self.old) }
     {
@@ -102,7 +102,7 @@ impl State {
     /// Takes a request while the last entry is in flight.
     #[tactic(auto, using(crate::proofs::Finding::busy_known, crate::proofs::Finding::busy_new))]
     fn busy_request(&mut self, request: Sealed) -> Result<Items<Sent>, OutOfMemory>
-        ensures ok { IfOk result (λ sent. rules.busy self.old request (find (take (length self.old.log - 1) self.old.log) request.id) ≡ record { copy = self.new; sent = sent }) }
+        ensures ok { IfOk result (λ sent. rules.busy_request self.old request (find (take (length self.old.log - 1) self.old.log) request.id) ≡ record { copy = self.new; sent = sent }) }
         ensures err { OnErr result (self.new ≡ self.old) }
     {
         let mut sent = Items::new(self.log.allocator());
@@ -118,7 +118,7 @@ impl State {
 
     /// Takes a request where it leads an interval.
     pub fn on_request(&mut self, request: Sealed) -> Result<Items<Sent>, OutOfMemory>
-        ensures ok { IfOk result (λ sent. rules.request self.old request ≡ record { copy = self.new; sent = sent }) }
+        ensures ok { IfOk result (λ sent. rules.on_request self.old request ≡ record { copy = self.new; sent = sent }) }
         ensures err { OnErr result (self.new ≡ self.old) }
     {
         let mut sent = Items::new(self.log.allocator());
@@ -128,21 +128,21 @@ impl State {
         match &self.role {
             Role::Idle => {
                 let body = Body::NotHere(request.id());
-                sent.push(self.tell(Party::Client, body))?;
+                sent.push(self.send(Party::Client, body))?;
                 Ok(sent)
             }
             Role::Peering(_) | Role::Installing(_) => {
                 self.waiting.push_back(request)?;
                 Ok(sent)
             }
-            Role::Active(None) => self.take_request(request),
+            Role::Active(None) => self.serve_request(request),
             Role::Active(Some(_)) => self.busy_request(request),
         }
     }
 
     /// Sends the last entry's request again.
     #[tactic(auto, using(crate::proofs::Counting::last_get))]
-    fn send_last(&self, holders: &ActingSet, sent: &mut Items<Sent>) -> Result<(), OutOfMemory>
+    fn append_again(&self, holders: &ActingSet, sent: &mut Items<Sent>) -> Result<(), OutOfMemory>
         ensures { OnOk result (sent.new ≡ sent.old ++ rules.append_again self.now (last self.now.log) (missing self.now holders.now)) }
     {
         match self.log.last() {
@@ -151,23 +151,23 @@ impl State {
         }
     }
 
-    fn send_again(&self, sent: &mut Items<Sent>) -> Result<(), OutOfMemory>
-        ensures { OnOk result (sent.new ≡ sent.old ++ rules.kicked self.now) }
+    fn retransmit_as(&self, sent: &mut Items<Sent>) -> Result<(), OutOfMemory>
+        ensures { OnOk result (sent.new ≡ sent.old ++ rules.retransmit self.now) }
     {
         match &self.role {
             Role::Idle | Role::Active(None) => Ok(()),
-            Role::Peering(heard) => self.send_queries(heard.as_slice(), sent),
+            Role::Peering(informed) => self.send_queries(informed.as_slice(), sent),
             Role::Installing(done) => self.send_install(&self.log, done, sent),
-            Role::Active(Some(holders)) => self.send_last(holders, sent),
+            Role::Active(Some(holders)) => self.append_again(holders, sent),
         }
     }
 
     /// Sends again what was not answered.
-    pub fn kick(&self) -> Result<Items<Sent>, OutOfMemory>
-        ensures { IfOk result (λ sent. sent ≡ rules.kicked self.now) }
+    pub fn retransmit(&self) -> Result<Items<Sent>, OutOfMemory>
+        ensures { IfOk result (λ sent. sent ≡ rules.retransmit self.now) }
     {
         let mut sent = Items::new(self.log.allocator());
-        self.send_again(&mut sent)?;
+        self.retransmit_as(&mut sent)?;
         Ok(sent)
     }
 }

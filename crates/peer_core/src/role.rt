@@ -5,7 +5,7 @@ use place_core::ActingSet;
 
 /// What another daemon told of its copy.
 #[derive(Drop)]
-pub struct Informed {
+pub struct PeerInfo {
     pub number: u8,
     pub base: u64,
     pub log: BoxedLog,
@@ -16,16 +16,16 @@ pub struct Informed {
 pub enum Role {
     Idle,
     /// It asks for copies: the others that told of theirs.
-    Peering(Items<Informed>),
+    Peering(Items<PeerInfo>),
     /// It sends out the chosen log: the other members that have it.
     Installing(ActingSet),
     /// It takes requests. Where its last entry is in flight: the other members that have that entry.
     Active(Option<ActingSet>),
 }
 
-impl TryCopy for Informed {
-    fn copy(&self) -> Result<Informed, OutOfMemory> {
-        Ok(Informed {
+impl TryCopy for PeerInfo {
+    fn copy(&self) -> Result<PeerInfo, OutOfMemory> {
+        Ok(PeerInfo {
             number: self.number,
             base: self.base,
             log: self.log.copy()?,

@@ -3,7 +3,7 @@
 ghost use Rattle.std.specs.Prelude.{◌≡◌, ◌++◌, [], ◌∷◌, OnOk, OnErr, IfOk};
 ghost use Rattle.peer_core.specs.Types as types;
 ghost use Rattle.entry_core.specs.Log.{find};
-ghost use Rattle.peer_core.specs.Parts.{log_with, entry_of, answer, log_after, answers};
+ghost use Rattle.peer_core.specs.Stages.{log_with, entry_of, reply_of, log_after, replies_to};
 
 use crate::message::{Body, Party, Sent};
 use crate::queue::Queue;
@@ -28,14 +28,14 @@ pub fn reply_to(number: u8, request: &Sealed, reply: &Reply) -> Result<Sent, Out
 
 /// Takes a request where no other member has to hold its entry, and answers it.
 #[tactic(auto, using(crate::proofs::Finding::log_found, crate::proofs::Finding::log_new))]
-fn complete(
+fn decide_one(
     number: u8,
     log: &mut Log,
     request: &Sealed,
     sent: &mut Items<Sent>,
 ) -> Result<(), OutOfMemory>
     ensures log { OnOk result (log.new ≡ log_with (find log.old request.now.id) log.old request.now) }
-    ensures sent { OnOk result (sent.new ≡ sent.old ++ answer number (entry_of (find log.old request.now.id) log.old request.now) ∷ []) }
+    ensures sent { OnOk result (sent.new ≡ sent.old ++ reply_of number (entry_of (find log.old request.now.id) log.old request.now) ∷ []) }
     ensures err { OnErr result (log.new ≡ log.old) }
 {
     if let Some(reply) = log.find(request.id()) {
@@ -48,17 +48,17 @@ fn complete(
 }
 
 /// Takes requests in order where no other member has to hold their entries. After an error the log may have some of them.
-pub fn complete_each(
+pub fn decide_each(
     number: u8,
     waiting: &Queue,
     log: &mut Log,
     sent: &mut Items<Sent>,
 ) -> Result<(), OutOfMemory>
     ensures log { OnOk result (log.new ≡ log_after waiting.now log.old) }
-    ensures sent { OnOk result (sent.new ≡ sent.old ++ answers number waiting.now log.old) }
+    ensures sent { OnOk result (sent.new ≡ sent.old ++ replies_to number waiting.now log.old) }
 {
     for place in 0..waiting.len() {
-        complete(number, log, waiting.at(place), sent)?;
+        decide_one(number, log, waiting.at(place), sent)?;
     }
     Ok(())
 }
@@ -67,9 +67,9 @@ impl State {
     ghost use Rattle.std.specs.Prelude.{◌≡◌, ◌<◌, ◌==◌, ◌++◌, [], false, true, length, OnOk, OnErr, IfOk, None, slice_index_or};
     ghost use Rattle.entry_core.specs.Log.{find};
     ghost use Rattle.peer_core.specs.Types as types;
-    ghost use Rattle.peer_core.specs.Sets.{others};
+    ghost use Rattle.peer_core.specs.ActingSets.{others};
     ghost use Rattle.peer_core.specs.Serve.{serve};
-    ghost use Rattle.peer_core.specs.Parts.{log_after, answers, AnsweredFirst, IsOffered, HasBegun};
+    ghost use Rattle.peer_core.specs.Stages.{log_after, replies_to, AnsweredFirst, IsOffered, HasBegun};
 
     /// Takes requests from now on: nothing is in flight and nothing waits.
     pub fn become_active(&mut self)
@@ -80,17 +80,17 @@ impl State {
     }
 
     /// Takes all that waits where no other member has to hold the entries. One request costs no copy of the log; more do, since nothing may change where memory is refused.
-    fn take_all(&mut self, sent: &mut Items<Sent>) -> Result<(), OutOfMemory>
+    fn decide_all(&mut self, sent: &mut Items<Sent>) -> Result<(), OutOfMemory>
         ensures copy { OnOk result (self.new ≡ record self.old { log = log_after self.old.waiting self.old.log }) }
-        ensures sent { OnOk result (sent.new ≡ sent.old ++ answers self.old.number self.old.waiting self.old.log) }
+        ensures sent { OnOk result (sent.new ≡ sent.old ++ replies_to self.old.number self.old.waiting self.old.log) }
         ensures err { OnErr result (self.new ≡ self.old) }
     {
         match self.waiting.len() {
             0 => Ok(()),
-            1 => complete(self.number, &mut self.log, self.waiting.at(0), sent),
+            1 => decide_one(self.number, &mut self.log, self.waiting.at(0), sent),
             _ => {
                 let mut log = self.log.copy()?;
-                complete_each(self.number, &self.waiting, &mut log, sent)?;
+                decide_each(self.number, &self.waiting, &mut log, sent)?;
                 self.log = log;
                 Ok(())
             }
@@ -159,7 +159,7 @@ impl State {
         ensures sent { IfOk result (λ all. all ≡ sent ++ (serve self.old.waiting self.old).sent) }
         ensures err { OnErr result (self.new ≡ self.old) }
     {
-        self.take_all(&mut sent)?;
+        self.decide_all(&mut sent)?;
         self.become_active();
         Ok(sent)
     }

@@ -24,7 +24,7 @@ pub struct State {
 impl State {
     ghost use Rattle.std.specs.Prelude.{◌≡◌};
     ghost use Rattle.peer_core.specs.Steps.{blank, restarted};
-    ghost use Rattle.peer_core.specs.Copy.{promised};
+    ghost use Rattle.peer_core.specs.Copy.{promise_interval};
 
     /// A copy of nothing.
     pub fn new(alloc: Global, number: u8, min_size: usize) -> State
@@ -53,8 +53,8 @@ impl State {
     }
 
     /// Promises interval n, and drops the role, where n is new.
-    pub fn hear_of(&mut self, n: u64)
-        ensures { self.new ≡ promised self.old n }
+    pub fn promise_interval(&mut self, n: u64)
+        ensures { self.new ≡ promise_interval self.old n }
     {
         if self.promise < n {
             self.promise = n;

@@ -1,4 +1,4 @@
-//! The worked examples of the libraries, as tests. Each calls only what is public.
+//! The worked examples of texts, verdicts, users, objects and maps, as tests. Each calls only what is public.
 //!
 //! They stand here and not beside the code, since a crate with tests is proved a second time with them.
 #![tactic(auto)]
@@ -9,12 +9,6 @@ mod capability_texts;
 mod comparisons;
 #[cfg(test)]
 mod comparisons_by_force;
-#[cfg(test)]
-mod copies;
-#[cfg(test)]
-mod groups;
-#[cfg(test)]
-mod logs;
 #[cfg(test)]
 mod maps;
 #[cfg(test)]

@@ -10,7 +10,7 @@ use Rattle.entry_core.specs.declared.sealed.GroupId.{GroupId}
 use Rattle.peer_core.specs.Steps.{restarted}
 use Rattle.group_core.specs.Types.{Daemon, Body, Interval, Query, Info, Install, Installed, Append, Appended, Request, Reply, NotHere, Party, Osd, Client, Sent}
 use Rattle.group_core.specs.Each.{Each}
-use Rattle.group_core.specs.Group.{Group, last_set, is_answered, answered, copy_hears, arrives, without, deliver, lose, again, is_submitted, has_all_requests, has_all_intervals, opens, begin, with_up, same_set, group_step, run}
+use Rattle.group_core.specs.Group.{Group, last_set, is_answered, answered, copy_hears, arrives, without, deliver, lose, again, is_submitted, has_all_requests, has_all_intervals, take_request, begin, with_up, same_set, group_step, run}
 use Rattle.group_core.specs.Group as group
 use Rattle.group_core.specs.declared.fault.GroupFault.TheVariants as group_fault
 use Rattle.entry_core.specs.Locality.{group_for}
@@ -96,7 +96,7 @@ submit_facts : (g : Group) (s : Sealed) → group.refusal_of g (group.Submit s) 
 submit_facts g s none = go (is_submitted g.requests s.id) (has_all_requests g) none
   where
     go : (b c : Bool) → (if b then Some group_fault.Doubled else (if c then Some group_fault.Full else None)) ≡ None
-        → facts (if b then g else (if c then g else opens g s)) ≡ record (facts g) { requests = g.requests ++ s ∷ [] }
+        → facts (if b then g else (if c then g else take_request g s)) ≡ record (facts g) { requests = g.requests ++ s ∷ [] }
     go true c h = absurd (cc)
     go false true h = absurd (cc)
     go false false h = refl

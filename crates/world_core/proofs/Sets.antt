@@ -17,7 +17,7 @@ use Rattle.map_core.proofs.Current.{daemons_stay}
 use Rattle.map_core.proofs.Daemons.{sets_are_acting, up_are_there}
 use Rattle.entry_core.specs.Log.{is_in}
 use Rattle.entry_core.specs.declared.sealed.GroupId.{GroupId}
-use Rattle.peer_core.specs.Sets.{daemons}
+use Rattle.peer_core.specs.ActingSets.{daemons}
 use Rattle.group_core.specs.Group.{IsSet}
 use Rattle.group_core.specs.Recovery.{LiesWithin}
 use Rattle.group_core.proofs.Sets.{set_is}

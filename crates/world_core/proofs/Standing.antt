@@ -8,7 +8,7 @@ use Rattle.peer_core.specs.Steps.{restarted}
 use Rattle.group_core.specs.Types.{Daemon, Body, Interval, Query, Info, Install, Installed, Append, Appended, Request, Reply, NotHere, Party, Osd, Client, Sent}
 use Rattle.group_core.specs.Each.{Each}
 use Rattle.group_core.specs.Asked.{IsAsked, HasSubmit, InLog}
-use Rattle.group_core.specs.Group.{Group, Event, Submit, Deliver, Lose, Repeat, NewInterval, Restart, Kick, last_set, is_answered, answered, copy_hears, arrives, without, deliver, lose, again, is_submitted, has_all_requests, has_all_intervals, opens, begin, with_up, same_set, group_step, run, start, submitted}
+use Rattle.group_core.specs.Group.{Group, Event, Submit, Deliver, Lose, Repeat, NewInterval, Restart, Kick, last_set, is_answered, answered, copy_hears, arrives, without, deliver, lose, again, is_submitted, has_all_requests, has_all_intervals, take_request, begin, with_up, same_set, group_step, run, start, submitted}
 use Rattle.group_core.proofs.Groups.{run_good, start_good, audit_legal, run-append}
 use Rattle.group_core.proofs.Kept.{run_kept, start_kept}
 use Rattle.group_core.proofs.Submits.{all_submitted}
@@ -56,7 +56,7 @@ is_again id g None is = is
 is_again id g (Some m) is = is
 
 pub step_is : (id : GroupId) (e : Event) (g : Group) → Is id g → Is id (group_step g e)
-step_is id (Submit s) g is = is_if id (is_submitted g.requests s.id) g (if has_all_requests g then g else opens g s) is (is_if id (has_all_requests g) g (opens g s) is is)
+step_is id (Submit s) g is = is_if id (is_submitted g.requests s.id) g (if has_all_requests g then g else take_request g s) is (is_if id (has_all_requests g) g (take_request g s) is is)
 step_is id (Deliver k) g is = is_delivered id g k (slice_get g.wire k) is
 step_is id (Lose k) g is = is_lost id g k (slice_get g.wire k) is
 step_is id (Repeat k) g is = is_again id g (slice_get g.wire k) is

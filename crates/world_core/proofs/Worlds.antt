@@ -13,7 +13,7 @@ use Rattle.entry_core.specs.Request.{Sealed}
 use Rattle.entry_core.specs.Log.{Legal, find}
 use Rattle.entry_core.specs.declared.entry.Entry.{Entry}
 use Rattle.entry_core.specs.declared.sealed.GroupId.{GroupId}
-use Rattle.group_core.specs.Types.{Outcome}
+use Rattle.group_core.specs.Types.{EntryReply}
 use Rattle.group_core.specs.Each.{Each}
 use Rattle.group_core.specs.Asked.{IsAsked, IsReplied}
 use Rattle.group_core.specs.History.{Begins}
@@ -258,14 +258,14 @@ find_part rs s id (e ∷ es) is h = go (is_of (group_for s) e) refl (e.sealed.id
     go false here true same rest = absurd (let t : true ≡ false = sym (own same) ∙ here in cc)
     go false here false same rest = rest ∙ sym (ap (λ b. if b then Some e else find es id) same)
 
-group_replied : (rs : List Sealed) (g : Group) (id : ℕ) (reply : Outcome) → Stands rs g → answer_of g.answers id ≡ Some reply → IsReplied g.audit id reply
+group_replied : (rs : List Sealed) (g : Group) (id : ℕ) (reply : EntryReply) → Stands rs g → answer_of g.answers id ≡ Some reply → IsReplied g.audit id reply
 group_replied rs g id reply h is =
     let made : Group = run h.events (start g.group h.min_size h.count h.acting h.up) in
     let kept = run_kept h.events (start g.group h.min_size h.count h.acting h.up) (start_good g.group h.min_size h.count h.acting h.up) (start_kept g.group h.min_size h.count h.acting h.up) in
     let P : Group → Type 0 = λ v. IsReplied v.audit id reply in
     subst P h.is (answer_replied made.audit made.answers id reply kept.answers (ap (λ v. answer_of v.answers id) h.is ∙ is))
 
-pub world_replied : (w : World) → WorldStands w → (id : ℕ) (reply : Outcome) → answer_at w id ≡ Some reply → IsReplied w.audit id reply
+pub world_replied : (w : World) → WorldStands w → (id : ℕ) (reply : EntryReply) → answer_at w id ≡ Some reply → IsReplied w.audit id reply
 world_replied w h id reply is = go (submitted w.front.submissions id) refl is
   where
     at : (s : Sealed) → submitted w.front.submissions id ≡ Some s → (found : Option Group) → group_at (group_for s) w.groups ≡ found → answer_in found id ≡ Some reply → IsReplied w.audit id reply
@@ -306,7 +306,7 @@ audit_grows w e = acted_grows (parts_of w.front e) w
 -- ---- answers stand
 
 abbrev Keeps : List Group → List Group → Type 0
-Keeps gs hs = (place : GroupId) (id : ℕ) (reply : Outcome) → answer_in (group_at place gs) id ≡ Some reply → answer_in (group_at place hs) id ≡ Some reply
+Keeps gs hs = (place : GroupId) (id : ℕ) (reply : EntryReply) → answer_in (group_at place gs) id ≡ Some reply → answer_in (group_at place hs) id ≡ Some reply
 
 act_keeps : (w : World) (p : Part) → Keeps w.groups (act w p).groups
 act_keeps w p place id reply is = go (is_same_group place p.id) refl

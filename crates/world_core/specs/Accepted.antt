@@ -8,7 +8,7 @@ use Rattle.object_core.specs.declared.op.Op.{Op}
 use Rattle.map_core.specs.Map.{map_of}
 use Rattle.map_core.specs.Intervals.{set_of}
 use Rattle.entry_core.specs.declared.sealed.GroupId.{GroupId}
-use Rattle.group_core.specs.Types.{Outcome}
+use Rattle.group_core.specs.Types.{EntryReply}
 use Rattle.group_core.specs.Laws.{IsReachedWithin}
 use Rattle.group_core.specs.Group.{Group, last_set}
 use Rattle.world_core.specs.Event.{Ask, Event, Submit, ListNames}
@@ -45,7 +45,7 @@ abbrev pub AcceptedHolds : Type 0
 AcceptedHolds = (table : Table) (daemons : ℕ) (events : List Event) → AreAccepted table daemons events → Holds table daemons events (world_after table daemons events)
 
 abbrev pub AcceptedAnswers : Type 0
-AcceptedAnswers = (table : Table) (daemons : ℕ) (events : List Event) (id : ℕ) (reply : Outcome) → AreAccepted table daemons events
+AcceptedAnswers = (table : Table) (daemons : ℕ) (events : List Event) (id : ℕ) (reply : EntryReply) → AreAccepted table daemons events
     → answer_at (world_after table daemons events) id ≡ Some reply → IsAnswered (world_after table daemons events) id reply
 
 -- ---- intervals and acting sets

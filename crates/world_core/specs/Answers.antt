@@ -7,7 +7,7 @@ use Rattle.entry_core.specs.Laws.{is_denied}
 use Rattle.entry_core.specs.Deciding.{is_allowed_sealed}
 use Rattle.entry_core.specs.declared.entry.Entry.{Entry}
 use Rattle.entry_core.specs.Request.{Sealed}
-use Rattle.group_core.specs.Types.{Outcome}
+use Rattle.group_core.specs.Types.{EntryReply}
 use Rattle.group_core.specs.Group.{Group, answer_of, submitted}
 use Rattle.group_core.specs.Asked.{IsReplied}
 use Rattle.group_core.specs.History.{Begins}
@@ -16,16 +16,16 @@ use Rattle.entry_core.specs.Locality.{group_for}
 use Rattle.world_core.specs.World.{World, world_after, world_step, group_at}
 use Rattle.world_core.specs.Standing.{IsMerged, AllSubmitted, HasNumbers}
 
-abbrev pub answer_in : Option Group → ℕ → Option Outcome
+abbrev pub answer_in : Option Group → ℕ → Option EntryReply
 answer_in None id = None
 answer_in (Some g) id = answer_of g.answers id
 
-abbrev pub answer_to : List Group → ℕ → Option Sealed → Option Outcome
+abbrev pub answer_to : List Group → ℕ → Option Sealed → Option EntryReply
 answer_to groups id None = None
 answer_to groups id (Some s) = answer_in (group_at (group_for s) groups) id
 
 -- the reply to the request of a number that reached the client first
-abbrev pub answer_at : World → ℕ → Option Outcome
+abbrev pub answer_at : World → ℕ → Option EntryReply
 answer_at w id = answer_to w.groups id (submitted w.front.submissions id)
 
 -- whatever happens, in whatever order: what was decided is one legal list, made of the groups' own lists, of requests that were submitted;
@@ -34,7 +34,7 @@ pub record IsOneList (w : World) : Type 0 where
   pub legal : Legal w.audit
   pub merged : IsMerged w
   pub submitted : AllSubmitted w
-  pub answered : (id : ℕ) (reply : Outcome) → answer_at w id ≡ Some reply → IsReplied w.audit id reply
+  pub answered : (id : ℕ) (reply : EntryReply) → answer_at w id ≡ Some reply → IsReplied w.audit id reply
 
 abbrev pub DecidedIsOneList : Type 0
 DecidedIsOneList = (table : Table) (daemons : ℕ) (events : List Event) → HasNumbers (world_after table daemons events) → IsOneList (world_after table daemons events)
@@ -45,10 +45,10 @@ AuditGrows = (w : World) (e : Event) → Begins w.audit (world_step w e).audit
 
 -- each answer stands
 abbrev pub AnswersStand : Type 0
-AnswersStand = (w : World) (e : Event) (id : ℕ) (reply : Outcome) → answer_at w id ≡ Some reply → answer_at (world_step w e) id ≡ Some reply
+AnswersStand = (w : World) (e : Event) (id : ℕ) (reply : EntryReply) → answer_at w id ≡ Some reply → answer_at (world_step w e) id ≡ Some reply
 
 -- a reply is what the store of all entries before it decides on the request, whichever groups they were of
-pub record IsDecidedIn (audit : List Entry) (s : Sealed) (reply : Outcome) : Type 0 where
+pub record IsDecidedIn (audit : List Entry) (s : Sealed) (reply : EntryReply) : Type 0 where
   pub before : List Entry
   pub entry : Entry
   pub after : List Entry
@@ -60,11 +60,11 @@ pub record IsDecidedIn (audit : List Entry) (s : Sealed) (reply : Outcome) : Typ
 
 -- what the client was answered: to a request that was submitted under that number, sealed with its ticket and view at its submission,
 -- the reply that one store without daemons or groups gives at its place; denied just where the ticket does not allow it
-pub record IsAnswered (w : World) (id : ℕ) (reply : Outcome) : Type 0 where
+pub record IsAnswered (w : World) (id : ℕ) (reply : EntryReply) : Type 0 where
   pub request : Sealed
   pub submitted_one : submitted w.front.submissions id ≡ Some request
   pub decided : IsDecidedIn w.audit request reply
 
 abbrev pub AnswersAreDecided : Type 0
-AnswersAreDecided = (table : Table) (daemons : ℕ) (events : List Event) (id : ℕ) (reply : Outcome) → HasNumbers (world_after table daemons events)
+AnswersAreDecided = (table : Table) (daemons : ℕ) (events : List Event) (id : ℕ) (reply : EntryReply) → HasNumbers (world_after table daemons events)
     → answer_at (world_after table daemons events) id ≡ Some reply → IsAnswered (world_after table daemons events) id reply

@@ -1,9 +1,9 @@
 use Rattle.std.proofs.Common.{◌≡◌, ◌+◌, drop}
-use Rattle.peer_core.specs.Choice.{covers, is_heard}
+use Rattle.peer_core.specs.Choice.{covers, is_informed}
 use Rattle.peer_core.proofs.state.State.covers.Given as goal
 
 abbrev pub invariant-loop-members : goal.invariant-loop-members
 invariant-loop-members l = record {
   number : l.j ≡ l.members-index + 1;
-  rest : covers l.self.min_size l.base (is_heard l.self l.heard) l.j (drop l.members-index l.members-items) ≡ covers l.self.min_size l.base (is_heard l.self l.heard) 1 l.members-items;
+  rest : covers l.self.min_size l.base (is_informed l.self l.informed) l.j (drop l.members-index l.members-items) ≡ covers l.self.min_size l.base (is_informed l.self l.informed) 1 l.members-items;
 }

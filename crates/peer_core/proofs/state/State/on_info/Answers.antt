@@ -1,5 +1,5 @@
 use Rattle.std.proofs.Common.{rules, ◌≡◌, ◌∙◌, ◌++◌, [], ◌∷◌, ap, sym, List}
-use Rattle.peer_core.specs.Types.{Daemon, Informed, Peering}
+use Rattle.peer_core.specs.Types.{Daemon, PeerInfo, Peering}
 use Rattle.peer_core.specs.Copy.{try_choice}
 use Rattle.peer_core.proofs.Whole.{whole, Awaited, awaited, hears, forgotten}
 use Rattle.peer_core.proofs.state.State.on_info.Goals as goal
@@ -8,8 +8,8 @@ pub returns-in-Ok-clause-ok : goal.returns-in-Ok-clause-ok
 returns-in-Ok-clause-ok c =
     let self : Daemon = c.args.self.now in
     let w : Awaited self.role self c.args.n c.args.offer.number = awaited self.role self c.args.n c.args.offer.number (search rules) in
-    let all : List Informed = w.heard ++ c.args.offer ∷ [] in
-    let heard_is : c.hear.new.self ≡ record self { role = Peering all } = c.in_ok-hear.ensures.ok w.heard w.is in
+    let all : List PeerInfo = w.informed ++ c.args.offer ∷ [] in
+    let heard_is : c.hear.new.self ≡ record self { role = Peering all } = c.in_ok-hear.ensures.ok w.informed w.is in
     let same : try_choice c.hear.new.self all ≡ try_choice self all = ap (λ d. try_choice d all) heard_is in
     let role_is : c.hear.new.self.role ≡ Peering all = ap (λ d. d.role) heard_is in
     hears self c.args.n c.args.offer w
@@ -19,6 +19,6 @@ pub returns-in-Err-clause-err : goal.returns-in-Err-clause-err
 returns-in-Err-clause-err c =
     let self : Daemon = c.args.self.now in
     let w : Awaited self.role self c.args.n c.args.offer.number = awaited self.role self c.args.n c.args.offer.number (search rules) in
-    let heard_is : c.hear.new.self ≡ record self { role = Peering (w.heard ++ c.args.offer ∷ []) } = c.in_ok-hear.ensures.ok w.heard w.is in
-    let now_is : c.try_choice.new.self ≡ record self { role = Peering (w.heard ++ c.args.offer ∷ []) } = c.in-Err.ensures.err ∙ heard_is in
-    c.unhear.ensures w.heard c.args.offer (ap (λ d. d.role) now_is) ∙ forgotten self c.try_choice.new.self w.heard c.args.offer w.is now_is
+    let heard_is : c.hear.new.self ≡ record self { role = Peering (w.informed ++ c.args.offer ∷ []) } = c.in_ok-hear.ensures.ok w.informed w.is in
+    let now_is : c.try_choice.new.self ≡ record self { role = Peering (w.informed ++ c.args.offer ∷ []) } = c.in-Err.ensures.err ∙ heard_is in
+    c.unhear.ensures w.informed c.args.offer (ap (λ d. d.role) now_is) ∙ forgotten self c.try_choice.new.self w.informed c.args.offer w.is now_is

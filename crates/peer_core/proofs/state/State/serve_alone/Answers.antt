@@ -6,4 +6,4 @@ pub returns-clause-copy : goal.returns-clause-copy
 returns-clause-copy c = alone_copy c.args.self.now c.become_active.new.self c.requires (search rules)
 
 pub returns-clause-sent : goal.returns-clause-sent
-returns-clause-sent c = alone_sent c.args.self.now c.args.sent c.take_all.new.sent c.requires (search rules)
+returns-clause-sent c = alone_sent c.args.self.now c.args.sent c.decide_all.new.sent c.requires (search rules)

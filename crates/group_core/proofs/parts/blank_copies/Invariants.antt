@@ -1,7 +1,0 @@
-use Rattle.std.proofs.Common.{◌≡◌, take, map}
-use Rattle.peer_core.specs.Steps.{blank}
-use Rattle.peer_core.specs.Sets.{daemons}
-use Rattle.group_core.proofs.parts.blank_copies.Given as goal
-
-abbrev pub invariant-loop-number : goal.invariant-loop-number
-invariant-loop-number l = l.copies.items ≡ map (blank l.min_size) (take l.number daemons)

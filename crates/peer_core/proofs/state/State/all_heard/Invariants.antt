@@ -1,7 +1,0 @@
-use Rattle.std.proofs.Common.{◌≡◌, drop}
-use Rattle.std.specs.List.{list_all}
-use Rattle.peer_core.specs.Choice.{is_heard}
-use Rattle.peer_core.proofs.state.State.all_heard.Given as goal
-
-abbrev pub invariant-loop-m : goal.invariant-loop-m
-invariant-loop-m l = list_all (is_heard l.self l.heard) (drop l.m-index l.members) ≡ list_all (is_heard l.self l.heard) l.members

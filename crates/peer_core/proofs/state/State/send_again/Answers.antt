@@ -1,4 +1,0 @@
-use Rattle.peer_core.proofs.state.State.send_again.Goals as goal
-
-pub returns-in-Peering : goal.returns-in-Peering
-returns-in-Peering c = rw (c.in-Peering.is, ← c.as_slice.ensures) c.send_queries.ensures

@@ -1,0 +1,11 @@
+//! The worked examples of logs, copies and groups, as tests. Each calls only what is public.
+//!
+//! They stand here and not beside the code, since a crate with tests is proved a second time with them.
+#![tactic(auto)]
+
+#[cfg(test)]
+mod copies;
+#[cfg(test)]
+mod groups;
+#[cfg(test)]
+mod logs;
