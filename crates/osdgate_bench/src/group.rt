@@ -11,9 +11,10 @@ use entry_core::{GroupId, Id, Items, Sealed, TryCopy};
 use group_core::Group;
 use map_core::PoolView;
 use object_core::{Bytes, Op};
-use place_core::ActingSet;
+use place_core::{ActingSet, DaemonSet};
 use std::alloc::Global;
 use std::time::Clock;
+use verdict_core::IndexedTicket;
 
 /// Requests that a new group takes and answers.
 #[derive(Drop)]
@@ -23,20 +24,11 @@ struct Settling {
     requests: Vec<Sealed>,
 }
 
-/// The daemons 0, 1 and 2.
-fn three(alloc: Global) -> Result<Items<u8>, OutOfMemory> {
-    let mut set = Items::new(alloc);
-    set.push(0)?;
-    set.push(1)?;
-    set.push(2)?;
-    Ok(set)
-}
-
 /// A group of three daemons, which are all up.
 fn three_daemons(alloc: Global, pool: Name) -> Result<Group, OutOfMemory> {
     let group = GroupId { pool, number: 0 };
     let acting = ActingSet::from_slice(&[0, 1, 2]).unwrap_or(ActingSet::new());
-    Group::new(alloc, group, 2, 3, acting, three(alloc)?)
+    Group::new(alloc, group, 2, 3, acting, DaemonSet::first(3))
 }
 
 impl Settling {
@@ -85,20 +77,26 @@ fn write_full(alloc: Global, contents: &str) -> Result<Vec<Op>, OutOfMemory> {
     Ok(vec![in alloc; Op::WriteFull(Bytes::from_slice(alloc, contents.as_bytes())?)]?)
 }
 
-/// A request to replace the contents of one of 64 objects by a name, by a ticket of the one grant `allow *`.
-fn request(alloc: Global, number: u32, name: &str) -> Result<Sealed, Fault> {
+/// A ticket of the one grant `allow *`.
+fn all(alloc: Global) -> Result<IndexedTicket, Fault> {
+    Ok(indexed(ticket_of(alloc, "allow *")?)?)
+}
+
+/// The plain namespace, and one of 64 objects.
+fn address(alloc: Global, name: &str, number: u32) -> Result<(Name, Name), OutOfMemory> {
     let object = format!(in alloc; "{name}.{}", number % 64)?;
-    Ok(Sealed::vector(
-        alloc,
-        Id::new(1, number),
-        indexed(ticket_of(alloc, "allow *")?)?,
-        0,
-        view_of(alloc, name)?,
-        0,
-        Name::new(alloc, "")?,
-        Name::from_string(object),
-        write_full(alloc, name)?,
-    )?)
+    Ok((Name::new(alloc, "")?, Name::from_string(object)))
+}
+
+/// A request to replace the contents of one of 64 objects by a name.
+fn request(alloc: Global, number: u32, name: &str) -> Result<Sealed, Fault> {
+    let id = Id::new(1, number);
+    let view = view_of(alloc, name)?;
+    let (namespace, object) = address(alloc, name, number)?;
+    let ops = write_full(alloc, name)?;
+    let ticket = all(alloc)?;
+    let sealed = Sealed::vector(alloc, id, ticket, 0, view, 0, namespace, object, ops)?;
+    Ok(sealed)
 }
 
 fn through_a_group(alloc: Global, count: u32, name: &str) -> Result<Settling, Fault> {

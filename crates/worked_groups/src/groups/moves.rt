@@ -2,7 +2,6 @@
 
 use super::sets::{self, Who};
 use super::steps::begun;
-use entry_core::OutOfMemory;
 use group_core::{GroupFault, GroupMove};
 use std::alloc::Global;
 use std::test::Fail;
@@ -14,19 +13,19 @@ enum To {
     Again(u8),
 }
 
-fn change(alloc: Global, to: To) -> Result<GroupMove, OutOfMemory> {
+fn change(to: To) -> GroupMove {
     match to {
-        To::Set(who) => Ok(GroupMove::NewInterval {
+        To::Set(who) => GroupMove::NewInterval {
             acting: sets::set(who),
-            up: sets::up(alloc, Who::Three)?,
-        }),
-        To::Again(daemon) => Ok(GroupMove::Restart(daemon)),
+            up: sets::up(Who::Three),
+        },
+        To::Again(daemon) => GroupMove::Restart(daemon),
     }
 }
 
 // How many messages are on their way once the move was given up.
 fn given_up(alloc: Global, to: To) -> Result<usize, GroupFault> {
-    match begun(alloc, 2, Who::Three)?.prepare(change(alloc, to)?) {
+    match begun(alloc, 2, Who::Three)?.prepare(change(to)) {
         Ok(prepared) => Ok(prepared.give_up().wire().len()),
         Err((_, fault)) => Err(fault),
     }
@@ -34,7 +33,7 @@ fn given_up(alloc: Global, to: To) -> Result<usize, GroupFault> {
 
 // And once it was made.
 fn made(alloc: Global, to: To) -> Result<usize, GroupFault> {
-    match begun(alloc, 2, Who::Three)?.prepare(change(alloc, to)?) {
+    match begun(alloc, 2, Who::Three)?.prepare(change(to)) {
         Ok(prepared) => Ok(prepared.commit().wire().len()),
         Err((_, fault)) => Err(fault),
     }

@@ -175,10 +175,9 @@ impl Stage {
         Ok(self.group.submit(request).is_ok() && self.counts())
     }
 
-    fn moves(&mut self, alloc: Global, acting: Who, up: Who) -> Result<bool, OutOfMemory> {
-        let acting = set(acting);
-        let up = sets::up(alloc, up)?;
-        Ok(self.group.new_interval(acting, up).is_ok() && self.counts())
+    fn moves(&mut self, acting: Who, up: Who) -> bool {
+        let moved = self.group.new_interval(set(acting), sets::up(up));
+        moved.is_ok() && self.counts()
     }
 
     // Whether this was accepted.
@@ -188,7 +187,7 @@ impl Stage {
             Deliver(of, to) => Ok(self.meets_one(of, to, false)),
             Lose(of, to) => Ok(self.meets_one(of, to, true)),
             LoseAll => Ok(self.meets_all(true)),
-            Move(acting, up) => Ok(self.moves(alloc, acting, up)?),
+            Move(acting, up) => Ok(self.moves(acting, up)),
             Settle => Ok(self.meets_all(false)),
         }
     }

@@ -121,13 +121,9 @@ fn sees(group: &Group, step: Step) -> bool {
 }
 
 // Whether a move, a restart or a kick is accepted, or refused as it must be.
-fn changes(alloc: Global, group: &mut Group, step: Step) -> Result<bool, OutOfMemory> {
+fn changes(group: &mut Group, step: Step) -> Result<bool, OutOfMemory> {
     match step {
-        Move(acting, up) => {
-            let acting = set(acting);
-            let up = sets::up(alloc, up)?;
-            Ok(group.new_interval(acting, up).is_ok())
-        }
+        Move(acting, up) => { Ok(group.new_interval(set(acting), sets::up(up)).is_ok()) }
         Restart(daemon) => Ok(group.restart(daemon).is_ok()),
         Stuck(daemon) => Ok(matches!(group.restart(daemon), Err(GroupFault::Full))),
         Kick => Ok(group.kick().is_ok()),
@@ -201,7 +197,7 @@ pub(super) fn run(alloc: Global, group: &mut Group, steps: &[Step]) -> Result<us
     for (gone, step) in steps.iter().enumerate() {
         let right = passes(group, *step)
             && asks(alloc, group, *step)?
-            && changes(alloc, group, *step)?
+            && changes(group, *step)?
             && sees(group, *step);
         if !right {
             return Ok(gone);
@@ -219,8 +215,7 @@ pub(super) fn begun(alloc: Global, min_size: usize, who: Who) -> Result<Group, O
         number: 5,
     };
     let acting = set(who);
-    let up = sets::up(alloc, Who::Three)?;
-    Group::new(alloc, group, min_size, 3, acting, up)
+    Group::new(alloc, group, min_size, 3, acting, sets::up(Who::Three))
 }
 
 // A group of daemons 0, 1 and 2 that takes these steps, and how many of them go as they say.
