@@ -7,7 +7,7 @@ use crate::grants::{indexed, ticket_of};
 use crate::measure::Work;
 use crate::table::Table;
 use cap_text::{Name, OutOfMemory, Tags};
-use entry_core::{GroupId, Id, Items, Sealed, TryCopy};
+use entry_core::{GroupId, Id, Sealed, TryCopy};
 use group_core::Group;
 use map_core::PoolView;
 use object_core::{Bytes, Op};
