@@ -7,7 +7,7 @@ use Rattle.cap_text.specs.declared.fault.FaultKind.TheVariants as kinds
 use Rattle.cap_text.specs.declared.grant.Grant.{Grant}
 use Rattle.cap_text.specs.Grammar.{Spells}
 use Rattle.cap_text.specs.Faults.{MemoryOr, IsFirstFault}
-use Rattle.cap_text.specs.Reading.{Read, read_text}
+use Rattle.cap_text.specs.ReadText.{Read, read_text}
 use Rattle.cap_text.proofs.ReadTexts.{reads_the_grammar}
 use Rattle.cap_text.proofs.FirstFaults.{tells_the_first_fault}
 use Rattle.cap_text.proofs.ReadAnswers.{reads_nothing_else}

@@ -8,7 +8,7 @@ use Rattle.cap_text.specs.declared.fault.FaultKind.{FaultKind}
 use Rattle.cap_text.specs.declared.fault.FaultKind.TheVariants as kinds
 use Rattle.cap_text.specs.declared.grant.Grant.{Grant}
 use Rattle.cap_text.specs.Grammar.{Spells}
-use Rattle.cap_text.specs.Reading.{Read, read_text}
+use Rattle.cap_text.specs.ReadText.{Read, read_text}
 use Rattle.grant_core.specs.declared.fault.ExpandFault.{ExpandFault}
 use Rattle.grant_core.specs.declared.fault.ExpandFault.TheVariants as expansion
 use Rattle.grant_core.specs.Flat.{Table}

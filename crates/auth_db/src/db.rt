@@ -16,7 +16,7 @@ ghost use Rattle.auth_db.specs.Users.{user_at, users_after, after, Add, GetOrCre
 use crate::caps::Caps;
 use crate::fault::AuthFault;
 use crate::name::is_user_name;
-use crate::reading::{check_osd, osd_ticket};
+use crate::osd_texts::{check_osd, osd_ticket};
 use crate::users::{Users, count, find, has_user, names, put, take};
 use cap_text::{CapFault, FaultKind, Name};
 use grant_core::ProfileTable;

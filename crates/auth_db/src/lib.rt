@@ -8,7 +8,7 @@ mod caps;
 mod db;
 mod fault;
 mod name;
-mod reading;
+mod osd_texts;
 mod users;
 
 pub use caps::Caps;

@@ -16,7 +16,7 @@ use Rattle.cap_text.specs.declared.fault.FaultKind.{FaultKind}
 use Rattle.cap_text.specs.declared.fault.FaultKind.TheVariants.{TooLong, TooManyGrants, UnknownWord, BadAccess, BadMatch, BadWord, NetworkClause, OutOfMemory}
 use Rattle.cap_text.specs.declared.grant.Grant.{Grant}
 use Rattle.cap_text.specs.Faults.{Next, AtEnd, NoToken, AToken, StandsNext, keyword_at, IsClauseWord, MayFollow, Blocks, IsBadWord, IsGrantPlace, IsAccessPlace, IsEqualsPlace, IsKind, AreFull, IsThere, IsPastLimit, IsFaultWithin}
-use Rattle.cap_text.specs.Reading.{quoted_at, token_at, Read, carried, with_token, read_from, read_text, TellsTheFirstFault}
+use Rattle.cap_text.specs.ReadText.{quoted_at, token_at, Read, carried, with_token, read_from, read_text, TellsTheFirstFault}
 use Rattle.cap_text.proofs.Spans.{span_unique, span_front}
 use Rattle.std.proofs.lemmas.Bool.{lt-ltb}
 use Rattle.std.proofs.lemmas.List.{take-append-drop}

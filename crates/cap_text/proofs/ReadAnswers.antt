@@ -15,7 +15,7 @@ use Rattle.cap_text.specs.declared.fault.FaultKind.{FaultKind}
 use Rattle.cap_text.specs.declared.fault.FaultKind.TheVariants.{TooManyGrants}
 use Rattle.cap_text.specs.declared.grant.Grant.{Grant}
 use Rattle.cap_text.specs.Faults.{AtEnd, AToken, IsFirstFault, IsFaultWithin}
-use Rattle.cap_text.specs.Reading.{token_at, Read, carried, with_token, read_at, read_from, read_text, ReadsNothingElse}
+use Rattle.cap_text.specs.ReadText.{token_at, Read, carried, with_token, read_at, read_from, read_text, ReadsNothingElse}
 use Rattle.cap_text.proofs.Spans.{skips, span_unique}
 use Rattle.cap_text.proofs.Reading.{skips_all, skips_some, one_shorter}
 use Rattle.cap_text.proofs.Runs.{origin}

@@ -20,7 +20,7 @@ use Rattle.cap_text.proofs.Reading.{leads, one_shorter}
 use Rattle.cap_text.proofs.Forth.{◌then◌, run, complete}
 use Rattle.cap_text.proofs.Runs.{whole, all_of, origin, Room, advance_room, then_is, run-append, run_on, given_on, too_many}
 use Rattle.cap_text.specs.Place as places
-use Rattle.cap_text.specs.Reading.{quoted_at, token_at, Read, carried, with_token, read_at, read_from, read_text, ReadsTheGrammar}
+use Rattle.cap_text.specs.ReadText.{quoted_at, token_at, Read, carried, with_token, read_at, read_from, read_text, ReadsTheGrammar}
 
 -- ---- tokens
 

@@ -11,4 +11,4 @@ pub mod Place
 pub mod Machine
 pub mod FaultText
 pub mod Sheet
-pub mod Reading
+pub mod ReadText

@@ -5,7 +5,7 @@ ghost use Rattle.cap_text.specs.declared.grant.Grant.{Grant};
 ghost use Rattle.cap_text.specs.Grammar.{Spells, AtMostOneList};
 ghost use Rattle.cap_text.specs.Machine.{placed};
 ghost use Rattle.cap_text.specs.Faults.{OrMemory, IsFirstFault};
-ghost use Rattle.cap_text.specs.Reading.{ReadsNothingElse, ReadsTheGrammar, TellsTheFirstFault};
+ghost use Rattle.cap_text.specs.ReadText.{ReadsNothingElse, ReadsTheGrammar, TellsTheFirstFault};
 
 use crate::caps::CapList;
 use crate::fault::{CapFault, FaultKind};

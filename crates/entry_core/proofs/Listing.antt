@@ -19,7 +19,7 @@ use Rattle.entry_core.specs.Store.{ObjectName, bytes_cmp, name_cmp}
 use Rattle.entry_core.specs.Names.{is_same, is_same-ties, is_same_equiv, same_from_is_same}
 use Rattle.entry_core.specs.Deciding.{is_listed, names_in}
 use Rattle.entry_core.specs.Laws.{ListingsAreSorted}
-use Rattle.entry_core.specs.Stored.{Texts, Kept, objects_of, marked_text, with_text, collected}
+use Rattle.entry_core.specs.Stored.{Texts, StoredObjects, objects_of, marked_text, with_text, collected}
 use Rattle.entry_core.proofs.Stores.{get-objects_of}
 use Rattle.entry_core.proofs.TextSets.{bytes_apart, marked, marked_or, set_of, keys-sorted}
 
@@ -67,7 +67,7 @@ is_some-map f None = refl
 is_some-map f (Some a) = refl
 
 -- the hash map and the store have the same names
-same_keys : (es : Kept) (q : ObjectName) → list_any (is_same q) (keys_of es) ≡ list_any (is_same q) (keys (objects_of es))
+same_keys : (es : StoredObjects) (q : ObjectName) → list_any (is_same q) (keys_of es) ≡ list_any (is_same q) (keys (objects_of es))
 same_keys es q =
     sym (is_some-lookup (is_same q) es) ∙ sym (is_some-map arc_value (lookup (is_same q) es)) ∙ ap is_some (sym (get-objects_of es q))
     ∙ contains_key-keys (objects_of es) q ∙ sym (any_ties q (keys (objects_of es)))
@@ -181,14 +181,14 @@ unfolding names_in
 names_in-sorted store s = names-sorted s (entries store) (entries_sorted store)
 
 -- the names that were collected from the hash map are those of the piece
-same_sets : (p : ObjectName → Bool) (es : Kept) → collected p empty (keys_of es) ≡ set_of (names_by p (keys (objects_of es)))
+same_sets : (p : ObjectName → Bool) (es : StoredObjects) → collected p empty (keys_of es) ≡ set_of (names_by p (keys (objects_of es)))
 same_sets p es =
     same_map nat_list_cmp_total bytes_apart _ _
     (λ q. get-collected p empty (keys_of es) q ∙ ap (cond (list_any (under p q) (keys_of es)) (Some tt)) (get-empty bytes_cmp q)
     ∙ ap marked (any_same (under p q) (keys_of es) (keys (objects_of es)) (same_keys es))
     ∙ sym (get-from_entries nat_list_cmp_total _ q ∙ find-set_of q (names_by p (keys (objects_of es))) ∙ ap marked (any-filter p q (keys (objects_of es)))))
 
-pub collected_names : (s : Sealed) (es : Kept) (texts : Texts) → texts ≡ collected (is_listed s) empty (keys_of es) → keys texts ≡ names_in (objects_of es) s
+pub collected_names : (s : Sealed) (es : StoredObjects) (texts : Texts) → texts ≡ collected (is_listed s) empty (keys_of es) → keys texts ≡ names_in (objects_of es) s
 unfolding names_in
 collected_names s es texts h =
     ap keys (h ∙ same_sets (is_listed s) es) ∙ keys-sorted _ (names-sorted s (entries (objects_of es)) (entries_sorted (objects_of es)))

@@ -7,17 +7,17 @@ use Rattle.entry_core.specs.Laws.{changed}
 use Rattle.entry_core.specs.Log.{decision, ids, is_in}
 use Rattle.entry_core.specs.Stored.{IsStored, place_in, decided_of, change_of}
 use Rattle.entry_core.specs.declared.entry.Entry.{Entry}
-use Rattle.entry_core.specs.declared.decided.Left.{Left}
+use Rattle.entry_core.specs.declared.decided.ObjectChange.{ObjectChange}
 use Rattle.entry_core.proofs.Lawful.{decision_tells_the_store}
 use Rattle.entry_core.proofs.Places.{place_push}
 
 -- the objects after what was decided
-store_after : (log : List Entry) (store store' : Store) (entry : Entry) (left : Left) → store ≡ store_of log → decided_of entry left ≡ decision log entry.sealed
+store_after : (log : List Entry) (store store' : Store) (entry : Entry) (left : ObjectChange) → store ≡ store_of log → decided_of entry left ≡ decision log entry.sealed
     → store' ≡ changed store (name_of entry.sealed) (change_of left) → store' ≡ store_of (log ++ entry ∷ [])
 store_after log store store' entry left made told h =
     h ∙ (λ i. changed (made i) (name_of entry.sealed) (told i).change) ∙ sym (decision_tells_the_store log entry.sealed) ∙ ap (λ (d : Decision). store_of (log ++ d.entry ∷ [])) (sym told)
 
-pub after_push : (log : List Entry) (index : List (ℕ × ℕ)) (store : Store) (entry : Entry) (left : Left) (decided : Decision) → IsStored log index store → decided_of entry left ≡ decided → decided ≡ decision log decided.entry.sealed → is_in (ids log) decided.entry.sealed.id ≡ false
+pub after_push : (log : List Entry) (index : List (ℕ × ℕ)) (store : Store) (entry : Entry) (left : ObjectChange) (decided : Decision) → IsStored log index store → decided_of entry left ≡ decided → decided ≡ decision log decided.entry.sealed → is_in (ids log) decided.entry.sealed.id ≡ false
     → (log' : List Entry) (index' : List (ℕ × ℕ)) (store' : Store) → log' ≡ log ++ entry ∷ [] → ((id : ℕ) → lookup (λ n. id == n) index' ≡ cond (entry.sealed.id == id) (Some (length log)) (lookup (λ n. id == n) index))
     → store' ≡ changed store (name_of entry.sealed) (change_of left) → IsStored log' index' store'
 after_push log index store entry left decided stored parts here new log' index' store' grown indexed changed_to =

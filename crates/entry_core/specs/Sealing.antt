@@ -4,9 +4,9 @@ use Rattle.std.specs.Prelude.{◌≡◌, ℕ, ◌≤◌, List, [], Option, Some,
 use Rattle.verdict_core.specs.Place.{Place}
 use Rattle.object_core.specs.declared.op.Op.{Op}
 use Rattle.entry_core.specs.Request.{Sealed, Work, Vector, Listing, needs_for, IsSound}
-use Rattle.entry_core.specs.declared.parts.Parts.{Parts}
-use Rattle.entry_core.specs.declared.parts.Task.{Task}
-use Rattle.entry_core.specs.declared.parts.Task.TheVariants as task
+use Rattle.entry_core.specs.declared.sealed_parts.Parts.{Parts}
+use Rattle.entry_core.specs.declared.sealed_parts.Task.{Task}
+use Rattle.entry_core.specs.declared.sealed_parts.Task.TheVariants as task
 
 abbrev pub work_in : List ℕ → Task → Work
 work_in name (task.Vector ops) = Vector name ops.items

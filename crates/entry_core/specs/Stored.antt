@@ -15,22 +15,22 @@ use Rattle.object_core.specs.declared.outcome.Change.TheVariants as change
 use Rattle.entry_core.specs.Store.{Store, ObjectName, bytes_cmp}
 use Rattle.entry_core.specs.Deciding.{Decision, store_of}
 use Rattle.entry_core.specs.declared.entry.Entry.{Entry}
-use Rattle.entry_core.specs.declared.decided.Left.{Left}
-use Rattle.entry_core.specs.declared.decided.Left.TheVariants as left
+use Rattle.entry_core.specs.declared.decided.ObjectChange.{ObjectChange}
+use Rattle.entry_core.specs.declared.decided.ObjectChange.TheVariants as left
 
-abbrev pub Kept : Type 0
-Kept = List (ObjectName × Arc Content Global)
+abbrev pub StoredObjects : Type 0
+StoredObjects = List (ObjectName × Arc Content Global)
 
 -- the objects of a hash map, whatever their order there
-abbrev pub objects_of : Kept → Store
+abbrev pub objects_of : StoredObjects → Store
 objects_of entries = from_entries (map (λ e. (e.0, arc_value e.1)) entries)
 
 -- what is left of the object
-abbrev pub change_of : Left → Change
+abbrev pub change_of : ObjectChange → Change
 change_of left.Kept = change.Kept
 change_of (left.Became object) = change.Became (option_map arc_value object)
 
-abbrev pub decided_of : Entry → Left → Decision
+abbrev pub decided_of : Entry → ObjectChange → Decision
 decided_of entry left = record { entry = entry; change = change_of left }
 
 -- where the entry of a request's number stands, if there is one

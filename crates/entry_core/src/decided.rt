@@ -10,7 +10,7 @@ use std::sync::Arc;
 
 /// What becomes of the object that a request names.
 #[derive(Drop)]
-pub(crate) enum Left {
+pub(crate) enum ObjectChange {
     /// It stays as it was.
     Kept,
     /// It is this object now, or is gone.
@@ -21,7 +21,7 @@ pub(crate) enum Left {
 #[derive(Drop)]
 pub struct Decided {
     entry: Entry,
-    left: Left,
+    left: ObjectChange,
 }
 
 impl Model for Decided {
@@ -42,13 +42,13 @@ impl Decided {
         &self.entry
     }
 
-    pub(crate) fn new(entry: Entry, left: Left) -> Decided
+    pub(crate) fn new(entry: Entry, left: ObjectChange) -> Decided
         ensures { result ≡ decided_of entry left }
     {
         Decided { entry, left }
     }
 
-    pub(crate) fn into_parts(self) -> (Entry, Left)
+    pub(crate) fn into_parts(self) -> (Entry, ObjectChange)
         ensures { decided_of result.0 result.1 ≡ self }
     {
         let Decided { entry, left } = self;

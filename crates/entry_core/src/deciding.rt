@@ -5,10 +5,10 @@ ghost use Rattle.std.specs.Option.{option_map};
 ghost use Rattle.std.specs.Arc.{arc_value};
 ghost use Rattle.std.specs.FinMap.{get};
 ghost use Rattle.object_core.specs.Effect.{effect};
-ghost use Rattle.object_core.specs.Told.{after};
+ghost use Rattle.object_core.specs.ToldEffects.{after};
 ghost use Rattle.entry_core.specs.Deciding.{answered, decision_on, name_of, ran, with_answer};
 
-use crate::decided::{Decided, Left};
+use crate::decided::{Decided, ObjectChange};
 use crate::entry::Entry;
 use crate::items::TryCopy;
 use crate::objects::Objects;
@@ -55,7 +55,7 @@ fn answer(sealed: &Sealed, reply: Reply) -> Result<Decided, OutOfMemory>
         sealed: sealed.copy()?,
         reply,
     };
-    Ok(Decided::new(entry, Left::Kept))
+    Ok(Decided::new(entry, ObjectChange::Kept))
 }
 
 /// What operations come to on the object that a request names.
@@ -76,7 +76,7 @@ fn run(
                 sealed: sealed.copy()?,
                 reply: Reply::Done(outputs),
             };
-            Ok(Decided::new(entry, Left::Became(object)))
+            Ok(Decided::new(entry, ObjectChange::Became(object)))
         }
     }
 }

@@ -14,9 +14,9 @@ mod laws;
 mod log;
 mod object_name;
 mod objects;
-mod parts;
 mod reply;
 mod sealed;
+mod sealed_parts;
 mod texts;
 
 pub use boxed_log::BoxedLog;

@@ -8,7 +8,7 @@ ghost use Rattle.entry_core.specs.Deciding.{names_in};
 ghost use Rattle.entry_core.specs.Laws.{changed};
 ghost use Rattle.entry_core.specs.Stored.{change_of};
 
-use crate::decided::Left;
+use crate::decided::ObjectChange;
 use crate::items::Items;
 use crate::object_name::ObjectName;
 use crate::sealed::Sealed;
@@ -76,14 +76,18 @@ impl Objects {
     }
 
     /// Does to the object of a name what was decided. Where memory is wanting, nothing changes.
-    pub(crate) fn change(&mut self, name: &ObjectName, left: Left) -> Result<(), OutOfMemory>
+    pub(crate) fn change(
+        &mut self,
+        name: &ObjectName,
+        left: ObjectChange,
+    ) -> Result<(), OutOfMemory>
         ensures ok { OnOk result (self.new ≡ changed self.old name.now (change_of left)) }
         ensures err { OnErr result (self.new ≡ self.old) }
     {
         match left {
-            Left::Kept => Ok(()),
-            Left::Became(Some(object)) => self.put(name, object),
-            Left::Became(None) => {
+            ObjectChange::Kept => Ok(()),
+            ObjectChange::Became(Some(object)) => self.put(name, object),
+            ObjectChange::Became(None) => {
                 self.take_out(name);
                 Ok(())
             }

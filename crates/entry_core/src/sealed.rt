@@ -11,7 +11,7 @@ ghost use Rattle.entry_core.specs.Sealing as sealing;
 use crate::id::Id;
 use crate::items::TryCopy;
 use crate::object_name::ObjectName;
-use crate::parts::{Parts, Task, ops_of, target_of};
+use crate::sealed_parts::{Parts, Task, ops_of, target_of};
 use cap_text::{Name, OutOfMemory};
 use map_core::PoolView;
 use object_core::{NeedsFault, Op, needs_of};

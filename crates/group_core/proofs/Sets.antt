@@ -2,7 +2,7 @@
 use Rattle.std.proofs.Common.{ℕ, ◌≡◌, ◌≤◌, true, ◌==◌, ◌&&◌, ◌||◌, not, List, [], ◌∷◌, length, refl, sym, ap, ◌∙◌}
 use Rattle.std.specs.List.{list_any}
 use Rattle.std.specs.Str.{bytes_eq}
-use Rattle.place_core.specs.Members as members
+use Rattle.place_core.specs.Distinct as members
 use Rattle.entry_core.specs.Log.{is_in}
 use Rattle.group_core.specs.Group.{is_distinct, same_set, IsSet}
 

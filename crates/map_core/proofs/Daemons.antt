@@ -14,7 +14,7 @@ use Rattle.map_core.specs.Map.{after, initial, map_of, epoch_of}
 use Rattle.map_core.specs.Refusal.{refusal, tests}
 use Rattle.map_core.specs.Limits.{AcceptedFrom}
 use Rattle.map_core.specs.Intervals.{size_in, set_of, begun, restarts}
-use Rattle.map_core.specs.Sets.{IsSetOf}
+use Rattle.map_core.specs.ActingSets.{IsSetOf}
 use Rattle.map_core.specs.Laws.{later, SetsAreActing, UpAreThere}
 use Rattle.map_core.proofs.Acceptance.{limits_of, all_fail, accepted_push}
 use Rattle.map_core.proofs.IntervalLists.{size_small}

@@ -7,7 +7,7 @@ use Rattle.map_core.specs.State.{MapState, History}
 use Rattle.map_core.specs.Map.{after, map_of, pool_in, view_at}
 use Rattle.map_core.specs.Limits.{IsAccepted}
 use Rattle.map_core.specs.Intervals.{set_of, begun, intervals_of}
-use Rattle.map_core.specs.Sets.{IsSetOf}
+use Rattle.map_core.specs.ActingSets.{IsSetOf}
 use Rattle.map_core.specs.declared.pool.Pool.{Pool}
 use Rattle.map_core.specs.declared.pool.PoolView.{PoolView}
 use Rattle.map_core.specs.declared.command.MapCommand.{MapCommand}

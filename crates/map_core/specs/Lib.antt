@@ -5,6 +5,6 @@ pub mod Limits
 pub mod Map
 pub mod Refusal
 pub mod Replay
-pub mod Sets
+pub mod ActingSets
 pub mod State
 pub mod Printed

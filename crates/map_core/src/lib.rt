@@ -3,6 +3,7 @@
 //! A map is what its accepted commands made of it. Each command makes an epoch, and a pool can be seen as it was at any of them.
 #![tactic(auto)]
 
+mod acting_sets;
 mod command;
 mod edits;
 mod fault;
@@ -11,7 +12,6 @@ mod map;
 mod pool;
 mod refusals;
 mod replay;
-mod sets;
 
 pub use cap_text::OutOfMemory;
 pub use command::MapCommand;

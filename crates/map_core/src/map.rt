@@ -9,16 +9,16 @@ ghost use Rattle.map_core.specs.Refusal as tests;
 ghost use Rattle.map_core.specs.Intervals.{set_of, intervals_of};
 ghost use Rattle.map_core.specs.Intervals as intervals;
 ghost use Rattle.map_core.specs.Limits.{IsAccepted, IsPool, HasLimits};
-ghost use Rattle.map_core.specs.Sets.{IsSetOf};
+ghost use Rattle.map_core.specs.ActingSets.{IsSetOf};
 ghost use Rattle.map_core.specs.State.{GoesOn};
 
+use crate::acting_sets::{set_of_size, size_after, size_in};
 use crate::command::{MapCommand, begin_with, copy_commands};
 use crate::edits::change_pools;
 use crate::fault::MapFault;
 use crate::pool::{Epoch, Pool, PoolView, copy_pools};
 use crate::refusals::{acting_refusal, is_word, refusal};
 use crate::replay::{view_now, view_then};
-use crate::sets::{set_of_size, size_after, size_in};
 use cap_text::{Name, OutOfMemory};
 use place_core::{ActingSet, DaemonSet};
 use std::alloc::Global;

@@ -5,7 +5,7 @@ use Rattle.std.proofs.lemmas.List.{drop_all}
 use Rattle.object_core.specs.Content.{Content}
 use Rattle.object_core.specs.Effect.{Run, Effect, effect_of, go_on, run_from, with_output}
 use Rattle.object_core.specs.Needs.{only_looks}
-use Rattle.object_core.specs.Told.{StaysAs}
+use Rattle.object_core.specs.ToldEffects.{StaysAs}
 use Rattle.object_core.specs.declared.op.Op.{Op}
 use Rattle.object_core.specs.declared.outcome.Change.{Change}
 

@@ -6,4 +6,4 @@ pub mod Faults
 pub mod Laws
 pub mod Needs
 pub mod Number
-pub mod Told
+pub mod ToldEffects

@@ -5,7 +5,7 @@ ghost use Rattle.object_core.specs.Effect.{added, effect_of_method};
 ghost use Rattle.object_core.specs.Effect as spec;
 ghost use Rattle.object_core.specs.Needs as registry;
 ghost use Rattle.object_core.specs.Number as numbers;
-ghost use Rattle.object_core.specs.Told.{StaysAs, after, kept_step, changed_step, told_step};
+ghost use Rattle.object_core.specs.ToldEffects.{StaysAs, after, kept_step, changed_step, told_step};
 
 use crate::bytes::Bytes;
 use crate::class::{Method, method_of};

@@ -8,7 +8,7 @@ ghost use Rattle.object_core.specs.Bytes.{resized, overwritten};
 ghost use Rattle.object_core.specs.Content.{bytes_of, attributes_of};
 ghost use Rattle.object_core.specs.Content as spec;
 ghost use Rattle.object_core.specs.Effect.{found, put, created, attribute_set, attribute_removed};
-ghost use Rattle.object_core.specs.Told.{after, told_change};
+ghost use Rattle.object_core.specs.ToldEffects.{after, told_change};
 ghost use Rattle.object_core.specs.declared.outcome.Change.TheVariants.{Became};
 
 use crate::attributes::Attributes;

@@ -3,7 +3,7 @@
 ghost use Rattle.std.specs.Prelude.{◌≡◌, ◌≤◌, IfOk, length, option_copied};
 ghost use Rattle.object_core.specs.Content.{bytes_of, attributes_of};
 ghost use Rattle.object_core.specs.Effect.{left_by};
-ghost use Rattle.object_core.specs.Told.{after, told};
+ghost use Rattle.object_core.specs.ToldEffects.{after, told};
 
 use crate::attributes::Attributes;
 use crate::bytes::Bytes;

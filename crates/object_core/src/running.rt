@@ -4,7 +4,7 @@ ghost use Rattle.std.specs.Prelude.{◌≡◌, true, IfOk, option_copied};
 ghost use Rattle.std.specs.List.{list_all};
 ghost use Rattle.object_core.specs.Effect.{effect, effect_of};
 ghost use Rattle.object_core.specs.Needs.{only_looks};
-ghost use Rattle.object_core.specs.Told.{KeepsObject, StaysAs, after, told, told_step};
+ghost use Rattle.object_core.specs.ToldEffects.{KeepsObject, StaysAs, after, told, told_step};
 
 use crate::calling::{Step, call, changes, looks};
 use crate::object::Object;

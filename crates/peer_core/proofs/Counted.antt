@@ -5,7 +5,7 @@ use Rattle.std.proofs.lemmas.Bool.{eqb-true, eq-eqb}
 use Rattle.std.proofs.lemmas.List.Elements.{filter_more, filter-append}
 use Rattle.std.proofs.lemmas.List.{append-nil}
 use Rattle.entry_core.specs.Log.{is_in}
-use Rattle.place_core.specs.Members.{is_distinct}
+use Rattle.place_core.specs.Distinct.{is_distinct}
 
 -- a set's own test of a member
 pub has_is_in : (xs : List ℕ) (x : ℕ) → list_any (λ d. d == x) xs ≡ is_in xs x

@@ -3,7 +3,7 @@
 ghost use Rattle.std.specs.Prelude.{◌≡◌, ◌≤◌, ◌==◌, ◌&&◌, ◌++◌, true, not, map, length, OnOk, IfOk};
 ghost use Rattle.std.specs.List.{list_any};
 ghost use Rattle.entry_core.specs.Log.{is_in};
-ghost use Rattle.place_core.specs.Members.{is_distinct};
+ghost use Rattle.place_core.specs.Distinct.{is_distinct};
 ghost use Rattle.peer_core.specs.ActingSets.{set_of, is_primary};
 
 use crate::message::{Body, Party, Sent};
@@ -60,7 +60,7 @@ pub fn is_primary(set: &[u8], number: u8) -> bool
 impl State {
     ghost use Rattle.std.specs.Prelude.{◌≡◌, ◌≤◌, ◌==◌, ◌&&◌, ◌||◌, ◌++◌, true, not, map, filter, length, OnOk};
     ghost use Rattle.entry_core.specs.Log.{is_in};
-    ghost use Rattle.place_core.specs.Members.{is_distinct};
+    ghost use Rattle.place_core.specs.Distinct.{is_distinct};
     ghost use Rattle.peer_core.specs.Types as types;
     ghost use Rattle.peer_core.specs.ActingSets.{set_of, others, counted, all_count, missing, is_asked};
     ghost use Rattle.peer_core.specs.Choice.{is_informed};

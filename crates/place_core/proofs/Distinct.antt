@@ -3,7 +3,7 @@ use Rattle.std.proofs.Common.{◌≡◌, ◌≢◌, ℕ, suc, ◌==◌, ◌||◌
 use Rattle.std.specs.List.{list_any, AllPairs}
 use Rattle.std.proofs.lemmas.List.Folds.{list_any_none, list_any-append}
 use Rattle.std.proofs.lemmas.Bool.{eqb-true, eq-eqb}
-use Rattle.place_core.specs.Members.{is_distinct}
+use Rattle.place_core.specs.Distinct.{is_distinct}
 
 pub differs : (a b : ℕ) → a ≢ b → (a == b) ≡ false
 differs a b other = go (a == b) refl

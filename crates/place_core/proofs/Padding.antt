@@ -3,8 +3,8 @@ use Rattle.std.proofs.Common.{◌≡◌, ℕ, ◌+◌, ◌-◌, ◌<◌, ◌==�
 use Rattle.std.proofs.Math.Seq.{set-append_seam}
 use Rattle.std.proofs.lemmas.List.{take_more, take_more_set, length-set}
 use Rattle.std.specs.List.{list_any}
-use Rattle.place_core.specs.declared.members.ActingSet.TheInside.{Inside}
-use Rattle.place_core.specs.Members.{is_distinct}
+use Rattle.place_core.specs.declared.acting_sets.ActingSet.TheInside.{Inside}
+use Rattle.place_core.specs.Distinct.{is_distinct}
 use Rattle.place_core.specs.Inside.{members_of, IsPadded}
 use Rattle.place_core.proofs.Distinct.{distinct_push}
 

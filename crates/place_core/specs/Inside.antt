@@ -2,8 +2,8 @@
 -- What the fields of an acting set stand for.
 use Rattle.std.specs.Prelude.{◌≡◌, ℕ, ◌-◌, ◌≤◌, true, List, ◌++◌, length, take, replicate}
 use Rattle.std.proofs.Common.{sym, ap, ◌∙◌, length-take, arith}
-use Rattle.place_core.specs.Members.{is_distinct}
-use Rattle.place_core.specs.declared.members.ActingSet.TheInside.{Inside}
+use Rattle.place_core.specs.Distinct.{is_distinct}
+use Rattle.place_core.specs.declared.acting_sets.ActingSet.TheInside.{Inside}
 
 abbrev pub members_of : Inside → List ℕ
 members_of a = take a.len a.members

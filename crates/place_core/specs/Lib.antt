@@ -1,5 +1,5 @@
 pub mod Place
 pub mod Ranking
-pub mod Members
+pub mod Distinct
 pub mod Inside
 pub mod Laws

@@ -1,16 +1,16 @@
 //! Placement: the group of an object, and the daemons that serve a group.
 #![tactic(auto)]
 
+mod acting_sets;
 mod daemons;
 mod hashing;
 mod laws;
-mod members;
 mod ranking;
 #[cfg(test)]
 mod tests;
 
+pub use acting_sets::{ActingSet, acting, acting_set};
 pub use daemons::DaemonSet;
 pub use hashing::{group_of, hash};
 pub use laws::{acting_is_a_set, acting_is_the_ranking, daemons_are_sixteen};
-pub use members::{ActingSet, acting, acting_set};
 pub use std::alloc::AllocError as OutOfMemory;

@@ -15,7 +15,7 @@ use Rattle.turn_lock.specs.declared.rule.Made.{Made}
 use Rattle.turn_lock.specs.declared.rule.View.{View}
 use Rattle.turn_lock.specs.declared.rule.Stage.{Stage}
 use Rattle.turn_lock.specs.declared.rule.Stage.TheVariants.{Spent, Away, Waiting, Turn}
-use Rattle.turn_lock.specs.Tales.{StartsWith, longer, made, made_by, state_after}
+use Rattle.turn_lock.specs.Turns.{StartsWith, longer, made, made_by, state_after}
 use Rattle.turn_lock.specs.Turning.{last_word, total_draws, HasSeen, Knows, Turning, Ruled, first_view, kept_view, given_view, joined_view, spent_view, settled_view, drew, called, settled, looked}
 use Rattle.turn_lock.proofs.Lists.{starts_whole, starts_none, starts_more, shorter_begins, made_by_starts, made_by-own, made_by-other, total_draws-set, total_draws-append}
 

@@ -6,7 +6,7 @@ use Rattle.std.proofs.lemmas.List.{append_assoc, append-nil}
 use Rattle.atomic_table.specs.Table.{rest}
 use Rattle.turn_lock.specs.declared.rule.Made.{Made}
 use Rattle.turn_lock.specs.declared.rule.View.{View}
-use Rattle.turn_lock.specs.Tales.{StartsWith, made, made_by}
+use Rattle.turn_lock.specs.Turns.{StartsWith, made, made_by}
 use Rattle.turn_lock.specs.Turning.{total_draws}
 
 module _ {X : Type 0} where

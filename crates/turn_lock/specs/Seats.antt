@@ -5,7 +5,7 @@ use Rattle.atomic_table.specs.Seated.{TableId}
 use Rattle.atomic_table.specs.declared.shared.Seat.{Seat}
 use Rattle.turn_lock.specs.declared.rule.Made.{Made}
 use Rattle.turn_lock.specs.declared.rule.View.{View}
-use Rattle.turn_lock.specs.Tales.{made_by}
+use Rattle.turn_lock.specs.Turns.{made_by}
 
 -- A lock: which one it is, and the state that its value began with
 pub record Locked (S : Type 0) : Type 0 where

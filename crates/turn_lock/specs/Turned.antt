@@ -3,7 +3,7 @@
 use Rattle.std.specs.Prelude.{◌≡◌, List, [], ◌∷◌, ◌++◌}
 use Rattle.turn_lock.specs.declared.rule.Made.{Made}
 use Rattle.turn_lock.specs.Seats.{Seated}
-use Rattle.turn_lock.specs.Tales.{StartsWith, made, made_by, state_after}
+use Rattle.turn_lock.specs.Turns.{StartsWith, made, made_by, state_after}
 
 module _ {S E : Type 0} (after : S → E → S) where
   -- The step finds the state after a list that begins with all that the seat had seen, and adds one entry, its own: `between` are the turns of others since.

@@ -9,7 +9,7 @@ use Rattle.turn_lock.specs.declared.rule.Made.{Made}
 use Rattle.turn_lock.specs.declared.rule.View.{View}
 use Rattle.turn_lock.specs.declared.rule.Stage.{Stage}
 use Rattle.turn_lock.specs.declared.rule.Stage.TheVariants.{Spent, Away, Waiting, Turn}
-use Rattle.turn_lock.specs.Tales.{StartsWith, longer, made, made_by, state_after}
+use Rattle.turn_lock.specs.Turns.{StartsWith, longer, made, made_by, state_after}
 
 -- the last number that a word holds
 abbrev pub last_word : ℕ

@@ -1,7 +1,7 @@
 //! The lock and its seats.
 ghost use Rattle.std.specs.Prelude.{◌≡◌, ◌+◌, ◌<◌, [], All, IfOk, IfErr, vec_len};
 ghost use Rattle.turn_lock.specs.Seats.{IsSeatOf, IsNewSeatOf, IsSameSeat, HasItsOwn};
-ghost use Rattle.turn_lock.specs.Tales.{StartsWith, longer};
+ghost use Rattle.turn_lock.specs.Turns.{StartsWith, longer};
 ghost use Rattle.turn_lock.specs.Turned.{Turned, Closes};
 
 use crate::OutOfMemory;

@@ -2,7 +2,7 @@
 ghost use Rattle.std.specs.Prelude.{◌≡◌, ◌+◌, ◌<◌, ◌^◌, ◌↔◌, [], ◌∷◌, min, if◌then◌else◌, IsTrue};
 ghost use Rattle.turn_lock.specs.declared.tests.Change.TheVariants.{Added, Idle, Looked};
 ghost use Rattle.turn_lock.specs.Seats.{IsSeatOf, IsNewSeatOf, IsSameSeat};
-ghost use Rattle.turn_lock.specs.Tales.{StartsWith, entries};
+ghost use Rattle.turn_lock.specs.Turns.{StartsWith, entries};
 
 use crate::{Recorded, Seat, Step, TurnLock};
 use std::alloc::Global;

@@ -3,7 +3,7 @@ ghost use Rattle.std.specs.Prelude.{◌≡◌, ℕ, ◌-◌, ◌<◌, ◌≤◌,
 ghost use Rattle.std.specs.Bool.{MatchBool};
 ghost use Rattle.turn_lock.specs.declared.rule.Stage.TheVariants.{Away, Waiting, Turn};
 ghost use Rattle.turn_lock.specs.Seats.{HasItsOwn, seated};
-ghost use Rattle.turn_lock.specs.Tales.{StartsWith, made, made_by, state_after};
+ghost use Rattle.turn_lock.specs.Turns.{StartsWith, made, made_by, state_after};
 ghost use Rattle.turn_lock.specs.Turning.{Found, first_view, kept_view, given_view, joined_view, settled_view};
 ghost use Rattle.turn_lock.specs.Turned.{Turned, Closes};
 

@@ -1,7 +1,7 @@
 -- Statement: contracts of public calls use it.
 -- What a user's osd text comes to, as a function.
 use Rattle.std.specs.Prelude.{◌≡◌, ℕ, List, [], Option, Some, None, Ok, Err}
-use Rattle.cap_text.specs.Reading.{Read, read_text}
+use Rattle.cap_text.specs.ReadText.{Read, read_text}
 use Rattle.cap_text.specs.declared.grant.Grant.{Grant}
 use Rattle.grant_core.specs.Flat.{Table, Flat, flat}
 use Rattle.verdict_core.specs.Ticket.{Ticket}

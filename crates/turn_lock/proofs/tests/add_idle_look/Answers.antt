@@ -5,7 +5,7 @@ use Rattle.turn_lock.specs.declared.rule.Made.{Made}
 use Rattle.turn_lock.specs.declared.tests.Tally.{Tally}
 use Rattle.turn_lock.specs.declared.tests.Change.{Change}
 use Rattle.turn_lock.specs.declared.tests.Change.TheVariants.{Added, Idle, Looked}
-use Rattle.turn_lock.specs.Tales.{entries, made, state_after}
+use Rattle.turn_lock.specs.Turns.{entries, made, state_after}
 use Rattle.turn_lock.proofs.tests.add_idle_look.Goals as goal
 
 abbrev last : ℕ

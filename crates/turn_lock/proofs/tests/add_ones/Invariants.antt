@@ -1,5 +1,5 @@
 use Rattle.turn_lock.specs.Seats.{IsSameSeat}
-use Rattle.turn_lock.specs.Tales.{StartsWith}
+use Rattle.turn_lock.specs.Turns.{StartsWith}
 use Rattle.turn_lock.proofs.tests.add_ones.Given as goal
 
 abbrev pub invariant-loop : goal.invariant-loop

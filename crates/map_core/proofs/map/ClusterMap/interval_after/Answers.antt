@@ -5,7 +5,7 @@ use Rattle.map_core.specs.Intervals.{intervals_of, intervals_from, begun, set_of
 use Rattle.map_core.proofs.IntervalLists.{intervals_push}
 use Rattle.std.specs.Option.{IfSome}
 use Rattle.std.proofs.Common.{subst}
-use Rattle.map_core.specs.Sets.{IsSetOf}
+use Rattle.map_core.specs.ActingSets.{IsSetOf}
 use Rattle.map_core.proofs.Daemons.{begun_is}
 use Rattle.map_core.proofs.map.ClusterMap.interval_after.Goals as goal
 

@@ -3,7 +3,7 @@ use Rattle.std.specs.Option.{option_copied}
 use Rattle.map_core.specs.Limits.{IsPool}
 use Rattle.map_core.specs.Map.{is_named, pool_in}
 use Rattle.map_core.proofs.IntervalLists.{All-find, if_some_along}
-use Rattle.map_core.proofs.sets.size_in.Goals as goal
+use Rattle.map_core.proofs.acting_sets.size_in.Goals as goal
 
 pub returns-in-Some-clause-small : goal.returns-in-Some-clause-small
 unfolding pool_in

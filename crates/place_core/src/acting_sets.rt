@@ -3,7 +3,7 @@
 ghost use Rattle.std.specs.Prelude.{◌≡◌, ◌≤◌, ◌<◌, ◌≢◌, ◌++◌, [], ◌∷◌, true, false, length, min, AllPairs, IfOk, ◌↔◌, IsSome, IfSome, ◌==◌};
 ghost use Rattle.std.specs.List.{list_any};
 ghost use Rattle.std.specs.Str.{bytes_eq};
-ghost use Rattle.place_core.specs.Members.{is_distinct};
+ghost use Rattle.place_core.specs.Distinct.{is_distinct};
 ghost use Rattle.place_core.specs.Place.{IsActing, acting_of, numbers_of};
 
 use crate::daemons::DaemonSet;

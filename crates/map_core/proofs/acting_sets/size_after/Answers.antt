@@ -1,6 +1,6 @@
 use Rattle.std.proofs.Common.{sym, ◌∙◌}
 use Rattle.map_core.proofs.IntervalLists.{size_small, size_stays, size_of_new, if_some_along}
-use Rattle.map_core.proofs.sets.size_after.Goals as goal
+use Rattle.map_core.proofs.acting_sets.size_after.Goals as goal
 
 pub returns-in-Some-clause-value : goal.returns-in-Some-clause-value
 returns-in-Some-clause-value c = sym (size_stays c.args.name.now c.args.pools.now c.args.command.now c.in-Some.size (sym c.size_in.ensures.value ∙ c.in-Some.is))

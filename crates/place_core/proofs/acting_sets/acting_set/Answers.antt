@@ -1,8 +1,8 @@
 use Rattle.std.proofs.Common.{arith, ◌≡◌, ◌≤◌, length, take, length-take, true}
-use Rattle.place_core.specs.Members.{is_distinct}
+use Rattle.place_core.specs.Distinct.{is_distinct}
 use Rattle.place_core.proofs.Ranks.{acting_differs}
 use Rattle.place_core.proofs.Distinct.{distinct-from_pairs, no_falsehood}
-use Rattle.place_core.proofs.members.acting_set.Goals as goal
+use Rattle.place_core.proofs.acting_sets.acting_set.Goals as goal
 
 pub unreachable-requires : goal.unreachable-requires
 unreachable-requires c =

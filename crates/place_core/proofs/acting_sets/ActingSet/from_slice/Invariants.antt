@@ -1,5 +1,5 @@
 use Rattle.std.proofs.Common.{◌≡◌, ◌-◌, ◌++◌, length, take, replicate}
-use Rattle.place_core.proofs.members.ActingSet.from_slice.Given as goal
+use Rattle.place_core.proofs.acting_sets.ActingSet.from_slice.Given as goal
 
 abbrev pub invariant-loop-place : goal.invariant-loop-place
 invariant-loop-place l = record {

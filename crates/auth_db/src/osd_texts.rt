@@ -4,7 +4,7 @@ ghost use Rattle.std.specs.Prelude.{◌≡◌, IfOk, IfErr, OnOk};
 ghost use Rattle.auth_db.specs.Refusals as spec;
 ghost use Rattle.auth_db.specs.Texts.{IsGood, IsGoodText, IsTicket, ComesTo};
 ghost use Rattle.auth_db.specs.Refusals.{TextRefuses, OsdRefuses, RefusedOrMemory};
-ghost use Rattle.cap_text.specs.Reading.{read_text};
+ghost use Rattle.cap_text.specs.ReadText.{read_text};
 
 use crate::fault::AuthFault;
 use cap_text::{CapFault, FaultKind, Name, OutOfMemory, parse};
