@@ -1,17 +1,12 @@
 -- Acting sets.
-use Rattle.std.proofs.Common.{ℕ, ◌≡◌, ◌≤◌, true, ◌==◌, ◌&&◌, ◌||◌, not, List, [], ◌∷◌, length, refl, sym, ap, ◌∙◌}
-use Rattle.std.specs.List.{list_any}
+use Rattle.std.proofs.Common.{ℕ, ◌≡◌, ◌≤◌, true, ◌==◌, ◌&&◌, not, List, [], ◌∷◌, length, refl, sym, ap, ◌∙◌}
 use Rattle.std.specs.Str.{bytes_eq}
 use Rattle.place_core.specs.Distinct as members
 use Rattle.entry_core.specs.Log.{is_in}
+use Rattle.peer_core.proofs.Counted.{has_is_in}
 use Rattle.group_core.specs.Group.{is_distinct, same_set, IsSet}
 
--- a set's own tests of a member and of another set
-
-pub has_is_in : (xs : List ℕ) (x : ℕ) → list_any (λ d. d == x) xs ≡ is_in xs x
-has_is_in [] x = refl
-has_is_in (y ∷ ys) x = ap (λ b. (y == x) || b) (has_is_in ys x)
-
+-- a set's own test of another set
 pub equals_is : (xs ys : List ℕ) → bytes_eq xs ys ≡ same_set xs ys
 equals_is [] [] = refl
 equals_is [] (y ∷ ys) = refl
