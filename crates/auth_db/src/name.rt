@@ -1,9 +1,9 @@
 //! The names of users.
 
 ghost use Rattle.std.specs.Prelude.{◌≡◌};
-ghost use Rattle.std.specs.List.{list_all};
-ghost use Rattle.cap_text.specs.Bytes as bytes_spec;
 ghost use Rattle.auth_db.specs.Names as spec;
+
+use cap_text::are_word_bytes;
 
 /// Whether a name is a type, a dot and an ID. It is cut at its first dot.
 pub(crate) fn is_user_name(name: &str) -> bool
@@ -30,19 +30,4 @@ fn is_id(id: &[u8]) -> bool
     ensures { result ≡ spec.is_id id.now }
 {
     1 <= id.len() && id.len() <= 64 && are_word_bytes(id)
-}
-
-fn are_word_bytes(bytes: &[u8]) -> bool
-    ensures { result ≡ list_all bytes_spec.is_word_byte bytes.now }
-{
-    bytes.iter().all(|byte| is_word_byte(*byte))
-}
-
-fn is_word_byte(byte: u8) -> bool
-    ensures { result ≡ bytes_spec.is_word_byte byte }
-{
-    (b'a' <= byte && byte <= b'z')
-        || (b'A' <= byte && byte <= b'Z')
-        || (b'-' <= byte && byte <= b'9')
-        || byte == b'_'
 }

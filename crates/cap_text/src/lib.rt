@@ -20,6 +20,7 @@ mod state;
 mod tags;
 mod token;
 
+pub use bytes::are_word_bytes;
 pub use caps::CapList;
 pub use fault::{CapFault, FaultKind, OutOfMemory};
 pub use grant::{Access, AllowGrant, Flags, Grant, NsMatch, Part, ProfileUse, Tag, copy_namespace};

@@ -1,13 +1,12 @@
 //! The printed form of capability lists.
 
 ghost use Rattle.std.specs.Prelude.{◌≡◌, ◌≤◌, ◌++◌, ◌==◌, [], ◌∷◌, length, string_bytes, codes, IfOk, OnOk};
-ghost use Rattle.std.specs.List.{list_all, list_any, flat_map};
-ghost use Rattle.cap_text.specs.Bytes.{is_word_byte};
+ghost use Rattle.std.specs.List.{list_any, flat_map};
 ghost use Rattle.cap_text.specs.Words.{keyword_of};
 ghost use Rattle.cap_text.specs.Grammar.{begins_clause, Spells};
 ghost use Rattle.cap_text.specs.Printed.{quote_for, quoted, printed_value, printed_method, printed_namespace, printed_part, printed_access, printed_pool, printed_namespaces, printed_prefix, printed_tag, printed_allow, printed_profile, printed_grant, printed};
 
-use crate::bytes::is_word_byte;
+use crate::bytes::are_word_bytes;
 use crate::caps::CapList;
 use crate::fault::OutOfMemory;
 use crate::grant::{Access, AllowGrant, Flags, Grant, NsMatch, Part, ProfileUse, Tag};
@@ -241,12 +240,6 @@ fn has_double_quote(bytes: &[u8]) -> bool
     ensures { result ≡ list_any (λ b. b == 34) bytes.now }
 {
     bytes.iter().any(|byte| *byte == b'"')
-}
-
-fn are_word_bytes(bytes: &[u8]) -> bool
-    ensures { result ≡ list_all is_word_byte bytes.now }
-{
-    bytes.iter().all(|byte| is_word_byte(*byte))
 }
 
 /// Whether the word begins a clause of a grant.

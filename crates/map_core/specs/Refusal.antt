@@ -4,6 +4,7 @@ use Rattle.std.specs.Prelude.{◌≡◌, ◌≢◌, ℕ, ◌+◌, unwrap_or, Lis
 use Rattle.std.specs.List.{list_any, list_all, find}
 use Rattle.std.specs.Option.{option_map_or}
 use Rattle.std.specs.Str.{bytes_eq}
+use Rattle.cap_text.specs.Bytes.{is_word_byte}
 use Rattle.cap_text.specs.declared.tags.AppTags.{AppTags}
 use Rattle.map_core.specs.State.{MapState, History}
 use Rattle.map_core.specs.Map.{map_of, epoch_of, is_app, pool_in, view_at}
@@ -17,10 +18,6 @@ use Rattle.map_core.specs.declared.fault.MapFault.TheVariants as fault
 abbrev pub first_of : List (Bool × MapFault) → Option MapFault
 first_of [] = None
 first_of (test ∷ tests) = if test.0 then Some test.1 else first_of tests
-
--- a letter, a digit, `_`, `.`, `/` or `-`
-unfoldable pub is_word_byte : ℕ → Bool
-is_word_byte b = (nat_le 65 b && nat_le b 90) || (nat_le 97 b && nat_le b 122) || (nat_le 48 b && nat_le b 57) || b == 95 || b == 46 || b == 47 || b == 45
 
 -- 1 to 64 word bytes
 unfoldable pub is_word : List ℕ → Bool

@@ -1,7 +1,7 @@
 //! Why commands and questions are refused. Nothing here takes memory.
 
 ghost use Rattle.std.specs.Prelude.{◌≡◌, option_copied};
-ghost use Rattle.std.specs.List.{list_all, find};
+ghost use Rattle.std.specs.List.{find};
 ghost use Rattle.map_core.specs.Refusal.{first_of, create_tests, enable_tests, set_tests, remove_tests, daemon_tests, acting_tests};
 ghost use Rattle.map_core.specs.Refusal as spec;
 ghost use Rattle.map_core.specs.Map as map;
@@ -9,7 +9,7 @@ ghost use Rattle.map_core.specs.Map as map;
 use crate::command::MapCommand;
 use crate::fault::MapFault;
 use crate::pool::Pool;
-use cap_text::{AppTags, Name};
+use cap_text::{AppTags, Name, are_word_bytes};
 use place_core::DaemonSet;
 
 const LAST_EPOCH: u32 = 65535;
@@ -19,27 +19,6 @@ const MOST_POOLS: usize = 32;
 const MOST_APPLICATIONS: usize = 8;
 
 const MOST_PAIRS: usize = 16;
-
-// A letter, a digit, `_`, `.`, `/` or `-`.
-#[tactic(auto, unfolding(crate::specs::Refusal::is_word_byte))]
-fn is_word_byte(byte: u8) -> bool
-    ensures { result ≡ spec.is_word_byte byte }
-{
-    (byte >= b'A' && byte <= b'Z')
-        || (byte >= b'a' && byte <= b'z')
-        || (byte >= b'0' && byte <= b'9')
-        || byte == b'_'
-        || byte == b'.'
-        || byte == b'/'
-        || byte == b'-'
-}
-
-// Whether these are all word bytes.
-fn are_word_bytes(bytes: &[u8]) -> bool
-    ensures { result ≡ list_all spec.is_word_byte bytes.now }
-{
-    bytes.iter().all(|byte| is_word_byte(*byte))
-}
 
 // 1 to 64 word bytes.
 #[tactic(auto, unfolding(crate::specs::Refusal::is_word))]

@@ -1,27 +1,13 @@
 //! Requests as the words of a shell.
 
 ghost use Rattle.std.specs.Prelude.{◌≡◌, ◌++◌, string_bytes, OnOk};
-ghost use Rattle.std.specs.List.{flat_map, list_all};
-ghost use Rattle.cap_text.specs.Bytes.{is_word_byte};
+ghost use Rattle.std.specs.List.{flat_map};
 ghost use Rattle.osdgate.specs.Request.{call_words, example_line, needs_words, flag_words, namespace_words, pair_words, place_words, quoted, quoted_byte, shell_word, tag_words};
 
-use cap_text::{AppTags, Name, OutOfMemory};
+use cap_text::{AppTags, Name, OutOfMemory, are_word_bytes};
 use compare_core::{Example, Place};
 use std::fmt::Write;
 use verdict_core::{ClassCall, Needs};
-
-/// A byte of the words of capability texts, which no shell reads as anything but itself.
-fn is_word_byte(byte: u8) -> bool
-    ensures { result ≡ is_word_byte byte }
-{
-    matches!(byte, b'a'..=b'z' | b'A'..=b'Z' | b'-'..=b'9' | b'_')
-}
-
-fn are_word_bytes(bytes: &[u8]) -> bool
-    ensures { result ≡ list_all is_word_byte bytes.now }
-{
-    bytes.iter().all(|byte| is_word_byte(*byte))
-}
 
 /// Adds a text's bytes as they stand between single quotes.
 fn push_inside(line: &mut String, text: &str) -> Result<(), OutOfMemory>
