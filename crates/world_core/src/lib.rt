@@ -6,9 +6,12 @@
 
 mod event;
 mod fault;
+mod front;
 mod laws;
+mod lists;
 mod ops;
 mod session;
+mod submissions;
 
 pub use event::{Ask, AuthCommand, Event, Told};
 pub use fault::WorldFault;
