@@ -17,3 +17,6 @@ pub mod Requests
 pub mod Intervals
 pub mod Accepted
 pub mod Listings
+pub mod Submitted
+pub mod Refused
+pub mod Views

@@ -4,6 +4,7 @@
 //! over the commands of the Ceph manual and the placement groups of the RADOS paper.
 #![tactic(auto)]
 
+mod asking;
 mod event;
 mod fault;
 mod front;
@@ -12,6 +13,7 @@ mod lists;
 mod ops;
 mod session;
 mod submissions;
+mod users;
 
 pub use event::{Ask, AuthCommand, Event, Told};
 pub use fault::WorldFault;
