@@ -20,3 +20,4 @@ pub mod Listings
 pub mod Submitted
 pub mod Refused
 pub mod Views
+pub mod FrontSteps

@@ -11,8 +11,16 @@ ghost use Rattle.world_core.specs.Refusing.{RefusedOrMemory};
 ghost use Rattle.world_core.specs.Refusing as refusing;
 
 use crate::fault::WorldFault;
+use crate::session::Session;
 use cap_text::Name;
 use map_core::{ClusterMap, Epoch, MapFault, PoolView};
+
+/// Who asks, and the pool as the asker saw it.
+#[derive(Drop)]
+pub(crate) struct Asker<'a> {
+    pub(crate) session: &'a Session,
+    pub(crate) view: PoolView,
+}
 
 /// The most bytes of an object's name.
 const LONGEST_OBJECT: usize = 255;

@@ -11,6 +11,7 @@ mod front;
 mod laws;
 mod lists;
 mod ops;
+mod sealing;
 mod session;
 mod submissions;
 mod users;
