@@ -1,6 +1,6 @@
 -- What an event without requests leaves of a front.
-use Rattle.std.proofs.Common.{◌≡◌, ◌∙◌, ℕ, ◌+◌, ◌≤◌, ◌<◌, true, List, [], ◌∷◌, ◌++◌, Option, Some, None, is_some, length, refl, sym, ap, subst, arith, append-nil}
-use Rattle.std.specs.Prelude.{Result, Ok, Err}
+use Rattle.std.proofs.Common.{◌≡◌, ◌∙◌, ℕ, ◌+◌, ◌-◌, ◌≤◌, ◌<◌, true, List, [], ◌∷◌, ◌++◌, Option, Some, None, is_some, length, refl, sym, ap, subst, arith, append-nil}
+use Rattle.std.specs.Prelude.{Result, Ok, Err, slice_set}
 use Rattle.std.specs.Option.{option_map}
 use Rattle.grant_core.specs.Flat.{Table}
 use Rattle.auth_db.specs.Users.{Database, after}
@@ -10,7 +10,7 @@ use Rattle.entry_core.specs.Request.{Sealed}
 use Rattle.group_core.specs.Each.{Each}
 use Rattle.group_core.specs.Group.{submitted}
 use Rattle.world_core.specs.Event.{AuthCommand, Event, Auth, Map, Open, Renew, Close}
-use Rattle.world_core.specs.Front.{Front, Session, Pieced, command_of, front_step, lists_step, sealed_by, opened, ticket_for, session_at}
+use Rattle.world_core.specs.Front.{Front, Session, Pieced, command_of, front_step, lists_step, sealed_by, opened, ticket_for, session_at, session_of, if_ok, requests_of}
 use Rattle.world_core.specs.Stands.{FrontStands, IsKept}
 use Rattle.world_core.proofs.Fronts.{front_stands}
 
@@ -34,6 +34,11 @@ renew_step f n until ss is = λ i. record f { sessions = is i; submissions = sym
 pub close_step : (f : Front) (n : ℕ) (ss : List Session) → ss ≡ session_at f.sessions n (λ s. record s { is_closed = true }) → record f { sessions = ss } ≡ front_step f (Close n)
 unfolding requests_of
 close_step f n ss is = λ i. record f { sessions = is i; submissions = sym (append-nil f.submissions) i }
+
+-- one change, or another that is the same for this session
+pub session_same : (ss : List Session) (n : ℕ) (s : Session) (f g : Session → Session) → session_of ss n ≡ Ok s → f s ≡ g s → session_at ss n f ≡ session_at ss n g
+session_same ss n s f g is same =
+    ap (λ r. if_ok r ss (λ t. slice_set ss (n - 1) (f t))) is ∙ ap (slice_set ss (n - 1)) same ∙ sym (ap (λ r. if_ok r ss (λ t. slice_set ss (n - 1) (g t))) is)
 
 -- what is kept, where an event has no requests
 pub quiet_kept : (f : Front) (e : Event) (g : Front) → IsKept f → g ≡ front_step f e → sealed_by f e ≡ [] → lists_step f e ≡ f.lists → IsKept g

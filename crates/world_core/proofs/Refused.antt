@@ -13,9 +13,13 @@ use Rattle.auth_db.specs.Names.{is_user_name}
 use Rattle.auth_db.specs.Texts.{has_no_text, are_same_caps}
 use Rattle.auth_db.specs.Users.{Database, HasTicket}
 use Rattle.auth_db.specs.Refusals.{again}
-use Rattle.world_core.specs.Event.{Told, Made, There, Fault, OutOfMemory, OfUsers}
+use Rattle.map_core.specs.declared.fault.MapFault.{MapFault}
+use Rattle.map_core.specs.declared.fault.MapFault.TheVariants as map_fault
+use Rattle.object_core.specs.declared.needs.NeedsFault.{NeedsFault}
+use Rattle.object_core.specs.declared.needs.NeedsFault.TheVariants as needs_fault
+use Rattle.world_core.specs.Event.{Told, Made, There, Fault, OutOfMemory, OfUsers, OfMap, OfNeeds}
 use Rattle.world_core.specs.Front.{users_fault, told_creation, ticket_with, ticket_for}
-use Rattle.world_core.specs.Refusing.{RefusedOrMemory}
+use Rattle.world_core.specs.Refusing.{RefusedOrMemory, fault_of_map, fault_of_needs}
 use Rattle.world_core.proofs.Tickets.{tickets_are_read}
 
 -- ---- users
@@ -42,6 +46,53 @@ pub users_exit : {T : Type 0} (r : Result T Fault) (refusal : Option AuthFault) 
     → RefusedOrMemory (option_map OfUsers refusal) r
 users_exit (Ok x) refusal fault is why = absurd is
 users_exit (Err seen) refusal fault is why = users_refused refusal fault seen is why
+
+-- ---- the map and vectors
+
+pub map_refused : (refusal : Option MapFault) (fault : MapFault) (seen : Fault) → seen ≡ fault_of_map fault → (fault ≡ map_fault.OutOfMemory) ⊎ (refusal ≡ Some fault)
+    → (seen ≡ OutOfMemory) ⊎ (option_map OfMap refusal ≡ Some seen)
+map_refused refusal fault seen is (inl memory) = inl (is ∙ ap fault_of_map memory)
+map_refused refusal fault seen is (inr refused) = go fault is refused
+  where
+    named : (f : MapFault) → refusal ≡ Some f → seen ≡ OfMap f → (seen ≡ OutOfMemory) ⊎ (option_map OfMap refusal ≡ Some seen)
+    named f r e = inr (ap (λ o. option_map OfMap o) r ∙ ap (λ v. Some v) (sym e))
+
+    go : (f : MapFault) → seen ≡ fault_of_map f → refusal ≡ Some f → (seen ≡ OutOfMemory) ⊎ (option_map OfMap refusal ≡ Some seen)
+    go map_fault.OutOfMemory e r = inl e
+    go map_fault.PoolExists e r = named map_fault.PoolExists r e
+    go map_fault.NoPool e r = named map_fault.NoPool r e
+    go map_fault.NoApplication e r = named map_fault.NoApplication r e
+    go map_fault.NoKey e r = named map_fault.NoKey r e
+    go map_fault.NoDaemon e r = named map_fault.NoDaemon r e
+    go map_fault.AlreadySo e r = named map_fault.AlreadySo r e
+    go map_fault.Limit e r = named map_fault.Limit r e
+    go map_fault.BadName e r = named map_fault.BadName r e
+    go map_fault.NoGroup e r = named map_fault.NoGroup r e
+    go map_fault.NoEpoch e r = named map_fault.NoEpoch r e
+
+pub map_exit : {T : Type 0} (r : Result T Fault) (refusal : Option MapFault) (fault : MapFault) → IsErrAnd r (λ seen. seen ≡ fault_of_map fault) → (fault ≡ map_fault.OutOfMemory) ⊎ (refusal ≡ Some fault)
+    → RefusedOrMemory (option_map OfMap refusal) r
+map_exit (Ok x) refusal fault is why = absurd is
+map_exit (Err seen) refusal fault is why = map_refused refusal fault seen is why
+
+pub needs_refused : (refusal : Option NeedsFault) (fault : NeedsFault) (seen : Fault) → seen ≡ fault_of_needs fault → (fault ≡ needs_fault.OutOfMemory) ⊎ (refusal ≡ Some fault)
+    → (seen ≡ OutOfMemory) ⊎ (option_map OfNeeds refusal ≡ Some seen)
+needs_refused refusal fault seen is (inl memory) = inl (is ∙ ap fault_of_needs memory)
+needs_refused refusal fault seen is (inr refused) = go fault is refused
+  where
+    named : (f : NeedsFault) → refusal ≡ Some f → seen ≡ OfNeeds f → (seen ≡ OutOfMemory) ⊎ (option_map OfNeeds refusal ≡ Some seen)
+    named f r e = inr (ap (λ o. option_map OfNeeds o) r ∙ ap (λ v. Some v) (sym e))
+
+    go : (f : NeedsFault) → seen ≡ fault_of_needs f → refusal ≡ Some f → (seen ≡ OutOfMemory) ⊎ (option_map OfNeeds refusal ≡ Some seen)
+    go needs_fault.OutOfMemory e r = inl e
+    go needs_fault.EmptyVector e r = named needs_fault.EmptyVector r e
+    go needs_fault.TooManyOps e r = named needs_fault.TooManyOps r e
+    go needs_fault.NoMethod e r = named needs_fault.NoMethod r e
+
+pub needs_exit : {T : Type 0} (r : Result T Fault) (refusal : Option NeedsFault) (fault : NeedsFault) → IsErrAnd r (λ seen. seen ≡ fault_of_needs fault) → (fault ≡ needs_fault.OutOfMemory) ⊎ (refusal ≡ Some fault)
+    → RefusedOrMemory (option_map OfNeeds refusal) r
+needs_exit (Ok x) refusal fault is why = absurd is
+needs_exit (Err seen) refusal fault is why = needs_refused refusal fault seen is why
 
 -- an earlier refusal, or want of memory
 pub first_or_memory : {X : Type 0} (refusal : Option X) (memory fault : X) → fault ≡ unwrap_or refusal memory → (fault ≡ memory) ⊎ (refusal ≡ Some fault)
