@@ -21,3 +21,4 @@ pub mod Submitted
 pub mod Refused
 pub mod Views
 pub mod FrontSteps
+pub mod Recording
