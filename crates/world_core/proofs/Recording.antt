@@ -1,6 +1,6 @@
 -- Requests under new numbers, and what they leave of a front.
 use Prim.Native.Nat.{zero, suc}
-use Rattle.std.proofs.Common.{◌≡◌, ◌∙◌, ℕ, ◌+◌, ◌*◌, ◌≤◌, ◌<◌, ◌==◌, ◌&&◌, Bool, true, false, not, cond, List, [], ◌∷◌, ◌++◌, Option, Some, None, Result, Ok, Err, is_some, map, length, refl, sym, ap, subst, arith, append-nil, length-append, eqb-true, if◌then◌else◌}
+use Rattle.std.proofs.Common.{◌≡◌, ◌∙◌, ℕ, ◌+◌, ◌*◌, ◌≤◌, ◌<◌, ◌==◌, ◌&&◌, Bool, true, false, not, cond, List, [], ◌∷◌, ◌++◌, Option, Some, None, Result, Ok, Err, is_some, map, length, get_or, refl, sym, ap, subst, arith, append-nil, length-append, eqb-true, if◌then◌else◌}
 use Rattle.std.specs.Option.{option_map}
 use Rattle.std.specs.List.{find, range_with_len}
 use Rattle.std.proofs.lemmas.List.FromFn.{length-map-range_with_len}
@@ -207,5 +207,11 @@ list_step f ask requests ss rs ls is sessions submissions lists =
     λ i. record f { sessions = s i; submissions = r i; lists = l i }
 
 -- the first of requests that there are
-pub listed_first : (requests : List Sealed) (first : Sealed) (rest : List Sealed) → requests ≡ first ∷ rest → listed requests ≡ record { first = first.id; count = length requests } ∷ []
-listed_first requests first rest is = ap listed is ∙ ap (λ n. record { first = first.id; count = n } ∷ []) (sym (ap length is))
+pub first_fresh : (old rs : List Sealed) (x : Sealed) → Each (λ r. submitted old r.id ≡ None) rs → 1 ≤ length rs → x ≡ get_or rs 0 x → submitted old x.id ≡ None
+first_fresh old [] x h some is = absurd (omega arith)
+first_fresh old (r ∷ rs) x h some is = subst (λ (s : Sealed). submitted old s.id ≡ None) (sym is) h.0
+
+pub listed_at : (rs : List Sealed) (x : Sealed) (first count : ℕ) → 1 ≤ length rs → x ≡ get_or rs 0 x → first ≡ x.id → count ≡ length rs → record { first = first; count = count } ∷ [] ≡ listed rs
+listed_at [] x first count some is named counted = absurd (omega arith)
+listed_at (r ∷ rs) x first count some is named counted =
+    ap (λ k. record { first = k; count = count } ∷ []) (named ∙ ap (λ (s : Sealed). s.id) is) ∙ ap (λ n. record { first = r.id; count = n } ∷ []) counted
