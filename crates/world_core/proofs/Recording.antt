@@ -1,23 +1,21 @@
 -- Requests under new numbers, and what they leave of a front.
-use Prim.Native.Nat.{zero, suc}
-use Rattle.std.proofs.Common.{◌≡◌, ◌∙◌, ℕ, ◌+◌, ◌*◌, ◌≤◌, ◌<◌, ◌==◌, ◌&&◌, Bool, true, false, not, cond, List, [], ◌∷◌, ◌++◌, Option, Some, None, Result, Ok, Err, is_some, map, length, get_or, refl, sym, ap, subst, arith, append-nil, length-append, eqb-true, if◌then◌else◌}
+use Rattle.std.proofs.Common.{◌≡◌, ◌∙◌, ℕ, ◌+◌, ◌*◌, ◌≤◌, ◌<◌, ◌==◌, ◌&&◌, Bool, true, false, not, cond, List, [], ◌∷◌, ◌++◌, Option, Some, None, Ok, is_some, length, get_or, refl, sym, ap, subst, arith, length-append, eqb-true}
 use Rattle.std.specs.Option.{option_map}
-use Rattle.std.specs.List.{find, range_with_len}
+use Rattle.std.specs.List.{find}
 use Rattle.std.proofs.lemmas.List.FromFn.{length-map-range_with_len}
 use Rattle.object_core.specs.Needs.{needs_fault}
 use Rattle.object_core.specs.declared.needs.NeedsFault.{NeedsFault}
 use Rattle.object_core.specs.declared.op.Op.{Op}
-use Rattle.map_core.specs.Limits.{HasLimits}
 use Rattle.entry_core.specs.Request.{Sealed, Listing}
 use Rattle.group_core.specs.Each.{Each}
 use Rattle.group_core.specs.Group.{submitted}
 use Rattle.group_core.specs.Asked.{IsAsked}
-use Rattle.world_core.specs.Event.{Ask, Submit, ListNames, Fault, BadObjectName, OfNeeds}
-use Rattle.world_core.specs.Front.{◌>>=◌, unless, Front, Session, Pieced, Asker, asker_of, is_object_name, is_namespace, lower, vector_of, pieces_of, sealed_of, requests_of, sealed_by, session_of, session_at, asks_more, asked, if_ok, listed, lists_step, front_step}
-use Rattle.world_core.specs.Stands.{next_at, IsGiven, FrontStands, IsKept}
+use Rattle.world_core.specs.Event.{Ask, Submit, ListNames, BadObjectName, OfNeeds}
+use Rattle.world_core.specs.Front.{◌>>=◌, unless, Front, Session, Pieced, Asker, asker_of, is_object_name, is_namespace, lower, vector_of, pieces_of, sealed_of, requests_of, sealed_by, session_of, session_at, asks_more, asked, if_ok, listed, front_step}
+use Rattle.world_core.specs.Stands.{next_at, IsGiven, IsKept}
 use Rattle.world_core.specs.Submitting.{AreNew}
 use Rattle.world_core.proofs.Numbers.{next_in as next_of_found, open_is, NumberedFrom}
-use Rattle.world_core.proofs.Fronts.{Requested, submit_made, list_made, front_stands}
+use Rattle.world_core.proofs.Fronts.{Requested, front_stands}
 
 -- ---- numbers that no request has
 

@@ -1,10 +1,10 @@
-use Rattle.std.proofs.Common.{◌≡◌, ◌∙◌, ◌∷◌, ◌++◌, [], ◌<◌, ◌≤◌, Ok, List, length, get_or, sym, ap, subst, arith}
+use Rattle.std.proofs.Common.{◌≡◌, ◌∙◌, ◌++◌, ◌<◌, Ok, length, get_or, sym, ap, subst}
 use Rattle.entry_core.specs.Request.{Sealed}
 use Rattle.group_core.specs.Each.{Each}
 use Rattle.group_core.specs.Group.{submitted}
 use Rattle.std.specs.Prelude.{None}
 use Rattle.world_core.specs.Event.{ListNames}
-use Rattle.world_core.specs.Front.{Front, Session, Pieced, requests_of, session_at, asks_more, listed}
+use Rattle.world_core.specs.Front.{Front, requests_of, session_at, asks_more, listed}
 use Rattle.world_core.specs.Submitting.{AreNew}
 use Rattle.world_core.proofs.Fronts.{list_made}
 use Rattle.world_core.proofs.Recording.{requests_new, requests_fresh, no_list, first_fresh, listed_at, list_kept, list_step}

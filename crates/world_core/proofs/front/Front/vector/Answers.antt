@@ -1,8 +1,7 @@
-use Rattle.std.proofs.Common.{◌≡◌, ◌∙◌, ◌∷◌, ◌&&◌, [], List, Ok, None, true, sym, subst, arith}
+use Rattle.std.proofs.Common.{◌≡◌, ◌∷◌, [], List, Ok, sym, subst, arith}
 use Rattle.entry_core.specs.Request.{Sealed}
-use Rattle.group_core.specs.Group.{submitted}
 use Rattle.world_core.specs.Event.{Submit}
-use Rattle.world_core.specs.Front.{Front, Asker, is_object_name, is_namespace, requests_of}
+use Rattle.world_core.specs.Front.{Asker, requests_of}
 use Rattle.world_core.specs.Stands.{IsKept}
 use Rattle.world_core.proofs.Fronts.{submit_made}
 use Rattle.world_core.proofs.Recording.{vector_asked, requests_fresh}
