@@ -1,6 +1,6 @@
 //! Users, map, sessions, submissions and lists: what no group, message or copy has a part in.
 
-ghost use Rattle.std.specs.Prelude.{◌≡◌, ◌≤◌, ◌<◌, ℕ, List, [], ◌∷◌, None, Ok, OnOk, OnErr, IfOk, IsOk, IsErr, length, option_copied};
+ghost use Rattle.std.specs.Prelude.{◌≡◌, ◌≤◌, ◌<◌, ℕ, List, [], ◌∷◌, None, Ok, OnOk, OnErr, IfOk, length, option_copied};
 ghost use Rattle.object_core.specs.declared.op.Op as op;
 ghost use Rattle.group_core.specs.Each.{Each};
 ghost use Rattle.group_core.specs.Group.{submitted};
@@ -204,7 +204,7 @@ impl Front {
         Ok(requests)
     }
 
-    /// Submits the request of a vector. Where memory is wanting, nothing changes.
+    /// Submits the request of a vector, where there are fewer than 2^26. Where memory is wanting, nothing changes.
     #[tactic(auto, unfolding(crate::specs::Front::requests_of))]
     pub fn record_vector(&mut self, ask: &Ask, request: Sealed) -> Result<Told, OutOfMemory>
         requires asked { IsOfVector self.old ask.now request }
@@ -221,7 +221,7 @@ impl Front {
         Ok(Told::Request(id))
     }
 
-    /// Submits the pieces of a list. Where memory is wanting, nothing changes.
+    /// Submits the pieces of a list, all or none, where there are fewer than 2^26 requests. Where memory is wanting, nothing changes.
     #[tactic(auto, unfolding(crate::specs::Front::requests_of))]
     pub fn record_pieces(&mut self, ask: &Ask, requests: Items<Sealed>) -> Result<Told, OutOfMemory>
         requires asked { IsOfList self.old ask.now requests }
