@@ -1,5 +1,5 @@
 -- Requests under new numbers, and what they leave of a front.
-use Rattle.std.proofs.Common.{◌≡◌, ◌∙◌, ℕ, ◌+◌, ◌*◌, ◌≤◌, ◌<◌, ◌==◌, ◌&&◌, Bool, true, false, not, cond, List, [], ◌∷◌, ◌++◌, Option, Some, None, Ok, is_some, length, get_or, refl, sym, ap, subst, arith, length-append, eqb-true}
+use Rattle.std.proofs.Common.{◌≡◌, ◌∙◌, ◌⊎◌, inl, inr, ℕ, ◌+◌, ◌*◌, ◌≤◌, ◌<◌, ◌==◌, ◌&&◌, Bool, true, false, not, cond, List, [], ◌∷◌, ◌++◌, Option, Some, None, Ok, is_some, length, get_or, refl, sym, ap, subst, arith, length-append, eqb-true}
 use Rattle.std.specs.Option.{option_map}
 use Rattle.std.specs.List.{find}
 use Rattle.std.proofs.lemmas.List.FromFn.{length-map-range_with_len}
@@ -10,8 +10,8 @@ use Rattle.entry_core.specs.Request.{Sealed, Listing}
 use Rattle.group_core.specs.Each.{Each}
 use Rattle.group_core.specs.Group.{submitted}
 use Rattle.group_core.specs.Asked.{IsAsked}
-use Rattle.world_core.specs.Event.{Ask, Submit, ListNames, BadObjectName, OfNeeds}
-use Rattle.world_core.specs.Front.{◌>>=◌, unless, Front, Session, Pieced, Asker, asker_of, is_object_name, is_namespace, lower, vector_of, pieces_of, sealed_of, requests_of, sealed_by, session_of, session_at, asks_more, asked, if_ok, listed, front_step}
+use Rattle.world_core.specs.Event.{Ask, Fault, OutOfMemory, Submit, ListNames, BadObjectName, OfNeeds}
+use Rattle.world_core.specs.Front.{error_of, ◌>>=◌, unless, Front, Session, Pieced, Asker, asker_of, is_object_name, is_namespace, lower, vector_of, pieces_of, sealed_of, requests_of, sealed_by, session_of, session_at, asks_more, asked, if_ok, listed, front_step}
 use Rattle.world_core.specs.Stands.{next_at, IsGiven, IsKept}
 use Rattle.world_core.specs.Submitting.{AreNew}
 use Rattle.world_core.proofs.Numbers.{next_in as next_of_found, open_is, NumberedFrom}
@@ -121,6 +121,25 @@ vector_asked f ask asker object ops request who names needs is =
     go : (o : Option NeedsFault) → option_map OfNeeds o ≡ None → (lower OfNeeds o >>= λ _. Ok (vector_of ask asker object ops ∷ [])) ≡ Ok (vector_of ask asker object ops ∷ [])
     go None e = refl
     go (Some fault) e = absurd (cc)
+
+-- a vector is refused as its operations are, where who asks and its names are good
+pub vector_refused : (f : Front) (ask : Ask) (asker : Asker) (object : List ℕ) (ops : List Op) (fault : Fault) → asker_of f ask ≡ Ok asker → (is_object_name object && is_namespace ask.namespace) ≡ true
+    → (fault ≡ OutOfMemory) ⊎ (option_map OfNeeds (needs_fault ops) ≡ Some fault) → (fault ≡ OutOfMemory) ⊎ (error_of (requests_of f (Submit ask object ops)) ≡ Some fault)
+unfolding requests_of
+vector_refused f ask asker object ops fault who names (inl memory) = inl memory
+vector_refused f ask asker object ops fault who names (inr refused) = inr (
+    ap (λ q. error_of (q >>= λ found.
+    unless (not (is_object_name object && is_namespace ask.namespace)) BadObjectName >>= λ _.
+    lower OfNeeds (needs_fault ops) >>= λ _.
+    Ok (vector_of ask found object ops ∷ []))) who
+    ∙ ap (λ b. error_of (unless (not b) BadObjectName >>= λ _.
+    lower OfNeeds (needs_fault ops) >>= λ _.
+    Ok (vector_of ask asker object ops ∷ []))) names
+    ∙ go (needs_fault ops) refused)
+  where
+    go : (o : Option NeedsFault) → option_map OfNeeds o ≡ Some fault → error_of (lower OfNeeds o >>= λ _. Ok (vector_of ask asker object ops ∷ [])) ≡ Some fault
+    go None e = absurd (cc)
+    go (Some needs) e = e
 
 pub list_asked : (f : Front) (ask : Ask) (asker : Asker) (requests : List Sealed) → asker_of f ask ≡ Ok asker → is_namespace ask.namespace ≡ true → requests ≡ pieces_of ask asker
     → requests_of f (ListNames ask) ≡ Ok requests

@@ -1,5 +1,5 @@
 -- Why a call of the front is refused.
-use Rattle.std.proofs.Common.{◌≡◌, ◌∙◌, ◌⊎◌, inl, inr, ℕ, ◌||◌, Bool, true, false, cond, List, Option, Some, None, Result, Ok, Err, unwrap_or, refl, sym, ap}
+use Rattle.std.proofs.Common.{subst, ◌≡◌, ◌∙◌, ◌⊎◌, inl, inr, ℕ, ◌||◌, Bool, true, false, cond, List, Option, Some, None, Result, Ok, Err, unwrap_or, refl, sym, ap}
 use Rattle.std.specs.Option.{option_map}
 use Rattle.std.specs.Result.{IsErrAnd}
 use Rattle.auth_db.specs.declared.fault.AuthFault.{AuthFault}
@@ -93,6 +93,11 @@ pub needs_exit : {T : Type 0} (r : Result T Fault) (refusal : Option NeedsFault)
     → RefusedOrMemory (option_map OfNeeds refusal) r
 needs_exit (Ok x) refusal fault is why = absurd is
 needs_exit (Err seen) refusal fault is why = needs_refused refusal fault seen is why
+
+-- a fault that is passed on
+pub same_exit : {T : Type 0} (r : Result T Fault) (refusal : Option Fault) (fault : Fault) → IsErrAnd r (λ seen. seen ≡ fault) → (fault ≡ OutOfMemory) ⊎ (refusal ≡ Some fault) → RefusedOrMemory refusal r
+same_exit (Ok x) refusal fault is why = absurd is
+same_exit (Err seen) refusal fault is why = subst (λ f. (f ≡ OutOfMemory) ⊎ (refusal ≡ Some f)) (sym is) why
 
 -- an earlier refusal, or want of memory
 pub first_or_memory : {X : Type 0} (refusal : Option X) (memory fault : X) → fault ≡ unwrap_or refusal memory → (fault ≡ memory) ⊎ (refusal ≡ Some fault)
