@@ -17,3 +17,8 @@ pub mod Requests
 pub mod Intervals
 pub mod Accepted
 pub mod Listings
+pub mod Submitted
+pub mod Refused
+pub mod Views
+pub mod FrontSteps
+pub mod Recording

@@ -10,3 +10,7 @@ pub mod Audit
 pub mod Holds
 pub mod Listing
 pub mod Accepted
+pub mod Refusing
+pub mod Asking
+pub mod Stands
+pub mod Submitting

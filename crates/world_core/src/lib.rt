@@ -4,11 +4,17 @@
 //! over the commands of the Ceph manual and the placement groups of the RADOS paper.
 #![tactic(auto)]
 
+mod asking;
 mod event;
 mod fault;
+mod front;
 mod laws;
+mod lists;
 mod ops;
+mod sealing;
 mod session;
+mod submissions;
+mod users;
 
 pub use event::{Ask, AuthCommand, Event, Told};
 pub use fault::WorldFault;
