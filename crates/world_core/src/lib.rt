@@ -4,10 +4,14 @@
 //! over the commands of the Ceph manual and the placement groups of the RADOS paper.
 #![tactic(auto)]
 
+mod creating;
 mod event;
 mod fault;
+mod front;
 mod laws;
+mod moves;
 mod ops;
+mod places;
 mod session;
 
 pub use event::{Ask, AuthCommand, Event, Told};
