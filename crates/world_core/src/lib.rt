@@ -8,10 +8,10 @@ mod creating;
 mod event;
 mod fault;
 mod front;
+mod group_places;
 mod laws;
 mod moves;
 mod ops;
-mod places;
 mod session;
 
 pub use event::{Ask, AuthCommand, Event, Told};

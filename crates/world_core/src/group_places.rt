@@ -3,7 +3,7 @@
 ghost use Rattle.std.specs.Prelude.{◌≡◌, ◌≤◌, List, All, length, IfOk, None, option_copied};
 ghost use Rattle.std.specs.List.{list_all};
 ghost use Rattle.std.specs.Option.{option_map};
-ghost use Rattle.group_core.specs.Group as group;
+ghost use Rattle.group_core.specs.Group.{Group};
 ghost use Rattle.map_core.specs.Limits.{IsPool};
 ghost use Rattle.map_core.specs.Map.{pool_in};
 ghost use Rattle.map_core.specs.Refusal.{first_of, acting_tests, acting_refusal};
@@ -24,7 +24,7 @@ use map_core::{ClusterMap, MapFault, Pool};
 /// M9 for a pool's name that is none, M2 for a pool that is not there, M10 for a number that the pool has not.
 pub(crate) fn place_of(map: &ClusterMap, group: &GroupId) -> Result<usize, WorldFault>
     ensures refused { error_of result ≡ option_map OfMap (acting_refusal map.now group.now.pool group.now.number) }
-    ensures place { IfOk result (λ place. (groups : List group.Group) → AreGroupsOf map.now groups → IsAt groups group.now place) }
+    ensures place { IfOk result (λ place. (groups : List Group) → AreGroupsOf map.now groups → IsAt groups group.now place) }
 {
     let _epoch = map.epoch();
     let pools = map.pools();
@@ -41,10 +41,23 @@ fn refusal(pools: &[Pool], group: &GroupId) -> Option<MapFault>
     if !is_word(&group.pool) {
         return Some(MapFault::BadName);
     }
+    if pool_of(pools, group).is_none() {
+        return Some(MapFault::NoPool);
+    }
+    if group.number >= groups_in(pools, group) {
+        return Some(MapFault::NoGroup);
+    }
+    None
+}
+
+/// How many groups the pool of a group has.
+#[tactic(auto, unfolding(map_core::specs::Refusal::groups_in))]
+fn groups_in(pools: &[Pool], group: &GroupId) -> u32
+    ensures { result ≡ map_tests.groups_in pools.now group.now.pool }
+{
     match pool_of(pools, group) {
-        None => Some(MapFault::NoPool),
-        Some(pool) if group.number >= pool.pg_num => Some(MapFault::NoGroup),
-        Some(_) => None,
+        Some(pool) => pool.pg_num,
+        None => 0,
     }
 }
 
