@@ -12,3 +12,6 @@ pub mod Listing
 pub mod Accepted
 pub mod Refusing
 pub mod Moves
+pub mod Asking
+pub mod Stands
+pub mod Submitting

@@ -10,9 +10,11 @@ mod fault;
 mod front;
 mod group_places;
 mod laws;
+mod lists;
 mod moves;
 mod ops;
 mod session;
+mod submissions;
 
 pub use event::{Ask, AuthCommand, Event, Told};
 pub use fault::WorldFault;
