@@ -1,6 +1,6 @@
 //! Sessions of users.
 
-ghost use Rattle.std.specs.Prelude.{◌≡◌, ◌<◌, ◌≤◌, ◌+◌, ◌++◌, ℕ, [], ◌∷◌, Ok, OnOk, OnErr, IfOk, length};
+ghost use Rattle.std.specs.Prelude.{◌≡◌, ◌<◌, ◌≤◌, ◌+◌, ◌++◌, ℕ, [], ◌∷◌, Ok, true, OnOk, OnErr, IfOk, length};
 ghost use Rattle.world_core.specs.Front.{asks_more, error_of, opened, session_at, session_of};
 ghost use Rattle.world_core.specs.Front as spec;
 ghost use Rattle.world_core.specs.Refusing.{RefusedExactly};

@@ -76,9 +76,9 @@ impl Submissions {
     {
         let before = self.len();
         for request in requests.into_vec() {
-            if self.push(request).is_err() {
+            if let Err(error) = self.push(request) {
                 self.truncate(before);
-                return Err(OutOfMemory);
+                return Err(error);
             }
         }
         Ok(())
