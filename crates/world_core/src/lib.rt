@@ -4,6 +4,7 @@
 //! over the commands of the Ceph manual and the placement groups of the RADOS paper.
 #![tactic(auto)]
 
+mod after_command;
 mod creating;
 mod event;
 mod fault;
