@@ -18,3 +18,5 @@ pub mod Intervals
 pub mod Accepted
 pub mod Listings
 pub mod PlaceIn
+pub mod AllMoved
+pub mod FullMoves
