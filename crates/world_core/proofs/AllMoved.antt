@@ -22,3 +22,10 @@ given_back event rest groups ready is =
     ∙ sym (map-append given_up (all_prepared event rest) ready)
     ∙ ap (map given_up) is
     ∙ given event groups
+
+-- all of them were made ready, and are moved, or given up
+pub all_committed : (event : GroupId → group.Event) (left groups : List Group) (ready : List Prepared) → left ≡ [] → ready ≡ all_prepared event groups → left ++ map committed ready ≡ all_moved event groups
+all_committed event left groups ready none is = ap (λ l. l ++ map committed ready) none ∙ ap (map committed) is ∙ moved event groups
+
+pub all_given_up : (event : GroupId → group.Event) (left groups : List Group) (ready : List Prepared) → left ≡ [] → ready ≡ all_prepared event groups → left ++ map given_up ready ≡ groups
+all_given_up event left groups ready none is = ap (λ l. l ++ map given_up ready) none ∙ ap (map given_up) is ∙ given event groups
