@@ -20,3 +20,4 @@ pub mod Listings
 pub mod PlaceIn
 pub mod AllMoved
 pub mod FullMoves
+pub mod NewGroups
