@@ -21,3 +21,4 @@ pub mod PlaceIn
 pub mod AllMoved
 pub mod FullMoves
 pub mod NewGroups
+pub mod Stepped
