@@ -22,3 +22,4 @@ pub mod AllMoved
 pub mod FullMoves
 pub mod NewGroups
 pub mod Stepped
+pub mod AfterMoves
