@@ -23,3 +23,7 @@ pub mod FullMoves
 pub mod NewGroups
 pub mod Stepped
 pub mod AfterMoves
+pub mod Submitted
+pub mod Refused
+pub mod Views
+pub mod FrontSteps

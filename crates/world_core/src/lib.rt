@@ -5,6 +5,7 @@
 #![tactic(auto)]
 
 mod after_command;
+mod asking;
 mod creating;
 mod event;
 mod fault;
@@ -14,8 +15,10 @@ mod laws;
 mod lists;
 mod moves;
 mod ops;
+mod sealing;
 mod session;
 mod submissions;
+mod users;
 
 pub use event::{Ask, AuthCommand, Event, Told};
 pub use fault::WorldFault;

@@ -46,7 +46,7 @@ returns-then-moves_groups-clause-refused c =
     let free : refusal (map_of f.history) (epoch_of f.history) c.args.command ≡ None =
     ap (λ h. refusal (map_of h) (epoch_of h) c.args.command) (sym c.map-2.ensures) ∙ sym c.refusal.ensures ∙ none_of c.refusal.result c.in_default.not-Some in
     let is : option_map OfGroup (first_refusal (move_of (map_of f.history) c.args.command) c.args.groups.now.items)
-        ≡ option_or (option_map OfMap (refusal (map_of f.history) (epoch_of f.history) c.args.command)) (option_map OfGroup (parts_refusal c.args.groups.now.items (parts_of f (Map c.args.command)))) =
+    ≡ option_or (option_map OfMap (refusal (map_of f.history) (epoch_of f.history) c.args.command)) (option_map OfGroup (parts_refusal c.args.groups.now.items (parts_of f (Map c.args.command)))) =
     ap (option_map OfGroup) (sym (refusals_moved f c.args.command c.args.groups.now.items accepted c.requires.places moves))
     ∙ ap (λ o. option_or (option_map OfMap o) (option_map OfGroup (parts_refusal c.args.groups.now.items (parts_of f (Map c.args.command))))) (sym free) in
     subst (λ (o : Option Fault). RefusedOrMemory o c.move_all.result) is c.move_all.ensures.refused
