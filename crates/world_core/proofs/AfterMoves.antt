@@ -1,10 +1,8 @@
 -- After a command the groups are those of the map again.
-use Prim.Native.Nat.{zero, suc}
-use Rattle.std.proofs.Common.{◌≡◌, ◌∙◌, ℕ, ◌+◌, List, [], ◌∷◌, ◌++◌, Bool, true, false, if◌then◌else◌, Option, Some, None, Result, Ok, Err, map, refl, sym, ap, subst, append-nil}
+use Rattle.std.proofs.Common.{◌≡◌, ◌∙◌, ℕ, List, [], ◌∷◌, ◌++◌, Bool, true, false, if◌then◌else◌, Some, None, Result, Ok, Err, map, refl, sym, ap, subst, append-nil}
 use Rattle.std.specs.Prelude.{OnOk, OnErr}
 use Rattle.std.specs.List.{flat_map, range_with_len, find}
-use Rattle.std.specs.Option.{option_map, option_or}
-use Rattle.std.specs.Str.{bytes_eq}
+use Rattle.std.specs.Option.{option_map}
 use Rattle.std.proofs.lemmas.List.{map-append}
 use Rattle.std.proofs.lemmas.Grind.{flat_map-append}
 use Rattle.place_core.specs.Place.{acting_of, numbers_of}
@@ -24,7 +22,7 @@ use Rattle.entry_core.specs.declared.sealed.GroupId.{GroupId}
 use Rattle.group_core.specs.Each.{Each}
 use Rattle.group_core.specs.Group.{Group, group_step, refusal_of, last_set, same_set}
 use Rattle.group_core.specs.Group as group
-use Rattle.world_core.specs.Event.{Fault, Map, OutOfMemory, OfGroup}
+use Rattle.world_core.specs.Event.{Fault, Map, OfGroup}
 use Rattle.world_core.specs.Front.{Front, front_step}
 use Rattle.world_core.specs.Refusing.{RefusedOrMemory}
 use Rattle.world_core.specs.World.{groups_of, members_of, begun_group}
@@ -34,7 +32,7 @@ use Rattle.world_core.proofs.Acting.{each_join}
 use Rattle.world_core.proofs.Standing.{step_is}
 use Rattle.world_core.proofs.Places.{numbered, true_not_false}
 use Rattle.world_core.proofs.Limits.{or_first, or_second, wrapped_none, creates_well}
-use Rattle.world_core.proofs.Requests.{facts, moved_sets, restarted_sets, interval_facts, restart_facts}
+use Rattle.world_core.proofs.Requests.{moved_sets, restarted_sets, interval_facts, restart_facts}
 use Rattle.world_core.proofs.Intervals.{same_set_is, last_pushed, sized_set, members_are, later}
 use Rattle.world_core.proofs.FullMoves.{has_set}
 

@@ -1,8 +1,7 @@
 -- A group refuses its part of a command on a daemon just where the command begins an interval of it, and it has all that there can be.
-use Rattle.std.proofs.Common.{◌≡◌, ◌∙◌, ℕ, ◌++◌, ◌||◌, List, [], ◌∷◌, Bool, true, false, not, Option, Some, None, option_to_list, if◌then◌else◌, refl, sym, ap, drop, get_or, length, ◌<◌, ◌+◌}
-use Rattle.std.specs.Option.{option_or}
+use Rattle.std.proofs.Common.{◌≡◌, ◌∙◌, ℕ, ◌++◌, ◌||◌, List, Bool, true, false, not, Option, Some, None, option_to_list, if◌then◌else◌, refl, sym, ap}
 use Rattle.std.specs.Str.{bytes_eq}
-use Rattle.std.proofs.lemmas.List.{append_cancel_left, at_drop_more}
+use Rattle.std.proofs.lemmas.List.{append_cancel_left}
 use Rattle.place_core.specs.Place.{acting_of, numbers_of}
 use Rattle.map_core.specs.State.{MapState, History}
 use Rattle.map_core.specs.Map.{after, map_of}
@@ -17,7 +16,7 @@ use Rattle.group_core.specs.Group as group
 use Rattle.group_core.specs.declared.fault.GroupFault.{GroupFault}
 use Rattle.group_core.specs.declared.fault.GroupFault.TheVariants as group_fault
 use Rattle.world_core.specs.World.{members_of}
-use Rattle.world_core.specs.Moves.{moves_groups, move_of, first_refusal}
+use Rattle.world_core.specs.Moves.{moves_groups, move_of}
 use Rattle.world_core.proofs.Bytes.{bytes_same}
 use Rattle.world_core.proofs.Merge.{bytes_refl}
 use Rattle.world_core.proofs.Places.{true_not_false}

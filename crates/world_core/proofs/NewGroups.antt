@@ -1,6 +1,6 @@
 -- The groups that a pool's creation makes.
 use Prim.Native.Nat.{zero, suc}
-use Rattle.std.proofs.Common.{◌≡◌, ◌∙◌, ℕ, ◌+◌, ◌≤◌, ◌||◌, List, [], ◌∷◌, ◌++◌, Bool, true, false, not, None, map, length, refl, sym, ap, subst, arith}
+use Rattle.std.proofs.Common.{◌≡◌, ◌∙◌, ℕ, ◌+◌, ◌≤◌, ◌||◌, List, [], ◌∷◌, ◌++◌, true, not, None, map, length, sym, ap, arith}
 use Rattle.std.specs.Prelude.{nat_le}
 use Rattle.std.specs.List.{range_with_len}
 use Rattle.std.proofs.lemmas.Bool.Decides.{nat_tests}
@@ -13,10 +13,9 @@ use Rattle.map_core.specs.declared.command.MapCommand.TheVariants.{PoolCreate}
 use Rattle.map_core.proofs.Acceptance.{all_fail, or_left, not_false}
 use Rattle.map_core.proofs.Current.{daemons_stay}
 use Rattle.entry_core.specs.declared.sealed.GroupId.{GroupId}
-use Rattle.group_core.specs.Group.{Group, start}
+use Rattle.group_core.specs.Group.{start}
 use Rattle.world_core.specs.World.{begun_group, members_of}
 use Rattle.place_core.specs.Place.{numbers_of}
-use Rattle.world_core.proofs.Bytes.{both_true}
 use Rattle.world_core.proofs.Places.{numbered}
 
 range_push : (a n : ℕ) → range_with_len a (suc n) ≡ range_with_len a n ++ (a + n) ∷ []

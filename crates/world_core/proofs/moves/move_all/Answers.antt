@@ -1,4 +1,4 @@
-use Rattle.std.proofs.Common.{◌≡◌, ◌∙◌, inr, reverse, sym, ap}
+use Rattle.std.proofs.Common.{◌∙◌, inr, reverse, sym, ap}
 use Rattle.std.specs.Option.{option_map}
 use Rattle.map_core.specs.Map.{map_of}
 use Rattle.world_core.specs.Event.{OfGroup}

@@ -1,4 +1,4 @@
-use Rattle.std.proofs.Common.{◌≡◌, ◌∙◌, ◌∷◌, [], ◌++◌, map, reverse, sym, ap}
+use Rattle.std.proofs.Common.{◌∙◌, ◌∷◌, [], ◌++◌, map, reverse, sym, ap}
 use Rattle.map_core.specs.Map.{map_of}
 use Rattle.world_core.specs.Moves.{move_of, given_up}
 use Rattle.world_core.proofs.AllMoved.{given_back}
