@@ -85,14 +85,14 @@ fn move_all(
     if any_full(front.map(), &command, groups.as_slice()) {
         return Err(WorldFault::Group(GroupFault::Full));
     }
-    let ready = prepare_all(front.map(), &command, groups)?;
+    let prepared = prepare_all(front.map(), &command, groups)?;
     match front.change_map(command) {
         Ok(told) => {
-            commit_all(groups, ready);
+            commit_all(groups, prepared);
             Ok(told)
         }
         Err(fault) => {
-            give_up_all(groups, ready);
+            give_up_all(groups, prepared);
             Err(fault)
         }
     }

@@ -15,7 +15,7 @@ returns-then-any_full-clause-refused c =
 pub returns-in-Ok-clause-groups : goal.returns-in-Ok-clause-groups
 returns-in-Ok-clause-groups c =
     c.commit_all.ensures
-    ∙ all_committed (move_of (map_of c.map-2.result.now) c.args.command) c.prepare_all.new.groups.items c.args.groups.now.items (reverse c.in_ok-ready.ready.items) c.in_ok-ready.ensures.taken c.in_ok-ready.ensures.ready
+    ∙ all_committed (move_of (map_of c.map-2.result.now) c.args.command) c.prepare_all.new.groups.items c.args.groups.now.items (reverse c.in_ok-prepared.prepared.items) c.in_ok-prepared.ensures.taken c.in_ok-prepared.ensures.ready
     ∙ ap (λ h. all_moved (move_of (map_of h) c.args.command) c.args.groups.now.items) c.map-2.ensures
 
 pub returns-in-Ok-clause-refused : goal.returns-in-Ok-clause-refused
@@ -28,5 +28,5 @@ pub returns-in-Err-clause-unchanged : goal.returns-in-Err-clause-unchanged
 returns-in-Err-clause-unchanged c = (
   c.in-Err.ensures.unchanged,
   c.give_up_all.ensures
-      ∙ all_given_up (move_of (map_of c.map-2.result.now) c.args.command) c.prepare_all.new.groups.items c.args.groups.now.items (reverse c.in_ok-ready.ready.items) c.in_ok-ready.ensures.taken c.in_ok-ready.ensures.ready,
+      ∙ all_given_up (move_of (map_of c.map-2.result.now) c.args.command) c.prepare_all.new.groups.items c.args.groups.now.items (reverse c.in_ok-prepared.prepared.items) c.in_ok-prepared.ensures.taken c.in_ok-prepared.ensures.ready,
 )
