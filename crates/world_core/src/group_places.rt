@@ -19,7 +19,7 @@ use entry_core::GroupId;
 use map_core::{ClusterMap, MapFault, Pool};
 
 /// The place of a group among the groups of a map's pools: as many as the earlier pools have, and its number. It takes no
-/// memory.
+/// memory, and a step for each pool, of which there are at most 32.
 ///
 /// M9 for a pool's name that is none, M2 for a pool that is not there, M10 for a number that the pool has not.
 pub(crate) fn place_of(map: &ClusterMap, group: &GroupId) -> Result<usize, WorldFault>
