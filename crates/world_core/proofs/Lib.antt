@@ -27,3 +27,4 @@ pub mod Submitted
 pub mod Refused
 pub mod Views
 pub mod FrontSteps
+pub mod Recording
