@@ -11,6 +11,7 @@ pub mod Holds
 pub mod Listing
 pub mod Accepted
 pub mod Refusing
+pub mod Moves
 pub mod Asking
 pub mod Stands
 pub mod Submitting

@@ -4,12 +4,16 @@
 //! over the commands of the Ceph manual and the placement groups of the RADOS paper.
 #![tactic(auto)]
 
+mod after_command;
 mod asking;
+mod creating;
 mod event;
 mod fault;
 mod front;
+mod group_places;
 mod laws;
 mod lists;
+mod moves;
 mod ops;
 mod sealing;
 mod session;
