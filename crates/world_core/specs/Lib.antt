@@ -10,3 +10,4 @@ pub mod Audit
 pub mod Holds
 pub mod Listing
 pub mod Accepted
+pub mod Places

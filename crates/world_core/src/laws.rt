@@ -6,6 +6,7 @@ ghost use Rattle.world_core.specs.Tickets.{TicketsAreRead};
 ghost use Rattle.world_core.specs.Audit.{RunsTell};
 ghost use Rattle.world_core.specs.Holds.{WorldHolds, HoldsOn};
 ghost use Rattle.world_core.specs.Accepted.{RequestsAreSubmissions, FrontTellsRequests, AcceptedHasNumbers, AcceptedHolds, AcceptedAnswers, IntervalsAreTheMaps, GroupsAreServed};
+ghost use Rattle.world_core.specs.Places.{EveryPlaceHasItsGroup, PlacesStay, GroupsAreFoundByPlace};
 ghost use Rattle.world_core.specs.Listing.{PiecesAreTheNamespace, PiecesAnswerTheNamespace};
 
 /// Entries of different groups touch different objects: lists that are legal in each group are legal together, in any order that keeps each group's own.
@@ -75,4 +76,12 @@ pub fn groups_are_served()
 pub fn pieces_are_the_namespace()
     ensures names { PiecesAreTheNamespace }
     ensures answer { PiecesAnswerTheNamespace }
+{}
+
+/// Whatever happens, the groups of a world are those of the map's places, in their order. Where each event was accepted, a
+/// group is found just where the map has its pool and its number, which is just where the front does not refuse them.
+pub fn every_place_has_its_group()
+    ensures all { EveryPlaceHasItsGroup }
+    ensures next { PlacesStay }
+    ensures found { GroupsAreFoundByPlace }
 {}
