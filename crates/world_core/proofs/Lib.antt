@@ -18,3 +18,4 @@ pub mod Intervals
 pub mod Accepted
 pub mod Listings
 pub mod PlaceGroups
+pub mod KickRecovery

@@ -11,3 +11,4 @@ pub mod Holds
 pub mod Listing
 pub mod Accepted
 pub mod Places
+pub mod Recovery

@@ -7,6 +7,7 @@ ghost use Rattle.world_core.specs.Audit.{RunsTell};
 ghost use Rattle.world_core.specs.Holds.{WorldHolds, HoldsOn};
 ghost use Rattle.world_core.specs.Accepted.{RequestsAreSubmissions, FrontTellsRequests, AcceptedHasNumbers, AcceptedHolds, AcceptedAnswers, IntervalsAreTheMaps, GroupsAreServed};
 ghost use Rattle.world_core.specs.Places.{EveryPlaceHasItsGroup, PlacesStay, GroupsAreFoundByPlace};
+ghost use Rattle.world_core.specs.Recovery.{KickRecovers, LossesLoseAll};
 ghost use Rattle.world_core.specs.Listing.{PiecesAreTheNamespace, PiecesAnswerTheNamespace};
 
 /// Entries of different groups touch different objects: lists that are legal in each group are legal together, in any order that keeps each group's own.
@@ -84,4 +85,12 @@ pub fn every_place_has_its_group()
     ensures all { EveryPlaceHasItsGroup }
     ensures next { PlacesStay }
     ensures found { GroupsAreFoundByPlace }
+{}
+
+/// Where each event was accepted and a group is ready: once all its messages are lost, in whichever way, a kick and the
+/// delivery of message 0 until none is left answer every request for the group. Each of these events is accepted, or drops a
+/// message to a daemon that is down. They are no more deliveries than the group's budget, and nothing else in the world changes.
+pub fn a_kick_recovers()
+    ensures recovers { KickRecovers }
+    ensures loses { LossesLoseAll }
 {}
