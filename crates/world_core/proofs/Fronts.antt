@@ -39,7 +39,7 @@ pub record FrontStands (f : Front) : Type 0 where
 
 -- ---- what an accepted request was made of
 
-bind_ok : {A B E : Type 0} (r : Result A E) (k : A → Result B E) (b : B) → (r >>= k) ≡ Ok b → (a : A) × (r ≡ Ok a) × (k a ≡ Ok b)
+pub bind_ok : {A B E : Type 0} (r : Result A E) (k : A → Result B E) (b : B) → (r >>= k) ≡ Ok b → (a : A) × (r ≡ Ok a) × (k a ≡ Ok b)
 bind_ok (Ok a) k b h = (a, refl, h)
 bind_ok (Err e) k b h = absurd (cc)
 

@@ -19,3 +19,4 @@ pub mod Accepted
 pub mod Listings
 pub mod PlaceGroups
 pub mod KickRecovery
+pub mod ListingLaws

@@ -12,3 +12,4 @@ pub mod Listing
 pub mod Accepted
 pub mod Places
 pub mod Recovery
+pub mod ListingLaws

@@ -8,6 +8,7 @@ ghost use Rattle.world_core.specs.Holds.{WorldHolds, HoldsOn};
 ghost use Rattle.world_core.specs.Accepted.{RequestsAreSubmissions, FrontTellsRequests, AcceptedHasNumbers, AcceptedHolds, AcceptedAnswers, IntervalsAreTheMaps, GroupsAreServed};
 ghost use Rattle.world_core.specs.Places.{EveryPlaceHasItsGroup, PlacesStay, GroupsAreFoundByPlace};
 ghost use Rattle.world_core.specs.Recovery.{KickRecovers, LossesLoseAll};
+ghost use Rattle.world_core.specs.ListingLaws.{ListsHavePieces, ListingsAreTold, AcceptedListings};
 ghost use Rattle.world_core.specs.Listing.{PiecesAreTheNamespace, PiecesAnswerTheNamespace};
 
 /// Entries of different groups touch different objects: lists that are legal in each group are legal together, in any order that keeps each group's own.
@@ -93,4 +94,14 @@ pub fn every_place_has_its_group()
 pub fn a_kick_recovers()
     ensures recovers { KickRecovers }
     ensures loses { LossesLoseAll }
+{}
+
+/// Whatever happens, each list of the front is one request for each group of its pool, under consecutive numbers. A piece is
+/// answered the names at its place in the audit, or its denial. The list is nothing until each piece was answered, and then
+/// their sorted names, or the denial. Where nothing between its pieces changes which objects the pool's namespace has, it is
+/// exactly these objects.
+pub fn listings_are_told()
+    ensures pieces { ListsHavePieces }
+    ensures told { ListingsAreTold }
+    ensures accepted { AcceptedListings }
 {}
