@@ -13,3 +13,6 @@ pub mod Accepted
 pub mod Places
 pub mod Recovery
 pub mod ListingLaws
+pub mod Command
+pub mod Text
+pub mod Script

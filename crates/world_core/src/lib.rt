@@ -8,6 +8,7 @@ mod event;
 mod fault;
 mod laws;
 mod ops;
+mod script;
 mod session;
 
 pub use event::{Ask, AuthCommand, Event, Told};
