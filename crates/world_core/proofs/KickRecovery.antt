@@ -36,7 +36,7 @@ use Rattle.world_core.proofs.Accepted.{accepted_kept, groups_are_served}
 
 -- ---- the events of one group, as the world sees them
 
-abbrev IsMessage : group.Event → Type 0
+abbrev pub IsMessage : group.Event → Type 0
 IsMessage (group.Submit s) = ⊥
 IsMessage (group.Deliver k) = Unit {0}
 IsMessage (group.Lose k) = Unit {0}
@@ -46,7 +46,7 @@ IsMessage (group.Restart d) = ⊥
 IsMessage group.Kick = Unit {0}
 
 -- what is no such event has none
-abbrev shown : GroupId → group.Event → Event
+abbrev pub shown : GroupId → group.Event → Event
 shown id (group.Deliver k) = Deliver id k
 shown id (group.Lose k) = Lose id k
 shown id (group.Repeat k) = Repeat id k
@@ -107,7 +107,7 @@ shown_other w id other e h apart = step_at other w (shown id e) ∙ by (group_at
 -- ---- which are accepted
 
 -- nothing refuses it, or it drops its message
-abbrev Passes : GroupId → Group → group.Event → Type 0
+abbrev pub Passes : GroupId → Group → group.Event → Type 0
 Passes id g e = accepts (shown id e) (option_map OfGroup (group.refusal_of g e)) ≡ true
 
 or_none : {X : Type 0} (o : Option X) → option_or o None ≡ o
@@ -133,16 +133,16 @@ shown_accepted w id e g h named there passes =
 
 -- ---- many of them
 
-abbrev AllPass : GroupId → Group → List group.Event → Type 0
+abbrev pub AllPass : GroupId → Group → List group.Event → Type 0
 AllPass id g [] = Unit {0}
 AllPass id g (e ∷ es) = Passes id g e × AllPass id (group_step g e) es
 
-record Ran (w : World) (id : GroupId) (g : Group) (es : List group.Event) : Type 0 where
-  there : group_at id (fold world_step w (map (shown id) es)).groups ≡ Some (run es g)
-  front : (fold world_step w (map (shown id) es)).front ≡ w.front
-  others : (other : GroupId) → is_same_group other id ≡ false → group_at other (fold world_step w (map (shown id) es)).groups ≡ group_at other w.groups
+pub record Ran (w : World) (id : GroupId) (g : Group) (es : List group.Event) : Type 0 where
+  pub there : group_at id (fold world_step w (map (shown id) es)).groups ≡ Some (run es g)
+  pub front : (fold world_step w (map (shown id) es)).front ≡ w.front
+  pub others : (other : GroupId) → is_same_group other id ≡ false → group_at other (fold world_step w (map (shown id) es)).groups ≡ group_at other w.groups
 
-ran : (es : List group.Event) (w : World) (id : GroupId) (g : Group) → Each IsMessage es → group_at id w.groups ≡ Some g → Ran w id g es
+pub ran : (es : List group.Event) (w : World) (id : GroupId) (g : Group) → Each IsMessage es → group_at id w.groups ≡ Some g → Ran w id g es
 ran [] w id g h there = record { there = there; front = refl; others = λ other apart. refl }
 ran (e ∷ es) w id g h there =
     let rest : Ran (world_step w (shown id e)) id (group_step g e) es = ran es (world_step w (shown id e)) id (group_step g e) h.1 (shown_step w id e g h.0 there) in
@@ -152,14 +152,14 @@ ran (e ∷ es) w id g h there =
       others = λ other apart. rest.others other apart ∙ shown_other w id other e h.0 apart;
     }
 
-all_accepted : (es : List group.Event) (w : World) (id : GroupId) (g : Group) → Each IsMessage es → group_refusal w.front id ≡ None → group_at id w.groups ≡ Some g → AllPass id g es → AcceptedFrom w (map (shown id) es)
+pub all_accepted : (es : List group.Event) (w : World) (id : GroupId) (g : Group) → Each IsMessage es → group_refusal w.front id ≡ None → group_at id w.groups ≡ Some g → AllPass id g es → AcceptedFrom w (map (shown id) es)
 all_accepted [] w id g h named there pass = tt
 all_accepted (e ∷ es) w id g h named there pass = (
   shown_accepted w id e g h.0 named there pass.0,
   all_accepted es (world_step w (shown id e)) id (group_step g e) h.1 (ap (λ f. group_refusal f id) (shown_front w.front id e h.0) ∙ named) (shown_step w id e g h.0 there) pass.1,
 )
 
-accepted_join : (xs ys : List Event) (w : World) → AcceptedFrom w xs → AcceptedFrom (fold world_step w xs) ys → AcceptedFrom w (xs ++ ys)
+pub accepted_join : (xs ys : List Event) (w : World) → AcceptedFrom w xs → AcceptedFrom (fold world_step w xs) ys → AcceptedFrom w (xs ++ ys)
 accepted_join [] ys w h k = k
 accepted_join (x ∷ xs) ys w h k = (h.0, accepted_join xs ys (world_step w x) h.1 k)
 
@@ -205,7 +205,7 @@ no_more : (n : ℕ) (g : Group) → slice_get g.wire 0 ≡ None → settle n g �
 no_more zero g h = refl
 no_more (suc n) g h = ap (λ o. settle n (deliver g 0 o)) h ∙ no_more n g h
 
-delivered_all : (n : ℕ) (g : Group) → run (replicate (deliveries_of n g) (group.Deliver 0)) g ≡ settle n g
+pub delivered_all : (n : ℕ) (g : Group) → run (replicate (deliveries_of n g) (group.Deliver 0)) g ≡ settle n g
 delivered_all zero g = refl
 delivered_all (suc n) g = go (slice_get g.wire 0) refl (delivered_all n (group_step g (group.Deliver 0)))
   where
@@ -222,15 +222,15 @@ deliveries_few (suc n) g = go (slice_get g.wire 0) (deliveries_few n (group_step
     go None few = omega arith
     go (Some m) few = omega arith
 
-deliveries_heard : (n : ℕ) → Each IsMessage (replicate n (group.Deliver 0))
+pub deliveries_heard : (n : ℕ) → Each IsMessage (replicate n (group.Deliver 0))
 deliveries_heard zero = tt
 deliveries_heard (suc n) = (tt, deliveries_heard n)
 
-deliveries_shown : (id : GroupId) (n : ℕ) → map (shown id) (replicate n (group.Deliver 0)) ≡ replicate n (Deliver id 0)
+pub deliveries_shown : (id : GroupId) (n : ℕ) → map (shown id) (replicate n (group.Deliver 0)) ≡ replicate n (Deliver id 0)
 deliveries_shown id zero = refl
 deliveries_shown id (suc n) = ap (λ l. Deliver id 0 ∷ l) (deliveries_shown id n)
 
-deliveries_pass : (id : GroupId) (n : ℕ) (g : Group) → AllPass id g (replicate (deliveries_of n g) (group.Deliver 0))
+pub deliveries_pass : (id : GroupId) (n : ℕ) (g : Group) → AllPass id g (replicate (deliveries_of n g) (group.Deliver 0))
 deliveries_pass id zero g = tt
 deliveries_pass id (suc n) g = go (slice_get g.wire 0) refl (deliveries_pass id n (group_step g (group.Deliver 0)))
   where

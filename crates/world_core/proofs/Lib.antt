@@ -20,3 +20,4 @@ pub mod Listings
 pub mod PlaceGroups
 pub mod KickRecovery
 pub mod ListingLaws
+pub mod PlainGroups

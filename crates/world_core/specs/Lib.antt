@@ -16,3 +16,4 @@ pub mod ListingLaws
 pub mod Command
 pub mod Text
 pub mod Script
+pub mod Plain

@@ -9,6 +9,7 @@ ghost use Rattle.world_core.specs.Accepted.{RequestsAreSubmissions, FrontTellsRe
 ghost use Rattle.world_core.specs.Places.{EveryPlaceHasItsGroup, PlacesStay, GroupsAreFoundByPlace};
 ghost use Rattle.world_core.specs.Recovery.{KickRecovers, LossesLoseAll};
 ghost use Rattle.world_core.specs.ListingLaws.{ListsHavePieces, ListingsAreTold, AcceptedListings};
+ghost use Rattle.world_core.specs.Plain.{PlainScriptsPrint};
 ghost use Rattle.world_core.specs.Listing.{PiecesAreTheNamespace, PiecesAnswerTheNamespace};
 
 /// Entries of different groups touch different objects: lists that are legal in each group are legal together, in any order that keeps each group's own.
@@ -104,4 +105,10 @@ pub fn listings_are_told()
     ensures pieces { ListsHavePieces }
     ensures told { ListingsAreTold }
     ensures accepted { AcceptedListings }
+{}
+
+/// What a script writes that names no message, and in which no group begins a second interval, is what one store without
+/// groups, copies and messages writes: a settling decides what waits, in the order of submission, group after group.
+pub fn plain_scripts_print()
+    ensures { PlainScriptsPrint }
 {}

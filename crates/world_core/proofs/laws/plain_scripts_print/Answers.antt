@@ -1,0 +1,5 @@
+use Rattle.world_core.proofs.PlainGroups.{rests}
+use Rattle.world_core.proofs.laws.plain_scripts_print.Goals as goal
+
+pub returns : goal.returns
+returns c = ?

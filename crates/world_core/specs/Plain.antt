@@ -1,0 +1,172 @@
+-- Statement: contracts of public calls use it.
+-- Plain scripts, without groups, copies and messages: one store for all, and requests that wait for the next settling.
+-- No line of them names a message, and no group has a second interval.
+use Rattle.std.specs.Prelude.{◌≡◌, ℕ, ◌+◌, ◌-◌, ◌*◌, List, [], ◌∷◌, ◌++◌, Bool, true, false, not, if◌then◌else◌, nat_le, Option, None, Some, length, fold, codes, decimal, is_some}
+use Rattle.std.specs.List.{filter, list_any, find}
+use Rattle.std.specs.Option.{option_map_or}
+use Rattle.std.specs.FinMap.{empty}
+use Rattle.script_text.specs.Text.{line}
+use Rattle.grant_core.specs.BuiltIn.{built_in}
+use Rattle.map_core.specs.State.{MapState}
+use Rattle.map_core.specs.Map.{map_of, after, is_named}
+use Rattle.map_core.specs.Intervals.{set_of, begun}
+use Rattle.map_core.specs.declared.pool.Pool.{Pool}
+use Rattle.map_core.specs.declared.command.MapCommand.{MapCommand}
+use Rattle.entry_core.specs.Request.{Sealed}
+use Rattle.entry_core.specs.Store.{Store}
+use Rattle.entry_core.specs.Deciding.{Decision, decision_on, name_of}
+use Rattle.entry_core.specs.Laws.{changed}
+use Rattle.entry_core.specs.declared.sealed.GroupId.{GroupId}
+use Rattle.group_core.specs.Group.{answer_of}
+use Rattle.group_core.specs.declared.answers.Answer.{Answer}
+use Rattle.group_core.specs.Quiet.{opening_cost, request_cost}
+use Rattle.group_core.specs.Calm.{unserved_cost}
+use Rattle.world_core.specs.Event.{Event, Fault, Map, Deliver, Lose, Repeat, Kick}
+use Rattle.world_core.specs.Event as happens
+use Rattle.world_core.specs.Groups.{is_same_group, is_for}
+use Rattle.world_core.specs.Front.{Front, first_front, front_step, front_refusal, sealed_by, told_of, group_refusal}
+use Rattle.world_core.specs.World.{members_of}
+use Rattle.world_core.specs.Command.{Command, Osds, Happens, Submit, ListNames, Locate, ShowUser, ListUsers, Tick, Settle, KickAll, LoseAll, Answer as AskAnswer, Listing, Ready}
+use Rattle.world_core.specs.Text.{id_text, told_text, refused_text, or_refused, asked_text, users_text, ready_text}
+use Rattle.world_core.specs.Script.{Step, Goes, IsOther, Ending, Whole, BadAt, OtherAt, Output, output_of, begins, ask_now, places, locate_text, show_text, answer_in, listing_in, script_output}
+
+pub record Plain : Type 0 where
+  pub front : Front
+  pub tick : ℕ
+  pub objects : Store
+  pub pending : List Sealed  -- without an answer, in order of submission
+  pub fresh : List Sealed  -- submitted since the last settling
+  pub opened : List GroupId  -- the places that were settled before
+  pub answers : List Answer
+
+abbrev pub first_plain : ℕ → Plain
+first_plain daemons = record { front = first_front built_in daemons; tick = 0; objects = empty; pending = []; fresh = []; opened = []; answers = [] }
+
+-- ---- settling
+
+abbrev pub with_decision : Plain → Sealed → Decision → Plain
+with_decision p s d = record p { objects = changed p.objects (name_of s) d.change; answers = p.answers ++ record { id = s.id; reply = d.entry.reply } ∷ [] }
+
+-- the one store decides
+abbrev pub decides : Plain → Sealed → Plain
+decides p s = with_decision p s (decision_on p.objects s)
+
+-- the requests of one group, in order of submission
+abbrev pub serves : GroupId → Plain → Plain
+serves id p = fold decides (record p { pending = filter (λ s. not (is_for id s)) p.pending }) (filter (is_for id) p.pending)
+
+-- the deliveries of one group: with m members 5 m - 4 for its opening and 2 m for each request
+abbrev pub serving_cost : ℕ → Bool → ℕ → ℕ
+serving_cost members is_open requests = (if is_open then 0 else opening_cost members) + request_cost members * requests
+
+-- below its least size, one for each member, and 2 for each new request where there is a member
+abbrev pub waiting_cost : ℕ → Bool → ℕ → ℕ
+waiting_cost members is_open requests = (if is_open then 0 else members) + unserved_cost members * requests
+
+-- the least size of a place's pool
+abbrev pub least_of : MapState → GroupId → ℕ
+least_of state id = option_map_or (λ (p : Pool). p.min_size) (find (is_named id.pool) state.pools) 0
+
+-- whether the acting set of a place is large enough
+abbrev pub is_enough : Front → GroupId → Bool
+is_enough front id = nat_le (least_of (map_of front.history) id) (length (members_of (map_of front.history) id))
+
+abbrev pub members_count : Front → GroupId → ℕ
+members_count front id = length (members_of (map_of front.history) id)
+
+abbrev pub is_open : Plain → GroupId → Bool
+is_open p id = list_any (is_same_group id) p.opened
+
+-- the deliveries that a place costs
+abbrev pub cost : Plain → GroupId → ℕ
+cost p id =
+    if is_enough p.front id then serving_cost (members_count p.front id) (is_open p id) (length (filter (is_for id) p.pending))
+    else waiting_cost (members_count p.front id) (is_open p id) (length (filter (is_for id) p.fresh))
+
+pub record Settled : Type 0 where
+  pub plain : Plain
+  pub count : ℕ
+
+abbrev pub settles : Settled → GroupId → Settled
+settles c id = record { plain = if is_enough c.plain.front id then serves id c.plain else c.plain; count = c.count + cost c.plain id }
+
+-- place after place
+abbrev pub settles_all : Plain → Settled
+settles_all p = fold settles (record { plain = p; count = 0 }) (places p.front)
+
+abbrev pub rested : Plain → Plain
+rested p = record p { fresh = []; opened = places p.front }
+
+abbrev pub settled_step : Settled → Step Plain
+settled_step c = Goes (line (codes "settled " ++ decimal c.count)) (rested c.plain)
+
+-- ---- events
+
+-- a change of the map that begins an interval of a group that is there
+abbrev pub moves : MapState → MapCommand → GroupId → Bool
+moves state command id = is_some (begun command (set_of state id.pool id.number) (set_of (after state command) id.pool id.number))
+
+abbrev pub is_move : Front → Event → Bool
+is_move front (Map command) = list_any (moves (map_of front.history) command) (places front)
+is_move front e = false
+
+-- what names a message, or kicks
+abbrev pub is_message : Event → Bool
+is_message (Deliver id k) = true
+is_message (Lose id k) = true
+is_message (Repeat id k) = true
+is_message (Kick id) = true
+is_message e = false
+
+abbrev pub asks : Plain → Event → Plain
+asks p e = record p { front = front_step p.front e; pending = p.pending ++ sealed_by p.front e; fresh = p.fresh ++ sealed_by p.front e }
+
+abbrev pub accepted : Plain → Event → Step Plain
+accepted p e = if is_move p.front e then IsOther else Goes (line (told_text (told_of p.front e))) (asks p e)
+
+abbrev pub judged : Plain → Event → Option Fault → Step Plain
+judged p e None = accepted p e
+judged p e (Some fault) = Goes (refused_text fault) p
+
+abbrev pub plain_event : Plain → Event → Step Plain
+plain_event p e = if is_message e then IsOther else judged p e (front_refusal p.front e)
+
+-- ---- lines
+
+abbrev pub tells : Plain → List ℕ → Step Plain
+tells p text = Goes text p
+
+abbrev pub ready_plain : Plain → GroupId → List ℕ
+ready_plain p id = or_refused (group_refusal p.front id) (ready_text (is_enough p.front id))
+
+abbrev pub plain_step : Plain → Command → Step Plain
+plain_step p (Osds daemons) = tells p []
+plain_step p (Happens e) = plain_event p e
+plain_step p (Submit session pool namespace object ops) = plain_event p (happens.Submit (ask_now p.front p.tick session pool namespace) object ops)
+plain_step p (ListNames session pool namespace) = plain_event p (happens.ListNames (ask_now p.front p.tick session pool namespace))
+plain_step p (Locate pool namespace object) = tells p (locate_text p.front pool namespace object)
+plain_step p (ShowUser name) = tells p (show_text p.front name)
+plain_step p ListUsers = tells p (users_text p.front.database.users)
+plain_step p (Tick tick) = Goes (line (codes "tick " ++ decimal tick)) (record p { tick = tick })
+plain_step p Settle = settled_step (settles_all p)
+plain_step p KickAll = IsOther
+plain_step p LoseAll = IsOther
+plain_step p (AskAnswer id) = tells p (asked_text (id_text id) (answer_in p.front (answer_of p.answers) id))
+plain_step p (Listing id) = tells p (asked_text (id_text id) (listing_in p.front (answer_of p.answers) id))
+plain_step p (Ready id) = tells p (ready_plain p id)
+
+-- what a plain script writes
+abbrev pub plain_output : List ℕ → Output
+plain_output bytes = output_of (begins first_plain plain_step) None bytes
+
+-- ---- the law
+
+-- at its end or at a bad line, and not at a line that no plain script has
+abbrev pub IsPlain : Ending → Type 0
+IsPlain Whole = Unit {0}
+IsPlain (BadAt number) = Unit {0}
+IsPlain (OtherAt number) = ⊥
+
+-- what a plain script writes on a world is what one store without groups, copies and messages writes
+abbrev pub PlainScriptsPrint : Type 0
+PlainScriptsPrint = (bytes : List ℕ) → IsPlain (plain_output bytes).ending → script_output bytes ≡ plain_output bytes
