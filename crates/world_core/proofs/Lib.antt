@@ -21,3 +21,5 @@ pub mod PlaceGroups
 pub mod KickRecovery
 pub mod ListingLaws
 pub mod PlainGroups
+pub mod PlainStates
+pub mod PlainEvents
