@@ -328,7 +328,7 @@ made_at state min_size name k (suc n) id g h = go (is_same_group id (numbered na
     go false is more rest = further (rest more)
 
 -- no request is for a pool that is not there
-none_yet : (history : History) (id : GroupId) (ss : List Sealed) → find (is_named id.pool) (map_of history).pools ≡ None → Each (IsSealedFor history) ss → filter (is_for id) ss ≡ []
+pub none_yet : (history : History) (id : GroupId) (ss : List Sealed) → find (is_named id.pool) (map_of history).pools ≡ None → Each (IsSealedFor history) ss → filter (is_for id) ss ≡ []
 none_yet history id [] none all = refl
 none_yet history id (s ∷ ss) none all = go (is_for id s) refl (none_yet history id ss none all.1)
   where

@@ -47,7 +47,7 @@ use Rattle.world_core.proofs.Limits.{FrontKept, CreatesWell, creates_well, wrapp
 use Rattle.world_core.proofs.Fronts.{Requested, submit_made, list_made}
 use Rattle.world_core.proofs.Requests.{heard, heard_map, heard_passes}
 use Rattle.world_core.proofs.Intervals.{later, members_are, same_set_refl, restarts_is}
-use Rattle.world_core.proofs.Accepted.{GroupKept, WorldKept, IsMade, made_at, accepted_kept, front_tells_requests}
+use Rattle.world_core.proofs.Accepted.{GroupKept, WorldKept, IsMade, made_at, none_yet, accepted_kept, front_tells_requests}
 use Rattle.world_core.proofs.PlaceGroups.{step_places}
 use Rattle.world_core.proofs.PlainGroups.{Steady, IsStill, IsAside, still_decided, due, due_begins}
 use Rattle.world_core.proofs.PlainStates.{Holds, Owes, Stands, Sim, Onward, one_more, world_keeps, Remains, remains, none_moves, of_places, Leaves, SamePlace, Took, Both, took_both, took_none, took_aside, took_request}
@@ -95,31 +95,39 @@ at_front p w = record p { front = w.front }
 abbrev NextState : World → Event → MapState
 NextState w e = map_of (front_step w.front e).history
 
+-- what an accepted event tells
+pub record Happened (p : Plain) (w : World) (e : Event) : Type 0 where
+  pub free : refusal_of w e ≡ None
+  pub sim : Sim (asks p e) (world_step w e)
+
 after_event : (p : Plain) (w : World) (e : Event) → Stands p w → refusal_of w e ≡ None → (acted w (parts_of w.front e)).audit ≡ w.audit
     → ((id : GroupId) (g : Group) → group_at id w.groups ≡ Some g → Both (NextState w e) (asks (at_front p w) e) id (run (events_in id (parts_of w.front e)) g))
     → ((id : GroupId) (g : Group) → group_at id w.groups ≡ None → group_at id (created_by w.front e) ≡ Some g → Both (NextState w e) (asks (at_front p w) e) id g)
-    → Sim (asks (at_front p w) e) (world_step w e)
+    → Happened (at_front p w) w e
 after_event p w e s none audit old new = record {
-  stands = record {
-    daemons = s.daemons;
-    events = s.events ++ e ∷ [];
-    accepted = on.accepted;
-    is = on.is;
-    front = refl;
-    objects = s.objects ∙ ap store_of (sym audit);
-    answers = s.answers ∙ ap (map answer_with) (sym audit);
-    groups = λ id g there. (both id g there).holds;
-    known = λ test empty. (let news : List Sealed = sealed_by w.front e in
-        let parts : filter test w.front.submissions ++ filter test news ≡ [] = sym (filter-append test w.front.submissions news) ∙ empty in
-        let k = s.known test (first_nil (filter test w.front.submissions) (filter test news) parts) in
-        let none_new : filter test news ≡ [] = second_nil (filter test w.front.submissions) (filter test news) parts in (
-          filter-append test p.pending news ∙ ap (λ l. l ++ filter test news) k.0 ∙ none_new,
-          filter-append test p.fresh news ∙ ap (λ l. l ++ filter test news) k.1 ∙ none_new,
-        ));
-    opened = λ id empty. s.opened id (first_nil (filter (is_same_group id) (places w.front)) (filter (is_same_group id) (map (λ g. g.group) (created_by w.front e)))
-        (sym (filter-append (is_same_group id) (places w.front) (map (λ g. g.group) (created_by w.front e))) ∙ ap (filter (is_same_group id)) (sym (step_places w.front e)) ∙ empty));
+  free = none;
+  sim = record {
+    stands = record {
+      daemons = s.daemons;
+      events = s.events ++ e ∷ [];
+      accepted = on.accepted;
+      is = on.is;
+      front = refl;
+      objects = s.objects ∙ ap store_of (sym audit);
+      answers = s.answers ∙ ap (map answer_with) (sym audit);
+      groups = λ id g there. (both id g there).holds;
+      known = λ test empty. (let news : List Sealed = sealed_by w.front e in
+          let parts : filter test w.front.submissions ++ filter test news ≡ [] = sym (filter-append test w.front.submissions news) ∙ empty in
+          let k = s.known test (first_nil (filter test w.front.submissions) (filter test news) parts) in
+          let none_new : filter test news ≡ [] = second_nil (filter test w.front.submissions) (filter test news) parts in (
+            filter-append test p.pending news ∙ ap (λ l. l ++ filter test news) k.0 ∙ none_new,
+            filter-append test p.fresh news ∙ ap (λ l. l ++ filter test news) k.1 ∙ none_new,
+          ));
+      opened = λ id empty. s.opened id (first_nil (filter (is_same_group id) (places w.front)) (filter (is_same_group id) (map (λ g. g.group) (created_by w.front e)))
+          (sym (filter-append (is_same_group id) (places w.front) (map (λ g. g.group) (created_by w.front e))) ∙ ap (filter (is_same_group id)) (sym (step_places w.front e)) ∙ empty));
+    };
+    owes = λ id g there. (both id g there).owes;
   };
-  owes = λ id g there. (both id g there).owes;
 }
   where
     on : Onward s.daemons (s.events ++ e ∷ []) (world_step w e)
@@ -153,7 +161,7 @@ or_none None h = refl
 or_none (Some x) h = absurd (cc)
 
 quiet_event : (p : Plain) (w : World) (e : Event) → Sim p w → front_refusal w.front e ≡ None → NextState w e ≡ map_of w.front.history → sealed_by w.front e ≡ [] → parts_of w.front e ≡ [] → created_by w.front e ≡ []
-    → Sim (asks (at_front p w) e) (world_step w e)
+    → Happened (at_front p w) w e
 quiet_event p w e s allowed same none parts new =
     after_event p w e s.stands
     (ap (λ ps. option_or (front_refusal w.front e) (option_map OfGroup (parts_refusal w.groups ps))) parts ∙ or_none (front_refusal w.front e) allowed)
@@ -207,7 +215,7 @@ second_none None (Some x) h = absurd (cc)
 second_none (Some x) b h = absurd (cc)
 
 asking_event : (p : Plain) (w : World) (e : Event) (ask : Ask) → Sim p w → refusal_of w e ≡ None → NextState w e ≡ map_of w.front.history → parts_of w.front e ≡ asked_parts (sealed_by w.front e) → created_by w.front e ≡ []
-    → ((id : GroupId) → AtMostOne (filter (is_for id) (sealed_by w.front e))) → Sim (asks (at_front p w) e) (world_step w e)
+    → ((id : GroupId) → AtMostOne (filter (is_for id) (sealed_by w.front e))) → Happened (at_front p w) w e
 asking_event p w e ask s free same parts new single =
     let rs : List Sealed = sealed_by w.front e in
     let passes : parts_refusal w.groups (asked_parts rs) ≡ None = ap (parts_refusal w.groups) (sym parts) ∙ second_none (front_refusal w.front e) (parts_refusal w.groups (parts_of w.front e)) free in
@@ -242,7 +250,7 @@ last_is : (p : Plain) (w : World) (id : GroupId) (g : Group) → Stands p w → 
 last_is p w id g s there = members_are (map_of w.front.history) id (last_set g.sets) ((world_keeps p w s).groups id g there).sets.present
 
 -- a command that no group hears
-still_map : (p : Plain) (w : World) (c : MapCommand) → Sim p w → front_refusal w.front (Map c) ≡ None → Stays w c → parts_of w.front (Map c) ≡ [] → created_by w.front (Map c) ≡ [] → Sim (asks (at_front p w) (Map c)) (world_step w (Map c))
+still_map : (p : Plain) (w : World) (c : MapCommand) → Sim p w → front_refusal w.front (Map c) ≡ None → Stays w c → parts_of w.front (Map c) ≡ [] → created_by w.front (Map c) ≡ [] → Happened (at_front p w) w (Map c)
 unfolding requests_of
 still_map p w c s allowed stays parts new =
     after_event p w (Map c) s.stands
@@ -273,7 +281,7 @@ each_of P Q (x ∷ xs) f h = (f x h.0, each_of P Q xs f h.1)
 beside : (p : Plain) (w : World) (c : MapCommand) (F : GroupId → group.Event) → Sim p w → front_refusal w.front (Map c) ≡ None → Stays w c → parts_of w.front (Map c) ≡ map (λ id. part id (F id)) (places w.front) → created_by w.front (Map c) ≡ []
     → ((id : GroupId) → IsStill (F id)) → ((id : GroupId) → IsAside (F id))
     → ((id : GroupId) (g : Group) → group_at id w.groups ≡ Some g → group.refusal_of g (F id) ≡ None)
-    → ((id : GroupId) (g : Group) → group_at id w.groups ≡ Some g → IsCalm (members_of (map_of w.front.history) id) (F id)) → Sim (asks (at_front p w) (Map c)) (world_step w (Map c))
+    → ((id : GroupId) (g : Group) → group_at id w.groups ≡ Some g → IsCalm (members_of (map_of w.front.history) id) (F id)) → Happened (at_front p w) w (Map c)
 unfolding requests_of
 beside p w c F s allowed stays parts new still aside free calm =
     after_event p w (Map c) s.stands
@@ -302,7 +310,7 @@ beside p w c F s allowed stays parts new still aside free calm =
 
 -- daemons come and go
 up_event : (p : Plain) (w : World) (c : MapCommand) → Sim p w → front_refusal w.front (Map c) ≡ None → Stays w c → parts_of w.front (Map c) ≡ moved_parts (after (map_of w.front.history) c)
-    → flat_map groups_of (after (map_of w.front.history) c).pools ≡ places w.front → created_by w.front (Map c) ≡ [] → Sim (asks (at_front p w) (Map c)) (world_step w (Map c))
+    → flat_map groups_of (after (map_of w.front.history) c).pools ≡ places w.front → created_by w.front (Map c) ≡ [] → Happened (at_front p w) w (Map c)
 up_event p w c s allowed stays parts pools new =
     beside p w c F s allowed stays (parts ∙ ap (λ ids. map (λ id. part id (group.NewInterval (members_of (after (map_of w.front.history) c) id) (numbers_of (after (map_of w.front.history) c).up))) ids) pools) new
     (λ id. tt) (λ id. tt)
@@ -317,7 +325,7 @@ up_event p w c s allowed stays parts pools new =
     F : GroupId → group.Event
     F id = group.NewInterval (members_of (after (map_of w.front.history) c) id) (numbers_of (after (map_of w.front.history) c).up)
 
-restart_event : (p : Plain) (w : World) (d : ℕ) → Sim p w → front_refusal w.front (Map (OsdRestart d)) ≡ None → Stays w (OsdRestart d) → Sim (asks (at_front p w) (Map (OsdRestart d))) (world_step w (Map (OsdRestart d)))
+restart_event : (p : Plain) (w : World) (d : ℕ) → Sim p w → front_refusal w.front (Map (OsdRestart d)) ≡ None → Stays w (OsdRestart d) → Happened (at_front p w) w (Map (OsdRestart d))
 restart_event p w d s allowed stays =
     beside p w (OsdRestart d) (λ id. group.Restart d) s allowed stays refl refl (λ id. tt) (λ id. tt)
     (λ id g there. ap (λ b. if b then (if has_all_intervals g then Some group_fault.Full else None) else None) (ap (λ m. is_in m d) (sym (last_is p w id g s.stands there)) ∙ outside id g there))
@@ -325,3 +333,104 @@ restart_event p w d s allowed stays =
   where
     outside : (id : GroupId) (g : Group) → group_at id w.groups ≡ Some g → is_in (members_of (map_of w.front.history) id) d ≡ false
     outside id g there = sym (restarts_is d (members_of (map_of w.front.history) id)) ∙ (map_remains p w (OsdRestart d) id g s.stands stays there).quiet
+
+-- ---- a new pool
+
+new_group : (p : Plain) (w : World) (name : List ℕ) (pg_num size min_size : ℕ) (id : GroupId) (g : Group) → Sim p w → front_refusal w.front (Map (PoolCreate name pg_num size min_size)) ≡ None
+    → IsMade (after (map_of w.front.history) (PoolCreate name pg_num size min_size)) min_size name pg_num id g → Both (NextState w (Map (PoolCreate name pg_num size min_size))) (asks (at_front p w) (Map (PoolCreate name pg_num size min_size))) id g
+unfolding requests_of
+new_group p w name pg_num size min_size id g s allowed made =
+    let c : MapCommand = PoolCreate name pg_num size min_size in
+    let f : Front = w.front in
+    let state : MapState = map_of f.history in
+    let state' : MapState = after state c in
+    let p' : Plain = asks (at_front p w) (Map c) in
+    let next : map_of (later f.history c) ≡ state' = after_push f.history.daemons f.history.commands c in
+    let kept : FrontKept f = (world_keeps p w s.stands).front in
+    let then_kept : FrontKept (front_step f (Map c)) = front_kept f (Map c) kept allowed in
+    let well : CreatesWell state.pools name = creates_well state (epoch_of f.history) name pg_num size min_size (wrapped_none OfMap (refusal state (epoch_of f.history) c) allowed) in
+    let new : Pool = created name pg_num size min_size in
+    let absent : find (is_named id.pool) state.pools ≡ None = ap (λ n. find (is_named n) state.pools) made.pool ∙ well.fresh in
+    let found : find (is_named id.pool) state'.pools ≡ Some new =
+    pool_after_step id.pool state.pools c ∙ ap (λ o. pool_step id.pool o c) absent ∙ ap (λ b. if b then Some new else None) (ap (bytes_eq name) made.pool ∙ bytes_refl name) in
+    let found_now : find (is_named id.pool) (map_of (later f.history c)).pools ≡ Some new = ap (λ t. find (is_named id.pool) t.pools) next ∙ found in
+    let limits : IsPool new = pool_limits (front_step f (Map c)) id.pool new then_kept found_now in
+    let least : least_of state' id ≡ min_size = ap (λ o. option_map_or (λ (q : Pool). q.min_size) o 0) found in
+    let is_map : IsMap state' = next_map f c kept allowed in
+    let members : List ℕ = members_of state' id in
+    let up : List ℕ = numbers_of state'.up in
+    let begun : Group = start id min_size state'.daemons members up in
+    let steady : Steady min_size members begun = record {
+      count = state'.daemons;
+      up = up;
+      some = limits.some_needed;
+      calm = begins_calm id min_size state'.daemons members up;
+      set = members_fit state' id is_map;
+      exist = λ d is. (lies_within state' id is_map d is).1;
+      live = λ d is. (lies_within state' id is_map d is).0;
+    } in
+    let unknown = s.stands.known (is_for id) (none_yet f.history id f.submissions absent kept.sealed) in
+    let pending : filter (is_for id) p'.pending ≡ [] = ap (filter (is_for id)) (append-nil p.pending) ∙ unknown.0 in
+    let fresh : filter (is_for id) p'.fresh ≡ [] = ap (filter (is_for id)) (append-nil p.fresh) ∙ unknown.1 in
+    let closed : is_open p' id ≡ false = s.stands.opened id (places_none id state.pools absent) in
+    let S : ℕ → Type 0 = λ n. Steady n members begun in
+    let both : Both state' p' id begun = record {
+      holds = record { steady = subst S (sym least) steady; requests = pending; answers = refl };
+      owes = due_begins id min_size members state'.daemons up steady refl refl
+          ∙ ap (λ n. due n members false 0 0) (sym least)
+          ∙ ap (λ b. due (least_of state' id) members b 0 0) (sym closed)
+          ∙ ap (λ l. due (least_of state' id) members (is_open p' id) (length l) 0) (sym pending)
+          ∙ ap (λ l. due (least_of state' id) members (is_open p' id) (length (filter (is_for id) p'.pending)) (length l)) (sym fresh);
+    } in
+    let P : MapState → Group → Type 0 = λ t v. Both t p' id v in
+    subst (λ t. P t g) (sym next) (subst (P state') made.is both)
+
+pool_event : (p : Plain) (w : World) (name : List ℕ) (pg_num size min_size : ℕ) → Sim p w → front_refusal w.front (Map (PoolCreate name pg_num size min_size)) ≡ None → Stays w (PoolCreate name pg_num size min_size)
+    → Happened (at_front p w) w (Map (PoolCreate name pg_num size min_size))
+unfolding requests_of
+pool_event p w name pg_num size min_size s allowed stays =
+    let c : MapCommand = PoolCreate name pg_num size min_size in
+    after_event p w (Map c) s.stands (or_none (front_refusal w.front (Map c)) allowed) refl
+    (λ id g there. unheard p w (Map c) id g s there (map_place p w c id g s.stands stays there) refl)
+    (λ id g absent is. new_group p w name pg_num size min_size id g s allowed (from_zero id g (made_at (after (map_of w.front.history) c) min_size name 0 pg_num id g is)))
+  where
+    from_zero : (id : GroupId) (g : Group) → IsMade (after (map_of w.front.history) (PoolCreate name pg_num size min_size)) min_size name (0 + pg_num) id g → IsMade (after (map_of w.front.history) (PoolCreate name pg_num size min_size)) min_size name pg_num id g
+    from_zero id g m = let less : id.number < 0 + pg_num = m.number in record { pool = m.pool; number = omega arith; is = m.is }
+
+-- ---- all events
+
+map_event : (p : Plain) (w : World) (c : MapCommand) → Sim p w → front_refusal w.front (Map c) ≡ None → Stays w c → Happened (at_front p w) w (Map c)
+map_event p w (PoolCreate name pg_num size min_size) s allowed stays = pool_event p w name pg_num size min_size s allowed stays
+map_event p w (AppEnable pool app) s allowed stays = still_map p w (AppEnable pool app) s allowed stays refl refl
+map_event p w (AppSet pool app key value) s allowed stays = still_map p w (AppSet pool app key value) s allowed stays refl refl
+map_event p w (AppRm pool app key) s allowed stays = still_map p w (AppRm pool app key) s allowed stays refl refl
+map_event p w (OsdUp d) s allowed stays = up_event p w (OsdUp d) s allowed stays refl refl refl
+map_event p w (OsdDown d) s allowed stays = up_event p w (OsdDown d) s allowed stays refl refl refl
+map_event p w (OsdRestart d) s allowed stays = restart_event p w d s allowed stays
+
+stays_from : (w : World) (c : MapCommand) → list_any (moves (map_of w.front.history) c) (places w.front) ≡ false → Stays w c
+unfolding Stays
+stays_from w c h = none_moves (map_of w.front.history) c (places w.front) h
+
+happened_at : (p : Plain) (w : World) (e : Event) → Sim p w → front_refusal w.front e ≡ None → is_message e ≡ false → is_move w.front e ≡ false → Happened (at_front p w) w e
+unfolding requests_of
+happened_at p w (Map c) s allowed quiet still = map_event p w c s allowed (stays_from w c still)
+happened_at p w (Auth command) s allowed quiet still = quiet_event p w (Auth command) s allowed refl refl refl refl
+happened_at p w (Open entity until) s allowed quiet still = quiet_event p w (Open entity until) s allowed refl refl refl refl
+happened_at p w (Renew n until) s allowed quiet still = quiet_event p w (Renew n until) s allowed refl refl refl refl
+happened_at p w (Close n) s allowed quiet still = quiet_event p w (Close n) s allowed refl refl refl refl
+happened_at p w (Submit ask object ops) s allowed quiet still =
+    asking_event p w (Submit ask object ops) ask s ((world_tells p w s.stands).submit ask object ops ∙ allowed) refl refl refl
+    (λ id. single_in w id ask (requests_of w.front (Submit ask object ops)) (λ rs is. submit_made w.front ask object ops rs is))
+happened_at p w (ListNames ask) s allowed quiet still =
+    asking_event p w (ListNames ask) ask s ((world_tells p w s.stands).list ask ∙ allowed) refl refl refl
+    (λ id. single_in w id ask (requests_of w.front (ListNames ask)) (λ rs is. list_made w.front ask rs is))
+happened_at p w (Deliver id k) s allowed quiet still = absurd (cc)
+happened_at p w (Lose id k) s allowed quiet still = absurd (cc)
+happened_at p w (Repeat id k) s allowed quiet still = absurd (cc)
+happened_at p w (Kick id) s allowed quiet still = absurd (cc)
+
+pub happened : (p : Plain) (w : World) (e : Event) → Sim p w → front_refusal p.front e ≡ None → is_message e ≡ false → is_move p.front e ≡ false → Happened p w e
+happened p w e s allowed quiet still =
+    let P : Front → Type 0 = λ f. Happened (record p { front = f }) w e in
+    subst P (sym s.stands.front) (happened_at p w e s (ap (λ f. front_refusal f e) (sym s.stands.front) ∙ allowed) quiet (ap (λ f. is_move f e) (sym s.stands.front) ∙ still))
