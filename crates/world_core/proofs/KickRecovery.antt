@@ -55,7 +55,7 @@ shown id (group.Submit s) = Kick id
 shown id (group.NewInterval acting up) = Kick id
 shown id (group.Restart d) = Kick id
 
-shown_part : (f : Front) (id : GroupId) (e : group.Event) → IsMessage e → parts_of f (shown id e) ≡ part id e ∷ []
+pub shown_part : (f : Front) (id : GroupId) (e : group.Event) → IsMessage e → parts_of f (shown id e) ≡ part id e ∷ []
 shown_part f id (group.Deliver k) h = refl
 shown_part f id (group.Lose k) h = refl
 shown_part f id (group.Repeat k) h = refl
@@ -67,7 +67,7 @@ shown_part f id (group.Restart d) h = absurd h
 same_front : (f g : Front) → g ≡ record f { submissions = f.submissions ++ [] } → g ≡ f
 same_front f g h = h ∙ ap (λ l. record f { submissions = l }) (append-nil f.submissions)
 
-shown_front : (f : Front) (id : GroupId) (e : group.Event) → IsMessage e → front_step f (shown id e) ≡ f
+pub shown_front : (f : Front) (id : GroupId) (e : group.Event) → IsMessage e → front_step f (shown id e) ≡ f
 unfolding requests_of
 shown_front f id (group.Deliver k) h = same_front f (front_step f (Deliver id k)) refl
 shown_front f id (group.Lose k) h = same_front f (front_step f (Lose id k)) refl
@@ -78,7 +78,7 @@ shown_front f id (group.NewInterval acting up) h = absurd h
 shown_front f id (group.Restart d) h = absurd h
 
 -- the group takes its part
-shown_step : (w : World) (id : GroupId) (e : group.Event) (g : Group) → IsMessage e → group_at id w.groups ≡ Some g → group_at id (world_step w (shown id e)).groups ≡ Some (group_step g e)
+pub shown_step : (w : World) (id : GroupId) (e : group.Event) (g : Group) → IsMessage e → group_at id w.groups ≡ Some g → group_at id (world_step w (shown id e)).groups ≡ Some (group_step g e)
 shown_step w id e g h there =
     step_at id w (shown id e)
     ∙ ap (group_step_alone w.front id (shown id e)) there
@@ -95,7 +95,7 @@ shown_new f id (group.NewInterval acting up) = refl
 shown_new f id (group.Restart d) = refl
 
 -- and no other group hears of it
-shown_other : (w : World) (id other : GroupId) (e : group.Event) → IsMessage e → is_same_group other id ≡ false → group_at other (world_step w (shown id e)).groups ≡ group_at other w.groups
+pub shown_other : (w : World) (id other : GroupId) (e : group.Event) → IsMessage e → is_same_group other id ≡ false → group_at other (world_step w (shown id e)).groups ≡ group_at other w.groups
 shown_other w id other e h apart = step_at other w (shown id e) ∙ by (group_at other w.groups)
   where
     by : (o : Option Group) → group_step_alone w.front other (shown id e) o ≡ o

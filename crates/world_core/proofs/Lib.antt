@@ -23,3 +23,4 @@ pub mod ListingLaws
 pub mod PlainGroups
 pub mod PlainStates
 pub mod PlainEvents
+pub mod PlainDeliveries

@@ -107,7 +107,7 @@ every_place_has_its_group table daemons events = places_through events (first_wo
 
 -- ---- a group is found by its place
 
-none_filtered : (id : GroupId) (gs : List Group) → group_at id gs ≡ None → filter (is_same_group id) (map (λ g. g.group) gs) ≡ []
+pub none_filtered : (id : GroupId) (gs : List Group) → group_at id gs ≡ None → filter (is_same_group id) (map (λ g. g.group) gs) ≡ []
 none_filtered id [] h = refl
 none_filtered id (g ∷ gs) h = go (is_same_group id g.group) h (λ k. none_filtered id gs k)
   where

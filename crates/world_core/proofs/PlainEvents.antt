@@ -80,11 +80,11 @@ restarted_still d (id ∷ ids) = (tt, restarted_still d ids)
 
 -- ---- what is left of the relation
 
-first_nil : {X : Type 0} (xs ys : List X) → xs ++ ys ≡ [] → xs ≡ []
+pub first_nil : {X : Type 0} (xs ys : List X) → xs ++ ys ≡ [] → xs ≡ []
 first_nil [] ys h = refl
 first_nil (x ∷ xs) ys h = absurd (cc)
 
-second_nil : {X : Type 0} (xs ys : List X) → xs ++ ys ≡ [] → ys ≡ []
+pub second_nil : {X : Type 0} (xs ys : List X) → xs ++ ys ≡ [] → ys ≡ []
 second_nil [] ys h = h
 second_nil (x ∷ xs) ys h = absurd (cc)
 
