@@ -24,3 +24,4 @@ pub mod PlainGroups
 pub mod PlainStates
 pub mod PlainEvents
 pub mod PlainDeliveries
+pub mod PlainSettles
