@@ -25,3 +25,4 @@ pub mod PlainStates
 pub mod PlainEvents
 pub mod PlainDeliveries
 pub mod PlainSettles
+pub mod PlainScripts

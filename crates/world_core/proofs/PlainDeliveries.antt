@@ -1,13 +1,12 @@
 -- The deliveries of a settling, group by group.
 use Prim.Native.Nat.{zero, suc}
-use Rattle.std.proofs.Common.{◌≡◌, ◌∙◌, ℕ, ◌+◌, ◌<◌, ◌≤◌, ◌==◌, List, [], ◌∷◌, ◌++◌, Bool, true, false, not, cond, if◌then◌else◌, Option, Some, None, map, length, fold, replicate, refl, sym, ap, subst, arith, append-nil, append_assoc}
+use Rattle.std.proofs.Common.{◌≡◌, ◌∙◌, ℕ, ◌+◌, List, [], ◌∷◌, ◌++◌, Bool, true, false, if◌then◌else◌, Option, Some, None, map, length, fold, replicate, refl, sym, ap, arith, append-nil, append_assoc}
 use Rattle.std.specs.Prelude.{nat_lt, slice_get}
-use Rattle.std.specs.List.{filter}
 use Rattle.std.specs.Option.{option_map, option_or}
 use Rattle.std.proofs.lemmas.Bool.Decides.{nat_tests}
 use Rattle.entry_core.specs.Deciding.{store_of, decision_on, name_of}
 use Rattle.entry_core.specs.Laws.{changed}
-use Rattle.entry_core.specs.Log.{LegalFrom, decide, decision, is_in}
+use Rattle.entry_core.specs.Log.{LegalFrom, decision, is_in}
 use Rattle.entry_core.specs.Request.{Sealed}
 use Rattle.entry_core.specs.declared.entry.Entry.{Entry}
 use Rattle.entry_core.specs.declared.sealed.GroupId.{GroupId}
@@ -17,16 +16,14 @@ use Rattle.group_core.specs.Each.{Each}
 use Rattle.group_core.specs.Group.{Group, group_step, run, settle, deliver, delivered, delivered_now, delivered_to, refusal_to, refusal_at}
 use Rattle.group_core.specs.Group as group
 use Rattle.group_core.specs.declared.fault.GroupFault.TheVariants as group_fault
-use Rattle.group_core.specs.Budget.{budget, settle_count}
 use Rattle.group_core.specs.Calm.{answer_with}
 use Rattle.group_core.proofs.Settling.{delivered_idle}
 use Rattle.world_core.specs.Event.{Event, Deliver, OfGroup}
-use Rattle.world_core.specs.Groups.{is_same_group}
-use Rattle.world_core.specs.Front.{Front, group_refusal}
-use Rattle.world_core.specs.World.{World, Part, part, group_at, parts_of, decided_in, acted, refused_in, parts_refusal, refusal_of, world_step}
+use Rattle.world_core.specs.Front.{group_refusal}
+use Rattle.world_core.specs.World.{World, group_at, decided_in, acted, refused_in, refusal_of, world_step}
 use Rattle.world_core.specs.Recovery.{if_sent, deliveries_of}
 use Rattle.world_core.specs.Script.{has_messages, events_while, emptied_within, one_if_none, unrefused}
-use Rattle.world_core.specs.Plain.{Plain, decides, with_decision}
+use Rattle.world_core.specs.Plain.{Plain, decides}
 use Rattle.world_core.proofs.Acting.{gained}
 use Rattle.world_core.proofs.KickRecovery.{IsMessage, shown, shown_part, shown_step, shown_front}
 

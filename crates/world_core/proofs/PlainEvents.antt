@@ -1,15 +1,14 @@
 -- An accepted event of a plain script, on its state and on its world.
-use Rattle.std.proofs.Common.{◌≡◌, ◌∙◌, ℕ, ◌+◌, ◌<◌, ◌≤◌, ◌==◌, ◌||◌, List, [], ◌∷◌, ◌++◌, Bool, true, false, not, cond, if◌then◌else◌, Option, Some, None, Result, Ok, Err, option_to_list, map, length, fold, drop, refl, sym, ap, subst, arith, append-nil, length-append}
+use Rattle.std.proofs.Common.{◌≡◌, ◌∙◌, ℕ, ◌+◌, ◌<◌, List, [], ◌∷◌, ◌++◌, false, if◌then◌else◌, Option, Some, None, Result, Ok, Err, option_to_list, map, length, drop, refl, sym, ap, subst, arith, append-nil}
 use Rattle.std.specs.List.{filter, find, list_any, flat_map}
 use Rattle.std.specs.Option.{option_map, option_map_or, option_or}
 use Rattle.std.specs.Str.{bytes_eq}
 use Rattle.std.proofs.lemmas.List.Elements.{filter-append}
 use Rattle.grant_core.specs.BuiltIn.{built_in}
-use Rattle.map_core.specs.State.{MapState, History}
+use Rattle.map_core.specs.State.{MapState}
 use Rattle.map_core.specs.Map.{is_named, created, after, map_of, epoch_of}
 use Rattle.map_core.specs.Refusal.{refusal}
 use Rattle.map_core.specs.Limits.{IsPool}
-use Rattle.map_core.specs.Intervals.{set_of, restarts}
 use Rattle.map_core.specs.Replay.{pool_step}
 use Rattle.map_core.specs.declared.pool.Pool.{Pool}
 use Rattle.map_core.specs.declared.command.MapCommand.{MapCommand}
@@ -28,12 +27,12 @@ use Rattle.group_core.specs.Group.{Group, last_set, same_set, has_all_intervals,
 use Rattle.group_core.specs.Group as group
 use Rattle.group_core.specs.declared.fault.GroupFault.{GroupFault}
 use Rattle.group_core.specs.declared.fault.GroupFault.TheVariants as group_fault
-use Rattle.group_core.specs.Calm.{IsCalm, KeepsSet, answer_with}
+use Rattle.group_core.specs.Calm.{IsCalm, answer_with}
 use Rattle.group_core.proofs.CalmGroups.{begins_calm}
 use Rattle.world_core.specs.Event.{Ask, Event, Auth, Map, Open, Renew, Close, Submit, ListNames, Deliver, Lose, Repeat, Kick, Fault, OfMap, OfGroup}
 use Rattle.world_core.specs.Groups.{is_same_group, is_for}
 use Rattle.world_core.specs.Front.{Front, front_step, front_refusal, requests_of, sealed_by, if_ok}
-use Rattle.world_core.specs.World.{World, Part, part, group_at, groups_of, members_of, moved_parts, restarted_parts, asked_parts, parts_of, begun_group, created_by, decided_in, act, acted, refused_in, parts_refusal, refusal_of, world_step}
+use Rattle.world_core.specs.World.{World, Part, part, group_at, groups_of, members_of, moved_parts, asked_parts, parts_of, created_by, decided_in, act, acted, refused_in, parts_refusal, refusal_of, world_step}
 use Rattle.world_core.specs.Holds.{events_in, group_step_alone}
 use Rattle.world_core.specs.Accepted.{FrontTells}
 use Rattle.world_core.specs.Script.{places}
@@ -47,10 +46,10 @@ use Rattle.world_core.proofs.Limits.{FrontKept, CreatesWell, creates_well, wrapp
 use Rattle.world_core.proofs.Fronts.{Requested, submit_made, list_made}
 use Rattle.world_core.proofs.Requests.{heard, heard_map, heard_passes}
 use Rattle.world_core.proofs.Intervals.{later, members_are, same_set_refl, restarts_is}
-use Rattle.world_core.proofs.Accepted.{GroupKept, WorldKept, IsMade, made_at, none_yet, accepted_kept, front_tells_requests}
+use Rattle.world_core.proofs.Accepted.{GroupKept, WorldKept, IsMade, made_at, none_yet, front_tells_requests}
 use Rattle.world_core.proofs.PlaceGroups.{step_places}
 use Rattle.world_core.proofs.PlainGroups.{Steady, IsStill, IsAside, still_decided, due, due_begins}
-use Rattle.world_core.proofs.PlainStates.{Holds, Owes, Stands, Sim, Onward, one_more, world_keeps, Remains, remains, none_moves, of_places, Leaves, SamePlace, Took, Both, took_both, took_none, took_aside, took_request}
+use Rattle.world_core.proofs.PlainStates.{Stands, Sim, Onward, one_more, world_keeps, Remains, remains, none_moves, of_places, Leaves, SamePlace, Both, took_both, took_none, took_aside, took_request}
 
 -- ---- events that decide nothing
 

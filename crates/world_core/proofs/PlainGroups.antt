@@ -1,6 +1,5 @@
 -- A group of a plain script: it stays in its one interval.
-use Prim.Native.Nat.{zero, suc}
-use Rattle.std.proofs.Common.{◌≡◌, ◌∙◌, ℕ, ◌+◌, ◌*◌, ◌-◌, ◌<◌, ◌≤◌, ◌==◌, List, [], ◌∷◌, ◌++◌, Bool, true, false, if◌then◌else◌, Option, Some, None, map, length, take, refl, sym, ap, subst, arith, length-append}
+use Rattle.std.proofs.Common.{◌≡◌, ◌∙◌, ℕ, ◌+◌, ◌*◌, ◌<◌, ◌≤◌, ◌==◌, List, [], ◌∷◌, Bool, true, false, if◌then◌else◌, None, map, length, take, refl, sym, ap, subst, arith}
 use Rattle.std.specs.Prelude.{nat_le, slice_get}
 use Rattle.std.proofs.lemmas.Bool.Decides.{nat_tests}
 use Rattle.entry_core.specs.Log.{is_in}
@@ -15,16 +14,16 @@ use Rattle.group_core.specs.Group.{Group, IsSet, last_set, is_submitted, has_all
 use Rattle.group_core.specs.Group as group
 use Rattle.group_core.specs.Budget.{budget, settled_group, settle_count}
 use Rattle.group_core.specs.Quiet.{IsQuiet, made_by, opening_cost, request_cost}
-use Rattle.group_core.specs.Calm.{IsCalm, IsSmall, IsCalmGroup, KeepsSet, unserved_cost, log_of, answer_with}
-use Rattle.group_core.specs.Laws.{KeepsCount, ServesInTime, AnswersNothing, DecidesInOrder}
+use Rattle.group_core.specs.Calm.{IsCalm, IsSmall, IsCalmGroup, unserved_cost, answer_with}
+use Rattle.group_core.specs.Laws.{KeepsCount, DecidesInOrder}
 use Rattle.group_core.proofs.Statements.{serves_in_time, decides_in_order, answers_nothing, serving_keeps_count, waiting_keeps_count}
-use Rattle.group_core.proofs.CalmGroups.{begins_calm, steps_calm, settles_calm}
+use Rattle.group_core.proofs.CalmGroups.{steps_calm, settles_calm}
 use Rattle.group_core.proofs.QuietLaws.{quiet_opening}
 use Rattle.group_core.proofs.SmallRuns.{small_opening}
 use Rattle.group_core.proofs.SameGroups.{same_step, same_run}
 use Rattle.group_core.proofs.Settling.{delivered_idle}
 use Rattle.world_core.specs.Plain.{serving_cost, waiting_cost}
-use Rattle.world_core.proofs.Requests.{facts, message_facts, submit_facts}
+use Rattle.world_core.proofs.Requests.{message_facts}
 use Rattle.world_core.proofs.Intervals.{same_set_refl}
 
 -- its acting set, all of it up from the beginning on, and only calm events

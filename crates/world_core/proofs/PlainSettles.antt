@@ -1,6 +1,5 @@
 -- A settling of a plain script, on its state and on its world.
-use Prim.Native.Nat.{zero, suc}
-use Rattle.std.proofs.Common.{◌≡◌, ◌∙◌, ℕ, ◌+◌, ◌*◌, ◌<◌, ◌≤◌, ◌==◌, ◌||◌, List, [], ◌∷◌, ◌++◌, Bool, true, false, not, cond, if◌then◌else◌, Option, Some, None, map, length, fold, replicate, refl, sym, ap, subst, arith, append-nil, append_assoc}
+use Rattle.std.proofs.Common.{◌≡◌, ◌∙◌, ℕ, ◌+◌, ◌*◌, ◌<◌, ◌||◌, List, [], ◌∷◌, ◌++◌, Bool, true, false, not, cond, if◌then◌else◌, Option, Some, None, map, length, fold, replicate, refl, sym, ap, subst, arith, append-nil, append_assoc}
 use Rattle.std.specs.Prelude.{nat_le}
 use Rattle.std.specs.List.{filter, list_any}
 use Rattle.std.proofs.lemmas.List.Elements.{filter-append}
@@ -17,7 +16,7 @@ use Rattle.group_core.specs.Each.{Each}
 use Rattle.group_core.specs.Group.{Group, run}
 use Rattle.group_core.specs.Group as group
 use Rattle.group_core.specs.Budget.{budget, settled_group, settle_count}
-use Rattle.group_core.specs.Quiet.{opening_cost, request_cost}
+use Rattle.group_core.specs.Quiet.{request_cost}
 use Rattle.group_core.specs.Calm.{answer_with, unserved_cost}
 use Rattle.group_core.proofs.Audits.{legal_rest}
 use Rattle.group_core.proofs.SameGroups.{same_settle}
@@ -27,7 +26,7 @@ use Rattle.world_core.specs.Front.{Front, group_refusal}
 use Rattle.world_core.specs.World.{World, group_at, members_of, world_step, world_after}
 use Rattle.world_core.specs.Holds.{AcceptedFrom, AreAccepted}
 use Rattle.world_core.specs.Places.{HasPlaces, IsFoundByPlace}
-use Rattle.world_core.specs.Recovery.{deliveries_of, deliveries_left}
+use Rattle.world_core.specs.Recovery.{deliveries_of}
 use Rattle.world_core.specs.Script.{places, budget_in, emptied_within, emptied, on_each, settle_events, unrefused}
 use Rattle.world_core.specs.Plain.{Plain, least_of, is_enough, is_open, decides, serves, serving_cost, waiting_cost, cost, Settled, settles, settles_all, rested}
 use Rattle.world_core.proofs.Merge.{same_group, group_refl}
@@ -38,7 +37,7 @@ use Rattle.world_core.proofs.Worlds.{world_stands, world_legal}
 use Rattle.world_core.proofs.PlaceGroups.{none_filtered, every_place_has_its_group, groups_are_found_by_place}
 use Rattle.world_core.proofs.Accepted.{GroupKept, WorldKept}
 use Rattle.world_core.proofs.KickRecovery.{IsMessage, shown, Ran, ran, all_accepted, accepted_join, deliveries_heard, deliveries_shown, deliveries_pass, delivered_all}
-use Rattle.world_core.proofs.PlainGroups.{Steady, steady_settles, due, Rests, rests}
+use Rattle.world_core.proofs.PlainGroups.{steady_settles, due, Rests, rests}
 use Rattle.world_core.proofs.PlainStates.{Holds, Owes, Stands, Sim, world_keeps}
 use Rattle.world_core.proofs.PlainEvents.{first_nil, second_nil}
 use Rattle.world_core.proofs.PlainDeliveries.{emptied_is, unrefused_is, unrefused_join, Gains, gains, decides_all}
@@ -184,7 +183,7 @@ by_place P w w' x g there others own other id h is = go (is_same_group id x) ref
         subst (λ i. P i h) (sym same) (subst (P x) one own)
     go false e = other id h e (sym (others id e) ∙ is)
 
-holds_other : (state : MapState) (p p' : Plain) (id : GroupId) (g : Group) → filter (is_for id) p'.pending ≡ filter (is_for id) p.pending → Holds state p id g → Holds state p' id g
+pub holds_other : (state : MapState) (p p' : Plain) (id : GroupId) (g : Group) → filter (is_for id) p'.pending ≡ filter (is_for id) p.pending → Holds state p id g → Holds state p' id g
 holds_other state p p' id g same h = record { steady = h.steady; requests = ap (λ l. map (λ e. e.sealed) g.audit ++ l) same ∙ h.requests; answers = h.answers }
 
 owes_other : (state : MapState) (p p' : Plain) (id : GroupId) (g : Group) → filter (is_for id) p'.pending ≡ filter (is_for id) p.pending → p'.fresh ≡ p.fresh → p'.opened ≡ p.opened → Owes state p id g → Owes state p' id g

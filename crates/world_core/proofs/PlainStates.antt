@@ -1,12 +1,12 @@
 -- How a plain script's state stands to a world.
-use Rattle.std.proofs.Common.{◌≡◌, ◌∙◌, ℕ, ◌+◌, ◌<◌, ◌≤◌, ◌==◌, ◌||◌, List, [], ◌∷◌, ◌++◌, Bool, true, false, not, cond, if◌then◌else◌, Option, Some, None, is_some, map, length, fold, refl, sym, ap, subst, arith, append-nil, append_assoc, length-append}
-use Rattle.std.specs.List.{filter, find, list_any, flat_map}
-use Rattle.std.specs.Option.{option_map, option_map_or, option_or}
+use Rattle.std.proofs.Common.{◌≡◌, ◌∙◌, ℕ, ◌+◌, ◌<◌, ◌||◌, List, [], ◌∷◌, ◌++◌, Bool, true, false, not, if◌then◌else◌, Option, Some, None, is_some, map, length, refl, sym, ap, subst, arith, append-nil, append_assoc, length-append}
+use Rattle.std.specs.List.{filter, find, list_any}
+use Rattle.std.specs.Option.{option_map_or}
 use Rattle.std.specs.Str.{bytes_eq}
 use Rattle.std.proofs.lemmas.List.Elements.{filter-append}
 use Rattle.std.proofs.lemmas.List.Sums.{fold-append}
 use Rattle.grant_core.specs.BuiltIn.{built_in}
-use Rattle.map_core.specs.State.{MapState, History}
+use Rattle.map_core.specs.State.{MapState}
 use Rattle.map_core.specs.Map.{is_named, after, map_of}
 use Rattle.map_core.specs.Intervals.{set_of, begun, restarts}
 use Rattle.map_core.specs.declared.pool.Pool.{Pool}
@@ -25,18 +25,18 @@ use Rattle.group_core.specs.Group as group
 use Rattle.group_core.specs.Budget.{settle_count}
 use Rattle.group_core.specs.Calm.{IsCalm, answer_with}
 use Rattle.group_core.proofs.SameGroups.{same_step, takes_last}
-use Rattle.world_core.specs.Event.{Event, Map}
+use Rattle.world_core.specs.Event.{Event}
 use Rattle.world_core.specs.Groups.{is_same_group, is_for}
-use Rattle.world_core.specs.Front.{Front, front_step}
-use Rattle.world_core.specs.World.{World, group_at, groups_of, members_of, world_step, world_after, refusal_of, accepts, is_accepted}
+use Rattle.world_core.specs.Front.{Front}
+use Rattle.world_core.specs.World.{World, group_at, members_of, world_step, world_after, refusal_of, accepts, is_accepted}
 use Rattle.world_core.specs.Holds.{AreAccepted}
 use Rattle.world_core.specs.Script.{places}
 use Rattle.world_core.specs.Plain.{Plain, least_of, is_open, moves}
 use Rattle.world_core.proofs.Bytes.{bytes_same}
 use Rattle.world_core.proofs.Pools.{InMap, found_in}
-use Rattle.world_core.proofs.Places.{true_not_false, places_once, each_filter}
+use Rattle.world_core.proofs.Places.{places_once, each_filter}
 use Rattle.world_core.proofs.Limits.{FrontKept, once, each_not}
-use Rattle.world_core.proofs.Intervals.{HasSets, later, set_later, members_are}
+use Rattle.world_core.proofs.Intervals.{later, set_later, members_are}
 use Rattle.world_core.proofs.Accepted.{GroupKept, WorldKept, accepted_kept}
 use Rattle.world_core.proofs.KickRecovery.{accepted_join}
 use Rattle.world_core.proofs.PlainGroups.{Steady, Decided, decided, due, IsStill, IsAside, steady_step, still_decided, aside_requests, due_stays, due_submits}

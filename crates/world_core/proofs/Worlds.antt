@@ -241,7 +241,7 @@ world_legal w h =
     (λ id. subst Legal (sym (h.merged id)) (audit_at_legal w.front.submissions id w.groups h.groups))
 
 -- a group's part finds what the whole list finds under the number of one of its requests
-find_part : (rs : List Sealed) (s : Sealed) (id : ℕ) (es : List Entry) → submitted rs id ≡ Some s → Each (λ x. IsAsked rs x.sealed) es → find (part_of (group_for s) es) id ≡ find es id
+pub find_part : (rs : List Sealed) (s : Sealed) (id : ℕ) (es : List Entry) → submitted rs id ≡ Some s → Each (λ x. IsAsked rs x.sealed) es → find (part_of (group_for s) es) id ≡ find es id
 find_part rs s id [] is h = refl
 find_part rs s id (e ∷ es) is h = go (is_of (group_for s) e) refl (e.sealed.id == id) refl (find_part rs s id es is h.1)
   where

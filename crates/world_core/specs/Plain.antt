@@ -1,7 +1,7 @@
 -- Statement: contracts of public calls use it.
 -- Plain scripts, without groups, copies and messages: one store for all, and requests that wait for the next settling.
 -- No line of them names a message, and no group has a second interval.
-use Rattle.std.specs.Prelude.{◌≡◌, ℕ, ◌+◌, ◌-◌, ◌*◌, List, [], ◌∷◌, ◌++◌, Bool, true, false, not, if◌then◌else◌, nat_le, Option, None, Some, length, fold, codes, decimal, is_some}
+use Rattle.std.specs.Prelude.{◌≡◌, ℕ, ◌+◌, ◌*◌, List, [], ◌∷◌, ◌++◌, Bool, true, false, not, if◌then◌else◌, nat_le, Option, None, Some, length, fold, codes, decimal, is_some}
 use Rattle.std.specs.List.{filter, list_any, find}
 use Rattle.std.specs.Option.{option_map_or}
 use Rattle.std.specs.FinMap.{empty}
