@@ -1,7 +1,7 @@
 -- Statement: contracts of public calls use it.
 -- The commands of a script, by the words of their lines: this project's profile, after Ceph's command line.
 use Prim.Native.Nat.{zero, suc}
-use Rattle.std.specs.Prelude.{ℕ, ◌*◌, ◌+◌, min, List, [], ◌∷◌, true, false, ◌&&◌, if◌then◌else◌, nat_le, Option, None, Some, length, codes}
+use Rattle.std.specs.Prelude.{ℕ, ◌*◌, ◌+◌, min, List, [], ◌∷◌, Bool, true, false, ◌&&◌, if◌then◌else◌, nat_le, Option, None, Some, length, codes}
 use Rattle.std.specs.Option.{option_map, option_and_then}
 use Rattle.std.specs.Str.{bytes_eq}
 use Rattle.script_text.specs.Words.{words_of}
