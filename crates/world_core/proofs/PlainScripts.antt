@@ -1,5 +1,5 @@
 -- What a plain script prints, line by line.
-use Rattle.std.proofs.Common.{◌≡◌, ◌∙◌, ℕ, ◌+◌, ◌-◌, ◌<◌, ◌≤◌, ◌==◌, ◌&&◌, List, [], ◌∷◌, ◌++◌, Bool, true, false, not, if◌then◌else◌, Option, Some, None, map, length, fold, take, refl, sym, ap, subst, arith}
+use Rattle.std.proofs.Common.{◌≡◌, ◌∙◌, ℕ, ◌+◌, ◌-◌, ◌<◌, ◌≤◌, ◌==◌, ◌&&◌, List, [], ◌∷◌, ◌++◌, Bool, true, false, not, if◌then◌else◌, Option, Some, None, map, length, fold, take, refl, sym, ap, subst, arith, append_assoc}
 use Rattle.std.specs.Prelude.{nat_le, nat_lt, codes, decimal}
 use Rattle.std.specs.List.{filter}
 use Rattle.std.specs.Option.{option_map, option_or}
@@ -29,8 +29,8 @@ use Rattle.world_core.specs.Answers.{answer_in as answer_in_group, answer_to, an
 use Rattle.world_core.specs.Places.{IsFoundByPlace}
 use Rattle.world_core.specs.Command.{Command, Osds, Happens, Submit, ListNames, Locate, ShowUser, ListUsers, Tick, Settle, KickAll, LoseAll, Answer as AskAnswer, Listing, Ready, read_line}
 use Rattle.world_core.specs.Text.{id_text, told_text, refused_text, or_refused, asked_text, users_text, ready_text}
-use Rattle.world_core.specs.Script.{Step, Goes, IsBad, IsOther, stepped, line_step, behind, onward, outputs, kept, begins, ask_now, places, locate_text, show_text, answer_in, listing_in, Machine, prints, does, event_told, event_line, ready_in, ready_line_text, goes, machine_step, script_step}
-use Rattle.world_core.specs.Plain.{Plain, Settled, decides, serves, settles, first_plain, is_enough, least_of, is_move, is_message, asks, judged, plain_event, tells, ready_plain, plain_step, IsPlain, PlainScriptsPrint}
+use Rattle.world_core.specs.Script.{Step, Goes, IsBad, IsOther, stepped, line_step, behind, onward, outputs, kept, begins, ask_now, places, locate_text, show_text, answer_in, listing_in, Machine, prints, does, event_told, event_line, ready_in, ready_line_text, goes, machine_step, script_step, Wrote}
+use Rattle.world_core.specs.Plain.{Plain, Settled, decides, serves, settles, first_plain, is_enough, least_of, is_move, is_message, asks, judged, plain_event, tells, ready_plain, plain_step, IsPlain, PlainScriptsPrint, PlainBeginnings, PlainScriptsWrite}
 use Rattle.world_core.proofs.Bytes.{number_same}
 use Rattle.world_core.proofs.Limits.{accepted_has_numbers}
 use Rattle.world_core.proofs.Worlds.{WorldStands, world_stands, find_part}
@@ -354,3 +354,32 @@ outputs_alike (l ∷ ls) taken p m h plain =
 pub plain_scripts_print : PlainScriptsPrint
 unfolding Related
 plain_scripts_print bytes plain = outputs_alike (script_lines bytes) 0 None None tt plain
+
+beginnings_alike : (ls : List (List ℕ)) (taken : ℕ) (p : Option Plain) (m : Option Machine) → Related p m
+    → (rest : List ℕ) × ((outputs (begins first_plain plain_step) ls taken p).text ++ rest ≡ (outputs script_step ls taken m).text)
+unfolding AlikeFrom
+beginnings_alike [] taken p m h = ([], refl)
+beginnings_alike (l ∷ ls) taken p m h = go (line_step (begins first_plain plain_step) p l) (line_step script_step m l) (line_alike p m l h) (λ q n k. beginnings_alike ls (taken + 1) q n k)
+  where
+    go : (a : Step (Option Plain)) (b : Step (Option Machine)) → AlikeFrom a b
+        → ((q : Option Plain) (n : Option Machine) → Related q n → (rest : List ℕ) × ((outputs (begins first_plain plain_step) ls (taken + 1) q).text ++ rest ≡ (outputs script_step ls (taken + 1) n).text))
+        → (rest : List ℕ) × ((onward a (taken + 1) (outputs (begins first_plain plain_step) ls (taken + 1))).text ++ rest ≡ (onward b (taken + 1) (outputs script_step ls (taken + 1))).text)
+    go (Goes text q) (Goes other n) k more =
+        let r = more q n k.1 in
+        let told : List ℕ = (outputs (begins first_plain plain_step) ls (taken + 1) q).text in
+        (r.0, append_assoc text told r.0 ∙ ap (λ t. text ++ t) r.1 ∙ ap (λ t. t ++ (outputs script_step ls (taken + 1) n).text) k.0)
+    go (Goes text q) IsBad k more = absurd k
+    go (Goes text q) IsOther k more = absurd k
+    go IsBad IsBad k more = ([], refl)
+    go IsBad (Goes text n) k more = absurd k
+    go IsBad IsOther k more = absurd k
+    go IsOther (Goes text n) k more = ((onward (Goes text n) (taken + 1) (outputs script_step ls (taken + 1))).text, refl)
+    go IsOther IsBad k more = ([], refl)
+    go IsOther IsOther k more = ([], refl)
+
+pub plain_beginnings : PlainBeginnings
+unfolding Related
+plain_beginnings bytes = beginnings_alike (script_lines bytes) 0 None None tt
+
+pub plain_scripts_write : PlainScriptsWrite
+plain_scripts_write bytes old new result plain wrote = subst (λ o. Wrote o old new result) (plain_scripts_print bytes plain) wrote

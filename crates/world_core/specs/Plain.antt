@@ -1,11 +1,12 @@
 -- Statement: contracts of public calls use it.
 -- Plain scripts, without groups, copies and messages: one store for all, and requests that wait for the next settling.
 -- No line of them names a message, and no group has a second interval.
-use Rattle.std.specs.Prelude.{◌≡◌, ℕ, ◌+◌, ◌*◌, List, [], ◌∷◌, ◌++◌, Bool, true, false, not, if◌then◌else◌, nat_le, Option, None, Some, length, fold, codes, decimal, is_some}
+use Rattle.std.specs.Prelude.{◌≡◌, ℕ, ◌+◌, ◌*◌, List, [], ◌∷◌, ◌++◌, Bool, true, false, not, if◌then◌else◌, nat_le, Option, None, Some, Result, length, fold, codes, decimal, is_some}
 use Rattle.std.specs.List.{filter, list_any, find}
 use Rattle.std.specs.Option.{option_map_or}
 use Rattle.std.specs.FinMap.{empty}
 use Rattle.script_text.specs.Text.{line}
+use Rattle.script_text.specs.declared.fault.ScriptFault.{ScriptFault}
 use Rattle.grant_core.specs.BuiltIn.{built_in}
 use Rattle.map_core.specs.State.{MapState}
 use Rattle.map_core.specs.Map.{map_of, after, is_named}
@@ -28,7 +29,7 @@ use Rattle.world_core.specs.Front.{Front, first_front, front_step, front_refusal
 use Rattle.world_core.specs.World.{members_of}
 use Rattle.world_core.specs.Command.{Command, Osds, Happens, Submit, ListNames, Locate, ShowUser, ListUsers, Tick, Settle, KickAll, LoseAll, Answer as AskAnswer, Listing, Ready}
 use Rattle.world_core.specs.Text.{id_text, told_text, refused_text, or_refused, asked_text, users_text, ready_text}
-use Rattle.world_core.specs.Script.{Step, Goes, IsOther, Ending, Whole, BadAt, OtherAt, Output, output_of, begins, ask_now, places, locate_text, show_text, answer_in, listing_in, script_output}
+use Rattle.world_core.specs.Script.{Step, Goes, IsOther, Ending, Whole, BadAt, OtherAt, Output, output_of, begins, ask_now, places, locate_text, show_text, answer_in, listing_in, script_output, Wrote, WroteOf}
 
 pub record Plain : Type 0 where
   pub front : Front
@@ -170,3 +171,11 @@ IsPlain (OtherAt number) = ⊥
 -- what a plain script writes on a world is what one store without groups, copies and messages writes
 abbrev pub PlainScriptsPrint : Type 0
 PlainScriptsPrint = (bytes : List ℕ) → IsPlain (plain_output bytes).ending → script_output bytes ≡ plain_output bytes
+
+-- the lines before one that no plain script has print the same, whatever comes behind them
+abbrev pub PlainBeginnings : Type 0
+PlainBeginnings = (bytes : List ℕ) → (rest : List ℕ) × ((plain_output bytes).text ++ rest ≡ (script_output bytes).text)
+
+-- so what was written by a plain script, however it ended, is told by plain_output
+abbrev pub PlainScriptsWrite : Type 0
+PlainScriptsWrite = (bytes : List ℕ) (old new : Option (List ℕ)) (result : Result (Unit {0}) ScriptFault) → IsPlain (plain_output bytes).ending → WroteOf bytes old new result → Wrote (plain_output bytes) old new result

@@ -9,7 +9,7 @@ ghost use Rattle.world_core.specs.Accepted.{RequestsAreSubmissions, FrontTellsRe
 ghost use Rattle.world_core.specs.Places.{EveryPlaceHasItsGroup, PlacesStay, GroupsAreFoundByPlace};
 ghost use Rattle.world_core.specs.Recovery.{KickRecovers, LossesLoseAll};
 ghost use Rattle.world_core.specs.ListingLaws.{ListsHavePieces, ListingsAreTold, AcceptedListings};
-ghost use Rattle.world_core.specs.Plain.{PlainScriptsPrint};
+ghost use Rattle.world_core.specs.Plain.{PlainScriptsPrint, PlainBeginnings, PlainScriptsWrite};
 ghost use Rattle.world_core.specs.Listing.{PiecesAreTheNamespace, PiecesAnswerTheNamespace};
 
 /// Entries of different groups touch different objects: lists that are legal in each group are legal together, in any order that keeps each group's own.
@@ -108,7 +108,10 @@ pub fn listings_are_told()
 {}
 
 /// What a script writes that names no message, and in which no group begins a second interval, is what one store without
-/// groups, copies and messages writes: a settling decides what waits, in the order of submission, group after group.
+/// groups, copies and messages writes: a settling decides what waits, in the order of submission, group after group. So is
+/// what any script writes before its first line that names a message, kicks, or begins such an interval.
 pub fn plain_scripts_print()
-    ensures { PlainScriptsPrint }
+    ensures print { PlainScriptsPrint }
+    ensures begin { PlainBeginnings }
+    ensures write { PlainScriptsWrite }
 {}
