@@ -31,19 +31,11 @@ use Rattle.world_core.specs.Recovery.{wire_in, wire_at, if_sent, deliveries_of, 
 use Rattle.world_core.proofs.Merge.{group_refl}
 use Rattle.world_core.proofs.Bytes.{number_same}
 use Rattle.world_core.proofs.Holding.{step_at}
+use Rattle.world_core.proofs.Requests.{IsMessage}
 use Rattle.world_core.proofs.PlaceGroups.{groups_are_found_by_place}
 use Rattle.world_core.proofs.Accepted.{accepted_kept, groups_are_served}
 
 -- ---- the events of one group, as the world sees them
-
-abbrev pub IsMessage : group.Event → Type 0
-IsMessage (group.Submit s) = ⊥
-IsMessage (group.Deliver k) = Unit {0}
-IsMessage (group.Lose k) = Unit {0}
-IsMessage (group.Repeat k) = Unit {0}
-IsMessage (group.NewInterval acting up) = ⊥
-IsMessage (group.Restart d) = ⊥
-IsMessage group.Kick = Unit {0}
 
 -- what is no such event has none
 abbrev pub shown : GroupId → group.Event → Event

@@ -25,7 +25,8 @@ use Rattle.world_core.specs.Recovery.{if_sent, deliveries_of}
 use Rattle.world_core.specs.Script.{has_messages, events_while, emptied_within, one_if_none, unrefused}
 use Rattle.world_core.specs.Plain.{Plain, decides}
 use Rattle.world_core.proofs.Acting.{gained}
-use Rattle.world_core.proofs.KickRecovery.{IsMessage, shown, shown_part, shown_step, shown_front}
+use Rattle.world_core.proofs.Requests.{IsMessage}
+use Rattle.world_core.proofs.KickRecovery.{shown, shown_part, shown_step, shown_front}
 
 -- ---- the events
 

@@ -49,7 +49,7 @@ use Rattle.world_core.proofs.Intervals.{later, members_are, same_set_refl, resta
 use Rattle.world_core.proofs.Accepted.{GroupKept, WorldKept, IsMade, made_at, none_yet, front_tells_requests}
 use Rattle.world_core.proofs.PlaceGroups.{step_places}
 use Rattle.world_core.proofs.PlainGroups.{Steady, IsStill, IsAside, still_decided, due, due_begins}
-use Rattle.world_core.proofs.PlainStates.{Stands, Sim, Onward, one_more, world_keeps, Remains, remains, none_moves, of_places, Leaves, SamePlace, Both, took_both, took_none, took_aside, took_request}
+use Rattle.world_core.proofs.PlainStates.{Agrees, Simulates, Onward, one_more, world_keeps, Remains, remains, none_moves, of_places, Leaves, SamePlace, Both, took_both, took_none, took_aside, took_request}
 
 -- ---- events that decide nothing
 
@@ -97,16 +97,16 @@ NextState w e = map_of (front_step w.front e).history
 -- what an accepted event tells
 pub record Happened (p : Plain) (w : World) (e : Event) : Type 0 where
   pub free : refusal_of w e ≡ None
-  pub sim : Sim (asks p e) (world_step w e)
+  pub sim : Simulates (asks p e) (world_step w e)
 
-after_event : (p : Plain) (w : World) (e : Event) → Stands p w → refusal_of w e ≡ None → (acted w (parts_of w.front e)).audit ≡ w.audit
+after_event : (p : Plain) (w : World) (e : Event) → Agrees p w → refusal_of w e ≡ None → (acted w (parts_of w.front e)).audit ≡ w.audit
     → ((id : GroupId) (g : Group) → group_at id w.groups ≡ Some g → Both (NextState w e) (asks (at_front p w) e) id (run (events_in id (parts_of w.front e)) g))
     → ((id : GroupId) (g : Group) → group_at id w.groups ≡ None → group_at id (created_by w.front e) ≡ Some g → Both (NextState w e) (asks (at_front p w) e) id g)
     → Happened (at_front p w) w e
 after_event p w e s none audit old new = record {
   free = none;
   sim = record {
-    stands = record {
+    agrees = record {
       daemons = s.daemons;
       events = s.events ++ e ∷ [];
       accepted = on.accepted;
@@ -147,10 +147,10 @@ leaves : (p : Plain) (w : World) (e : Event) → Leaves p (asks (at_front p w) e
 leaves p w e = record { pending = refl; fresh = refl; opened = refl }
 
 -- the same map, and no requests
-unheard : (p : Plain) (w : World) (e : Event) (id : GroupId) (g : Group) → Sim p w → group_at id w.groups ≡ Some g → SamePlace (map_of w.front.history) (NextState w e) id → sealed_by w.front e ≡ [] → Both (NextState w e) (asks (at_front p w) e) id g
+unheard : (p : Plain) (w : World) (e : Event) (id : GroupId) (g : Group) → Simulates p w → group_at id w.groups ≡ Some g → SamePlace (map_of w.front.history) (NextState w e) id → sealed_by w.front e ≡ [] → Both (NextState w e) (asks (at_front p w) e) id g
 unheard p w e id g s there place none =
-    took_both (map_of w.front.history) (NextState w e) p (asks (at_front p w) e) id g g (sealed_by w.front e) [] place (leaves p w e) (ap (filter (is_for id)) none) (s.stands.groups id g there)
-    (took_none (map_of w.front.history) p id g (s.stands.groups id g there) (s.owes id g there))
+    took_both (map_of w.front.history) (NextState w e) p (asks (at_front p w) e) id g g (sealed_by w.front e) [] place (leaves p w e) (ap (filter (is_for id)) none) (s.agrees.groups id g there)
+    (took_none (map_of w.front.history) p id g (s.agrees.groups id g there) (s.owes id g there))
 
 same_place : (state : MapState) (id : GroupId) → SamePlace state state id
 same_place state id = record { members = refl; least = refl }
@@ -159,10 +159,10 @@ or_none : (o : Option Fault) → o ≡ None → option_or o None ≡ None
 or_none None h = refl
 or_none (Some x) h = absurd (cc)
 
-quiet_event : (p : Plain) (w : World) (e : Event) → Sim p w → front_refusal w.front e ≡ None → NextState w e ≡ map_of w.front.history → sealed_by w.front e ≡ [] → parts_of w.front e ≡ [] → created_by w.front e ≡ []
+quiet_event : (p : Plain) (w : World) (e : Event) → Simulates p w → front_refusal w.front e ≡ None → NextState w e ≡ map_of w.front.history → sealed_by w.front e ≡ [] → parts_of w.front e ≡ [] → created_by w.front e ≡ []
     → Happened (at_front p w) w e
 quiet_event p w e s allowed same none parts new =
-    after_event p w e s.stands
+    after_event p w e s.agrees
     (ap (λ ps. option_or (front_refusal w.front e) (option_map OfGroup (parts_refusal w.groups ps))) parts ∙ or_none (front_refusal w.front e) allowed)
     (ap (λ ps. (acted w ps).audit) parts)
     (λ id g there. (let P : List Part → Type 0 = λ ps. Both (NextState w e) (asks (at_front p w) e) id (run (events_in id ps) g) in
@@ -172,7 +172,7 @@ quiet_event p w e s allowed same none parts new =
 -- ---- requests
 
 -- what the requests of an event leave of a group
-asked_old : (p : Plain) (w : World) (e : Event) (rs : List Sealed) (id : GroupId) (g : Group) → Sim p w → group_at id w.groups ≡ Some g → NextState w e ≡ map_of w.front.history → sealed_by w.front e ≡ rs → parts_of w.front e ≡ asked_parts rs
+asked_old : (p : Plain) (w : World) (e : Event) (rs : List Sealed) (id : GroupId) (g : Group) → Simulates p w → group_at id w.groups ≡ Some g → NextState w e ≡ map_of w.front.history → sealed_by w.front e ≡ rs → parts_of w.front e ≡ asked_parts rs
     → parts_refusal w.groups (asked_parts rs) ≡ None → AtMostOne (filter (is_for id) rs) → Both (NextState w e) (asks (at_front p w) e) id (run (events_in id (parts_of w.front e)) g)
 asked_old p w e rs id g s there same sealed parts free single = subst P (sym parts) (go single.one single.is)
   where
@@ -190,22 +190,22 @@ asked_old p w e rs id g s there same sealed parts free single = subst P (sym par
         let one : heard id (asked_parts rs) ≡ [] = heard_map id (λ s. part (group_for s) (group.Submit s)) rs [] is in
         let Q : Group → Type 0 = λ v. Both (NextState w e) (asks (at_front p w) e) id v in
         subst Q (sym (ap (λ l. run (map (λ q. q.event) l) g) one))
-        (took_both (map_of w.front.history) (NextState w e) p (asks (at_front p w) e) id g g (sealed_by w.front e) [] place (leaves p w e) (ap (filter (is_for id)) sealed ∙ is) (s.stands.groups id g there)
-        (took_none (map_of w.front.history) p id g (s.stands.groups id g there) (s.owes id g there)))
+        (took_both (map_of w.front.history) (NextState w e) p (asks (at_front p w) e) id g g (sealed_by w.front e) [] place (leaves p w e) (ap (filter (is_for id)) sealed ∙ is) (s.agrees.groups id g there)
+        (took_none (map_of w.front.history) p id g (s.agrees.groups id g there) (s.owes id g there)))
     go (Some r) is =
         let q : Part = part (group_for r) (group.Submit r) in
         let one : heard id (asked_parts rs) ≡ q ∷ [] = heard_map id (λ s. part (group_for s) (group.Submit s)) rs (r ∷ []) is in
         let open_one : group.refusal_of g (group.Submit r) ≡ None = heard_passes id g w.groups (asked_parts rs) q there free one in
         let Q : Group → Type 0 = λ v. Both (NextState w e) (asks (at_front p w) e) id v in
         subst Q (sym (ap (λ l. run (map (λ q. q.event) l) g) one))
-        (took_both (map_of w.front.history) (NextState w e) p (asks (at_front p w) e) id g (group_step g (group.Submit r)) (sealed_by w.front e) (r ∷ []) place (leaves p w e) (ap (filter (is_for id)) sealed ∙ is) (s.stands.groups id g there)
-        (took_request (map_of w.front.history) p id g r (s.stands.groups id g there) (s.owes id g there) open_one))
+        (took_both (map_of w.front.history) (NextState w e) p (asks (at_front p w) e) id g (group_step g (group.Submit r)) (sealed_by w.front e) (r ∷ []) place (leaves p w e) (ap (filter (is_for id)) sealed ∙ is) (s.agrees.groups id g there)
+        (took_request (map_of w.front.history) p id g r (s.agrees.groups id g there) (s.owes id g there) open_one))
 
 single_in : (w : World) (id : GroupId) (ask : Ask) (r : Result (List Sealed) Fault) → ((rs : List Sealed) → r ≡ Ok rs → Requested w.front ask rs) → AtMostOne (filter (is_for id) (if_ok r [] (λ rs. rs)))
 single_in w id ask (Err fault) made = record { one = None; is = refl }
 single_in w id ask (Ok rs) made = (made rs refl).single id
 
-world_tells : (p : Plain) (w : World) → Stands p w → FrontTells w
+world_tells : (p : Plain) (w : World) → Agrees p w → FrontTells w
 world_tells p w s = subst FrontTells s.is (front_tells_requests built_in s.daemons s.events s.accepted)
 
 second_none : (a : Option Fault) (b : Option GroupFault) → option_or a (option_map OfGroup b) ≡ None → b ≡ None
@@ -213,12 +213,12 @@ second_none None None h = refl
 second_none None (Some x) h = absurd (cc)
 second_none (Some x) b h = absurd (cc)
 
-asking_event : (p : Plain) (w : World) (e : Event) (ask : Ask) → Sim p w → refusal_of w e ≡ None → NextState w e ≡ map_of w.front.history → parts_of w.front e ≡ asked_parts (sealed_by w.front e) → created_by w.front e ≡ []
+asking_event : (p : Plain) (w : World) (e : Event) (ask : Ask) → Simulates p w → refusal_of w e ≡ None → NextState w e ≡ map_of w.front.history → parts_of w.front e ≡ asked_parts (sealed_by w.front e) → created_by w.front e ≡ []
     → ((id : GroupId) → AtMostOne (filter (is_for id) (sealed_by w.front e))) → Happened (at_front p w) w e
 asking_event p w e ask s free same parts new single =
     let rs : List Sealed = sealed_by w.front e in
     let passes : parts_refusal w.groups (asked_parts rs) ≡ None = ap (parts_refusal w.groups) (sym parts) ∙ second_none (front_refusal w.front e) (parts_refusal w.groups (parts_of w.front e)) free in
-    after_event p w e s.stands free
+    after_event p w e s.agrees free
     (ap (λ ps. (acted w ps).audit) parts ∙ still_audit (asked_parts rs) w (asked_still rs))
     (λ id g there. asked_old p w e rs id g s there same refl parts passes (single id))
     (λ id g absent is. absurd (let clash : None ≡ Some g = ap (group_at id) (sym new) ∙ is in cc))
@@ -231,32 +231,32 @@ next_map f c kept allowed = record { history = later f.history c; accepted = (fr
 Stays : World → MapCommand → Type 0
 Stays w c = Each (λ id. moves (map_of w.front.history) c id ≡ false) (places w.front)
 
-map_remains : (p : Plain) (w : World) (c : MapCommand) (id : GroupId) (g : Group) → Stands p w → Stays w c → group_at id w.groups ≡ Some g → Remains (map_of w.front.history) c id
+map_remains : (p : Plain) (w : World) (c : MapCommand) (id : GroupId) (g : Group) → Agrees p w → Stays w c → group_at id w.groups ≡ Some g → Remains (map_of w.front.history) c id
 unfolding Stays
 map_remains p w c id g s stays there =
     let k : WorldKept w = world_keeps p w s in
     let h : GroupKept w.front id g = k.groups id g there in
     remains w.front c id g h (of_places (λ i. moves (map_of w.front.history) c i ≡ false) w.front id g k.front h stays)
 
-map_place : (p : Plain) (w : World) (c : MapCommand) (id : GroupId) (g : Group) → Stands p w → Stays w c → group_at id w.groups ≡ Some g → SamePlace (map_of w.front.history) (NextState w (Map c)) id
+map_place : (p : Plain) (w : World) (c : MapCommand) (id : GroupId) (g : Group) → Agrees p w → Stays w c → group_at id w.groups ≡ Some g → SamePlace (map_of w.front.history) (NextState w (Map c)) id
 map_place p w c id g s stays there =
     let r : Remains (map_of w.front.history) c id = map_remains p w c id g s stays there in
     let next : NextState w (Map c) ≡ after (map_of w.front.history) c = after_push w.front.history.daemons w.front.history.commands c in
     record { members = ap (λ t. members_of t id) next ∙ r.members; least = ap (λ t. least_of t id) next ∙ r.least }
 
 -- the last set of a group is that of its place
-last_is : (p : Plain) (w : World) (id : GroupId) (g : Group) → Stands p w → group_at id w.groups ≡ Some g → members_of (map_of w.front.history) id ≡ last_set g.sets
+last_is : (p : Plain) (w : World) (id : GroupId) (g : Group) → Agrees p w → group_at id w.groups ≡ Some g → members_of (map_of w.front.history) id ≡ last_set g.sets
 last_is p w id g s there = members_are (map_of w.front.history) id (last_set g.sets) ((world_keeps p w s).groups id g there).sets.present
 
 -- a command that no group hears
-still_map : (p : Plain) (w : World) (c : MapCommand) → Sim p w → front_refusal w.front (Map c) ≡ None → Stays w c → parts_of w.front (Map c) ≡ [] → created_by w.front (Map c) ≡ [] → Happened (at_front p w) w (Map c)
+still_map : (p : Plain) (w : World) (c : MapCommand) → Simulates p w → front_refusal w.front (Map c) ≡ None → Stays w c → parts_of w.front (Map c) ≡ [] → created_by w.front (Map c) ≡ [] → Happened (at_front p w) w (Map c)
 unfolding requests_of
 still_map p w c s allowed stays parts new =
-    after_event p w (Map c) s.stands
+    after_event p w (Map c) s.agrees
     (ap (λ ps. option_or (front_refusal w.front (Map c)) (option_map OfGroup (parts_refusal w.groups ps))) parts ∙ or_none (front_refusal w.front (Map c)) allowed)
     (ap (λ ps. (acted w ps).audit) parts)
     (λ id g there. (let P : List Part → Type 0 = λ ps. Both (NextState w (Map c)) (asks (at_front p w) (Map c)) id (run (events_in id ps) g) in
-    subst P (sym parts) (unheard p w (Map c) id g s there (map_place p w c id g s.stands stays there) refl)))
+    subst P (sym parts) (unheard p w (Map c) id g s there (map_place p w c id g s.agrees stays there) refl)))
     (λ id g absent is. absurd (let clash : None ≡ Some g = ap (group_at id) (sym new) ∙ is in cc))
 
 -- each place hears one event, that none refuses
@@ -277,13 +277,13 @@ each_of P Q [] f h = tt
 each_of P Q (x ∷ xs) f h = (f x h.0, each_of P Q xs f h.1)
 
 -- a command of which each place hears one event beside its interval
-beside : (p : Plain) (w : World) (c : MapCommand) (F : GroupId → group.Event) → Sim p w → front_refusal w.front (Map c) ≡ None → Stays w c → parts_of w.front (Map c) ≡ map (λ id. part id (F id)) (places w.front) → created_by w.front (Map c) ≡ []
+beside : (p : Plain) (w : World) (c : MapCommand) (F : GroupId → group.Event) → Simulates p w → front_refusal w.front (Map c) ≡ None → Stays w c → parts_of w.front (Map c) ≡ map (λ id. part id (F id)) (places w.front) → created_by w.front (Map c) ≡ []
     → ((id : GroupId) → IsStill (F id)) → ((id : GroupId) → IsAside (F id))
     → ((id : GroupId) (g : Group) → group_at id w.groups ≡ Some g → group.refusal_of g (F id) ≡ None)
     → ((id : GroupId) (g : Group) → group_at id w.groups ≡ Some g → IsCalm (members_of (map_of w.front.history) id) (F id)) → Happened (at_front p w) w (Map c)
 unfolding requests_of
 beside p w c F s allowed stays parts new still aside free calm =
-    after_event p w (Map c) s.stands
+    after_event p w (Map c) s.agrees
     (ap (λ ps. option_or (front_refusal w.front (Map c)) (option_map OfGroup (parts_refusal w.groups ps))) parts
     ∙ ap (λ o. option_or (front_refusal w.front (Map c)) (option_map OfGroup o)) (place_free w F (places w.front) (each_any (places w.front)))
     ∙ or_none (front_refusal w.front (Map c)) allowed)
@@ -297,45 +297,45 @@ beside p w c F s allowed stays parts new still aside free calm =
 
     old : (id : GroupId) (g : Group) → group_at id w.groups ≡ Some g → Both (NextState w (Map c)) (asks (at_front p w) (Map c)) id (run (events_in id (parts_of w.front (Map c))) g)
     old id g there =
-        let k : WorldKept w = world_keeps p w s.stands in
+        let k : WorldKept w = world_keeps p w s.agrees in
         let h : GroupKept w.front id g = k.groups id g there in
         let once_there : filter (is_same_group id) (places w.front) ≡ id ∷ [] =
         places_once id (map_of w.front.history).pools h.pool.is.pool (once w.front k.front) (found_in w.front.history id.pool h.groups h.pool) (subst (λ n. id.number < n) (sym h.pool.is.groups) h.number) in
         let one : heard id (map (λ i. part i (F i)) (places w.front)) ≡ part id (F id) ∷ [] = heard_map id (λ i. part i (F i)) (places w.front) (id ∷ []) once_there in
         let all : events_in id (parts_of w.front (Map c)) ≡ F id ∷ [] = ap (events_in id) parts ∙ ap (map (λ q. q.event)) one in
         let Q : List group.Event → Type 0 = λ es. Both (NextState w (Map c)) (asks (at_front p w) (Map c)) id (run es g) in
-        subst Q (sym all) (took_both (map_of w.front.history) (NextState w (Map c)) p (asks (at_front p w) (Map c)) id g (group_step g (F id)) (sealed_by w.front (Map c)) [] (map_place p w c id g s.stands stays there) (leaves p w (Map c)) refl
-        (s.stands.groups id g there) (took_aside (map_of w.front.history) p id g (F id) (s.stands.groups id g there) (s.owes id g there) (calm id g there) (aside id) (still id)))
+        subst Q (sym all) (took_both (map_of w.front.history) (NextState w (Map c)) p (asks (at_front p w) (Map c)) id g (group_step g (F id)) (sealed_by w.front (Map c)) [] (map_place p w c id g s.agrees stays there) (leaves p w (Map c)) refl
+        (s.agrees.groups id g there) (took_aside (map_of w.front.history) p id g (F id) (s.agrees.groups id g there) (s.owes id g there) (calm id g there) (aside id) (still id)))
 
 -- daemons come and go
-up_event : (p : Plain) (w : World) (c : MapCommand) → Sim p w → front_refusal w.front (Map c) ≡ None → Stays w c → parts_of w.front (Map c) ≡ moved_parts (after (map_of w.front.history) c)
+up_event : (p : Plain) (w : World) (c : MapCommand) → Simulates p w → front_refusal w.front (Map c) ≡ None → Stays w c → parts_of w.front (Map c) ≡ moved_parts (after (map_of w.front.history) c)
     → flat_map groups_of (after (map_of w.front.history) c).pools ≡ places w.front → created_by w.front (Map c) ≡ [] → Happened (at_front p w) w (Map c)
 up_event p w c s allowed stays parts pools new =
     beside p w c F s allowed stays (parts ∙ ap (λ ids. map (λ id. part id (group.NewInterval (members_of (after (map_of w.front.history) c) id) (numbers_of (after (map_of w.front.history) c).up))) ids) pools) new
     (λ id. tt) (λ id. tt)
     (λ id g there. ap (λ b. if b then None else (if has_all_intervals g then Some group_fault.Full else None))
-    (ap (λ m. same_set m (last_set g.sets)) ((map_remains p w c id g s.stands stays there).members ∙ last_is p w id g s.stands there) ∙ same_set_refl (last_set g.sets)))
-    (λ id g there. (let r : Remains (map_of w.front.history) c id = map_remains p w c id g s.stands stays there in
+    (ap (λ m. same_set m (last_set g.sets)) ((map_remains p w c id g s.agrees stays there).members ∙ last_is p w id g s.agrees there) ∙ same_set_refl (last_set g.sets)))
+    (λ id g there. (let r : Remains (map_of w.front.history) c id = map_remains p w c id g s.agrees stays there in
     record {
       same = r.members;
-      live = λ d is. (lies_within (after (map_of w.front.history) c) id (next_map w.front c (world_keeps p w s.stands).front allowed) d (ap (λ m. is_in m d) r.members ∙ is)).0;
+      live = λ d is. (lies_within (after (map_of w.front.history) c) id (next_map w.front c (world_keeps p w s.agrees).front allowed) d (ap (λ m. is_in m d) r.members ∙ is)).0;
     }))
   where
     F : GroupId → group.Event
     F id = group.NewInterval (members_of (after (map_of w.front.history) c) id) (numbers_of (after (map_of w.front.history) c).up)
 
-restart_event : (p : Plain) (w : World) (d : ℕ) → Sim p w → front_refusal w.front (Map (OsdRestart d)) ≡ None → Stays w (OsdRestart d) → Happened (at_front p w) w (Map (OsdRestart d))
+restart_event : (p : Plain) (w : World) (d : ℕ) → Simulates p w → front_refusal w.front (Map (OsdRestart d)) ≡ None → Stays w (OsdRestart d) → Happened (at_front p w) w (Map (OsdRestart d))
 restart_event p w d s allowed stays =
     beside p w (OsdRestart d) (λ id. group.Restart d) s allowed stays refl refl (λ id. tt) (λ id. tt)
-    (λ id g there. ap (λ b. if b then (if has_all_intervals g then Some group_fault.Full else None) else None) (ap (λ m. is_in m d) (sym (last_is p w id g s.stands there)) ∙ outside id g there))
+    (λ id g there. ap (λ b. if b then (if has_all_intervals g then Some group_fault.Full else None) else None) (ap (λ m. is_in m d) (sym (last_is p w id g s.agrees there)) ∙ outside id g there))
     (λ id g there. outside id g there)
   where
     outside : (id : GroupId) (g : Group) → group_at id w.groups ≡ Some g → is_in (members_of (map_of w.front.history) id) d ≡ false
-    outside id g there = sym (restarts_is d (members_of (map_of w.front.history) id)) ∙ (map_remains p w (OsdRestart d) id g s.stands stays there).quiet
+    outside id g there = sym (restarts_is d (members_of (map_of w.front.history) id)) ∙ (map_remains p w (OsdRestart d) id g s.agrees stays there).quiet
 
 -- ---- a new pool
 
-new_group : (p : Plain) (w : World) (name : List ℕ) (pg_num size min_size : ℕ) (id : GroupId) (g : Group) → Sim p w → front_refusal w.front (Map (PoolCreate name pg_num size min_size)) ≡ None
+new_group : (p : Plain) (w : World) (name : List ℕ) (pg_num size min_size : ℕ) (id : GroupId) (g : Group) → Simulates p w → front_refusal w.front (Map (PoolCreate name pg_num size min_size)) ≡ None
     → IsMade (after (map_of w.front.history) (PoolCreate name pg_num size min_size)) min_size name pg_num id g → Both (NextState w (Map (PoolCreate name pg_num size min_size))) (asks (at_front p w) (Map (PoolCreate name pg_num size min_size))) id g
 unfolding requests_of
 new_group p w name pg_num size min_size id g s allowed made =
@@ -345,7 +345,7 @@ new_group p w name pg_num size min_size id g s allowed made =
     let state' : MapState = after state c in
     let p' : Plain = asks (at_front p w) (Map c) in
     let next : map_of (later f.history c) ≡ state' = after_push f.history.daemons f.history.commands c in
-    let kept : FrontKept f = (world_keeps p w s.stands).front in
+    let kept : FrontKept f = (world_keeps p w s.agrees).front in
     let then_kept : FrontKept (front_step f (Map c)) = front_kept f (Map c) kept allowed in
     let well : CreatesWell state.pools name = creates_well state (epoch_of f.history) name pg_num size min_size (wrapped_none OfMap (refusal state (epoch_of f.history) c) allowed) in
     let new : Pool = created name pg_num size min_size in
@@ -368,10 +368,10 @@ new_group p w name pg_num size min_size id g s allowed made =
       exist = λ d is. (lies_within state' id is_map d is).1;
       live = λ d is. (lies_within state' id is_map d is).0;
     } in
-    let unknown = s.stands.known (is_for id) (none_yet f.history id f.submissions absent kept.sealed) in
+    let unknown = s.agrees.known (is_for id) (none_yet f.history id f.submissions absent kept.sealed) in
     let pending : filter (is_for id) p'.pending ≡ [] = ap (filter (is_for id)) (append-nil p.pending) ∙ unknown.0 in
     let fresh : filter (is_for id) p'.fresh ≡ [] = ap (filter (is_for id)) (append-nil p.fresh) ∙ unknown.1 in
-    let closed : is_open p' id ≡ false = s.stands.opened id (places_none id state.pools absent) in
+    let closed : is_open p' id ≡ false = s.agrees.opened id (places_none id state.pools absent) in
     let S : ℕ → Type 0 = λ n. Steady n members begun in
     let both : Both state' p' id begun = record {
       holds = record { steady = subst S (sym least) steady; requests = pending; answers = refl };
@@ -384,13 +384,13 @@ new_group p w name pg_num size min_size id g s allowed made =
     let P : MapState → Group → Type 0 = λ t v. Both t p' id v in
     subst (λ t. P t g) (sym next) (subst (P state') made.is both)
 
-pool_event : (p : Plain) (w : World) (name : List ℕ) (pg_num size min_size : ℕ) → Sim p w → front_refusal w.front (Map (PoolCreate name pg_num size min_size)) ≡ None → Stays w (PoolCreate name pg_num size min_size)
+pool_event : (p : Plain) (w : World) (name : List ℕ) (pg_num size min_size : ℕ) → Simulates p w → front_refusal w.front (Map (PoolCreate name pg_num size min_size)) ≡ None → Stays w (PoolCreate name pg_num size min_size)
     → Happened (at_front p w) w (Map (PoolCreate name pg_num size min_size))
 unfolding requests_of
 pool_event p w name pg_num size min_size s allowed stays =
     let c : MapCommand = PoolCreate name pg_num size min_size in
-    after_event p w (Map c) s.stands (or_none (front_refusal w.front (Map c)) allowed) refl
-    (λ id g there. unheard p w (Map c) id g s there (map_place p w c id g s.stands stays there) refl)
+    after_event p w (Map c) s.agrees (or_none (front_refusal w.front (Map c)) allowed) refl
+    (λ id g there. unheard p w (Map c) id g s there (map_place p w c id g s.agrees stays there) refl)
     (λ id g absent is. new_group p w name pg_num size min_size id g s allowed (from_zero id g (made_at (after (map_of w.front.history) c) min_size name 0 pg_num id g is)))
   where
     from_zero : (id : GroupId) (g : Group) → IsMade (after (map_of w.front.history) (PoolCreate name pg_num size min_size)) min_size name (0 + pg_num) id g → IsMade (after (map_of w.front.history) (PoolCreate name pg_num size min_size)) min_size name pg_num id g
@@ -398,7 +398,7 @@ pool_event p w name pg_num size min_size s allowed stays =
 
 -- ---- all events
 
-map_event : (p : Plain) (w : World) (c : MapCommand) → Sim p w → front_refusal w.front (Map c) ≡ None → Stays w c → Happened (at_front p w) w (Map c)
+map_event : (p : Plain) (w : World) (c : MapCommand) → Simulates p w → front_refusal w.front (Map c) ≡ None → Stays w c → Happened (at_front p w) w (Map c)
 map_event p w (PoolCreate name pg_num size min_size) s allowed stays = pool_event p w name pg_num size min_size s allowed stays
 map_event p w (AppEnable pool app) s allowed stays = still_map p w (AppEnable pool app) s allowed stays refl refl
 map_event p w (AppSet pool app key value) s allowed stays = still_map p w (AppSet pool app key value) s allowed stays refl refl
@@ -411,7 +411,7 @@ stays_from : (w : World) (c : MapCommand) → list_any (moves (map_of w.front.hi
 unfolding Stays
 stays_from w c h = none_moves (map_of w.front.history) c (places w.front) h
 
-happened_at : (p : Plain) (w : World) (e : Event) → Sim p w → front_refusal w.front e ≡ None → is_message e ≡ false → is_move w.front e ≡ false → Happened (at_front p w) w e
+happened_at : (p : Plain) (w : World) (e : Event) → Simulates p w → front_refusal w.front e ≡ None → is_message e ≡ false → is_move w.front e ≡ false → Happened (at_front p w) w e
 unfolding requests_of
 happened_at p w (Map c) s allowed quiet still = map_event p w c s allowed (stays_from w c still)
 happened_at p w (Auth command) s allowed quiet still = quiet_event p w (Auth command) s allowed refl refl refl refl
@@ -419,17 +419,17 @@ happened_at p w (Open entity until) s allowed quiet still = quiet_event p w (Ope
 happened_at p w (Renew n until) s allowed quiet still = quiet_event p w (Renew n until) s allowed refl refl refl refl
 happened_at p w (Close n) s allowed quiet still = quiet_event p w (Close n) s allowed refl refl refl refl
 happened_at p w (Submit ask object ops) s allowed quiet still =
-    asking_event p w (Submit ask object ops) ask s ((world_tells p w s.stands).submit ask object ops ∙ allowed) refl refl refl
+    asking_event p w (Submit ask object ops) ask s ((world_tells p w s.agrees).submit ask object ops ∙ allowed) refl refl refl
     (λ id. single_in w id ask (requests_of w.front (Submit ask object ops)) (λ rs is. submit_made w.front ask object ops rs is))
 happened_at p w (ListNames ask) s allowed quiet still =
-    asking_event p w (ListNames ask) ask s ((world_tells p w s.stands).list ask ∙ allowed) refl refl refl
+    asking_event p w (ListNames ask) ask s ((world_tells p w s.agrees).list ask ∙ allowed) refl refl refl
     (λ id. single_in w id ask (requests_of w.front (ListNames ask)) (λ rs is. list_made w.front ask rs is))
 happened_at p w (Deliver id k) s allowed quiet still = absurd (cc)
 happened_at p w (Lose id k) s allowed quiet still = absurd (cc)
 happened_at p w (Repeat id k) s allowed quiet still = absurd (cc)
 happened_at p w (Kick id) s allowed quiet still = absurd (cc)
 
-pub happened : (p : Plain) (w : World) (e : Event) → Sim p w → front_refusal p.front e ≡ None → is_message e ≡ false → is_move p.front e ≡ false → Happened p w e
+pub happened : (p : Plain) (w : World) (e : Event) → Simulates p w → front_refusal p.front e ≡ None → is_message e ≡ false → is_move p.front e ≡ false → Happened p w e
 happened p w e s allowed quiet still =
     let P : Front → Type 0 = λ f. Happened (record p { front = f }) w e in
-    subst P (sym s.stands.front) (happened_at p w e s (ap (λ f. front_refusal f e) (sym s.stands.front) ∙ allowed) quiet (ap (λ f. is_move f e) (sym s.stands.front) ∙ still))
+    subst P (sym s.agrees.front) (happened_at p w e s (ap (λ f. front_refusal f e) (sym s.agrees.front) ∙ allowed) quiet (ap (λ f. is_move f e) (sym s.agrees.front) ∙ still))

@@ -36,13 +36,13 @@ use Rattle.world_core.proofs.Limits.{accepted_has_numbers}
 use Rattle.world_core.proofs.Worlds.{WorldStands, world_stands, find_part}
 use Rattle.world_core.proofs.PlaceGroups.{groups_are_found_by_place}
 use Rattle.world_core.proofs.PlainGroups.{steady_sets, steady_least}
-use Rattle.world_core.proofs.PlainStates.{Stands, Sim}
+use Rattle.world_core.proofs.PlainStates.{Agrees, Simulates}
 use Rattle.world_core.proofs.PlainEvents.{Happened, happened}
 use Rattle.world_core.proofs.PlainSettles.{IsSettled, holds_other, settled}
 
 -- ---- answers
 
-world_sound : (p : Plain) (w : World) → Stands p w → WorldStands w
+world_sound : (p : Plain) (w : World) → Agrees p w → WorldStands w
 world_sound p w s = subst WorldStands s.is (world_stands built_in s.daemons s.events (accepted_has_numbers built_in s.daemons s.events s.accepted))
 
 reply_found : Option Entry → Option Reply
@@ -66,14 +66,14 @@ no_entry rs (e ∷ es) id all none = go (e.sealed.id == id) refl (no_entry rs es
     go true is rest = absurd (let clash : Some e.sealed ≡ None = sym all.0 ∙ ap (submitted rs) (number_same e.sealed.id id is) ∙ none in cc)
     go false is rest = rest
 
-group_answers : (p : Plain) (w : World) (place : GroupId) (id : ℕ) → Stands p w → answer_in_group (group_at place w.groups) id ≡ option_map (λ e. e.reply) (find (audit_at place w.groups) id)
+group_answers : (p : Plain) (w : World) (place : GroupId) (id : ℕ) → Agrees p w → answer_in_group (group_at place w.groups) id ≡ option_map (λ e. e.reply) (find (audit_at place w.groups) id)
 group_answers p w place id s = go (group_at place w.groups) refl
   where
     go : (o : Option Group) → group_at place w.groups ≡ o → answer_in_group o id ≡ option_map (λ e. e.reply) (find (audit_in o) id)
     go None is = refl
     go (Some g) is = ap (λ l. answer_of l id) (s.groups place g is).answers ∙ answers_found g.audit id
 
-pub answers_alike : (p : Plain) (w : World) (id : ℕ) → Stands p w → answer_of p.answers id ≡ answer_at w id
+pub answers_alike : (p : Plain) (w : World) (id : ℕ) → Agrees p w → answer_of p.answers id ≡ answer_at w id
 answers_alike p w id s = ap (λ l. answer_of l id) s.answers ∙ answers_found w.audit id ∙ sym (go (submitted w.front.submissions id) refl)
   where
     go : (o : Option Sealed) → submitted w.front.submissions id ≡ o → answer_to w.groups id o ≡ option_map (λ e. e.reply) (find w.audit id)
@@ -84,7 +84,7 @@ answers_alike p w id s = ap (λ l. answer_of l id) s.answers ∙ answers_found w
         ∙ ap (λ l. option_map (λ e. e.reply) (find l id)) (sym (h.merged (group_for r)))
         ∙ ap (option_map (λ e. e.reply)) (find_part w.front.submissions r id w.audit is h.asked)
 
-pub all_answers_alike : (p : Plain) (w : World) → Stands p w → answer_of p.answers ≡ answer_at w
+pub all_answers_alike : (p : Plain) (w : World) → Agrees p w → answer_of p.answers ≡ answer_at w
 all_answers_alike p w s = λ i id. answers_alike p w id s i
 
 -- ---- readiness
@@ -113,7 +113,7 @@ refused_alike : (o : Option Fault) (a b : List ℕ) → (o ≡ None → a ≡ b)
 refused_alike None a b h = h refl
 refused_alike (Some fault) a b h = refl
 
-ready_alike : (p : Plain) (w : World) (id : GroupId) → Stands p w → ready_plain p id ≡ ready_line_text w id
+ready_alike : (p : Plain) (w : World) (id : GroupId) → Agrees p w → ready_plain p id ≡ ready_line_text w id
 ready_alike p w id s =
     ap (λ f. or_refused (group_refusal f id) (ready_text (is_enough f id))) s.front
     ∙ refused_alike (group_refusal w.front id) (ready_text (is_enough w.front id)) (ready_text (ready_in (group_at id w.groups))) (λ named. ap ready_text (is_alike named))
@@ -131,7 +131,7 @@ ready_alike p w id s =
 
 -- what a line does: the same text, and related states, where a plain script can have it
 Alike : Step Plain → Step Machine → Type 0
-Alike (Goes text p) (Goes other m) = (text ≡ other) × Sim p m.world × (p.tick ≡ m.tick)
+Alike (Goes text p) (Goes other m) = (text ≡ other) × Simulates p m.world × (p.tick ≡ m.tick)
 Alike (Goes text p) IsBad = ⊥
 Alike (Goes text p) IsOther = ⊥
 Alike IsBad IsBad = Unit {0}
@@ -139,7 +139,7 @@ Alike IsBad (Goes text m) = ⊥
 Alike IsBad IsOther = ⊥
 Alike IsOther m = Unit {0}
 
-told_alike : (p : Plain) (m : Machine) (a b : List ℕ) → Sim p m.world → p.tick ≡ m.tick → a ≡ b → Alike (tells p a) (goes m (prints m b))
+told_alike : (p : Plain) (m : Machine) (a b : List ℕ) → Simulates p m.world → p.tick ≡ m.tick → a ≡ b → Alike (tells p a) (goes m (prints m b))
 unfolding Alike
 told_alike p m a b s tick same = (same, s, tick)
 
@@ -156,7 +156,7 @@ no_drop (Lose id k) fault h = absurd (cc)
 no_drop (Repeat id k) fault h = absurd (cc)
 no_drop (Kick id) fault h = absurd (cc)
 
-event_alike : (p : Plain) (m : Machine) (e : Event) → Sim p m.world → p.tick ≡ m.tick → Alike (plain_event p e) (goes m (event_line m e))
+event_alike : (p : Plain) (m : Machine) (e : Event) → Simulates p m.world → p.tick ≡ m.tick → Alike (plain_event p e) (goes m (event_line m e))
 unfolding Alike
 event_alike p m e s tick = message (is_message e) refl
   where
@@ -165,12 +165,12 @@ event_alike p m e s tick = message (is_message e) refl
     moves false is quiet allowed =
         let h : Happened p m.world e = happened p m.world e s allowed quiet is in
         let P : Option Fault → Type 0 = λ o. Alike (Goes (line (told_text (told_of p.front e))) (asks p e)) (goes m (event_told m e o)) in
-        subst P (sym h.free) (ap (λ f. line (told_text (told_of f e))) s.stands.front, h.sim, tick)
+        subst P (sym h.free) (ap (λ f. line (told_text (told_of f e))) s.agrees.front, h.sim, tick)
 
     refuses : (o : Option Fault) → front_refusal p.front e ≡ o → is_message e ≡ false → Alike (judged p e o) (goes m (event_line m e))
     refuses None is quiet = moves (is_move p.front e) refl quiet is
     refuses (Some fault) is quiet =
-        let same : refusal_of m.world e ≡ Some fault = ap (λ o. option_or o (option_map OfGroup (parts_refusal m.world.groups (parts_of m.world.front e)))) (ap (λ f. front_refusal f e) (sym s.stands.front) ∙ is) in
+        let same : refusal_of m.world e ≡ Some fault = ap (λ o. option_or o (option_map OfGroup (parts_refusal m.world.groups (parts_of m.world.front e)))) (ap (λ f. front_refusal f e) (sym s.agrees.front) ∙ is) in
         let P : Option Fault → Type 0 = λ o. Alike (Goes (refused_text fault) p) (goes m (event_told m e o)) in
         let Q : Bool → Type 0 = λ b. Alike (Goes (refused_text fault) p) (goes m (does m (refused_text fault) (if b then e ∷ [] else []))) in
         subst P (sym same) (subst Q (sym (no_drop e fault quiet)) (refl, s, tick))
@@ -179,23 +179,23 @@ event_alike p m e s tick = message (is_message e) refl
     message true is = tt
     message false is = refuses (front_refusal p.front e) refl is
 
-ask_alike : (p : Plain) (m : Machine) (session : ℕ) (pool namespace : List ℕ) → Sim p m.world → p.tick ≡ m.tick → ask_now p.front p.tick session pool namespace ≡ ask_now m.world.front m.tick session pool namespace
-ask_alike p m session pool namespace s tick = ap (λ f. ask_now f p.tick session pool namespace) s.stands.front ∙ ap (λ t. ask_now m.world.front t session pool namespace) tick
+ask_alike : (p : Plain) (m : Machine) (session : ℕ) (pool namespace : List ℕ) → Simulates p m.world → p.tick ≡ m.tick → ask_now p.front p.tick session pool namespace ≡ ask_now m.world.front m.tick session pool namespace
+ask_alike p m session pool namespace s tick = ap (λ f. ask_now f p.tick session pool namespace) s.agrees.front ∙ ap (λ t. ask_now m.world.front t session pool namespace) tick
 
 -- the stamp says nothing of groups
-ticked : (p : Plain) (w : World) (t : ℕ) → Sim p w → Sim (record p { tick = t }) w
+ticked : (p : Plain) (w : World) (t : ℕ) → Simulates p w → Simulates (record p { tick = t }) w
 ticked p w t s = record {
-  stands = record {
-    daemons = s.stands.daemons;
-    events = s.stands.events;
-    accepted = s.stands.accepted;
-    is = s.stands.is;
-    front = s.stands.front;
-    objects = s.stands.objects;
-    answers = s.stands.answers;
-    groups = λ id g there. holds_other (map_of w.front.history) p (record p { tick = t }) id g refl (s.stands.groups id g there);
-    known = λ test empty. s.stands.known test empty;
-    opened = λ id empty. s.stands.opened id empty;
+  agrees = record {
+    daemons = s.agrees.daemons;
+    events = s.agrees.events;
+    accepted = s.agrees.accepted;
+    is = s.agrees.is;
+    front = s.agrees.front;
+    objects = s.agrees.objects;
+    answers = s.agrees.answers;
+    groups = λ id g there. holds_other (map_of w.front.history) p (record p { tick = t }) id g refl (s.agrees.groups id g there);
+    known = λ test empty. s.agrees.known test empty;
+    opened = λ id empty. s.agrees.opened id empty;
   };
   owes = λ id g there. s.owes id g there;
 }
@@ -213,7 +213,7 @@ places_tick (id ∷ ids) c = places_tick ids (settles c id) ∙ one (is_enough c
     one true = decided_tick (filter (is_for id) c.plain.pending) (record c.plain { pending = filter (λ s. not (is_for id s)) c.plain.pending })
     one false = refl
 
-step_alike : (p : Plain) (m : Machine) (c : Command) → Sim p m.world → p.tick ≡ m.tick → Alike (plain_step p c) (machine_step m c)
+step_alike : (p : Plain) (m : Machine) (c : Command) → Simulates p m.world → p.tick ≡ m.tick → Alike (plain_step p c) (machine_step m c)
 unfolding Alike
 step_alike p m (Osds daemons) s tick = told_alike p m [] [] s tick refl
 step_alike p m (Happens e) s tick = event_alike p m e s tick
@@ -223,9 +223,9 @@ step_alike p m (Submit session pool namespace object ops) s tick =
 step_alike p m (ListNames session pool namespace) s tick =
     let P : Event → Type 0 = λ e. Alike (plain_event p (ListEvent (ask_now p.front p.tick session pool namespace))) (goes m (event_line m e)) in
     subst P (ap ListEvent (ask_alike p m session pool namespace s tick)) (event_alike p m (ListEvent (ask_now p.front p.tick session pool namespace)) s tick)
-step_alike p m (Locate pool namespace object) s tick = told_alike p m _ _ s tick (ap (λ f. locate_text f pool namespace object) s.stands.front)
-step_alike p m (ShowUser name) s tick = told_alike p m _ _ s tick (ap (λ f. show_text f name) s.stands.front)
-step_alike p m ListUsers s tick = told_alike p m _ _ s tick (ap (λ f. users_text f.database.users) s.stands.front)
+step_alike p m (Locate pool namespace object) s tick = told_alike p m _ _ s tick (ap (λ f. locate_text f pool namespace object) s.agrees.front)
+step_alike p m (ShowUser name) s tick = told_alike p m _ _ s tick (ap (λ f. show_text f name) s.agrees.front)
+step_alike p m ListUsers s tick = told_alike p m _ _ s tick (ap (λ f. users_text f.database.users) s.agrees.front)
 step_alike p m (Tick t) s tick = (refl, ticked p m.world t s, refl)
 step_alike p m Settle s tick =
     let d : IsSettled p m.world = settled p m.world s in
@@ -233,10 +233,10 @@ step_alike p m Settle s tick =
 step_alike p m KickAll s tick = tt
 step_alike p m LoseAll s tick = tt
 step_alike p m (AskAnswer id) s tick =
-    told_alike p m _ _ s tick (ap (λ f. asked_text (id_text id) (answer_in f (answer_of p.answers) id)) s.stands.front ∙ ap (λ a. asked_text (id_text id) (answer_in m.world.front a id)) (all_answers_alike p m.world s.stands))
+    told_alike p m _ _ s tick (ap (λ f. asked_text (id_text id) (answer_in f (answer_of p.answers) id)) s.agrees.front ∙ ap (λ a. asked_text (id_text id) (answer_in m.world.front a id)) (all_answers_alike p m.world s.agrees))
 step_alike p m (Listing id) s tick =
-    told_alike p m _ _ s tick (ap (λ f. asked_text (id_text id) (listing_in f (answer_of p.answers) id)) s.stands.front ∙ ap (λ a. asked_text (id_text id) (listing_in m.world.front a id)) (all_answers_alike p m.world s.stands))
-step_alike p m (Ready id) s tick = told_alike p m _ _ s tick (ready_alike p m.world id s.stands)
+    told_alike p m _ _ s tick (ap (λ f. asked_text (id_text id) (listing_in f (answer_of p.answers) id)) s.agrees.front ∙ ap (λ a. asked_text (id_text id) (listing_in m.world.front a id)) (all_answers_alike p m.world s.agrees))
+step_alike p m (Ready id) s tick = told_alike p m _ _ s tick (ready_alike p m.world id s.agrees)
 
 -- ---- all lines
 
@@ -244,7 +244,7 @@ Related : Option Plain → Option Machine → Type 0
 Related None None = Unit {0}
 Related None (Some m) = ⊥
 Related (Some p) None = ⊥
-Related (Some p) (Some m) = Sim p m.world × (p.tick ≡ m.tick)
+Related (Some p) (Some m) = Simulates p m.world × (p.tick ≡ m.tick)
 
 AlikeFrom : Step (Option Plain) → Step (Option Machine) → Type 0
 AlikeFrom (Goes text p) (Goes other m) = (text ≡ other) × Related p m
@@ -267,9 +267,9 @@ kept_alike IsOther (Goes text m) h = tt
 kept_alike IsOther IsBad h = tt
 kept_alike IsOther IsOther h = tt
 
-first_sim : (daemons : ℕ) → Sim (first_plain daemons) (first_world built_in daemons)
+first_sim : (daemons : ℕ) → Simulates (first_plain daemons) (first_world built_in daemons)
 first_sim daemons = record {
-  stands = record {
+  agrees = record {
     daemons = daemons;
     events = [];
     accepted = tt;

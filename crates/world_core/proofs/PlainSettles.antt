@@ -36,9 +36,10 @@ use Rattle.world_core.proofs.Limits.{once, accepted_has_numbers}
 use Rattle.world_core.proofs.Worlds.{world_stands, world_legal}
 use Rattle.world_core.proofs.PlaceGroups.{none_filtered, every_place_has_its_group, groups_are_found_by_place}
 use Rattle.world_core.proofs.Accepted.{GroupKept, WorldKept}
-use Rattle.world_core.proofs.KickRecovery.{IsMessage, shown, Ran, ran, all_accepted, accepted_join, deliveries_heard, deliveries_shown, deliveries_pass, delivered_all}
+use Rattle.world_core.proofs.Requests.{IsMessage}
+use Rattle.world_core.proofs.KickRecovery.{shown, Ran, ran, all_accepted, accepted_join, deliveries_heard, deliveries_shown, deliveries_pass, delivered_all}
 use Rattle.world_core.proofs.PlainGroups.{steady_settles, due, Rests, rests}
-use Rattle.world_core.proofs.PlainStates.{Holds, Owes, Stands, Sim, world_keeps}
+use Rattle.world_core.proofs.PlainStates.{GroupAgrees, Owes, Agrees, Simulates, world_keeps}
 use Rattle.world_core.proofs.PlainEvents.{first_nil, second_nil}
 use Rattle.world_core.proofs.PlainDeliveries.{emptied_is, unrefused_is, unrefused_join, Gains, gains, decides_all}
 
@@ -102,7 +103,7 @@ AreLeft w [] = Unit {0}
 AreLeft w (id ∷ ids) = (filter (is_same_group id) ids ≡ []) × ((g : Group) × (group_at id w.groups ≡ Some g)) × AreLeft w ids
 
 pub record Settling (p : Plain) (w : World) (rest : List GroupId) : Type 0 where
-  pub stands : Stands p w
+  pub agrees : Agrees p w
   pub left : AreLeft w rest
   pub owes : (id : GroupId) (g : Group) → group_at id w.groups ≡ Some g → filter (is_same_group id) rest ≡ id ∷ [] → Owes (map_of w.front.history) p id g
   pub done : (id : GroupId) (g : Group) → group_at id w.groups ≡ Some g → filter (is_same_group id) rest ≡ [] → Rested (map_of w.front.history) p id g
@@ -139,8 +140,8 @@ delivers w id g named there =
     })
 
 -- more accepted events
-stands_legal : (p : Plain) (w w' : World) (es : List Event) (s : Stands p w) → fold world_step w es ≡ w' → AcceptedFrom w es → (AreAccepted built_in s.daemons (s.events ++ es)) × (world_after built_in s.daemons (s.events ++ es) ≡ w') × Legal w'.audit
-stands_legal p w w' es s is accepted =
+agrees_legal : (p : Plain) (w w' : World) (es : List Event) (s : Agrees p w) → fold world_step w es ≡ w' → AcceptedFrom w es → (AreAccepted built_in s.daemons (s.events ++ es)) × (world_after built_in s.daemons (s.events ++ es) ≡ w') × Legal w'.audit
+agrees_legal p w w' es s is accepted =
     let first : World = world_after built_in s.daemons [] in
     let P : World → Type 0 = λ v. AcceptedFrom v es in
     let all : AreAccepted built_in s.daemons (s.events ++ es) = accepted_join s.events es first s.accepted (subst P (sym s.is) accepted) in
@@ -154,7 +155,7 @@ record Next (p p' : Plain) (w w' : World) (x : GroupId) (g : Group) : Type 0 whe
   front : p'.front ≡ p.front
   objects : p'.objects ≡ store_of w'.audit
   answers : p'.answers ≡ map answer_with w'.audit
-  own : Holds (map_of w.front.history) p' x (settled_group g)
+  own : GroupAgrees (map_of w.front.history) p' x (settled_group g)
   pending : nat_le (least_of (map_of w.front.history) x) (length (members_of (map_of w.front.history) x)) ≡ true → filter (is_for x) p'.pending ≡ []
   others : (id : GroupId) → is_same_group id x ≡ false → filter (is_for id) p'.pending ≡ filter (is_for id) p.pending
   fewer : (test : Sealed → Bool) → filter test p.pending ≡ [] → filter test p'.pending ≡ []
@@ -183,7 +184,7 @@ by_place P w w' x g there others own other id h is = go (is_same_group id x) ref
         subst (λ i. P i h) (sym same) (subst (P x) one own)
     go false e = other id h e (sym (others id e) ∙ is)
 
-pub holds_other : (state : MapState) (p p' : Plain) (id : GroupId) (g : Group) → filter (is_for id) p'.pending ≡ filter (is_for id) p.pending → Holds state p id g → Holds state p' id g
+pub holds_other : (state : MapState) (p p' : Plain) (id : GroupId) (g : Group) → filter (is_for id) p'.pending ≡ filter (is_for id) p.pending → GroupAgrees state p id g → GroupAgrees state p' id g
 holds_other state p p' id g same h = record { steady = h.steady; requests = ap (λ l. map (λ e. e.sealed) g.audit ++ l) same ∙ h.requests; answers = h.answers }
 
 owes_other : (state : MapState) (p p' : Plain) (id : GroupId) (g : Group) → filter (is_for id) p'.pending ≡ filter (is_for id) p.pending → p'.fresh ≡ p.fresh → p'.opened ≡ p.opened → Owes state p id g → Owes state p' id g
@@ -197,23 +198,23 @@ settling_next : (p p' : Plain) (w : World) (x : GroupId) (xs : List GroupId) (g 
     → Next p p' w (fold world_step w es) x g → Settling p' (fold world_step w es) xs
 settling_next p p' w x xs g es s d r n =
     let w' : World = fold world_step w es in
-    let l = stands_legal p w w' es s.stands refl d.accepted in
-    let H : Front → GroupId → Group → Type 0 = λ f id h. Holds (map_of f.history) p' id h in
+    let l = agrees_legal p w w' es s.agrees refl d.accepted in
+    let H : Front → GroupId → Group → Type 0 = λ f id h. GroupAgrees (map_of f.history) p' id h in
     let O : Front → GroupId → Group → Type 0 = λ f id h. filter (is_same_group id) xs ≡ id ∷ [] → Owes (map_of f.history) p' id h in
     let R : Front → GroupId → Group → Type 0 = λ f id h. filter (is_same_group id) xs ≡ [] → Rested (map_of f.history) p' id h in
     record {
-      stands = record {
-        daemons = s.stands.daemons;
-        events = s.stands.events ++ es;
+      agrees = record {
+        daemons = s.agrees.daemons;
+        events = s.agrees.events ++ es;
         accepted = l.0;
         is = l.1;
-        front = n.front ∙ s.stands.front ∙ sym d.front;
+        front = n.front ∙ s.agrees.front ∙ sym d.front;
         objects = n.objects;
         answers = n.answers;
         groups = λ id h is. subst (λ f. H f id h) (sym d.front) (by_place (H w.front) w w' x (settled_group g) d.there d.others n.own
-            (λ i k apart there. holds_other (map_of w.front.history) p p' i k (n.others i apart) (s.stands.groups i k there)) id h is);
-        known = λ test empty. (let k = s.stands.known test (ap (λ f. filter test f.submissions) (sym d.front) ∙ empty) in (n.fewer test k.0, ap (filter test) n.fresh ∙ k.1));
-        opened = λ id empty. ap (list_any (is_same_group id)) n.opened ∙ s.stands.opened id (ap (λ f. filter (is_same_group id) (places f)) (sym d.front) ∙ empty);
+            (λ i k apart there. holds_other (map_of w.front.history) p p' i k (n.others i apart) (s.agrees.groups i k there)) id h is);
+        known = λ test empty. (let k = s.agrees.known test (ap (λ f. filter test f.submissions) (sym d.front) ∙ empty) in (n.fewer test k.0, ap (filter test) n.fresh ∙ k.1));
+        opened = λ id empty. ap (list_any (is_same_group id)) n.opened ∙ s.agrees.opened id (ap (λ f. filter (is_same_group id) (places f)) (sym d.front) ∙ empty);
       };
       left = left_on w w' x xs d.others s.left.0 s.left.2;
       owes = λ id h is. subst (λ f. O f id h) (sym d.front) (by_place (O w.front) w w' x (settled_group g) d.there d.others
@@ -226,18 +227,18 @@ settling_next p p' w x xs g es s d r n =
     }
 
 -- a group that is large enough decides what waits
-served_next : (p : Plain) (w : World) (x : GroupId) (g : Group) (es : List Event) (s : Stands p w) → group_at x w.groups ≡ Some g → (d : Delivered w x g es) → Rests (least_of (map_of w.front.history) x) (members_of (map_of w.front.history) x) g
+served_next : (p : Plain) (w : World) (x : GroupId) (g : Group) (es : List Event) (s : Agrees p w) → group_at x w.groups ≡ Some g → (d : Delivered w x g es) → Rests (least_of (map_of w.front.history) x) (members_of (map_of w.front.history) x) g
     → nat_le (least_of (map_of w.front.history) x) (length (members_of (map_of w.front.history) x)) ≡ true → Next p (serves x p) w (fold world_step w es) x g
 served_next p w x g es s there d r enough =
     let w' : World = fold world_step w es in
-    let h : Holds (map_of w.front.history) p x g = s.groups x g there in
+    let h : GroupAgrees (map_of w.front.history) p x g = s.groups x g there in
     let new : List Entry = d.gained.new in
     let sealed : Entry → Sealed = λ e. e.sealed in
     let whole : map (λ e. e.sealed) g.audit ++ map (λ e. e.sealed) new ≡ map (λ e. e.sealed) g.audit ++ filter (is_for x) p.pending =
     sym (map_join (λ e. e.sealed) g.audit new) ∙ ap (map (λ e. e.sealed)) (sym d.gained.group) ∙ r.served enough ∙ sym h.requests in
     let these : filter (is_for x) p.pending ≡ map (λ e. e.sealed) new = sym (rest_same (map (λ e. e.sealed) g.audit) (map (λ e. e.sealed) new) (filter (is_for x) p.pending) whole) in
     let q : Plain = record p { pending = filter (λ t. not (is_for x t)) p.pending } in
-    let legal : LegalFrom w.audit new = legal_rest [] w.audit new (subst Legal d.gained.world (stands_legal p w w' es s refl d.accepted).2) in
+    let legal : LegalFrom w.audit new = legal_rest [] w.audit new (subst Legal d.gained.world (agrees_legal p w w' es s refl d.accepted).2) in
     let after : Plain = record q { objects = store_of (w.audit ++ new); answers = p.answers ++ map answer_with new } in
     let is : serves x p ≡ after = ap (fold decides q) these ∙ decides_all new w.audit q s.objects legal in
     let P : Plain → Type 0 = λ v. Next p v w w' x g in
@@ -258,10 +259,10 @@ served_next p w x g es s there d r enough =
     })
 
 -- one that is too small decides nothing
-waits_next : (p : Plain) (w : World) (x : GroupId) (g : Group) (es : List Event) (s : Stands p w) → group_at x w.groups ≡ Some g → (d : Delivered w x g es) → Rests (least_of (map_of w.front.history) x) (members_of (map_of w.front.history) x) g
+waits_next : (p : Plain) (w : World) (x : GroupId) (g : Group) (es : List Event) (s : Agrees p w) → group_at x w.groups ≡ Some g → (d : Delivered w x g es) → Rests (least_of (map_of w.front.history) x) (members_of (map_of w.front.history) x) g
     → nat_le (least_of (map_of w.front.history) x) (length (members_of (map_of w.front.history) x)) ≡ false → Next p p w (fold world_step w es) x g
 waits_next p w x g es s there d r few =
-    let h : Holds (map_of w.front.history) p x g = s.groups x g there in
+    let h : GroupAgrees (map_of w.front.history) p x g = s.groups x g there in
     let new : List Entry = d.gained.new in
     let empty : g.audit ++ new ≡ [] = sym d.gained.group ∙ r.waits few in
     let none : new ≡ [] = second_nil g.audit new empty in
@@ -292,30 +293,30 @@ settle_one p w x xs s =
     let g : Group = s.left.1.0 in
     let there : group_at x w.groups ≡ Some g = s.left.1.1 in
     let F : World → Type 0 = λ v. IsFoundByPlace v x in
-    let found : IsFoundByPlace w x = subst F s.stands.is (groups_are_found_by_place built_in s.stands.daemons s.stands.events x s.stands.accepted) in
+    let found : IsFoundByPlace w x = subst F s.agrees.is (groups_are_found_by_place built_in s.agrees.daemons s.agrees.events x s.agrees.accepted) in
     let d : Delivered w x g (emptied Deliver x w) = delivers w x g (found.unrefused g there) there in
-    let r : Rests (least_of (map_of w.front.history) x) (members_of (map_of w.front.history) x) g = rests (least_of (map_of w.front.history) x) (members_of (map_of w.front.history) x) g (s.stands.groups x g there).steady in
-    let same : is_enough p.front x ≡ nat_le (least_of (map_of w.front.history) x) (length (members_of (map_of w.front.history) x)) = ap (λ f. is_enough f x) s.stands.front in
+    let r : Rests (least_of (map_of w.front.history) x) (members_of (map_of w.front.history) x) g = rests (least_of (map_of w.front.history) x) (members_of (map_of w.front.history) x) g (s.agrees.groups x g there).steady in
+    let same : is_enough p.front x ≡ nat_le (least_of (map_of w.front.history) x) (length (members_of (map_of w.front.history) x)) = ap (λ f. is_enough f x) s.agrees.front in
     let alone : filter (is_same_group x) (x ∷ xs) ≡ x ∷ [] = ap (λ b. cond b (x ∷ filter (is_same_group x) xs) (filter (is_same_group x) xs)) (group_refl x) ∙ ap (λ l. x ∷ l) s.left.0 in
     let P : Bool → Type 0 = λ b. Settling (if b then serves x p else p) (fold world_step w (emptied Deliver x w)) xs in
     record {
       settling = subst P (sym same) (go g there d r (nat_le (least_of (map_of w.front.history) x) (length (members_of (map_of w.front.history) x))) refl);
-      counted = ap (λ f. cost (record p { front = f }) x) s.stands.front ∙ sym (s.owes x g there alone) ∙ sym d.counted;
+      counted = ap (λ f. cost (record p { front = f }) x) s.agrees.front ∙ sym (s.owes x g there alone) ∙ sym d.counted;
     }
   where
     go : (g : Group) → group_at x w.groups ≡ Some g → Delivered w x g (emptied Deliver x w) → Rests (least_of (map_of w.front.history) x) (members_of (map_of w.front.history) x) g
         → (b : Bool) → nat_le (least_of (map_of w.front.history) x) (length (members_of (map_of w.front.history) x)) ≡ b → Settling (if b then serves x p else p) (fold world_step w (emptied Deliver x w)) xs
-    go g there d r true e = settling_next p (serves x p) w x xs g (emptied Deliver x w) s d r (served_next p w x g (emptied Deliver x w) s.stands there d r e)
-    go g there d r false e = settling_next p p w x xs g (emptied Deliver x w) s d r (waits_next p w x g (emptied Deliver x w) s.stands there d r e)
+    go g there d r true e = settling_next p (serves x p) w x xs g (emptied Deliver x w) s d r (served_next p w x g (emptied Deliver x w) s.agrees there d r e)
+    go g there d r false e = settling_next p p w x xs g (emptied Deliver x w) s d r (waits_next p w x g (emptied Deliver x w) s.agrees there d r e)
 
 -- ---- place after place
 
-abbrev begun : Plain → ℕ → Settled
-begun p n = record { plain = p; count = n }
+abbrev counting : Plain → ℕ → Settled
+counting p n = record { plain = p; count = n }
 
 record Loop (p : Plain) (w : World) (n : ℕ) (rest : List GroupId) : Type 0 where
-  settling : Settling (fold settles (begun p n) rest).plain (fold world_step w (on_each (emptied Deliver) rest w)) []
-  counted : (fold settles (begun p n) rest).count ≡ n + unrefused w (on_each (emptied Deliver) rest w)
+  settling : Settling (fold settles (counting p n) rest).plain (fold world_step w (on_each (emptied Deliver) rest w)) []
+  counted : (fold settles (counting p n) rest).count ≡ n + unrefused w (on_each (emptied Deliver) rest w)
 
 settle_loop : (rest : List GroupId) (p : Plain) (w : World) (n : ℕ) → Settling p w rest → Loop p w n rest
 settle_loop [] p w n s = record { settling = s; counted = none n }
@@ -329,7 +330,7 @@ settle_loop (x ∷ xs) p w n s =
     let w' : World = fold world_step w es in
     let rest : Loop p' w' (n + cost p x) xs = settle_loop xs p' w' (n + cost p x) one.settling in
     let whole : fold world_step w (es ++ on_each (emptied Deliver) xs w') ≡ fold world_step w' (on_each (emptied Deliver) xs w') = fold-append world_step w es (on_each (emptied Deliver) xs w') in
-    let P : World → Type 0 = λ v. Settling (fold settles (begun p' (n + cost p x)) xs).plain v [] in
+    let P : World → Type 0 = λ v. Settling (fold settles (counting p' (n + cost p x)) xs).plain v [] in
     record {
       settling = subst P (sym whole) rest.settling;
       counted = rest.counted ∙ ap (λ k. n + k + unrefused w' (on_each (emptied Deliver) xs w')) one.counted
@@ -362,13 +363,13 @@ record IsThere (w : World) (id : GroupId) : Type 0 where
   there : group_at id w.groups ≡ Some group
   alone : filter (is_same_group id) (places w.front) ≡ id ∷ []
 
-stands_once : (p : Plain) (w : World) (id : GroupId) (g : Group) → Stands p w → group_at id w.groups ≡ Some g → filter (is_same_group id) (places w.front) ≡ id ∷ []
+stands_once : (p : Plain) (w : World) (id : GroupId) (g : Group) → Agrees p w → group_at id w.groups ≡ Some g → filter (is_same_group id) (places w.front) ≡ id ∷ []
 stands_once p w id g s there =
     let k : WorldKept w = world_keeps p w s in
     let h : GroupKept w.front id g = k.groups id g there in
     places_once id (map_of w.front.history).pools h.pool.is.pool (once w.front k.front) (found_in w.front.history id.pool h.groups h.pool) (subst (λ n. id.number < n) (sym h.pool.is.groups) h.number)
 
-all_there : (p : Plain) (w : World) (ids : List GroupId) → Stands p w → HasPlaces w → Each (λ id. filter (is_same_group id) (places w.front) ≡ [] → ⊥) ids → Each (IsThere w) ids
+all_there : (p : Plain) (w : World) (ids : List GroupId) → Agrees p w → HasPlaces w → Each (λ id. filter (is_same_group id) (places w.front) ≡ [] → ⊥) ids → Each (IsThere w) ids
 all_there p w [] s has all = tt
 all_there p w (id ∷ ids) s has all = (go (group_at id w.groups) refl, all_there p w ids s has all.1)
   where
@@ -387,15 +388,15 @@ all_left w ys (x ∷ xs) whole all =
       all_left w (ys ++ x ∷ []) xs (append_assoc ys (x ∷ []) xs ∙ whole) all.1,
     )
 
-settling_begins : (p : Plain) (w : World) → Sim p w → Settling p w (places w.front)
+settling_begins : (p : Plain) (w : World) → Simulates p w → Settling p w (places w.front)
 settling_begins p w s =
     let H : World → Type 0 = λ v. HasPlaces v in
-    let has : HasPlaces w = subst H s.stands.is (every_place_has_its_group built_in s.stands.daemons s.stands.events) in
+    let has : HasPlaces w = subst H s.agrees.is (every_place_has_its_group built_in s.agrees.daemons s.agrees.events) in
     record {
-      stands = s.stands;
-      left = all_left w [] (places w.front) refl (all_there p w (places w.front) s.stands has (own_in [] (places w.front)));
+      agrees = s.agrees;
+      left = all_left w [] (places w.front) refl (all_there p w (places w.front) s.agrees has (own_in [] (places w.front)));
       owes = λ id g there one. s.owes id g there;
-      done = λ id g there none. absurd (let clash : id ∷ [] ≡ [] = sym (stands_once p w id g s.stands there) ∙ none in cc);
+      done = λ id g there none. absurd (let clash : id ∷ [] ≡ [] = sym (stands_once p w id g s.agrees there) ∙ none in cc);
     }
 
 -- ---- its end
@@ -426,39 +427,39 @@ nothing_due least acting waiting h = go (nat_le least (length acting)) h
     go true k = none (request_cost (length acting)) ∙ ap (λ l. 0 + request_cost (length acting) * length l) (sym (k refl))
     go false k = none (unserved_cost (length acting))
 
-settling_ends : (p : Plain) (w : World) → Settling p w [] → Sim (rested p) w
+settling_ends : (p : Plain) (w : World) → Settling p w [] → Simulates (rested p) w
 settling_ends p w s = record {
-  stands = record {
-    daemons = s.stands.daemons;
-    events = s.stands.events;
-    accepted = s.stands.accepted;
-    is = s.stands.is;
-    front = s.stands.front;
-    objects = s.stands.objects;
-    answers = s.stands.answers;
-    groups = λ id g there. holds_other (map_of w.front.history) p (rested p) id g refl (s.stands.groups id g there);
-    known = λ test empty. ((s.stands.known test empty).0, refl);
-    opened = λ id empty. none_any (is_same_group id) (places p.front) (ap (λ f. filter (is_same_group id) (places f)) s.stands.front ∙ empty);
+  agrees = record {
+    daemons = s.agrees.daemons;
+    events = s.agrees.events;
+    accepted = s.agrees.accepted;
+    is = s.agrees.is;
+    front = s.agrees.front;
+    objects = s.agrees.objects;
+    answers = s.agrees.answers;
+    groups = λ id g there. holds_other (map_of w.front.history) p (rested p) id g refl (s.agrees.groups id g there);
+    known = λ test empty. ((s.agrees.known test empty).0, refl);
+    opened = λ id empty. none_any (is_same_group id) (places p.front) (ap (λ f. filter (is_same_group id) (places f)) s.agrees.front ∙ empty);
   };
   owes = λ id g there. (let d : Rested (map_of w.front.history) p id g = s.done id g there refl in
-      let open_now : is_open (rested p) id ≡ true = some_any (is_same_group id) (places p.front) id [] (ap (λ f. filter (is_same_group id) (places f)) s.stands.front ∙ stands_once p w id g s.stands there) in
+      let open_now : is_open (rested p) id ≡ true = some_any (is_same_group id) (places p.front) id [] (ap (λ f. filter (is_same_group id) (places f)) s.agrees.front ∙ stands_once p w id g s.agrees there) in
       d.nothing ∙ nothing_due (least_of (map_of w.front.history) id) (members_of (map_of w.front.history) id) (filter (is_for id) p.pending) d.pending
       ∙ ap (λ b. due (least_of (map_of w.front.history) id) (members_of (map_of w.front.history) id) b (length (filter (is_for id) p.pending)) 0) (sym open_now));
 }
 
 -- a settling leaves related states, and tells how many deliveries reached their addressee
 pub record IsSettled (p : Plain) (w : World) : Type 0 where
-  pub sim : Sim (rested (settles_all p).plain) (fold world_step w (settle_events w))
+  pub sim : Simulates (rested (settles_all p).plain) (fold world_step w (settle_events w))
   pub counted : (settles_all p).count ≡ unrefused w (settle_events w)
 
-pub settled : (p : Plain) (w : World) → Sim p w → IsSettled p w
+pub settled : (p : Plain) (w : World) → Simulates p w → IsSettled p w
 settled p w s =
     let l : Loop p w 0 (places w.front) = settle_loop (places w.front) p w 0 (settling_begins p w s) in
-    let same : places w.front ≡ places p.front = ap places (sym s.stands.front) in
-    let S : List GroupId → Type 0 = λ ids. Sim (rested (fold settles (begun p 0) ids).plain) (fold world_step w (settle_events w)) in
+    let same : places w.front ≡ places p.front = ap places (sym s.agrees.front) in
+    let S : List GroupId → Type 0 = λ ids. Simulates (rested (fold settles (counting p 0) ids).plain) (fold world_step w (settle_events w)) in
     record {
-      sim = subst S same (settling_ends (fold settles (begun p 0) (places w.front)).plain (fold world_step w (settle_events w)) l.settling);
-      counted = ap (λ ids. (fold settles (begun p 0) ids).count) (sym same) ∙ l.counted ∙ none (unrefused w (settle_events w));
+      sim = subst S same (settling_ends (fold settles (counting p 0) (places w.front)).plain (fold world_step w (settle_events w)) l.settling);
+      counted = ap (λ ids. (fold settles (counting p 0) ids).count) (sym same) ∙ l.counted ∙ none (unrefused w (settle_events w));
     }
   where
     none : (n : ℕ) → 0 + n ≡ n

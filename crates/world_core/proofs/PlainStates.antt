@@ -44,7 +44,7 @@ use Rattle.world_core.proofs.PlainGroups.{Steady, Decided, decided, due, IsStill
 -- ---- the relation
 
 -- a group holds in its audit and answers what was decided, and waits for what is pending
-pub record Holds (state : MapState) (p : Plain) (id : GroupId) (g : Group) : Type 0 where
+pub record GroupAgrees (state : MapState) (p : Plain) (id : GroupId) (g : Group) : Type 0 where
   pub steady : Steady (least_of state id) (members_of state id) g
   pub requests : map (λ e. e.sealed) g.audit ++ filter (is_for id) p.pending ≡ g.requests
   pub answers : g.answers ≡ map answer_with g.audit
@@ -54,7 +54,7 @@ abbrev pub Owes : MapState → Plain → GroupId → Group → Type 0
 Owes state p id g = settle_count g ≡ due (least_of state id) (members_of state id) (is_open p id) (length (filter (is_for id) p.pending)) (length (filter (is_for id) p.fresh))
 
 -- the world is one of accepted events, with these objects and answers
-pub record Stands (p : Plain) (w : World) : Type 0 where
+pub record Agrees (p : Plain) (w : World) : Type 0 where
   pub daemons : ℕ
   pub events : List Event
   pub accepted : AreAccepted built_in daemons events
@@ -62,16 +62,16 @@ pub record Stands (p : Plain) (w : World) : Type 0 where
   pub front : p.front ≡ w.front
   pub objects : p.objects ≡ store_of w.audit
   pub answers : p.answers ≡ map answer_with w.audit
-  pub groups : (id : GroupId) (g : Group) → group_at id w.groups ≡ Some g → Holds (map_of w.front.history) p id g
+  pub groups : (id : GroupId) (g : Group) → group_at id w.groups ≡ Some g → GroupAgrees (map_of w.front.history) p id g
   -- only what was submitted waits, and only places of the map were settled
   pub known : (test : Sealed → Bool) → filter test w.front.submissions ≡ [] → (filter test p.pending ≡ []) × (filter test p.fresh ≡ [])
   pub opened : (id : GroupId) → filter (is_same_group id) (places w.front) ≡ [] → is_open p id ≡ false
 
-pub record Sim (p : Plain) (w : World) : Type 0 where
-  pub stands : Stands p w
+pub record Simulates (p : Plain) (w : World) : Type 0 where
+  pub agrees : Agrees p w
   pub owes : (id : GroupId) (g : Group) → group_at id w.groups ≡ Some g → Owes (map_of w.front.history) p id g
 
-pub world_keeps : (p : Plain) (w : World) → Stands p w → WorldKept w
+pub world_keeps : (p : Plain) (w : World) → Agrees p w → WorldKept w
 world_keeps p w s = subst WorldKept s.is (accepted_kept built_in s.daemons s.events s.accepted)
 
 -- one more accepted event
@@ -176,10 +176,10 @@ longer : (test : Sealed → Bool) (xs xs' news l : List Sealed) → xs' ≡ xs +
 longer test xs xs' news l is own = ap (filter test) is ∙ filter-append test xs news ∙ ap (λ m. filter test xs ++ m) own
 
 pub record Both (state : MapState) (p : Plain) (id : GroupId) (g : Group) : Type 0 where
-  pub holds : Holds state p id g
+  pub holds : GroupAgrees state p id g
   pub owes : Owes state p id g
 
-pub took_both : (state state' : MapState) (p p' : Plain) (id : GroupId) (g g' : Group) (news l : List Sealed) → SamePlace state state' id → Leaves p p' news → filter (is_for id) news ≡ l → Holds state p id g → Took state p id g g' l → Both state' p' id g'
+pub took_both : (state state' : MapState) (p p' : Plain) (id : GroupId) (g g' : Group) (news l : List Sealed) → SamePlace state state' id → Leaves p p' news → filter (is_for id) news ≡ l → GroupAgrees state p id g → Took state p id g g' l → Both state' p' id g'
 took_both state state' p p' id g g' news l place leaves own h t =
     let least : least_of state id ≡ least_of state' id = sym place.least in
     let members : members_of state id ≡ members_of state' id = sym place.members in
@@ -203,7 +203,7 @@ took_both state state' p p' id g g' news l place leaves own h t =
     }
 
 -- it hears nothing
-pub took_none : (state : MapState) (p : Plain) (id : GroupId) (g : Group) → Holds state p id g → Owes state p id g → Took state p id g g []
+pub took_none : (state : MapState) (p : Plain) (id : GroupId) (g : Group) → GroupAgrees state p id g → Owes state p id g → Took state p id g g []
 took_none state p id g h owes = record {
   steady = h.steady;
   same = refl;
@@ -218,7 +218,7 @@ took_none state p id g h owes = record {
         ap (λ n. due (least_of state id) (members_of state id) o n b) x ∙ ap (due (least_of state id) (members_of state id) o (a + 0)) y
 
 -- it hears of the map
-pub took_aside : (state : MapState) (p : Plain) (id : GroupId) (g : Group) (e : group.Event) → Holds state p id g → Owes state p id g → IsCalm (members_of state id) e → IsAside e → IsStill e → Took state p id g (group_step g e) []
+pub took_aside : (state : MapState) (p : Plain) (id : GroupId) (g : Group) (e : group.Event) → GroupAgrees state p id g → Owes state p id g → IsCalm (members_of state id) e → IsAside e → IsStill e → Took state p id g (group_step g e) []
 took_aside state p id g e h owes calm aside still =
     let t : Took state p id g g [] = took_none state p id g h owes in
     record {
@@ -229,7 +229,7 @@ took_aside state p id g e h owes calm aside still =
     }
 
 -- it takes a request
-pub took_request : (state : MapState) (p : Plain) (id : GroupId) (g : Group) (s : Sealed) → Holds state p id g → Owes state p id g → group.refusal_of g (group.Submit s) ≡ None → Took state p id g (group_step g (group.Submit s)) (s ∷ [])
+pub took_request : (state : MapState) (p : Plain) (id : GroupId) (g : Group) (s : Sealed) → GroupAgrees state p id g → Owes state p id g → group.refusal_of g (group.Submit s) ≡ None → Took state p id g (group_step g (group.Submit s)) (s ∷ [])
 took_request state p id g s h owes free = record {
   steady = steady_step (least_of state id) (members_of state id) g (group.Submit s) h.steady tt;
   same = still_decided (group.Submit s) g tt;
