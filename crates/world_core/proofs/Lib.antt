@@ -26,3 +26,5 @@ pub mod PlainEvents
 pub mod PlainDeliveries
 pub mod PlainSettles
 pub mod PlainScripts
+pub mod PlainKeepings
+pub mod WorkedScripts

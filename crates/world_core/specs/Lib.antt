@@ -17,3 +17,4 @@ pub mod Command
 pub mod Text
 pub mod Script
 pub mod Plain
+pub mod Worked

@@ -9,6 +9,7 @@ ghost use Rattle.world_core.specs.Accepted.{RequestsAreSubmissions, FrontTellsRe
 ghost use Rattle.world_core.specs.Places.{EveryPlaceHasItsGroup, PlacesStay, GroupsAreFoundByPlace};
 ghost use Rattle.world_core.specs.Recovery.{KickRecovers, LossesLoseAll};
 ghost use Rattle.world_core.specs.ListingLaws.{ListsHavePieces, ListingsAreTold, AcceptedListings};
+ghost use Rattle.world_core.specs.Worked.{WorkedScript, WorkedLongerScript, WorldsCount};
 ghost use Rattle.world_core.specs.Plain.{PlainScriptsPrint, PlainBeginnings, PlainScriptsWrite};
 ghost use Rattle.world_core.specs.Listing.{PiecesAreTheNamespace, PiecesAnswerTheNamespace};
 
@@ -114,4 +115,11 @@ pub fn plain_scripts_print()
     ensures print { PlainScriptsPrint }
     ensures begin { PlainBeginnings }
     ensures write { PlainScriptsWrite }
+{}
+
+/// Scripts, worked through: what they write on a world of groups, copies and messages.
+pub fn worked_scripts()
+    ensures first { WorkedScript }
+    ensures longer { WorkedLongerScript }
+    ensures counts { WorldsCount }
 {}
