@@ -306,12 +306,12 @@ old_kept w (Kick other) id g kept next h passed there =
 -- ---- a new group
 
 -- the group that a pool's creation makes at a place
-record IsMade (state : MapState) (min_size : ℕ) (name : List ℕ) (pg_num : ℕ) (id : GroupId) (g : Group) : Type 0 where
-  pool : id.pool ≡ name
-  number : id.number < pg_num
-  is : begun_group state min_size id ≡ g
+pub record IsMade (state : MapState) (min_size : ℕ) (name : List ℕ) (pg_num : ℕ) (id : GroupId) (g : Group) : Type 0 where
+  pub pool : id.pool ≡ name
+  pub number : id.number < pg_num
+  pub is : begun_group state min_size id ≡ g
 
-made_at : (state : MapState) (min_size : ℕ) (name : List ℕ) (k n : ℕ) (id : GroupId) (g : Group) → group_at id (map (begun_group state min_size) (map (numbered name) (range_with_len k n))) ≡ Some g → IsMade state min_size name (k + n) id g
+pub made_at : (state : MapState) (min_size : ℕ) (name : List ℕ) (k n : ℕ) (id : GroupId) (g : Group) → group_at id (map (begun_group state min_size) (map (numbered name) (range_with_len k n))) ≡ Some g → IsMade state min_size name (k + n) id g
 made_at state min_size name k zero id g h = absurd (cc)
 made_at state min_size name k (suc n) id g h = go (is_same_group id (numbered name k)) refl h (λ more. made_at state min_size name (k + 1) n id g more)
   where
@@ -328,7 +328,7 @@ made_at state min_size name k (suc n) id g h = go (is_same_group id (numbered na
     go false is more rest = further (rest more)
 
 -- no request is for a pool that is not there
-none_yet : (history : History) (id : GroupId) (ss : List Sealed) → find (is_named id.pool) (map_of history).pools ≡ None → Each (IsSealedFor history) ss → filter (is_for id) ss ≡ []
+pub none_yet : (history : History) (id : GroupId) (ss : List Sealed) → find (is_named id.pool) (map_of history).pools ≡ None → Each (IsSealedFor history) ss → filter (is_for id) ss ≡ []
 none_yet history id [] none all = refl
 none_yet history id (s ∷ ss) none all = go (is_for id s) refl (none_yet history id ss none all.1)
   where

@@ -84,7 +84,7 @@ act_stands submissions w p new all =
     (λ g same h. stands_step submissions g p.event h (let P : GroupId → Type 0 = λ id. Submits submissions id p.event in subst P same new)) w.groups all
 
 -- what is decided in a group is what its audit gains
-gained : (g : Group) (e : Event) → (group_step g e).audit ≡ g.audit ++ decided_in (Some g) e
+pub gained : (g : Group) (e : Event) → (group_step g e).audit ≡ g.audit ++ decided_in (Some g) e
 gained g e =
     let b : Begins g.audit (group_step g e).audit = audit_grows [] (e ∷ []) g in
     sym b.whole ∙ ap (λ l. g.audit ++ l) (sym (drop-append_seam g.audit b.rest) ∙ ap (drop (length g.audit)) b.whole)

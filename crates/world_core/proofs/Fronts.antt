@@ -29,7 +29,7 @@ placed history s h = record { counts = counted history s.view.pool s.view.pg_num
 
 -- ---- what an accepted request was made of
 
-bind_ok : {A B E : Type 0} (r : Result A E) (k : A → Result B E) (b : B) → (r >>= k) ≡ Ok b → (a : A) × (r ≡ Ok a) × (k a ≡ Ok b)
+pub bind_ok : {A B E : Type 0} (r : Result A E) (k : A → Result B E) (b : B) → (r >>= k) ≡ Ok b → (a : A) × (r ≡ Ok a) × (k a ≡ Ok b)
 bind_ok (Ok a) k b h = (a, refl, h)
 bind_ok (Err e) k b h = absurd (cc)
 

@@ -28,3 +28,14 @@ pub mod Refused
 pub mod Views
 pub mod FrontSteps
 pub mod Recording
+pub mod PlaceGroups
+pub mod KickRecovery
+pub mod ListingLaws
+pub mod PlainGroups
+pub mod PlainStates
+pub mod PlainEvents
+pub mod PlainDeliveries
+pub mod PlainSettles
+pub mod PlainScripts
+pub mod PlainKeepings
+pub mod WorkedScripts

@@ -282,19 +282,19 @@ pieces_are_the_namespace pool namespace groups pieces stores objects some are sa
 
 -- ---- the replies
 
-reply_names : (log : List Entry) (s : Sealed) → s.work ≡ Listing → is_allowed_sealed s ≡ true → (decide log s).reply ≡ Names (names_in (store_of log) s)
+pub reply_names : (log : List Entry) (s : Sealed) → s.work ≡ Listing → is_allowed_sealed s ≡ true → (decide log s).reply ≡ Names (names_in (store_of log) s)
 unfolding answer_on
 reply_names log s is allowed = ap (λ b. (if b then performed (store_of log) s s.work else answered (Denied (report_of s.ticket (place_of s) (needs_for s.work) s.tick))).reply) allowed ∙ ap (λ w. (performed (store_of log) s w).reply) is
 
-same_replies : (f g : ℕ → Reply) (groups : ℕ) → ((i : ℕ) → i < groups → f i ≡ g i) → (k n : ℕ) → k + n ≤ groups → map f (range_with_len k n) ≡ map g (range_with_len k n)
+pub same_replies : (f g : ℕ → Reply) (groups : ℕ) → ((i : ℕ) → i < groups → f i ≡ g i) → (k n : ℕ) → k + n ≤ groups → map f (range_with_len k n) ≡ map g (range_with_len k n)
 same_replies f g groups same k zero most = refl
 same_replies f g groups same k (suc n) most = ap (λ r. r ∷ map f (range_with_len (k + 1) n)) (same k (omega arith)) ∙ ap (λ l. g k ∷ l) (same_replies f g groups same (k + 1) n (omega arith))
 
-none_denied : (f : ℕ → List (List ℕ)) (is : List ℕ) → list_find is_denied (map (λ i. Names (f i)) is) ≡ None
+pub none_denied : (f : ℕ → List (List ℕ)) (is : List ℕ) → list_find is_denied (map (λ i. Names (f i)) is) ≡ None
 none_denied f [] = refl
 none_denied f (i ∷ is) = none_denied f is
 
-names_told : (f : ℕ → List (List ℕ)) (is : List ℕ) → flat_map names_shown (map (λ i. Names (f i)) is) ≡ flat_map f is
+pub names_told : (f : ℕ → List (List ℕ)) (is : List ℕ) → flat_map names_shown (map (λ i. Names (f i)) is) ≡ flat_map f is
 names_told f [] = refl
 names_told f (i ∷ is) = ap (λ l. f i ++ l) (names_told f is)
 

@@ -118,7 +118,7 @@ bytes_turned a b h = go (bytes_eq b a) refl
     go false e = refl
     go true e = absurd (let same : b ≡ a = bytes_same b a e in true_not_false (sym (bytes_refl a) ∙ ap (bytes_eq a) (sym same) ∙ h))
 
-places_none : (id : GroupId) (pools : List Pool) → find (is_named id.pool) pools ≡ None → filter (is_same_group id) (flat_map groups_of pools) ≡ []
+pub places_none : (id : GroupId) (pools : List Pool) → find (is_named id.pool) pools ≡ None → filter (is_same_group id) (flat_map groups_of pools) ≡ []
 places_none id [] none = refl
 places_none id (p ∷ ps) none = go (is_named id.pool p) refl none (λ k. places_none id ps k)
   where

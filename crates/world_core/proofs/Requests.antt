@@ -72,7 +72,7 @@ is_again : (x : Facts) (g : Group) (found : Option Sent) → Is x g → Is x (ag
 is_again x g None is = is
 is_again x g (Some m) is = is
 
-abbrev IsMessage : group.Event → Type 0
+abbrev pub IsMessage : group.Event → Type 0
 IsMessage (group.Submit s) = ⊥
 IsMessage (group.Deliver k) = Unit {0}
 IsMessage (group.Lose k) = Unit {0}
@@ -81,7 +81,7 @@ IsMessage (group.NewInterval acting up) = ⊥
 IsMessage (group.Restart d) = ⊥
 IsMessage group.Kick = Unit {0}
 
-message_facts : (e : group.Event) (g : Group) → IsMessage e → facts (group_step g e) ≡ facts g
+pub message_facts : (e : group.Event) (g : Group) → IsMessage e → facts (group_step g e) ≡ facts g
 message_facts (group.Submit s) g h = absurd h
 message_facts (group.Deliver k) g h = is_delivered (facts g) g k (slice_get g.wire k) refl
 message_facts (group.Lose k) g h = is_lost (facts g) g k (slice_get g.wire k) refl
@@ -92,7 +92,7 @@ message_facts group.Kick g h = refl
 
 -- ---- requests, intervals, restarts that the group does not refuse
 
-submit_facts : (g : Group) (s : Sealed) → group.refusal_of g (group.Submit s) ≡ None → facts (group_step g (group.Submit s)) ≡ record (facts g) { requests = g.requests ++ s ∷ [] }
+pub submit_facts : (g : Group) (s : Sealed) → group.refusal_of g (group.Submit s) ≡ None → facts (group_step g (group.Submit s)) ≡ record (facts g) { requests = g.requests ++ s ∷ [] }
 submit_facts g s none = go (is_submitted g.requests s.id) (has_all_requests g) none
   where
     go : (b c : Bool) → (if b then Some group_fault.Doubled else (if c then Some group_fault.Full else None)) ≡ None
@@ -138,7 +138,7 @@ abbrev pub heard : GroupId → List Part → List Part
 heard id ps = filter (λ p. is_same_group id p.id) ps
 
 -- the one part that the group hears, it does not refuse
-heard_passes : (id : GroupId) (g : Group) (groups : List Group) (ps : List Part) (q : Part) → group_at id groups ≡ Some g → parts_refusal groups ps ≡ None → heard id ps ≡ q ∷ [] → group.refusal_of g q.event ≡ None
+pub heard_passes : (id : GroupId) (g : Group) (groups : List Group) (ps : List Part) (q : Part) → group_at id groups ≡ Some g → parts_refusal groups ps ≡ None → heard id ps ≡ q ∷ [] → group.refusal_of g q.event ≡ None
 heard_passes id g groups ps q there none one =
     let P : List Part → Type 0 = λ l. Each (λ p. part_refusal groups p ≡ None) l in
     let Q : List Part → Type 0 = λ l. Each (λ p. is_same_group id p.id ≡ true) l in
@@ -146,13 +146,13 @@ heard_passes id g groups ps q there none one =
     let same : id ≡ q.id = same_group id q.id (subst Q one (all_pass (λ p. is_same_group id p.id) ps)).0 in
     sym (ap (λ o. refused_in o q.event) there) ∙ ap (λ i. refused_in (group_at i groups) q.event) same ∙ passes
 
-heard_map : {X : Type 0} (id : GroupId) (F : X → Part) (xs l : List X) → filter (λ x. is_same_group id (F x).id) xs ≡ l → heard id (map F xs) ≡ map F l
+pub heard_map : {X : Type 0} (id : GroupId) (F : X → Part) (xs l : List X) → filter (λ x. is_same_group id (F x).id) xs ≡ l → heard id (map F xs) ≡ map F l
 heard_map id F xs l e = filter_map_is (λ p. is_same_group id p.id) F xs ∙ ap (map F) e
 
 none_heard : (id : GroupId) (ps : List Part) (g : Group) → heard id ps ≡ [] → facts (run (events_in id ps) g) ≡ facts g
 none_heard id ps g e = ap (λ l. facts (run (map (λ p. p.event) l) g)) e
 
-one_heard : (id : GroupId) (ps : List Part) (g : Group) (q : Part) → heard id ps ≡ q ∷ [] → facts (run (events_in id ps) g) ≡ facts (group_step g q.event)
+pub one_heard : (id : GroupId) (ps : List Part) (g : Group) (q : Part) → heard id ps ≡ q ∷ [] → facts (run (events_in id ps) g) ≡ facts (group_step g q.event)
 one_heard id ps g q e = ap (λ l. facts (run (map (λ p. p.event) l) g)) e
 
 -- a message of one group

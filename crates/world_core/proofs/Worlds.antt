@@ -195,7 +195,7 @@ step_stands w e h room =
 step_more : (w : World) (e : Event) → length w.front.submissions ≤ length (world_step w e).front.submissions
 step_more w e = omega (arith, length-append w.front.submissions (sealed_by w.front e))
 
-more_submitted : (es : List Event) (w : World) → length w.front.submissions ≤ length (fold world_step w es).front.submissions
+pub more_submitted : (es : List Event) (w : World) → length w.front.submissions ≤ length (fold world_step w es).front.submissions
 more_submitted [] w = omega arith
 more_submitted (e ∷ es) w = let a : length w.front.submissions ≤ length (world_step w e).front.submissions = step_more w e in
     let b : length (world_step w e).front.submissions ≤ length (fold world_step (world_step w e) es).front.submissions = more_submitted es (world_step w e) in omega arith
@@ -206,7 +206,7 @@ stands_through (e ∷ es) w h room =
     let b : length (world_step w e).front.submissions ≤ length (fold world_step (world_step w e) es).front.submissions = more_submitted es (world_step w e) in
     stands_through es (world_step w e) (step_stands w e h (omega arith)) room
 
-first_stands : (table : Table) (daemons : ℕ) → WorldStands (first_world table daemons)
+pub first_stands : (table : Table) (daemons : ℕ) → WorldStands (first_world table daemons)
 first_stands table daemons = record { front = record { given = tt; most = λ n. omega arith; asked = tt; sealed = tt }; groups = tt; asked = tt; merged = λ id. refl }
 
 pub world_stands : (table : Table) (daemons : ℕ) (events : List Event) → HasNumbers (world_after table daemons events) → WorldStands (world_after table daemons events)
@@ -241,7 +241,7 @@ world_legal w h =
     (λ id. subst Legal (sym (h.merged id)) (audit_at_legal w.front.submissions id w.groups h.groups))
 
 -- a group's part finds what the whole list finds under the number of one of its requests
-find_part : (rs : List Sealed) (s : Sealed) (id : ℕ) (es : List Entry) → submitted rs id ≡ Some s → Each (λ x. IsAsked rs x.sealed) es → find (part_of (group_for s) es) id ≡ find es id
+pub find_part : (rs : List Sealed) (s : Sealed) (id : ℕ) (es : List Entry) → submitted rs id ≡ Some s → Each (λ x. IsAsked rs x.sealed) es → find (part_of (group_for s) es) id ≡ find es id
 find_part rs s id [] is h = refl
 find_part rs s id (e ∷ es) is h = go (is_of (group_for s) e) refl (e.sealed.id == id) refl (find_part rs s id es is h.1)
   where
@@ -339,7 +339,7 @@ joined_keeps (g ∷ gs) news place id reply is = go (is_same_group place g.group
     go true a rest = a
     go false a rest = rest a
 
-found_later : (rs more : List Sealed) (id : ℕ) (s : Sealed) → submitted rs id ≡ Some s → submitted (rs ++ more) id ≡ Some s
+pub found_later : (rs more : List Sealed) (id : ℕ) (s : Sealed) → submitted rs id ≡ Some s → submitted (rs ++ more) id ≡ Some s
 found_later [] more id s is = absurd (cc)
 found_later (r ∷ rs) more id s is = go (r.id == id) is (λ k. found_later rs more id s k)
   where

@@ -15,3 +15,11 @@ pub mod Moves
 pub mod Asking
 pub mod Stands
 pub mod Submitting
+pub mod Places
+pub mod Recovery
+pub mod ListingLaws
+pub mod Command
+pub mod Text
+pub mod Script
+pub mod Plain
+pub mod Worked

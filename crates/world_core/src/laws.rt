@@ -6,6 +6,11 @@ ghost use Rattle.world_core.specs.Tickets.{TicketsAreRead};
 ghost use Rattle.world_core.specs.Audit.{RunsTell};
 ghost use Rattle.world_core.specs.Holds.{WorldHolds, HoldsOn};
 ghost use Rattle.world_core.specs.Accepted.{RequestsAreSubmissions, FrontTellsRequests, AcceptedHasNumbers, AcceptedHolds, AcceptedAnswers, IntervalsAreTheMaps, GroupsAreServed};
+ghost use Rattle.world_core.specs.Places.{EveryPlaceHasItsGroup, PlacesStay, GroupsAreFoundByPlace};
+ghost use Rattle.world_core.specs.Recovery.{KickRecovers, LossesLoseAll};
+ghost use Rattle.world_core.specs.ListingLaws.{ListsHavePieces, ListingsAreTold, AcceptedListings};
+ghost use Rattle.world_core.specs.Worked.{WorkedScript, WorkedLongerScript, WorldsCount};
+ghost use Rattle.world_core.specs.Plain.{PlainScriptsPrint, PlainBeginnings, PlainScriptsWrite};
 ghost use Rattle.world_core.specs.Listing.{PiecesAreTheNamespace, PiecesAnswerTheNamespace};
 
 /// Entries of different groups touch different objects: lists that are legal in each group are legal together, in any order that keeps each group's own.
@@ -75,4 +80,46 @@ pub fn groups_are_served()
 pub fn pieces_are_the_namespace()
     ensures names { PiecesAreTheNamespace }
     ensures answer { PiecesAnswerTheNamespace }
+{}
+
+/// Whatever happens, the groups of a world are those of the map's places, in their order. Where each event was accepted, a
+/// group is found just where the map has its pool and its number, which is just where the front does not refuse them.
+pub fn every_place_has_its_group()
+    ensures all { EveryPlaceHasItsGroup }
+    ensures next { PlacesStay }
+    ensures found { GroupsAreFoundByPlace }
+{}
+
+/// Where each event was accepted and a group is ready: once all its messages are lost, in whichever way, a kick and the
+/// delivery of message 0 until none is left answer every request for the group. Each of these events is accepted, or drops a
+/// message to a daemon that is down. They are no more deliveries than the group's budget, and nothing else in the world changes.
+pub fn a_kick_recovers()
+    ensures recovers { KickRecovers }
+    ensures loses { LossesLoseAll }
+{}
+
+/// Whatever happens, each list of the front is one request for each group of its pool, under consecutive numbers. A piece is
+/// answered the names at its place in the audit, or its denial. The list is nothing until each piece was answered, and then
+/// their sorted names, or the denial. Where nothing between its pieces changes which objects the pool's namespace has, it is
+/// exactly these objects.
+pub fn listings_are_told()
+    ensures pieces { ListsHavePieces }
+    ensures told { ListingsAreTold }
+    ensures accepted { AcceptedListings }
+{}
+
+/// What a script writes that names no message, and in which no group begins a second interval, is what one store without
+/// groups, copies and messages writes: a settling decides what waits, in the order of submission, group after group. So is
+/// what any script writes before its first line that names a message, kicks, or begins such an interval.
+pub fn plain_scripts_print()
+    ensures print { PlainScriptsPrint }
+    ensures begin { PlainBeginnings }
+    ensures write { PlainScriptsWrite }
+{}
+
+/// Scripts, worked through: what they write on a world of groups, copies and messages.
+pub fn worked_scripts()
+    ensures first { WorkedScript }
+    ensures longer { WorkedLongerScript }
+    ensures counts { WorldsCount }
 {}

@@ -1,0 +1,3 @@
+//! Scripts of a world, from a reader to a writer.
+
+mod command;
