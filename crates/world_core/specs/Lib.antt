@@ -10,3 +10,6 @@ pub mod Audit
 pub mod Holds
 pub mod Listing
 pub mod Accepted
+pub mod Refusing
+pub mod Calls
+pub mod Inside

@@ -4,11 +4,15 @@
 //! over the commands of the Ceph manual and the placement groups of the RADOS paper.
 #![tactic(auto)]
 
+mod audit;
 mod event;
 mod fault;
+mod front;
 mod laws;
 mod ops;
+mod running;
 mod session;
+mod world;
 
 pub use event::{Ask, AuthCommand, Event, Told};
 pub use fault::WorldFault;
@@ -18,3 +22,5 @@ pub use laws::{
     requests_are_submissions, runs_tell_the_audit, tickets_are_read, worlds_hold,
 };
 pub use ops::Ops;
+pub use running::run;
+pub use world::World;
