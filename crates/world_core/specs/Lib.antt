@@ -13,3 +13,4 @@ pub mod Accepted
 pub mod Refusing
 pub mod Calls
 pub mod Inside
+pub mod Sound

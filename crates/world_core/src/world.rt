@@ -40,10 +40,13 @@ pub struct World {
 impl Model for World {
     ghost use Rattle.world_core.specs.World as definition;
     ghost use Rattle.world_core.specs.Inside.{world_of};
+    ghost use Rattle.world_core.specs.Sound.{IsKept};
 
     ghost Value = { definition.World };
 
     ghost view = { λ a. world_of a.front a.groups.items a.runs.items };
+
+    ghost invariant = { λ a. IsKept a.front a.groups.items a.runs.items };
 }
 
 impl World {
@@ -53,7 +56,11 @@ impl World {
         requires few { daemons ≤ 16 }
         ensures { IsOkAnd result (λ world. world ≡ first_world table daemons) }
     {
-        unreachable!()
+        Ok(World {
+            front: Front::new(alloc, table, daemons),
+            groups: Vec::new(alloc),
+            runs: Vec::new(alloc),
+        })
     }
 
     /// Carries out an event, and says what it tells.
@@ -125,14 +132,18 @@ impl World {
     pub fn users(&self) -> &AuthDb
         ensures { result.now ≡ self.now.front.database }
     {
-        unreachable!()
+        let _groups = &self.groups;
+        let _runs = &self.runs;
+        self.front.users()
     }
 
     /// The map.
     pub fn map(&self) -> &ClusterMap
         ensures { result.now ≡ self.now.front.history }
     {
-        unreachable!()
+        let _groups = &self.groups;
+        let _runs = &self.runs;
+        self.front.map()
     }
 
     /// What holds of every world, whatever was done to it: what was decided is one legal list of requests that were submitted,
@@ -141,6 +152,8 @@ impl World {
     pub fn keeps_promises(&self)
         ensures { KeepsPromises self.now }
     {
-        unreachable!()
+        let _front = &self.front;
+        let _groups = &self.groups;
+        let _runs = &self.runs;
     }
 }
