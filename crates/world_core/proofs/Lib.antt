@@ -17,4 +17,5 @@ pub mod Requests
 pub mod Intervals
 pub mod Accepted
 pub mod Listings
+pub mod PlaceIn
 pub mod Sounds

@@ -15,11 +15,6 @@ use Rattle.world_core.specs.Standing.{HasNumbers}
 use Rattle.world_core.specs.Answers.{IsOneList, IsAnswered, answer_at}
 use Rattle.world_core.specs.Accepted.{HasRequests, FrontTells, IsServed}
 
--- a call that takes no memory is refused just for the reason that there is
-abbrev pub RefusedBy : {T : Type 0} → Option Fault → Result T Fault → Type 0
-RefusedBy refusal (Ok x) = refusal ≡ None
-RefusedBy refusal (Err fault) = refusal ≡ Some fault
-
 -- why there is no answer: no such request was submitted
 abbrev pub answer_refusal : World → ℕ → Option Fault
 answer_refusal w id = if is_submitted w.front.submissions id then None else Some NoRequest

@@ -11,6 +11,10 @@ pub mod Holds
 pub mod Listing
 pub mod Accepted
 pub mod Refusing
+pub mod Moves
+pub mod Asking
+pub mod Stands
+pub mod Submitting
 pub mod Calls
 pub mod Inside
 pub mod Sound

@@ -19,47 +19,15 @@ use Rattle.world_core.specs.Groups.{is_for}
 use Rattle.world_core.specs.Front.{Front, Session}
 use Rattle.world_core.specs.World.{World, group_at, groups_of}
 use Rattle.world_core.specs.Standing.{audit_in, IsMerged}
+use Rattle.world_core.specs.Stands.{InMap, IsSealedWell, FrontStands}
 use Rattle.world_core.specs.declared.audit.Run.{Run}
 use Rattle.world_core.specs.Inside.{world_of}
 
 -- ---- the front
 
--- the map of a history has the pool, with so many groups
-pub record InMap (history : History) (name : List ℕ) (groups : ℕ) : Type 0 where
-  pub size : ℕ
-  pub min_size : ℕ
-  pub is : HasPool history name groups size min_size
-
--- sealed by a pool that the map has, and for the group of its object
-pub record IsSealedWell (history : History) (s : Sealed) : Type 0 where
-  pub pool : InMap history s.view.pool s.view.pg_num
-  pub hashes : Hashes s.view.pg_num s.namespace s.group s.work
-
 pub record IsSealedFor (history : History) (s : Sealed) : Type 0 where
   pub well : IsSealedWell history s
   pub below : s.group < s.view.pg_num
-
--- the next number of a session, open or closed
-abbrev pub next_in : Option Session → ℕ
-next_in None = 0
-next_in (Some s) = s.next
-
-abbrev pub next_at : List Session → ℕ → ℕ
-next_at sessions n = next_in (slice_get sessions (n - 1))
-
--- the number was given to a request of a session
-pub record IsGiven (sessions : List Session) (id : ℕ) : Type 0 where
-  pub session : ℕ
-  pub number : ℕ
-  pub is : id ≡ session * 4294967296 + number
-  pub past : number < next_at sessions session
-
--- each request is found under its number, and was sealed by the map
-pub record FrontStands (f : Front) : Type 0 where
-  pub given : Each (λ r. IsGiven f.sessions r.id) f.submissions
-  pub most : (n : ℕ) → next_at f.sessions n ≤ length f.submissions + 1
-  pub asked : Each (IsAsked f.submissions) f.submissions
-  pub sealed : Each (IsSealedWell f.history) f.submissions
 
 -- the map accepted each command, and no group has too many requests
 pub record FrontKept (f : Front) : Type 0 where

@@ -5,13 +5,18 @@
 #![tactic(auto)]
 
 mod audit;
+mod creating;
 mod event;
 mod fault;
 mod front;
+mod group_places;
 mod laws;
+mod lists;
+mod moves;
 mod ops;
 mod running;
 mod session;
+mod submissions;
 mod world;
 
 pub use event::{Ask, AuthCommand, Event, Told};

@@ -9,8 +9,8 @@ ghost use Rattle.world_core.specs.World.{first_world, world_step, refusal_of, co
 ghost use Rattle.world_core.specs.Holds.{Holds};
 ghost use Rattle.world_core.specs.Answers.{answer_at};
 ghost use Rattle.world_core.specs.Listing.{listing_at};
-ghost use Rattle.world_core.specs.Refusing.{RefusedOrMemory};
-ghost use Rattle.world_core.specs.Calls.{RefusedBy, answer_refusal, KeepsPromises};
+ghost use Rattle.world_core.specs.Refusing.{RefusedExactly, RefusedOrMemory};
+ghost use Rattle.world_core.specs.Calls.{answer_refusal, KeepsPromises};
 
 use crate::audit::Run;
 use crate::event::{Event, Told};
@@ -84,7 +84,7 @@ impl World {
     /// W5 where no such request was submitted. It takes no memory.
     pub fn answer(&self, id: Id) -> Result<Option<&Reply>, WorldFault>
         ensures answer { IfOk result (λ reply. option_copied reply ≡ answer_at self.now id) }
-        ensures refused { RefusedBy (answer_refusal self.now id) result }
+        ensures refused { RefusedExactly (answer_refusal self.now id) result }
     {
         unreachable!()
     }
@@ -113,7 +113,7 @@ impl World {
     /// no memory.
     pub fn wire(&self, group: &GroupId) -> Result<&[Sent], WorldFault>
         ensures wire { IfOk result (λ sent. IsSomeAnd (group_at group.now self.now.groups) (λ g. sent.now ≡ g.wire)) }
-        ensures refused { RefusedBy (group_refusal self.now.front group.now) result }
+        ensures refused { RefusedExactly (group_refusal self.now.front group.now) result }
     {
         unreachable!()
     }
@@ -123,7 +123,7 @@ impl World {
     /// M9, M2 and M10 as for `wire`. It takes no memory.
     pub fn ready(&self, group: &GroupId) -> Result<bool, WorldFault>
         ensures ready { IfOk result (λ ready. IsSomeAnd (group_at group.now self.now.groups) (λ g. ready ≡ is_ready g)) }
-        ensures refused { RefusedBy (group_refusal self.now.front group.now) result }
+        ensures refused { RefusedExactly (group_refusal self.now.front group.now) result }
     {
         unreachable!()
     }
