@@ -19,3 +19,4 @@ pub mod Accepted
 pub mod Listings
 pub mod PlaceIn
 pub mod Sounds
+pub mod Calling

@@ -18,3 +18,4 @@ pub mod Submitting
 pub mod Calls
 pub mod Inside
 pub mod Sound
+pub mod Applying

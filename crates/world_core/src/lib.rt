@@ -5,6 +5,7 @@
 #![tactic(auto)]
 
 mod audit;
+mod calls;
 mod creating;
 mod event;
 mod fault;
