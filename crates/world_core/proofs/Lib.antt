@@ -20,3 +20,6 @@ pub mod Listings
 pub mod PlaceIn
 pub mod Sounds
 pub mod Calling
+pub mod RunPlaces
+pub mod Messages
+pub mod GroupsOf

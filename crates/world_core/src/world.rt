@@ -13,9 +13,11 @@ ghost use Rattle.world_core.specs.Refusing.{RefusedExactly, RefusedOrMemory};
 ghost use Rattle.world_core.specs.Calls.{answer_refusal, KeepsPromises};
 
 use crate::audit::Run;
+use crate::calls::{GroupCall, call_at, told};
 use crate::event::{Event, Told};
 use crate::fault::WorldFault;
 use crate::front::Front;
+use crate::group_places::place_of;
 use auth_db::AuthDb;
 use entry_core::{Entry, GroupId, Id, OutOfMemory, Reply};
 use grant_core::ProfileTable;
@@ -155,5 +157,24 @@ impl World {
         let _front = &self.front;
         let _groups = &self.groups;
         let _runs = &self.runs;
+    }
+}
+
+// One event each.
+impl World {
+    ghost use Rattle.std.specs.Prelude.{Err};
+    ghost use Rattle.world_core.specs.Event.{Auth, Map, Open, Renew, Close, Submit, ListNames};
+    ghost use Rattle.world_core.specs.Applying.{Applies, event_for};
+
+    /// A call on one group.
+    fn call(&mut self, group: &GroupId, what: GroupCall) -> Result<Told, WorldFault>
+        ensures { Applies self.old (event_for group.now what) result self.new }
+    {
+        let place = match place_of(self.front.map(), group) {
+            Ok(place) => place,
+            Err(fault) => return Err(fault),
+        };
+        let done = call_at(&mut self.groups, &mut self.runs, place, what);
+        told(done)
     }
 }
