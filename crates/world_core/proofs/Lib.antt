@@ -23,3 +23,6 @@ pub mod Calling
 pub mod RunPlaces
 pub mod Messages
 pub mod GroupsOf
+pub mod FrontEvents
+pub mod Silent
+pub mod MapEvents

@@ -32,7 +32,7 @@ use Rattle.world_core.proofs.RunPlaces.{News, changed_runs}
 use Rattle.world_core.proofs.Runs.{same_begins}
 use Rattle.world_core.proofs.Sounds.{sound_on}
 
-true_not_false : true ≡ false → ⊥
+pub true_not_false : true ≡ false → ⊥
 true_not_false e = cc
 
 -- ---- worlds that were applied an event
@@ -105,7 +105,7 @@ call_refused f id (calls.Lose place) = refl
 call_refused f id (calls.Repeat place) = refl
 call_refused f id calls.Kick = refl
 
-or_none : {X : Type 0} (o : Option X) → option_or o None ≡ o
+pub or_none : {X : Type 0} (o : Option X) → option_or o None ≡ o
 or_none None = refl
 or_none (Some x) = refl
 

@@ -14,15 +14,17 @@ ghost use Rattle.world_core.specs.Calls.{answer_refusal, KeepsPromises};
 
 use crate::audit::Run;
 use crate::calls::{GroupCall, call_at, told};
-use crate::event::{Event, Told};
+use crate::event::{AuthCommand, Event, Told};
 use crate::fault::WorldFault;
 use crate::front::Front;
 use crate::group_places::place_of;
+use crate::moves::apply_map;
 use auth_db::AuthDb;
+use cap_text::Name;
 use entry_core::{Entry, GroupId, Id, OutOfMemory, Reply};
 use grant_core::ProfileTable;
 use group_core::Group;
-use map_core::ClusterMap;
+use map_core::{ClusterMap, MapCommand};
 use peer_core::Sent;
 use std::alloc::Global;
 use std::marker::Model;
@@ -176,5 +178,49 @@ impl World {
         };
         let done = call_at(&mut self.groups, &mut self.runs, place, what);
         told(done)
+    }
+
+    /// A command on the users.
+    fn auth(&mut self, command: AuthCommand) -> Result<Told, WorldFault>
+        ensures { Applies self.old (Auth command) result self.new }
+    {
+        let _groups = &self.groups;
+        let _runs = &self.runs;
+        self.front.auth(command)
+    }
+
+    /// A new session of a user.
+    fn open(&mut self, entity: Name, until: Option<u64>) -> Result<Told, WorldFault>
+        ensures { Applies self.old (Open entity until) result self.new }
+    {
+        let _groups = &self.groups;
+        let _runs = &self.runs;
+        self.front.open(entity, until)
+    }
+
+    /// A session's ticket is made anew.
+    fn renew(&mut self, session: u32, until: Option<u64>) -> Result<Told, WorldFault>
+        ensures { Applies self.old (Renew session until) result self.new }
+    {
+        let _groups = &self.groups;
+        let _runs = &self.runs;
+        self.front.renew(session, until)
+    }
+
+    /// A session ends.
+    fn close(&mut self, session: u32) -> Result<Told, WorldFault>
+        ensures { Applies self.old (Close session) result self.new }
+    {
+        let _groups = &self.groups;
+        let _runs = &self.runs;
+        self.front.close(session)
+    }
+
+    /// A command on the map.
+    fn change_map(&mut self, command: MapCommand) -> Result<Told, WorldFault>
+        ensures { Applies self.old (Map command) result self.new }
+    {
+        let _runs = &self.runs;
+        apply_map(&mut self.front, &mut self.groups, command)
     }
 }
