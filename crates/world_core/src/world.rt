@@ -12,7 +12,7 @@ ghost use Rattle.world_core.specs.Listing.{listing_at};
 ghost use Rattle.world_core.specs.Refusing.{RefusedExactly, RefusedOrMemory};
 ghost use Rattle.world_core.specs.Calls.{answer_refusal, KeepsPromises};
 
-use crate::audit::Run;
+use crate::audit::{Run, collect};
 use crate::calls::{GroupCall, call_at, told};
 use crate::event::{AuthCommand, Event, Told};
 use crate::fault::WorldFault;
@@ -108,7 +108,9 @@ impl World {
     pub fn audit(&self) -> Result<Vec<Entry>, OutOfMemory>
         ensures { IfOk result (λ entries. entries.items ≡ self.now.audit) }
     {
-        unreachable!()
+        let _front = &self.front;
+        let alloc = *self.groups.allocator();
+        collect(alloc, self.groups.as_slice(), self.runs.as_slice())
     }
 
     /// The messages of a group on their way, in order of sending.
@@ -119,7 +121,13 @@ impl World {
         ensures wire { IfOk result (λ sent. IsSomeAnd (group_at group.now self.now.groups) (λ g. sent.now ≡ g.wire)) }
         ensures refused { RefusedExactly (group_refusal self.now.front group.now) result }
     {
-        unreachable!()
+        let _runs = &self.runs;
+        let place = match place_of(self.front.map(), group) {
+            Ok(place) => place,
+            Err(fault) => return Err(fault),
+        };
+        let found = &self.groups[place];
+        Ok(found.wire())
     }
 
     /// Whether a group can be recovered by hand, as `Group::ready` says.
@@ -129,7 +137,13 @@ impl World {
         ensures ready { IfOk result (λ ready. IsSomeAnd (group_at group.now self.now.groups) (λ g. ready ≡ is_ready g)) }
         ensures refused { RefusedExactly (group_refusal self.now.front group.now) result }
     {
-        unreachable!()
+        let _runs = &self.runs;
+        let place = match place_of(self.front.map(), group) {
+            Ok(place) => place,
+            Err(fault) => return Err(fault),
+        };
+        let found = &self.groups[place];
+        Ok(found.ready())
     }
 
     /// The users.
