@@ -19,3 +19,4 @@ pub mod Calls
 pub mod Inside
 pub mod Sound
 pub mod Applying
+pub mod Taking

@@ -18,6 +18,7 @@ mod ops;
 mod running;
 mod session;
 mod submissions;
+mod taking;
 mod world;
 
 pub use event::{Ask, AuthCommand, Event, Told};
