@@ -26,3 +26,4 @@ pub mod GroupsOf
 pub mod FrontEvents
 pub mod Silent
 pub mod MapEvents
+pub mod Takings
