@@ -27,3 +27,4 @@ pub mod FrontEvents
 pub mod Silent
 pub mod MapEvents
 pub mod Takings
+pub mod RequestEvents

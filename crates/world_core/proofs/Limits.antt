@@ -176,7 +176,7 @@ found_limits test (q ∷ qs) p all h = go (test q) h (λ k. found_limits test qs
 pub pool_limits : (f : Front) (name : List ℕ) (p : Pool) → FrontKept f → find (is_named name) (map_of f.history).pools ≡ Some p → IsPool p
 pool_limits f name p h found = found_limits (is_named name) (map_of f.history).pools p (limits_now f h) found
 
-asked_for : (f : Front) → FrontKept f → (rs : List Sealed) → Each (IsSealedWell f.history) rs → Each IsBelow rs → Each (IsSealedFor f.history) rs
+pub asked_for : (f : Front) → FrontKept f → (rs : List Sealed) → Each (IsSealedWell f.history) rs → Each IsBelow rs → Each (IsSealedFor f.history) rs
 asked_for f h [] well below = tt
 asked_for f h (s ∷ ss) well below =
     let p = well.0.pool in

@@ -1,19 +1,22 @@
 //! Requests that groups take together: all of them, or none.
 
-ghost use Rattle.std.specs.Prelude.{◌≡◌, ◌<◌, ◌≤◌, List, All, length, IfOk, OnOk, OnErr};
+ghost use Rattle.std.specs.Prelude.{◌≡◌, ◌⊎◌, ◌<◌, ◌≤◌, List, All, true, false, length, IfOk, IfErr, OnOk, OnErr};
 ghost use Rattle.std.specs.List.{list_any};
 ghost use Rattle.entry_core.specs.Locality.{group_for};
 ghost use Rattle.entry_core.specs.Request as request;
 ghost use Rattle.group_core.specs.Each.{Each};
 ghost use Rattle.group_core.specs.Group as group;
+ghost use Rattle.group_core.specs.declared.fault.GroupFault.TheVariants as group_fault;
 ghost use Rattle.map_core.specs.Limits.{IsPool};
 ghost use Rattle.map_core.specs.Map.{map_of};
+ghost use Rattle.world_core.specs.Event as events;
 ghost use Rattle.world_core.specs.Moves as moves;
 ghost use Rattle.world_core.specs.Taking.{Takes, TakesAll, is_full_at, places_for};
 
+use crate::fault::WorldFault;
 use crate::group_places::place_in;
 use entry_core::{Items, OutOfMemory, Sealed, TryCopy};
-use group_core::Group;
+use group_core::{Group, GroupFault};
 use map_core::{ClusterMap, Pool};
 use std::alloc::{AllocError, Global};
 
@@ -133,4 +136,31 @@ pub(crate) fn take_back_all(groups: &mut Vec<Group>, places: &[usize])
     }
     take_back_all(groups, &places[1..]);
     take_back_at(groups, places[0]);
+}
+
+/// Each request is taken by its group, and it is said where these stand; or none is. P3 where one of the groups is full.
+pub(crate) fn take_requests(
+    groups: &mut Vec<Group>,
+    map: &ClusterMap,
+    requests: &[Sealed],
+) -> Result<Vec<usize>, WorldFault>
+    requires { Each (λ place. place < length groups.old.items) (places_for (map_of map.now).pools requests.now) }
+    ensures places { IfOk result (λ places. places.items ≡ places_for (map_of map.now).pools requests.now) }
+    ensures room { OnOk result (list_any (is_full_at groups.old.items) (places_for (map_of map.now).pools requests.now) ≡ false) }
+    ensures taken { OnOk result (TakesAll groups.old.items (places_for (map_of map.now).pools requests.now) requests.now groups.new.items) }
+    ensures refused { IfErr result (λ fault. (fault ≡ events.OutOfMemory) ⊎ ((fault ≡ events.OfGroup group_fault.Full) × (list_any (is_full_at groups.old.items) (places_for (map_of map.now).pools requests.now) ≡ true))) }
+    ensures unchanged { OnErr result (groups.new.items ≡ groups.old.items) }
+{
+    let alloc = *groups.allocator();
+    let places = match places(alloc, map, requests) {
+        Ok(places) => places,
+        Err(_) => return Err(WorldFault::OutOfMemory),
+    };
+    if is_one_full(groups.as_slice(), places.as_slice()) {
+        return Err(WorldFault::Group(GroupFault::Full));
+    }
+    match take_all(groups, places.as_slice(), requests) {
+        Ok(()) => Ok(places),
+        Err(_) => Err(WorldFault::OutOfMemory),
+    }
 }

@@ -14,11 +14,13 @@ ghost use Rattle.world_core.specs.Calls.{answer_refusal, KeepsPromises};
 
 use crate::audit::{Run, collect};
 use crate::calls::{GroupCall, call_at, told};
-use crate::event::{AuthCommand, Event, Told};
+use crate::event::{Ask, AuthCommand, Event, Told};
 use crate::fault::WorldFault;
 use crate::front::Front;
 use crate::group_places::place_of;
 use crate::moves::apply_map;
+use crate::ops::Ops;
+use crate::taking::{take_back_all, take_requests};
 use auth_db::AuthDb;
 use cap_text::Name;
 use entry_core::{Entry, GroupId, Id, OutOfMemory, Reply};
@@ -28,6 +30,7 @@ use map_core::{ClusterMap, MapCommand};
 use peer_core::Sent;
 use std::alloc::Global;
 use std::marker::Model;
+use std::slice;
 
 /// Users, a map, sessions and groups, with what was decided (this project's profile, over the commands of the Ceph manual
 /// and the placement groups of the RADOS paper).
@@ -236,5 +239,53 @@ impl World {
     {
         let _runs = &self.runs;
         apply_map(&mut self.front, &mut self.groups, command)
+    }
+
+    /// A vector of operations on an object.
+    fn submit(&mut self, ask: Ask, object: Name, ops: Ops) -> Result<Told, WorldFault>
+        ensures { Applies self.old (Submit ask object ops) result self.new }
+    {
+        let _runs = &self.runs;
+        let request = match self.front.vector(&ask, object, ops) {
+            Ok(request) => request,
+            Err(fault) => return Err(fault),
+        };
+        let one = slice::from_ref(&request);
+        let map = self.front.map();
+        let places = match take_requests(&mut self.groups, map, one) {
+            Ok(places) => places,
+            Err(fault) => return Err(fault),
+        };
+        match self.front.record_vector(&ask, request) {
+            Ok(told) => Ok(told),
+            Err(_) => {
+                take_back_all(&mut self.groups, places.as_slice());
+                Err(WorldFault::OutOfMemory)
+            }
+        }
+    }
+
+    /// A list of names: one request to each group of a pool.
+    fn list(&mut self, ask: Ask) -> Result<Told, WorldFault>
+        ensures { Applies self.old (ListNames ask) result self.new }
+    {
+        let _runs = &self.runs;
+        let requests = match self.front.pieces(&ask) {
+            Ok(requests) => requests,
+            Err(fault) => return Err(fault),
+        };
+        let pieces = requests.as_slice();
+        let map = self.front.map();
+        let places = match take_requests(&mut self.groups, map, pieces) {
+            Ok(places) => places,
+            Err(fault) => return Err(fault),
+        };
+        match self.front.record_pieces(&ask, requests) {
+            Ok(told) => Ok(told),
+            Err(_) => {
+                take_back_all(&mut self.groups, places.as_slice());
+                Err(WorldFault::OutOfMemory)
+            }
+        }
     }
 }
