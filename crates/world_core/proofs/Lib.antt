@@ -18,6 +18,15 @@ pub mod Intervals
 pub mod Accepted
 pub mod Listings
 pub mod PlaceIn
+pub mod AllMoved
+pub mod FullMoves
+pub mod NewGroups
+pub mod Stepped
+pub mod AfterMoves
+pub mod Submitted
+pub mod Refused
+pub mod Views
+pub mod FrontSteps
 pub mod Sounds
 pub mod Calling
 pub mod RunPlaces

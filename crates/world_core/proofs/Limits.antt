@@ -95,7 +95,7 @@ none_named name (p ∷ ps) h = go (is_named name p) refl (none_named name ps (λ
     go true e rest = absurd (h 0 [] (omega arith) (sym (bytes_same p.name name e)))
     go false e rest = rest
 
-named_once : (ps : List Pool) → AllPairs (λ a b. a ≢ b) (map (λ (p : Pool). p.name) ps) → NamedOnce ps
+pub named_once : (ps : List Pool) → AllPairs (λ a b. a ≢ b) (map (λ (p : Pool). p.name) ps) → NamedOnce ps
 named_once [] h = tt
 named_once (p ∷ ps) h = (none_named p.name ps (λ j d low. h 0 (suc j) d (omega arith) (omega arith)), named_once ps (λ i j d less low. h (suc i) (suc j) d (omega arith) (omega arith)))
 

@@ -4,6 +4,8 @@
 //! over the commands of the Ceph manual and the placement groups of the RADOS paper.
 #![tactic(auto)]
 
+mod after_command;
+mod asking;
 mod audit;
 mod calls;
 mod creating;
@@ -16,9 +18,11 @@ mod lists;
 mod moves;
 mod ops;
 mod running;
+mod sealing;
 mod session;
 mod submissions;
 mod taking;
+mod users;
 mod world;
 
 pub use event::{Ask, AuthCommand, Event, Told};
