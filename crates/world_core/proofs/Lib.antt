@@ -37,3 +37,4 @@ pub mod Silent
 pub mod MapEvents
 pub mod Takings
 pub mod RequestEvents
+pub mod Recording
