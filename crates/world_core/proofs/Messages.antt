@@ -30,7 +30,10 @@ use Rattle.world_core.specs.Applying.{Applies, CalledAt, StepsOrMemory, event_fo
 use Rattle.world_core.proofs.Calling.{no_run, set_same}
 use Rattle.world_core.proofs.RunPlaces.{News, changed_runs}
 use Rattle.world_core.proofs.Runs.{same_begins}
-use Rattle.world_core.proofs.Sounds.{sound_on}
+use Rattle.grant_core.specs.Flat.{Table}
+use Rattle.world_core.specs.Holds.{Holds}
+use Rattle.world_core.proofs.Holding.{holds_on}
+use Rattle.world_core.proofs.Sounds.{has_numbers_on, sound_on}
 
 pub true_not_false : true ≡ false → ⊥
 true_not_false e = cc
@@ -282,3 +285,9 @@ called_none w id c fault some =
 -- what applied leaves of what the code keeps
 pub kept_on : (f f' : Front) (gs gs' : List Group) (runs runs' : List Run) (e : Event) (r : Result Told Fault) → IsKept f gs runs → Applies (world_of f gs runs) e r (world_of f' gs' runs') → Each (FitsAt gs') runs' → IsKept f' gs' runs'
 kept_on f f' gs gs' runs runs' e r h a fit = record { sound = applied_sound (world_of f gs runs) (world_of f' gs' runs') e r h.sound a; fit = fit }
+
+-- what held of the events before holds with this one
+pub applied_holds : (old new : World) (e : Event) (r : Result Told Fault) → IsSound old → Applies old e r new → (table : Table) (daemons : ℕ) (before : List Event) → Holds table daemons before old → counts e r ≡ true → Holds table daemons (before ++ e ∷ []) new
+applied_holds old new e r h a table daemons before holds is =
+    let P : World → Type 0 = λ w. Holds table daemons (before ++ e ∷ []) w in
+    subst P (sym (a.steps is)) (holds_on table daemons before e old holds (has_numbers_on old e h.kept.front (accepted_when old e r a.refused is)))

@@ -83,7 +83,8 @@ impl World {
         ensures refused { RefusedOrMemory (refusal_of self.old event) result }
         ensures unchanged { counts event result ≡ false → self.new ≡ self.old }
     {
-        unreachable!()
+        let _front = &self.front;
+        self.carry_out(event)
     }
 
     /// The reply to the request of this id that reached the client first, or `None` while there is none.
@@ -184,6 +185,25 @@ impl World {
     ghost use Rattle.std.specs.Prelude.{Err};
     ghost use Rattle.world_core.specs.Event.{Auth, Map, Open, Renew, Close, Submit, ListNames};
     ghost use Rattle.world_core.specs.Applying.{Applies, event_for};
+
+    /// Carries out an event.
+    fn carry_out(&mut self, event: Event) -> Result<Told, WorldFault>
+        ensures { Applies self.old event result self.new }
+    {
+        match event {
+            Event::Auth(command) => self.auth(command),
+            Event::Map(command) => self.change_map(command),
+            Event::Open { entity, until } => self.open(entity, until),
+            Event::Renew { session, until } => self.renew(session, until),
+            Event::Close { session } => self.close(session),
+            Event::Submit { ask, object, ops } => self.submit(ask, object, ops),
+            Event::List(ask) => self.list(ask),
+            Event::Deliver { group, place } => self.call(&group, GroupCall::Deliver(place)),
+            Event::Lose { group, place } => self.call(&group, GroupCall::Lose(place)),
+            Event::Repeat { group, place } => self.call(&group, GroupCall::Repeat(place)),
+            Event::Kick { group } => self.call(&group, GroupCall::Kick),
+        }
+    }
 
     /// A call on one group.
     fn call(&mut self, group: &GroupId, what: GroupCall) -> Result<Told, WorldFault>

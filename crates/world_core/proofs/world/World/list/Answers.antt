@@ -28,14 +28,14 @@ pub invariant_of-self-in-Ok-record_pieces : goal.invariant_of-self-in-Ok-record_
 invariant_of-self-in-Ok-record_pieces c =
     let a = subst (AsksFor c.self.inside.front (ListNames c.args.ask) c.args.ask) (sym c.as_slice-pieces.ensures) (list_asks c.self.inside.front c.args.ask c.in-Ok.requests c.in-Ok.ensures.sealed) in
     let d = asked c.self.inside.front c.record_pieces.new.self c.self.inside.groups.items c.take_requests.new.groups.items c.self.inside.runs.items (ListNames c.args.ask) c.args.ask c.as_slice-pieces.result.now c.map-map.result.now c.in-Ok-record_pieces.told
-            c.self.invariant a c.map-map.ensures c.in-Ok-take_requests.ensures.room c.in-Ok-take_requests.ensures.taken (c.in-Ok-record_pieces.ensures.steps) (c.in-Ok-record_pieces.ensures.tells) in
+    c.self.invariant a c.map-map.ensures c.in-Ok-take_requests.ensures.room c.in-Ok-take_requests.ensures.taken (c.in-Ok-record_pieces.ensures.steps) (c.in-Ok-record_pieces.ensures.tells) in
     kept_on c.self.inside.front c.record_pieces.new.self c.self.inside.groups.items c.take_requests.new.groups.items c.self.inside.runs.items c.self.inside.runs.items (ListNames c.args.ask) _ c.self.invariant d.applies d.fit
 
 pub returns-in-Ok-record_pieces : goal.returns-in-Ok-record_pieces
 returns-in-Ok-record_pieces c =
     let a = subst (AsksFor c.self.inside.front (ListNames c.args.ask) c.args.ask) (sym c.as_slice-pieces.ensures) (list_asks c.self.inside.front c.args.ask c.in-Ok.requests c.in-Ok.ensures.sealed) in
     let d = asked c.self.inside.front c.record_pieces.new.self c.self.inside.groups.items c.take_requests.new.groups.items c.self.inside.runs.items (ListNames c.args.ask) c.args.ask c.as_slice-pieces.result.now c.map-map.result.now c.in-Ok-record_pieces.told
-            c.self.invariant a c.map-map.ensures c.in-Ok-take_requests.ensures.room c.in-Ok-take_requests.ensures.taken (c.in-Ok-record_pieces.ensures.steps) (c.in-Ok-record_pieces.ensures.tells) in
+    c.self.invariant a c.map-map.ensures c.in-Ok-take_requests.ensures.room c.in-Ok-take_requests.ensures.taken (c.in-Ok-record_pieces.ensures.steps) (c.in-Ok-record_pieces.ensures.tells) in
     rw (← c.self.view_is) d.applies
 
 pub returns : goal.returns

@@ -28,14 +28,14 @@ pub invariant_of-self-in-Ok-record_vector : goal.invariant_of-self-in-Ok-record_
 invariant_of-self-in-Ok-record_vector c =
     let a = subst (AsksFor c.self.inside.front (Submit c.args.ask c.args.object c.args.ops) c.args.ask) (sym c.from_ref-one.ensures.value) (vector_asks c.self.inside.front c.args.ask c.args.object c.args.ops c.in-Ok.request c.in-Ok.ensures.sealed) in
     let d = asked c.self.inside.front c.record_vector.new.self c.self.inside.groups.items c.take_requests.new.groups.items c.self.inside.runs.items (Submit c.args.ask c.args.object c.args.ops) c.args.ask c.from_ref-one.result.now c.map-map.result.now c.in-Ok-record_vector.told
-            c.self.invariant a c.map-map.ensures c.in-Ok-take_requests.ensures.room c.in-Ok-take_requests.ensures.taken (c.in-Ok-record_vector.ensures.steps c.args.object c.args.ops c.in-Ok.ensures.sealed) (c.in-Ok-record_vector.ensures.tells c.args.object c.args.ops c.in-Ok.ensures.sealed) in
+    c.self.invariant a c.map-map.ensures c.in-Ok-take_requests.ensures.room c.in-Ok-take_requests.ensures.taken (c.in-Ok-record_vector.ensures.steps c.args.object c.args.ops c.in-Ok.ensures.sealed) (c.in-Ok-record_vector.ensures.tells c.args.object c.args.ops c.in-Ok.ensures.sealed) in
     kept_on c.self.inside.front c.record_vector.new.self c.self.inside.groups.items c.take_requests.new.groups.items c.self.inside.runs.items c.self.inside.runs.items (Submit c.args.ask c.args.object c.args.ops) _ c.self.invariant d.applies d.fit
 
 pub returns-in-Ok-record_vector : goal.returns-in-Ok-record_vector
 returns-in-Ok-record_vector c =
     let a = subst (AsksFor c.self.inside.front (Submit c.args.ask c.args.object c.args.ops) c.args.ask) (sym c.from_ref-one.ensures.value) (vector_asks c.self.inside.front c.args.ask c.args.object c.args.ops c.in-Ok.request c.in-Ok.ensures.sealed) in
     let d = asked c.self.inside.front c.record_vector.new.self c.self.inside.groups.items c.take_requests.new.groups.items c.self.inside.runs.items (Submit c.args.ask c.args.object c.args.ops) c.args.ask c.from_ref-one.result.now c.map-map.result.now c.in-Ok-record_vector.told
-            c.self.invariant a c.map-map.ensures c.in-Ok-take_requests.ensures.room c.in-Ok-take_requests.ensures.taken (c.in-Ok-record_vector.ensures.steps c.args.object c.args.ops c.in-Ok.ensures.sealed) (c.in-Ok-record_vector.ensures.tells c.args.object c.args.ops c.in-Ok.ensures.sealed) in
+    c.self.invariant a c.map-map.ensures c.in-Ok-take_requests.ensures.room c.in-Ok-take_requests.ensures.taken (c.in-Ok-record_vector.ensures.steps c.args.object c.args.ops c.in-Ok.ensures.sealed) (c.in-Ok-record_vector.ensures.tells c.args.object c.args.ops c.in-Ok.ensures.sealed) in
     rw (← c.self.view_is) d.applies
 
 pub returns : goal.returns
