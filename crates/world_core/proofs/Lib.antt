@@ -37,4 +37,5 @@ pub mod Silent
 pub mod MapEvents
 pub mod Takings
 pub mod RequestEvents
+pub mod RunsOfEvents
 pub mod Recording
