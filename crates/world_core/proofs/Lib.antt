@@ -27,6 +27,17 @@ pub mod Submitted
 pub mod Refused
 pub mod Views
 pub mod FrontSteps
+pub mod Sounds
+pub mod Calling
+pub mod RunPlaces
+pub mod Messages
+pub mod GroupsOf
+pub mod FrontEvents
+pub mod Silent
+pub mod MapEvents
+pub mod Takings
+pub mod RequestEvents
+pub mod RunsOfEvents
 pub mod Recording
 pub mod PlaceGroups
 pub mod KickRecovery

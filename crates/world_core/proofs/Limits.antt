@@ -35,6 +35,7 @@ use Rattle.world_core.proofs.Bytes.{bytes_same}
 use Rattle.world_core.proofs.Acting.{each_join, each_weaker}
 use Rattle.world_core.proofs.Fronts.{IsSealedWell, IsBelow, Requested, submit_made, list_made}
 use Rattle.world_core.proofs.Places.{true_not_false, each_filter, all_pass, group_turned, NamedOnce, places_once, AtMostOne}
+pub use Rattle.world_core.specs.Sound.{IsSealedFor, FrontKept}
 
 -- ---- what an accepted event was let through by
 
@@ -129,15 +130,6 @@ creates_well state epoch name pg_num size min_size h =
 
 -- ---- the front
 
-pub record IsSealedFor (history : History) (s : Sealed) : Type 0 where
-  pub well : IsSealedWell history s
-  pub below : s.group < s.view.pg_num
-
-pub record FrontKept (f : Front) : Type 0 where
-  pub accepted : IsAccepted f.history
-  pub sealed : Each (IsSealedFor f.history) f.submissions
-  pub few : (id : GroupId) → length (filter (is_for id) f.submissions) ≤ 16384
-
 pub once : (f : Front) → FrontKept f → NamedOnce (map_of f.history).pools
 once f h = named_once (map_of f.history).pools (pools_differ f.history h.accepted)
 
@@ -184,7 +176,7 @@ found_limits test (q ∷ qs) p all h = go (test q) h (λ k. found_limits test qs
 pub pool_limits : (f : Front) (name : List ℕ) (p : Pool) → FrontKept f → find (is_named name) (map_of f.history).pools ≡ Some p → IsPool p
 pool_limits f name p h found = found_limits (is_named name) (map_of f.history).pools p (limits_now f h) found
 
-asked_for : (f : Front) → FrontKept f → (rs : List Sealed) → Each (IsSealedWell f.history) rs → Each IsBelow rs → Each (IsSealedFor f.history) rs
+pub asked_for : (f : Front) → FrontKept f → (rs : List Sealed) → Each (IsSealedWell f.history) rs → Each IsBelow rs → Each (IsSealedFor f.history) rs
 asked_for f h [] well below = tt
 asked_for f h (s ∷ ss) well below =
     let p = well.0.pool in

@@ -23,3 +23,8 @@ pub mod Text
 pub mod Script
 pub mod Plain
 pub mod Worked
+pub mod Calls
+pub mod Inside
+pub mod Sound
+pub mod Applying
+pub mod Taking

@@ -6,6 +6,8 @@
 
 mod after_command;
 mod asking;
+mod audit;
+mod calls;
 mod creating;
 mod event;
 mod fault;
@@ -15,11 +17,14 @@ mod laws;
 mod lists;
 mod moves;
 mod ops;
+mod running;
 mod sealing;
 mod script;
 mod session;
 mod submissions;
+mod taking;
 mod users;
+mod world;
 
 pub use event::{Ask, AuthCommand, Event, Told};
 pub use fault::WorldFault;
@@ -30,3 +35,5 @@ pub use laws::{
     runs_tell_the_audit, tickets_are_read, worked_scripts, worlds_hold,
 };
 pub use ops::Ops;
+pub use running::run;
+pub use world::World;
