@@ -92,7 +92,8 @@ pub fn every_place_has_its_group()
 
 /// Where each event was accepted and a group is ready: once all its messages are lost, in whichever way, a kick and the
 /// delivery of message 0 until none is left answer every request for the group. Each of these events is accepted, or drops a
-/// message to a daemon that is down. They are no more deliveries than the group's budget, and nothing else in the world changes.
+/// message to a daemon that is down. They are no more deliveries than the group's budget. Users, map, sessions and the other
+/// groups stay.
 pub fn a_kick_recovers()
     ensures recovers { KickRecovers }
     ensures loses { LossesLoseAll }

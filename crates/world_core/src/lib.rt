@@ -31,8 +31,8 @@ pub use fault::WorldFault;
 pub use laws::{
     a_kick_recovers, accepted_have_numbers, answers_are_decided, decided_is_one_list,
     every_place_has_its_group, groups_are_served, intervals_are_the_maps, listings_are_told,
-    parts_are_legal_together, pieces_are_the_namespace, requests_are_submissions,
-    runs_tell_the_audit, tickets_are_read, worked_scripts, worlds_hold,
+    parts_are_legal_together, pieces_are_the_namespace, plain_scripts_print,
+    requests_are_submissions, runs_tell_the_audit, tickets_are_read, worked_scripts, worlds_hold,
 };
 pub use ops::Ops;
 pub use running::run;
