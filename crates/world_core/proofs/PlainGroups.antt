@@ -6,11 +6,11 @@ use Rattle.entry_core.specs.Log.{is_in}
 use Rattle.entry_core.specs.Request.{Sealed}
 use Rattle.entry_core.specs.declared.entry.Entry.{Entry}
 use Rattle.entry_core.specs.declared.sealed.GroupId.{GroupId}
-use Rattle.peer_core.specs.Sets.{daemons}
+use Rattle.peer_core.specs.ActingSets.{daemons}
 use Rattle.peer_core.specs.Steps.{restarted}
 use Rattle.group_core.specs.Each.{Each}
 use Rattle.group_core.specs.declared.answers.Answer.{Answer}
-use Rattle.group_core.specs.Group.{Group, IsSet, last_set, is_submitted, has_all_requests, has_all_intervals, opens, begin, with_up, same_set, group_step, run, start}
+use Rattle.group_core.specs.Group.{Group, IsSet, last_set, is_submitted, has_all_requests, has_all_intervals, take_request, begin, with_up, same_set, group_step, run, start}
 use Rattle.group_core.specs.Group as group
 use Rattle.group_core.specs.Budget.{budget, settled_group, settle_count}
 use Rattle.group_core.specs.Quiet.{IsQuiet, made_by, opening_cost, request_cost}
@@ -78,7 +78,7 @@ IsStill (group.Repeat k) = ⊥
 IsStill group.Kick = ⊥
 
 pub still_decided : (e : group.Event) (g : Group) → IsStill e → decided (group_step g e) ≡ decided g
-still_decided (group.Submit s) g h = is_if (decided g) (is_submitted g.requests s.id) g (if has_all_requests g then g else opens g s) refl (is_if (decided g) (has_all_requests g) g (opens g s) refl refl)
+still_decided (group.Submit s) g h = is_if (decided g) (is_submitted g.requests s.id) g (if has_all_requests g then g else take_request g s) refl (is_if (decided g) (has_all_requests g) g (take_request g s) refl refl)
 still_decided (group.NewInterval acting up) g h =
     is_if (decided g) (same_set acting (last_set g.sets)) (with_up g up) (if has_all_intervals g then g else begin (with_up g up) acting) refl
     (is_if (decided g) (has_all_intervals g) g (begin (with_up g up) acting) refl refl)
@@ -95,7 +95,7 @@ still_decided group.Kick g h = absurd h
 calm_set : (acting : List ℕ) (e : group.Event) (g : Group) → IsCalm acting e → g.sets ≡ acting ∷ [] → (group_step g e).sets ≡ acting ∷ []
 calm_set acting (group.Submit s) g fits one = submitted (is_submitted g.requests s.id) (has_all_requests g)
   where
-    submitted : (b c : Bool) → (if b then g else (if c then g else opens g s)).sets ≡ acting ∷ []
+    submitted : (b c : Bool) → (if b then g else (if c then g else take_request g s)).sets ≡ acting ∷ []
     submitted true c = one
     submitted false true = one
     submitted false false = one

@@ -9,7 +9,7 @@ use Rattle.group_core.specs.Each.{Each}
 use Rattle.group_core.specs.Group.{submitted}
 use Rattle.group_core.specs.Asked.{IsAsked}
 use Rattle.world_core.specs.World.{World, world_after}
-use Rattle.group_core.specs.Types.{Outcome}
+use Rattle.group_core.specs.Types.{EntryReply}
 use Rattle.world_core.specs.Answers.{answer_at, IsAnswered, AnswersAreDecided}
 use Rattle.world_core.proofs.Worlds.{WorldStands, world_stands, world_legal, world_replied}
 
@@ -22,7 +22,7 @@ found_one P (x ∷ xs) id e all is = go (x.sealed.id == id) is (λ more. found_o
     go true one rest = let same : x ≡ e = cc in subst P same all.0
     go false more rest = rest more
 
-pub world_answered : (w : World) (id : ℕ) (reply : Outcome) → WorldStands w → answer_at w id ≡ Some reply → IsAnswered w id reply
+pub world_answered : (w : World) (id : ℕ) (reply : EntryReply) → WorldStands w → answer_at w id ≡ Some reply → IsAnswered w id reply
 world_answered w id reply h is =
     let r = world_replied w h id reply is in
     let f : StandsIn w.audit id r.entry = find_tells w.audit id r.entry (world_legal w h) r.found in

@@ -17,7 +17,7 @@ use Rattle.entry_core.specs.declared.sealed.GroupId.{GroupId}
 use Rattle.peer_core.specs.Steps.{restarted}
 use Rattle.group_core.specs.Each.{Each}
 use Rattle.group_core.specs.History.{Begins}
-use Rattle.group_core.specs.Group.{Group, begin, group_step, has_all_intervals, has_all_requests, is_submitted, last_set, opens, same_set, with_up}
+use Rattle.group_core.specs.Group.{Group, begin, group_step, has_all_intervals, has_all_requests, is_submitted, last_set, take_request, same_set, with_up}
 use Rattle.group_core.specs.Group as group
 use Rattle.world_core.specs.Groups.{is_same_group}
 use Rattle.world_core.specs.World.{World, Part, part, act, acted, asked_parts, at_group, decided_in, group_at, groups_of, map_parts, members_of}
@@ -34,7 +34,7 @@ if_audit es true g h p q = p
 if_audit es false g h p q = q
 
 pub submit_silent : (id : GroupId) (s : Sealed) → IsSilent (part id (group.Submit s))
-submit_silent id s g = if_audit g.audit (is_submitted g.requests s.id) g (if has_all_requests g then g else opens g s) refl (if_audit g.audit (has_all_requests g) g (opens g s) refl refl)
+submit_silent id s g = if_audit g.audit (is_submitted g.requests s.id) g (if has_all_requests g then g else take_request g s) refl (if_audit g.audit (has_all_requests g) g (take_request g s) refl refl)
 
 interval_silent : (id : GroupId) (acting up : List ℕ) → IsSilent (part id (group.NewInterval acting up))
 interval_silent id acting up g = if_audit g.audit (same_set acting (last_set g.sets)) (with_up g up) (if has_all_intervals g then g else begin (with_up g up) acting) refl

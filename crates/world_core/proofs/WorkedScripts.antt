@@ -6,7 +6,7 @@ use Rattle.map_core.specs.Intervals.{size_in, set_of}
 use Rattle.map_core.specs.Refusal.{is_word_byte, is_word, tags_in, pairs_in, has_app, has_key, in_limits, refusal, groups_in}
 use Rattle.place_core.specs.Place.{rank_of, is_before, acting_of, numbers_of}
 use Rattle.cap_text.specs.Machine.{step}
-use Rattle.cap_text.specs.Reading.{read_text}
+use Rattle.cap_text.specs.ReadText.{read_text}
 use Rattle.world_core.specs.Front.{requests_of}
 use Rattle.world_core.specs.Worked.{script, printed, WorkedScript, WorkedLongerScript, WorldsCount, longer_script, longer_printed, in_list}
 use Rattle.world_core.specs.Script.{Output, Whole, BadAt}

@@ -8,7 +8,7 @@ ghost use Rattle.world_core.specs.Front.{front_step, told_of};
 ghost use Rattle.world_core.specs.Moves.{made_by};
 ghost use Rattle.world_core.specs.World.{begun_group};
 
-use crate::after_command::{members_after, numbers};
+use crate::after_command::members_after;
 use crate::event::Told;
 use crate::fault::WorldFault;
 use crate::front::Front;
@@ -83,6 +83,6 @@ fn new_group(
     ensures { IfOk result (λ made. made ≡ begun_group (after (map_of map.now) command.now) min_size group) }
 {
     let acting = members_after(map, command, &group);
-    let up = numbers(alloc, map.up_after(command))?;
+    let up = map.up_after(command);
     Group::new(alloc, group, min_size as usize, map.daemons(), acting, up)
 }

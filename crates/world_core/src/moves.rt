@@ -19,7 +19,7 @@ ghost use Rattle.world_core.specs.Moves as spec;
 ghost use Rattle.world_core.specs.Refusing.{RefusedOrMemory};
 ghost use Rattle.world_core.specs.World.{parts_of, parts_refusal, created_by};
 
-use crate::after_command::{members_after, numbers};
+use crate::after_command::members_after;
 use crate::creating::change_pools;
 use crate::event::Told;
 use crate::fault::WorldFault;
@@ -27,7 +27,7 @@ use crate::front::Front;
 use entry_core::{GroupId, OutOfMemory};
 use group_core::{Group, GroupFault, GroupMove, PreparedGroup};
 use map_core::{ClusterMap, MapCommand};
-use std::alloc::{AllocError, Global};
+use std::alloc::AllocError;
 
 /// Carries out a command on the map. All groups move with it, or none.
 ///
@@ -145,7 +145,7 @@ fn prepare_all(
     let alloc = *groups.allocator();
     let mut ready = Vec::with_capacity(alloc, groups.len())?;
     while let Some(group) = groups.pop() {
-        match prepare_one(alloc, map, command, group) {
+        match prepare_one(map, command, group) {
             Ok(prepared) => put(&mut ready, prepared),
             Err(group) => {
                 put(groups, group);
@@ -158,19 +158,12 @@ fn prepare_all(
 }
 
 /// A group, ready for a command on a daemon, or the group as it was where it is refused.
-fn prepare_one(
-    alloc: Global,
-    map: &ClusterMap,
-    command: &MapCommand,
-    group: Group,
-) -> Result<PreparedGroup, Group>
+fn prepare_one(map: &ClusterMap, command: &MapCommand, group: Group) -> Result<PreparedGroup, Group>
     requires { map_tests.refusal (map_of map.now) (epoch_of map.now) command.now ≡ None }
     ensures ready { IfOk result (λ ready. ready ≡ prepared (move_of (map_of map.now) command.now) group) }
     ensures unchanged { IfErr result (λ same. same ≡ group) }
 {
-    let Ok(change) = move_for(alloc, map, command, group.group()) else {
-        return Err(group);
-    };
+    let change = move_for(map, command, group.group());
     match group.prepare(change) {
         Ok(ready) => Ok(ready),
         Err((group, _)) => Err(group),
@@ -178,21 +171,17 @@ fn prepare_one(
 }
 
 /// What a command on a daemon is to a group.
-fn move_for(
-    alloc: Global,
-    map: &ClusterMap,
-    command: &MapCommand,
-    group: &GroupId,
-) -> Result<GroupMove, OutOfMemory>
+fn move_for(map: &ClusterMap, command: &MapCommand, group: &GroupId) -> GroupMove
     requires { map_tests.refusal (map_of map.now) (epoch_of map.now) command.now ≡ None }
-    ensures { IfOk result (λ change. event_of change ≡ move_of (map_of map.now) command.now group.now) }
+    ensures { event_of result ≡ move_of (map_of map.now) command.now group.now }
 {
     if let MapCommand::OsdRestart(daemon) = command {
-        return Ok(GroupMove::Restart(*daemon));
+        return GroupMove::Restart(*daemon);
     }
-    let up = numbers(alloc, map.up_after(command))?;
-    let acting = members_after(map, command, group);
-    Ok(GroupMove::NewInterval { acting, up })
+    GroupMove::NewInterval {
+        acting: members_after(map, command, group),
+        up: map.up_after(command),
+    }
 }
 
 /// Moves each group, and puts it back. It takes no memory.
