@@ -2,10 +2,11 @@
 
 ghost use Rattle.std.specs.Prelude.{◌≡◌};
 ghost use Rattle.std.specs.List.{list_any, list_all};
+ghost use Rattle.std.specs.Option.{ForSome};
 ghost use Rattle.verdict_core.specs.Verdict.{is_allowed};
 ghost use Rattle.verdict_core.specs.Verdict as spec;
 
-use crate::matching::{allows, is_usable};
+use crate::matching::{allows, is_usable, is_usable_at_once, is_usable_in_turn};
 use crate::request::{ClassCall, Needs, Target};
 use crate::ticket::Ticket;
 use cap_text::AllowGrant;
@@ -25,13 +26,48 @@ fn is_covered(
         .any(|entry| allows(&entry.1, target, needs, call))
 }
 
-/// Whether some grant is usable.
-pub(crate) fn has_usable(grants: &[(Path, AllowGrant)], target: &Target<'_>, needs: &Needs) -> bool
+/// Whether some grant is usable, by a walk that looks at tags and at names of any length.
+#[inline(never)]
+fn has_usable_at_length(grants: &[(Path, AllowGrant)], target: &Target<'_>, needs: &Needs) -> bool
     ensures { result ≡ list_any (λ entry. spec.is_usable entry.1 target.now needs.now) grants.now }
 {
     grants
         .iter()
         .any(|entry| is_usable(&entry.1, target, needs))
+}
+
+/// Whether some grant is usable, if a few comparisons of words tell of each grant that is looked at, and none has a tag.
+/// It calls nothing, so that it saves few registers.
+#[inline(always)]
+fn has_usable_at_once(
+    grants: &[(Path, AllowGrant)],
+    target: &Target<'_>,
+    needs: &Needs,
+) -> Option<bool>
+    ensures { ForSome result (λ usable. usable ≡ list_any (λ entry. spec.is_usable entry.1 target.now needs.now) grants.now) }
+{
+    for entry in grants {
+        if entry.1.tag.is_some() {
+            return None;
+        }
+        let Some(usable) = is_usable_at_once(&entry.1, target, needs) else {
+            return None;
+        };
+        if usable {
+            return Some(true);
+        }
+    }
+    Some(false)
+}
+
+/// Whether some grant is usable.
+pub(crate) fn has_usable(grants: &[(Path, AllowGrant)], target: &Target<'_>, needs: &Needs) -> bool
+    ensures { result ≡ list_any (λ entry. spec.is_usable entry.1 target.now needs.now) grants.now }
+{
+    match has_usable_at_once(grants, target, needs) {
+        Some(usable) => usable,
+        None => has_usable_at_length(grants, target, needs),
+    }
 }
 
 /// Whether each call is covered. It is a call of its own, since most requests have no calls.
@@ -51,10 +87,12 @@ fn are_covered(grants: &[(Path, AllowGrant)], target: &Target<'_>, needs: &Needs
 pub fn grants_allow(grants: &[(Path, AllowGrant)], target: &Target<'_>, needs: &Needs) -> bool
     ensures { result ≡ spec.grants_allow grants.now target.now needs.now }
 {
-    if needs.calls.as_slice().is_empty() {
-        has_usable(grants, target, needs)
-    } else {
-        are_covered(grants, target, needs)
+    if !needs.calls.as_slice().is_empty() {
+        return are_covered(grants, target, needs);
+    }
+    match grants {
+        [entry] => is_usable_in_turn(&entry.1, target, needs),
+        _ => has_usable(grants, target, needs),
     }
 }
 

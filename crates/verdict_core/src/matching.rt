@@ -2,11 +2,12 @@
 
 ghost use Rattle.std.specs.Prelude.{◌≡◌, ◌&&◌, ◌||◌, not};
 ghost use Rattle.std.specs.List.{list_any};
+ghost use Rattle.std.specs.Option.{ForSome};
 ghost use Rattle.std.specs.Str.{bytes_eq};
 ghost use Rattle.verdict_core.specs.Verdict as spec;
 
 use crate::request::{ClassCall, Condition, Needs, Target};
-use crate::texts::{begins_with, is_text};
+use crate::texts::{begins_with, begins_with_at_once, is_text, is_text_at_once};
 use cap_text::{Access, AllowGrant, AppTags, Name, NsMatch, Pairs, Part, Tag, Tags};
 
 /// No name, or this one.
@@ -162,12 +163,94 @@ pub(crate) fn is_usable(grant: &AllowGrant, target: &Target<'_>, needs: &Needs) 
     matches(grant, target) && serves(&grant.access, needs)
 }
 
-/// The same in a call of its own, for walks on which few grants come so far.
+/// `names`, if two comparisons of words tell.
+#[inline(always)]
+fn names_at_once(wanted: &Option<Name>, name: &str) -> Option<bool>
+    ensures { ForSome result (λ holds. holds ≡ spec.names wanted.now name.now) }
+{
+    match wanted {
+        None => Some(true),
+        Some(wanted) => is_text_at_once(wanted, name),
+    }
+}
+
+/// `matches_namespace`, if two comparisons of words tell.
+#[inline(always)]
+fn matches_namespace_at_once(wanted: &Option<NsMatch>, namespace: &str) -> Option<bool>
+    ensures { ForSome result (λ holds. holds ≡ spec.matches_namespace wanted.now namespace.now) }
+{
+    match wanted {
+        None => Some(true),
+        Some(NsMatch::Exact(name)) => is_text_at_once(name, namespace),
+        Some(NsMatch::Prefix(prefix)) => begins_with_at_once(namespace, prefix),
+    }
+}
+
+/// `matches_prefix`, if two comparisons of words tell.
+#[inline(always)]
+fn matches_prefix_at_once(wanted: &Option<Name>, object: &str) -> Option<bool>
+    ensures { ForSome result (λ holds. holds ≡ spec.matches_prefix wanted.now object.now) }
+{
+    match wanted {
+        None => Some(true),
+        Some(prefix) => {
+            if object.is_empty() {
+                Some(false)
+            } else {
+                begins_with_at_once(object, prefix)
+            }
+        }
+    }
+}
+
+/// Whether a grant is usable, if a few comparisons of words tell: they do where each name that is compared has 2 to 16
+/// bytes. It calls nothing before its last step, which looks at a tag.
+#[inline(always)]
+pub(crate) fn is_usable_at_once(
+    grant: &AllowGrant,
+    target: &Target<'_>,
+    needs: &Needs,
+) -> Option<bool>
+    ensures { ForSome result (λ usable. usable ≡ spec.is_usable grant.now target.now needs.now) }
+{
+    let Some(prefix) = matches_prefix_at_once(&grant.prefix, target.object) else {
+        return None;
+    };
+    if !prefix {
+        return Some(false);
+    }
+    let Some(pool) = names_at_once(&grant.pool, target.pool) else {
+        return None;
+    };
+    if !pool {
+        return Some(false);
+    }
+    let Some(namespace) = matches_namespace_at_once(&grant.namespace, target.namespace) else {
+        return None;
+    };
+    if !namespace {
+        return Some(false);
+    }
+    Some(serves(&grant.access, needs) && matches_tag(&grant.tag, target.tags))
+}
+
+/// Whether a grant is usable, with names of any length. It is a call of its own, which few grants need.
 #[inline(never)]
-fn is_usable_in_turn(grant: &AllowGrant, target: &Target<'_>, needs: &Needs) -> bool
+fn is_usable_at_length(grant: &AllowGrant, target: &Target<'_>, needs: &Needs) -> bool
     ensures { result ≡ spec.is_usable grant.now target.now needs.now }
 {
     is_usable(grant, target, needs)
+}
+
+/// Whether a grant is usable, in a call of its own: for a lone grant, and for walks on which few grants come so far.
+#[inline(never)]
+pub(crate) fn is_usable_in_turn(grant: &AllowGrant, target: &Target<'_>, needs: &Needs) -> bool
+    ensures { result ≡ spec.is_usable grant.now target.now needs.now }
+{
+    match is_usable_at_once(grant, target, needs) {
+        Some(usable) => usable,
+        None => is_usable_at_length(grant, target, needs),
+    }
 }
 
 /// Whether an access covers a call.

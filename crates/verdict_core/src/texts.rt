@@ -2,20 +2,38 @@
 
 ghost use Rattle.std.specs.Prelude.{◌≡◌, ◌*◌, ◌≤◌, nat_eq, length};
 ghost use Rattle.std.specs.List.{starts_with};
+ghost use Rattle.std.specs.Option.{ForSome};
 ghost use Rattle.std.specs.Str.{bytes_eq};
 
 use cap_text::Name;
+
+/// Whether two texts of N bytes are the same: a comparison of words, since their length is known to the compiler.
+#[inline(always)]
+fn are_same_words<const N: usize>(left: &[u8], right: &[u8]) -> bool
+    requires { N ≤ 8 }
+    ensures { result ≡ bytes_eq left.now right.now }
+{
+    let Ok(left_word) = <[u8; N]>::try_from(left) else {
+        return left == right;
+    };
+    let Ok(right_word) = <[u8; N]>::try_from(right) else {
+        return left == right;
+    };
+    left_word == right_word
+}
 
 /// Whether two texts of the same length are the same. They have at least N bytes and at most twice as many, so that the
 /// last N and the first N are all of them: two comparisons of words.
 #[inline(always)]
 fn are_same_at_both_ends<const N: usize>(left: &[u8], right: &[u8]) -> bool
     requires same_length { length left.now ≡ length right.now }
+    requires word { N ≤ 8 }
     requires covered { (N ≤ length right.now) × (length right.now ≤ 2 * N) }
     ensures { result ≡ bytes_eq left.now right.now }
 {
     let rest = right.len() - N;
-    left.ends_with(&right[rest..]) && left.starts_with(&right[..N])
+    are_same_words::<N>(&left[rest..], &right[rest..])
+        && are_same_words::<N>(&left[..N], &right[..N])
 }
 
 /// Whether two long or very short texts are the same. It is a call of its own, so that its callers stay small.
@@ -26,22 +44,37 @@ fn are_same_at_length(left: &[u8], right: &[u8]) -> bool
     left == right
 }
 
-/// Whether two texts are the same. Most names have 4 to 16 bytes, and differ at their ends.
+/// Whether two texts are the same, if two comparisons of words tell: they do where the texts differ in length, or have 2
+/// to 16 bytes, as most names have.
+#[inline(always)]
+fn are_same_at_once(left: &[u8], right: &[u8]) -> Option<bool>
+    ensures { ForSome result (λ same. same ≡ bytes_eq left.now right.now) }
+{
+    let length = left.len();
+    if length != right.len() {
+        return Some(false);
+    }
+    if 8 <= length && length <= 16 {
+        return Some(are_same_at_both_ends::<8>(left, right));
+    }
+    if 4 <= length && length < 8 {
+        return Some(are_same_at_both_ends::<4>(left, right));
+    }
+    if 2 <= length && length < 4 {
+        return Some(are_same_at_both_ends::<2>(left, right));
+    }
+    None
+}
+
+/// Whether two texts are the same.
 #[inline(always)]
 fn are_same(left: &[u8], right: &[u8]) -> bool
     ensures { result ≡ bytes_eq left.now right.now }
 {
-    let length = left.len();
-    if length != right.len() {
-        return false;
+    match are_same_at_once(left, right) {
+        Some(same) => same,
+        None => are_same_at_length(left, right),
     }
-    if 8 <= length && length <= 16 {
-        return are_same_at_both_ends::<8>(left, right);
-    }
-    if 4 <= length && length < 8 {
-        return are_same_at_both_ends::<4>(left, right);
-    }
-    are_same_at_length(left, right)
 }
 
 /// Whether a name is this text.
@@ -52,6 +85,14 @@ pub(crate) fn is_text(name: &Name, text: &str) -> bool
     are_same(name.as_str().as_bytes(), text.as_bytes())
 }
 
+/// The same, if two comparisons of words tell.
+#[inline(always)]
+pub(crate) fn is_text_at_once(name: &Name, text: &str) -> Option<bool>
+    ensures { ForSome result (λ same. same ≡ bytes_eq name.now text.now) }
+{
+    are_same_at_once(name.as_str().as_bytes(), text.as_bytes())
+}
+
 /// Whether a text begins with a prefix.
 #[inline(always)]
 pub(crate) fn begins_with(text: &str, prefix: &Name) -> bool
@@ -59,4 +100,16 @@ pub(crate) fn begins_with(text: &str, prefix: &Name) -> bool
 {
     let (text, prefix) = (text.as_bytes(), prefix.as_str().as_bytes());
     prefix.len() <= text.len() && are_same(prefix, &text[..prefix.len()])
+}
+
+/// The same, if two comparisons of words tell.
+#[inline(always)]
+pub(crate) fn begins_with_at_once(text: &str, prefix: &Name) -> Option<bool>
+    ensures { ForSome result (λ begins. begins ≡ starts_with nat_eq text.now prefix.now) }
+{
+    let (text, prefix) = (text.as_bytes(), prefix.as_str().as_bytes());
+    if prefix.len() > text.len() {
+        return Some(false);
+    }
+    are_same_at_once(prefix, &text[..prefix.len()])
 }
