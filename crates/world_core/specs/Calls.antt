@@ -15,10 +15,6 @@ use Rattle.world_core.specs.Standing.{HasNumbers}
 use Rattle.world_core.specs.Answers.{IsOneList, IsAnswered, answer_at}
 use Rattle.world_core.specs.Accepted.{HasRequests, FrontTells, IsServed}
 
--- why there is no answer: no such request was submitted
-abbrev pub answer_refusal : World → ℕ → Option Fault
-answer_refusal w id = if is_submitted w.front.submissions id then None else Some NoRequest
-
 -- what holds of every group of a world
 pub record KeepsGroup (w : World) (id : GroupId) (g : Group) : Type 0 where
   pub served : IsServed w id g

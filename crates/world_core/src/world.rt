@@ -1,16 +1,14 @@
 //! A world: users, map, sessions and groups, one event at a time.
 
-ghost use Rattle.std.specs.Prelude.{◌≡◌, ◌≤◌, ◌++◌, [], ◌∷◌, ℕ, List, true, false, Ok, Some, IfOk, IsOkAnd, IsSomeAnd, option_copied};
+ghost use Rattle.std.specs.Prelude.{◌≡◌, ◌≤◌, ◌++◌, [], ◌∷◌, ℕ, List, true, false, Ok, Some, IfOk, IsOkAnd, IsSomeAnd};
 ghost use Rattle.grant_core.specs.Flat.{Table};
 ghost use Rattle.group_core.specs.Recovery.{is_ready};
 ghost use Rattle.world_core.specs.Event as events;
-ghost use Rattle.world_core.specs.Front.{told_of, group_refusal, error_of};
+ghost use Rattle.world_core.specs.Front.{told_of, group_refusal};
 ghost use Rattle.world_core.specs.World.{first_world, world_step, refusal_of, counts, group_at};
 ghost use Rattle.world_core.specs.Holds.{Holds};
-ghost use Rattle.world_core.specs.Answers.{answer_at};
-ghost use Rattle.world_core.specs.Listing.{listing_at};
 ghost use Rattle.world_core.specs.Refusing.{RefusedExactly, RefusedOrMemory};
-ghost use Rattle.world_core.specs.Calls.{answer_refusal, KeepsPromises};
+ghost use Rattle.world_core.specs.Calls.{KeepsPromises};
 
 use crate::audit::{Run, collect};
 use crate::calls::{GroupCall, call_at, told};
@@ -23,7 +21,7 @@ use crate::ops::Ops;
 use crate::taking::{take_back_all, take_requests};
 use auth_db::AuthDb;
 use cap_text::Name;
-use entry_core::{Entry, GroupId, Id, OutOfMemory, Reply};
+use entry_core::{Entry, GroupId, OutOfMemory};
 use grant_core::ProfileTable;
 use group_core::Group;
 use map_core::{ClusterMap, MapCommand};
@@ -85,27 +83,6 @@ impl World {
     {
         let _front = &self.front;
         self.carry_out(event)
-    }
-
-    /// The reply to the request of this id that reached the client first, or `None` while there is none.
-    ///
-    /// W5 where no such request was submitted. It takes no memory.
-    pub fn answer(&self, id: Id) -> Result<Option<&Reply>, WorldFault>
-        ensures answer { IfOk result (λ reply. option_copied reply ≡ answer_at self.now id) }
-        ensures refused { RefusedExactly (answer_refusal self.now id) result }
-    {
-        unreachable!()
-    }
-
-    /// What the list that begins with the request of this id came to: the names of the objects in the order of their bytes, or
-    /// the first piece's denial; `None` while a piece has no answer.
-    ///
-    /// W5 where no list begins with it; W7 for want of memory.
-    pub fn listing(&self, first: Id) -> Result<Option<Reply>, WorldFault>
-        ensures listing { IfOk result (λ reply. listing_at self.now first ≡ Ok reply) }
-        ensures refused { RefusedOrMemory (error_of (listing_at self.now first)) result }
-    {
-        unreachable!()
     }
 
     /// A copy of the decided entries of all groups, in the order in which they were decided.
