@@ -6,7 +6,7 @@ ghost use Rattle.std.specs.Option.{ForSome};
 ghost use Rattle.verdict_core.specs.Verdict.{is_allowed};
 ghost use Rattle.verdict_core.specs.Verdict as spec;
 
-use crate::matching::{allows, is_usable, is_usable_at_once, is_usable_in_turn};
+use crate::matching::{allows, is_usable, is_usable_at_once};
 use crate::request::{ClassCall, Needs, Target};
 use crate::ticket::Ticket;
 use cap_text::AllowGrant;
@@ -36,8 +36,7 @@ fn has_usable_at_length(grants: &[(Path, AllowGrant)], target: &Target<'_>, need
         .any(|entry| is_usable(&entry.1, target, needs))
 }
 
-/// Whether some grant is usable, if a few comparisons of words tell of each grant that is looked at, and none has a tag.
-/// It calls nothing, so that it saves few registers.
+/// Whether some grant is usable, if a few comparisons of words tell of each grant that is looked at.
 #[inline(always)]
 fn has_usable_at_once(
     grants: &[(Path, AllowGrant)],
@@ -47,9 +46,6 @@ fn has_usable_at_once(
     ensures { ForSome result (λ usable. usable ≡ list_any (λ entry. spec.is_usable entry.1 target.now needs.now) grants.now) }
 {
     for entry in grants {
-        if entry.1.tag.is_some() {
-            return None;
-        }
         let Some(usable) = is_usable_at_once(&entry.1, target, needs) else {
             return None;
         };
@@ -87,12 +83,10 @@ fn are_covered(grants: &[(Path, AllowGrant)], target: &Target<'_>, needs: &Needs
 pub fn grants_allow(grants: &[(Path, AllowGrant)], target: &Target<'_>, needs: &Needs) -> bool
     ensures { result ≡ spec.grants_allow grants.now target.now needs.now }
 {
-    if !needs.calls.as_slice().is_empty() {
-        return are_covered(grants, target, needs);
-    }
-    match grants {
-        [entry] => is_usable_in_turn(&entry.1, target, needs),
-        _ => has_usable(grants, target, needs),
+    if needs.calls.as_slice().is_empty() {
+        has_usable(grants, target, needs)
+    } else {
+        are_covered(grants, target, needs)
     }
 }
 

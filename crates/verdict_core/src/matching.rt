@@ -163,6 +163,14 @@ pub(crate) fn is_usable(grant: &AllowGrant, target: &Target<'_>, needs: &Needs) 
     matches(grant, target) && serves(&grant.access, needs)
 }
 
+/// The same in a call of its own, for walks on which few grants come so far.
+#[inline(never)]
+fn is_usable_in_turn(grant: &AllowGrant, target: &Target<'_>, needs: &Needs) -> bool
+    ensures { result ≡ spec.is_usable grant.now target.now needs.now }
+{
+    is_usable(grant, target, needs)
+}
+
 /// `names`, if two comparisons of words tell.
 #[inline(always)]
 fn names_at_once(wanted: &Option<Name>, name: &str) -> Option<bool>
@@ -203,8 +211,8 @@ fn matches_prefix_at_once(wanted: &Option<Name>, object: &str) -> Option<bool>
     }
 }
 
-/// Whether a grant is usable, if a few comparisons of words tell: they do where each name that is compared has 2 to 16
-/// bytes. It calls nothing before its last step, which looks at a tag.
+/// Whether a grant is usable, if a few comparisons of words tell: they do where it has no tag, and each name that is
+/// compared has 2 to 16 bytes. It calls nothing, so that a walk by it saves no registers.
 #[inline(always)]
 pub(crate) fn is_usable_at_once(
     grant: &AllowGrant,
@@ -231,25 +239,9 @@ pub(crate) fn is_usable_at_once(
     if !namespace {
         return Some(false);
     }
-    Some(serves(&grant.access, needs) && matches_tag(&grant.tag, target.tags))
-}
-
-/// Whether a grant is usable, with names of any length. It is a call of its own, which few grants need.
-#[inline(never)]
-fn is_usable_at_length(grant: &AllowGrant, target: &Target<'_>, needs: &Needs) -> bool
-    ensures { result ≡ spec.is_usable grant.now target.now needs.now }
-{
-    is_usable(grant, target, needs)
-}
-
-/// Whether a grant is usable, in a call of its own: for a lone grant, and for walks on which few grants come so far.
-#[inline(never)]
-pub(crate) fn is_usable_in_turn(grant: &AllowGrant, target: &Target<'_>, needs: &Needs) -> bool
-    ensures { result ≡ spec.is_usable grant.now target.now needs.now }
-{
-    match is_usable_at_once(grant, target, needs) {
-        Some(usable) => usable,
-        None => is_usable_at_length(grant, target, needs),
+    match &grant.tag {
+        None => Some(serves(&grant.access, needs)),
+        Some(_) => None,
     }
 }
 
