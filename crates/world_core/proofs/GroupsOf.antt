@@ -1,6 +1,6 @@
 -- The groups of a sound world are those of its map, each as the map has it.
 use Prim.Native.Nat.{zero, suc}
-use Rattle.std.proofs.Common.{◌≡◌, ◌∙◌, ℕ, ◌+◌, ◌<◌, ◌≤◌, List, [], ◌∷◌, ◌++◌, Bool, true, false, cond, Option, Some, None, if◌then◌else◌, map, refl, sym, ap, subst, arith}
+use Rattle.std.proofs.Common.{◌≡◌, ◌∙◌, ℕ, ◌+◌, ◌<◌, ◌≤◌, List, [], ◌∷◌, Bool, true, false, cond, Option, Some, None, if◌then◌else◌, map, refl, sym, ap, subst, arith}
 use Rattle.std.specs.Prelude.{slice_get}
 use Rattle.std.specs.List.{filter, flat_map, find, range_with_len}
 use Rattle.place_core.specs.Place.{numbers_of}
@@ -30,7 +30,7 @@ use Rattle.world_core.proofs.Messages.{Called, called}
 use Rattle.world_core.proofs.Acting.{each_join, each_weaker}
 use Rattle.world_core.proofs.Bytes.{bytes_same}
 use Rattle.world_core.proofs.Limits.{once}
-use Rattle.world_core.proofs.Merge.{same_group, group_refl, bytes_refl}
+use Rattle.world_core.proofs.Merge.{group_refl, bytes_refl}
 use Rattle.world_core.proofs.Places.{NamedOnce, numbered, places_once}
 use Rattle.world_core.proofs.Sounds.{ids_of}
 

@@ -1,5 +1,5 @@
 -- What a command on the map is to the world.
-use Rattle.std.proofs.Common.{◌≡◌, ◌∙◌, ◌⊎◌, inl, inr, List, [], ◌∷◌, ◌++◌, true, false, Option, Result, Ok, Err, refl, sym, ap, subst}
+use Rattle.std.proofs.Common.{◌≡◌, ◌∙◌, List, ◌++◌, Result, Ok, Err, sym, ap, subst}
 use Rattle.std.specs.Prelude.{OnOk, OnErr, IfOk}
 use Rattle.std.specs.Option.{option_map, option_or}
 use Rattle.map_core.specs.Map.{map_of}
@@ -8,11 +8,11 @@ use Rattle.group_core.specs.Each.{Each}
 use Rattle.group_core.specs.Group.{Group}
 use Rattle.world_core.specs.Event.{Map, Told, Fault, OfGroup}
 use Rattle.world_core.specs.Front.{Front, front_step, front_refusal, told_of}
-use Rattle.world_core.specs.World.{World, Part, acted, created_by, parts_of, parts_refusal, world_step}
+use Rattle.world_core.specs.World.{World, Part, acted, created_by, parts_of, parts_refusal}
 use Rattle.world_core.specs.Moves.{stepped}
 use Rattle.world_core.specs.Refusing.{RefusedOrMemory}
 use Rattle.world_core.specs.declared.audit.Run.{Run}
-use Rattle.world_core.specs.Inside.{world_of, entries_told}
+use Rattle.world_core.specs.Inside.{world_of}
 use Rattle.world_core.specs.Sound.{FitsAt, IsKept}
 use Rattle.world_core.specs.Applying.{Applies}
 use Rattle.world_core.proofs.Messages.{true_not_false, kept_on}

@@ -2,9 +2,7 @@
 use Rattle.std.proofs.Common.{◌≡◌, ◌∙◌, ◌⊎◌, inl, inr, ℕ, List, [], ◌∷◌, ◌++◌, Bool, true, false, if◌then◌else◌, Option, Some, None, Result, Ok, Err, length, drop, refl, sym, ap, subst, append-nil}
 use Rattle.std.specs.Prelude.{slice_get, slice_set}
 use Rattle.std.specs.Option.{option_map, option_or}
-use Rattle.std.proofs.lemmas.List.{drop_all}
 use Rattle.entry_core.specs.Log.{is_in}
-use Rattle.entry_core.specs.declared.entry.Entry.{Entry}
 use Rattle.entry_core.specs.declared.sealed.GroupId.{GroupId}
 use Rattle.group_core.specs.Each.{Each}
 use Rattle.group_core.specs.History.{Begins}
@@ -28,7 +26,7 @@ use Rattle.world_core.specs.Inside.{world_of, entries_told}
 use Rattle.world_core.specs.Sound.{FitsAt, IsSound, IsKept}
 use Rattle.world_core.specs.Applying.{Applies, CalledAt, StepsOrMemory, event_for, event_of, fault_of_group, runs_from, told_call}
 use Rattle.world_core.proofs.Calling.{no_run, set_same}
-use Rattle.world_core.proofs.RunPlaces.{News, changed_runs}
+use Rattle.world_core.proofs.RunPlaces.{changed_runs}
 use Rattle.world_core.proofs.Runs.{same_begins}
 use Rattle.grant_core.specs.Flat.{Table}
 use Rattle.world_core.specs.Holds.{Holds}

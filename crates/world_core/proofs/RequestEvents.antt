@@ -1,24 +1,22 @@
 -- What a vector and a list are to the world: requests that the groups take, all or none.
-use Rattle.std.proofs.Common.{◌≡◌, ◌∙◌, ◌⊎◌, inl, inr, ℕ, ◌<◌, ◌≤◌, ◌||◌, List, [], ◌∷◌, ◌++◌, Bool, true, false, not, if◌then◌else◌, Option, Some, None, Result, Ok, Err, length, map, refl, sym, ap, subst, arith, append-nil}
-use Rattle.std.specs.Prelude.{IfOk, nat_le, nat_lt, slice_get, slice_set}
+use Rattle.std.proofs.Common.{◌≡◌, ◌∙◌, ◌⊎◌, inl, inr, ℕ, ◌<◌, ◌≤◌, ◌||◌, List, [], ◌∷◌, ◌++◌, Bool, true, false, not, if◌then◌else◌, Some, None, Result, Ok, Err, length, refl, sym, ap, subst, arith, append-nil}
+use Rattle.std.specs.Prelude.{nat_le, nat_lt, slice_set}
 use Rattle.std.specs.List.{flat_map, list_any}
 use Rattle.std.specs.Option.{option_map, option_map_or, option_or}
 use Rattle.std.proofs.lemmas.Bool.Decides.{nat_tests}
 use Rattle.object_core.specs.declared.op.Op.{Op}
 use Rattle.map_core.specs.State.{History}
-use Rattle.map_core.specs.Map.{is_named, map_of}
+use Rattle.map_core.specs.Map.{map_of}
 use Rattle.map_core.specs.declared.pool.Pool.{Pool}
 use Rattle.entry_core.specs.Locality.{group_for}
 use Rattle.entry_core.specs.Request.{Sealed}
-use Rattle.entry_core.specs.declared.sealed.GroupId.{GroupId}
 use Rattle.group_core.specs.Each.{Each}
 use Rattle.group_core.specs.Group.{Group, Submit, group_step, has_all_requests}
 use Rattle.group_core.specs.declared.fault.GroupFault.TheVariants as group_fault
 use Rattle.world_core.specs.Event.{Ask, Event, ListNames, Told, Fault, OfGroup, OutOfMemory}
 use Rattle.world_core.specs.Event as events
-use Rattle.world_core.specs.Front.{Front, asking_refusal, error_of, front_refusal, front_step, full_refusal, is_full, requests_of, sealed_by, told_of, if_ok}
-use Rattle.world_core.specs.Groups.{is_for}
-use Rattle.world_core.specs.World.{World, Part, acted, asked_parts, counts, created_by, group_at, groups_of, is_drop, parts_of, parts_refusal, refusal_of, world_step}
+use Rattle.world_core.specs.Front.{Front, asking_refusal, error_of, front_refusal, front_step, is_full, requests_of, told_of, if_ok}
+use Rattle.world_core.specs.World.{World, Part, acted, asked_parts, created_by, groups_of, is_drop, parts_of, parts_refusal, refusal_of}
 use Rattle.world_core.specs.Moves.{IsAt, place_in, stepped}
 use Rattle.world_core.specs.Refusing.{RefusedOrMemory}
 use Rattle.world_core.specs.declared.audit.Run.{Run}
@@ -26,11 +24,11 @@ use Rattle.world_core.specs.Inside.{world_of}
 use Rattle.world_core.specs.Sound.{FitsAt, IsKept, IsSealedFor, IsSound}
 use Rattle.world_core.specs.Accepted.{FrontTells}
 use Rattle.world_core.specs.Applying.{Applies}
-use Rattle.world_core.specs.Taking.{Takes, TakesAll, is_full_at, places_for}
+use Rattle.world_core.specs.Taking.{TakesAll, is_full_at, places_for}
 use Rattle.world_core.proofs.Accepted.{front_tells}
 use Rattle.world_core.proofs.Fronts.{Requested, list_made, submit_made}
 use Rattle.world_core.proofs.Limits.{asked_for, counted_for, few_submissions}
-use Rattle.world_core.proofs.Messages.{true_not_false, kept_on}
+use Rattle.world_core.proofs.Messages.{true_not_false}
 use Rattle.world_core.proofs.PlaceIn.{stands}
 use Rattle.world_core.proofs.Pools.{found_in}
 use Rattle.world_core.proofs.RunPlaces.{Longer, fit_on, told_on}

@@ -2,20 +2,15 @@
 use Prim.Native.Nat.{zero, suc}
 use Rattle.std.proofs.lemmas.Option.{slice_get_read}
 use Rattle.std.proofs.Common.{◌+◌, get_or}
-use Rattle.std.proofs.Common.{◌≡◌, ◌∙◌, ℕ, ◌<◌, ◌≤◌, ◌-◌, List, [], ◌∷◌, ◌++◌, Bool, true, false, if◌then◌else◌, Option, Some, None, refl, sym, ap, subst, arith, append-nil, length, take, drop, map, length-drop, length-append}
+use Rattle.std.proofs.Common.{◌≡◌, ◌∙◌, ℕ, ◌<◌, ◌≤◌, ◌-◌, List, [], ◌∷◌, ◌++◌, Bool, true, false, if◌then◌else◌, Some, refl, sym, ap, subst, arith, append-nil, length, take, drop, length-drop, length-append}
 use Rattle.std.specs.Prelude.{nat_lt, slice_get, slice_set}
-use Rattle.std.specs.List.{flat_map}
 use Rattle.std.proofs.lemmas.List.{take-append-le, drop-append-le, drop_all, length-set, take_more}
 use Rattle.std.proofs.lemmas.Grind.{flat_map-append}
 use Rattle.std.proofs.lemmas.Bool.{ltb-true, lt-ltb}
 use Rattle.entry_core.specs.declared.entry.Entry.{Entry}
-use Rattle.entry_core.specs.declared.sealed.GroupId.{GroupId}
 use Rattle.group_core.specs.Each.{Each}
 use Rattle.group_core.specs.History.{Begins}
-use Rattle.group_core.specs.Group.{Group, Event, group_step}
-use Rattle.group_core.proofs.Groups.{audit_grows}
-use Rattle.world_core.specs.Groups.{is_same_group}
-use Rattle.world_core.specs.World.{at_group}
+use Rattle.group_core.specs.Group.{Group}
 use Rattle.world_core.specs.Standing.{audit_in}
 use Rattle.world_core.specs.declared.audit.Run.{Run}
 use Rattle.world_core.specs.Inside.{run_entries, entries_told}

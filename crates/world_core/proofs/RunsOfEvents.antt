@@ -1,11 +1,11 @@
 -- Events, one after another.
 use Prim.Native.Nat.{zero, suc}
-use Rattle.std.proofs.Common.{◌≡◌, ◌∙◌, ◌⊎◌, inl, inr, ℕ, ◌+◌, ◌<◌, List, [], ◌∷◌, ◌++◌, true, Option, Some, Result, Ok, Err, length, take, get_or, refl, sym, ap, subst, arith}
+use Rattle.std.proofs.Common.{◌≡◌, ◌∙◌, ◌⊎◌, inl, inr, ℕ, ◌+◌, ◌<◌, List, [], ◌∷◌, ◌++◌, true, Some, Ok, length, take, get_or, refl, sym, ap, subst, arith}
 use Rattle.std.specs.Prelude.{fold, slice_get}
 use Rattle.std.proofs.lemmas.List.{take_more}
 use Rattle.grant_core.specs.Flat.{Table}
 use Rattle.world_core.specs.Event.{Event, Told, Fault, OutOfMemory}
-use Rattle.world_core.specs.World.{World, accepts, counts, first_world, is_accepted, refusal_of, world_after, world_step}
+use Rattle.world_core.specs.World.{World, accepts, first_world, is_accepted, refusal_of, world_after, world_step}
 use Rattle.world_core.specs.Holds.{AcceptedFrom, AreAccepted, Holds}
 use Rattle.world_core.specs.Refusing.{RefusedOrMemory}
 use Rattle.world_core.specs.Calls.{IsFirstRefused}

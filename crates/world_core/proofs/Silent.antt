@@ -1,7 +1,6 @@
 -- Events that decide nothing: commands on the map, and submissions.
 use Prim.Native.Nat.{zero, suc}
-use Rattle.std.proofs.Common.{◌≡◌, ◌∙◌, ℕ, ◌≤◌, ◌==◌, List, [], ◌∷◌, ◌++◌, Bool, true, false, Option, Some, None, if◌then◌else◌, map, length, drop, refl, sym, ap, subst, arith, append-nil, length-append}
-use Rattle.std.specs.Prelude.{slice_get}
+use Rattle.std.proofs.Common.{◌≡◌, ◌∙◌, ℕ, ◌==◌, List, [], ◌∷◌, ◌++◌, Bool, true, false, Option, Some, None, if◌then◌else◌, map, length, drop, refl, sym, ap, arith, append-nil, length-append}
 use Rattle.std.specs.List.{flat_map}
 use Rattle.std.proofs.lemmas.List.{drop_all}
 use Rattle.place_core.specs.Place.{numbers_of}
@@ -20,8 +19,7 @@ use Rattle.group_core.specs.History.{Begins}
 use Rattle.group_core.specs.Group.{Group, begin, group_step, has_all_intervals, has_all_requests, is_submitted, last_set, take_request, same_set, with_up}
 use Rattle.group_core.specs.Group as group
 use Rattle.world_core.specs.Groups.{is_same_group}
-use Rattle.world_core.specs.World.{World, Part, part, act, acted, asked_parts, at_group, decided_in, group_at, groups_of, map_parts, members_of}
-use Rattle.world_core.specs.Standing.{audit_in}
+use Rattle.world_core.specs.World.{World, Part, part, act, acted, asked_parts, decided_in, group_at, groups_of, map_parts, members_of}
 use Rattle.world_core.specs.Moves.{stepped, stepped_by}
 use Rattle.world_core.proofs.RunPlaces.{Longer, audit_at_place}
 

@@ -1,6 +1,6 @@
 -- Requests that groups take together, and give back.
 use Prim.Native.Nat.{zero, suc}
-use Rattle.std.proofs.Common.{◌≡◌, ◌∙◌, ℕ, ◌+◌, ◌-◌, ◌<◌, ◌≤◌, ◌||◌, List, [], ◌∷◌, ◌++◌, Bool, true, false, Option, Some, None, get_or, take, drop, length, refl, sym, ap, subst, arith}
+use Rattle.std.proofs.Common.{◌≡◌, ◌∙◌, ℕ, ◌+◌, ◌-◌, ◌<◌, ◌||◌, List, [], ◌∷◌, ◌++◌, Bool, true, false, Some, get_or, take, drop, length, refl, sym, ap, subst, arith}
 use Rattle.std.specs.Prelude.{slice_get, slice_set}
 use Rattle.std.specs.List.{list_any}
 use Rattle.std.specs.Option.{option_map_or}
@@ -13,7 +13,6 @@ use Rattle.group_core.specs.Each.{Each}
 use Rattle.group_core.specs.Group.{Group, Submit, group_step, has_all_requests}
 use Rattle.group_core.specs.Reached.{HasJustTaken}
 use Rattle.world_core.specs.Taking.{Takes, TakesAll, is_full_at}
-use Rattle.world_core.proofs.Calling.{set_same}
 use Rattle.world_core.proofs.RunPlaces.{set_there}
 
 -- ---- tests over places

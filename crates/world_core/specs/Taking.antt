@@ -1,6 +1,6 @@
 -- Refinement: only contracts inside the crate use it.
 -- Requests that groups take together.
-use Rattle.std.specs.Prelude.{◌≡◌, ℕ, List, [], ◌∷◌, Bool, false, Option, None, Some, slice_get, slice_set, map}
+use Rattle.std.specs.Prelude.{◌≡◌, ℕ, List, [], ◌∷◌, Bool, false, None, Some, slice_get, slice_set, map}
 use Rattle.std.specs.Option.{option_map_or}
 use Rattle.map_core.specs.declared.pool.Pool.{Pool}
 use Rattle.entry_core.specs.Locality.{group_for}

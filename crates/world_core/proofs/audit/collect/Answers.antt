@@ -1,4 +1,4 @@
-use Rattle.std.proofs.Common.{◌≡◌, ◌++◌, ◌∙◌}
+use Rattle.std.proofs.Common.{◌∙◌}
 use Rattle.world_core.proofs.RunPlaces.{told_next}
 use Rattle.world_core.proofs.audit.collect.Goals as goal
 

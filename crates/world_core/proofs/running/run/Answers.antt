@@ -1,4 +1,4 @@
-use Rattle.std.proofs.Common.{◌≡◌, ◌≤◌, length, take, subst}
+use Rattle.std.proofs.Common.{◌≡◌, take, subst}
 use Rattle.std.proofs.lemmas.List.{take_all}
 use Rattle.world_core.proofs.RunsOfEvents.{IsAfter, after_next, after_none}
 use Rattle.world_core.proofs.running.run.Goals as goal

@@ -1,4 +1,4 @@
-use Rattle.world_core.proofs.Takings.{given_back, just_taken}
+use Rattle.world_core.proofs.Takings.{given_back}
 use Rattle.world_core.proofs.taking.take_back_at.Goals as goal
 
 pub returns : goal.returns

@@ -1,6 +1,5 @@
 use Rattle.std.proofs.Common.{subst}
 use Rattle.world_core.specs.Sound.{IsSound}
-use Rattle.world_core.specs.Applying.{Applies}
 use Rattle.world_core.proofs.Messages.{applied_holds}
 use Rattle.world_core.proofs.world.World.apply.Goals as goal
 

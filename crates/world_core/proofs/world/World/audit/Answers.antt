@@ -1,4 +1,3 @@
-use Rattle.std.proofs.Common.{◌≡◌, sym}
 use Rattle.world_core.proofs.world.World.audit.Goals as goal
 
 pub collect-requires : goal.collect-requires

@@ -1,4 +1,3 @@
-use Rattle.std.proofs.Common.{refl}
 use Rattle.world_core.specs.Inside.{world_of}
 use Rattle.world_core.proofs.GroupsOf.{are_groups}
 use Rattle.world_core.proofs.MapEvents.{mapped, mapped_kept}

@@ -1,10 +1,8 @@
-use Rattle.std.proofs.Common.{◌≡◌, ◌∙◌, Err, refl, sym, subst}
+use Rattle.std.proofs.Common.{◌∙◌, refl, sym, subst}
 use Rattle.world_core.specs.Event.{ListNames}
-use Rattle.world_core.specs.Inside.{world_of}
-use Rattle.world_core.specs.Applying.{Applies}
 use Rattle.world_core.specs.Taking.{TakesAll}
 use Rattle.world_core.proofs.Messages.{kept_on}
-use Rattle.world_core.proofs.RequestEvents.{AsksFor, vector_asks, list_asks, all_within, refused_asking, refused_taking, asked, asked_nothing, few_now}
+use Rattle.world_core.proofs.RequestEvents.{AsksFor, list_asks, all_within, refused_asking, refused_taking, asked, asked_nothing, few_now}
 use Rattle.world_core.proofs.world.World.list.Goals as goal
 
 pub take_requests-requires : goal.take_requests-requires

@@ -1,7 +1,6 @@
-use Rattle.std.proofs.Common.{rules, ◌≡◌, ◌<◌, Some, None, IsSomeAnd, length, sym, subst}
-use Rattle.group_core.specs.Group.{Group}
+use Rattle.std.proofs.Common.{rules, ◌≡◌, ◌<◌, Some, None, length}
 use Rattle.world_core.specs.Front.{group_refusal}
-use Rattle.world_core.specs.World.{World, group_at}
+use Rattle.world_core.specs.World.{group_at}
 use Rattle.world_core.proofs.GroupsOf.{asked_found, asked_place, asked_there}
 use Rattle.world_core.proofs.world.World.wire.Goals as goal
 
