@@ -157,6 +157,13 @@ impl Sealed {
         })
     }
 
+    /// The number of the group that it goes to, in the view's pool. It takes no memory.
+    pub fn group_number(&self) -> u32
+        ensures { result ≡ self.now.group }
+    {
+        self.parts.group
+    }
+
     /// The pool as the asker saw it.
     pub fn view(&self) -> &PoolView
         ensures view { result.now ≡ self.now.view }
