@@ -17,3 +17,4 @@ pub mod Requests
 pub mod Intervals
 pub mod Accepted
 pub mod Listings
+pub mod ScriptWords

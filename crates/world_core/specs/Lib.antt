@@ -13,3 +13,4 @@ pub mod Accepted
 pub mod Command
 pub mod Text
 pub mod Script
+pub mod Taking

@@ -6,6 +6,7 @@
 
 mod event;
 mod fault;
+mod fault_text;
 mod laws;
 mod ops;
 mod script;
