@@ -37,7 +37,7 @@ use Rattle.world_core.specs.Front.{Front, Session, front_step, front_refusal, as
 use Rattle.world_core.specs.World.{World, Part, part, first_world, group_at, groups_of, members_of, map_parts, asked_parts, parts_of, begun_group, created_by, refused_in, parts_refusal, is_accepted, world_step, world_after}
 use Rattle.world_core.specs.Holds.{events_in, group_step_alone, AcceptedFrom, AreAccepted}
 use Rattle.world_core.specs.Groups.{is_for}
-use Rattle.world_core.specs.Accepted.{RequestsAreSubmissions, FrontTells, FrontTellsRequests, AcceptedHolds, AcceptedAnswers, IntervalsAreTheMaps, GroupsAreServed}
+use Rattle.world_core.specs.Accepted.{RequestsAreSubmissions, FrontTells, FrontTellsRequests, AcceptedHolds, AcceptedAnswers, IntervalsAreTheMaps, IsServed, GroupsAreServed}
 use Rattle.world_core.proofs.Merge.{same_group, bytes_refl}
 use Rattle.world_core.proofs.Bytes.{number_same}
 use Rattle.world_core.proofs.Pools.{InMap, in_later, found_in}
@@ -52,24 +52,7 @@ use Rattle.world_core.proofs.Limits.{or_second, wrapped_none, not_refused, Allow
 use Rattle.world_core.proofs.Sets.{IsMap, set_acting, members_fit, lies_within}
 use Rattle.world_core.proofs.Requests.{facts, told_one, asked_facts, moved_facts, restarted_facts}
 use Rattle.world_core.proofs.Intervals.{sized_set, members_are, intervals_after, intervals_none, HasSets, later, sets_after, sets_kept}
-
--- a group of so many daemons, each of whose acting sets lay within those that were up
-pub record IsWithin (count : ℕ) (g : Group) : Type 0 where
-  pub is : IsReachedWithin g
-  pub all : is.reached.daemons ≡ count
-
-pub record GroupKept (f : Front) (id : GroupId) (g : Group) : Type 0 where
-  pub requests : g.requests ≡ filter (is_for id) f.submissions
-  pub groups : ℕ
-  pub pool : InMap f.history id.pool groups
-  pub number : id.number < groups
-  pub up : g.up ≡ numbers_of (map_of f.history).up
-  pub sets : HasSets f.history id g.sets
-  pub within : IsWithin (map_of f.history).daemons g
-
-pub record WorldKept (w : World) : Type 0 where
-  pub front : FrontKept w.front
-  pub groups : (id : GroupId) (g : Group) → group_at id w.groups ≡ Some g → GroupKept w.front id g
+pub use Rattle.world_core.specs.Sound.{IsWithin, GroupKept, WorldKept}
 
 -- ---- what no group refuses
 
@@ -426,7 +409,7 @@ new_kept f (Kick other) id g kept then_kept none h = absurd (cc)
 
 -- ---- histories
 
-world_kept : (w : World) (e : Event) → WorldKept w → is_accepted w e ≡ true → WorldKept (world_step w e)
+pub world_kept : (w : World) (e : Event) → WorldKept w → is_accepted w e ≡ true → WorldKept (world_step w e)
 world_kept w e h accepted = record {
   front = next;
   groups = λ id g is. go id g (group_at id w.groups) refl (sym (step_at id w e) ∙ is);
@@ -508,7 +491,7 @@ told_alone : (first : Option Fault) (rest : Option GroupFault) → (first ≡ No
 told_alone None rest h = ap (option_map OfGroup) (h refl)
 told_alone (Some fault) rest h = refl
 
-front_tells : (w : World) → WorldKept w → FrontStands w.front → FrontTells w
+pub front_tells : (w : World) → WorldKept w → FrontStands w.front → FrontTells w
 unfolding requests_of
 front_tells w kept stands = record {
   submit = λ ask object ops. told_alone (front_refusal w.front (Submit ask object ops)) (parts_refusal w.groups (parts_of w.front (Submit ask object ops))) (λ none.
@@ -530,10 +513,8 @@ intervals_are_the_maps table daemons events accepted id g there = ((accepted_kep
 pub accepted_holds : AcceptedHolds
 accepted_holds table daemons events accepted = world_holds table daemons events (accepted_has_numbers table daemons events accepted)
 
-pub groups_are_served : GroupsAreServed
-groups_are_served table daemons events id g accepted there =
-    let w : World = world_after table daemons events in
-    let k : WorldKept w = accepted_kept table daemons events accepted in
+pub group_served : (w : World) (id : GroupId) (g : Group) → WorldKept w → group_at id w.groups ≡ Some g → IsServed w id g
+group_served w id g k there =
     let h : GroupKept w.front id g = k.groups id g there in
     let A : List ℕ → Type 0 = λ up. IsActingSet up (last_set g.sets) in
     record {
@@ -543,6 +524,9 @@ groups_are_served table daemons events id g accepted there =
       present = h.sets.present;
       acting = subst A (sym h.up) (set_acting (map_of w.front.history) id (last_set g.sets) (record { history = w.front.history; accepted = k.front.accepted; is = refl }) h.sets.present);
     }
+
+pub groups_are_served : GroupsAreServed
+groups_are_served table daemons events id g accepted there = group_served (world_after table daemons events) id g (accepted_kept table daemons events accepted) there
 
 pub front_tells_requests : FrontTellsRequests
 front_tells_requests table daemons events accepted =

@@ -19,23 +19,13 @@ use Rattle.group_core.specs.Asked.{IsAsked}
 use Rattle.world_core.specs.Event.{Ask, Event, Auth, Map, Open, Renew, Close, Submit, ListNames, Deliver, Lose, Repeat, Kick, Fault, NoPool, StaleEpoch, StaleTick, BadObjectName, OfNeeds}
 use Rattle.entry_core.specs.Locality.{Hashes, IsPlaced}
 use Rattle.world_core.specs.Standing.{group_count}
+pub use Rattle.world_core.specs.Stands.{IsSealedWell, FrontStands}
 use Rattle.world_core.specs.Front.{Session, Front, Asker, ◌>>=◌, need, unless, lower, if_ok, session_of, session_at, opened, ticket_for, asker_of, is_object_name, is_namespace, sealed_of, vector_of, pieces_of, requests_of, sealed_by, asks_more, asked, front_step}
 use Rattle.world_core.proofs.Pools.{InMap, in_later, view_in, counted}
 use Rattle.world_core.proofs.Numbers.{next_in as next_of_found, next_at, open_is, IsGiven, Onward, given_later, pushed_onward, pushed_most, at_onward, at_most, at_here, NumberedFrom, asked_later, all_asked, news_given}
 
--- sealed by a pool that the map has, and for the group of its object
-pub record IsSealedWell (history : History) (s : Sealed) : Type 0 where
-  pub pool : InMap history s.view.pool s.view.pg_num
-  pub hashes : Hashes s.view.pg_num s.namespace s.group s.work
-
 pub placed : (history : History) (s : Sealed) → IsSealedWell history s → IsPlaced (group_count history) s
 placed history s h = record { counts = counted history s.view.pool s.view.pg_num h.pool; hashes = h.hashes }
-
-pub record FrontStands (f : Front) : Type 0 where
-  pub given : Each (λ r. IsGiven f.sessions r.id) f.submissions
-  pub most : (n : ℕ) → next_at f.sessions n ≤ length f.submissions + 1
-  pub asked : Each (IsAsked f.submissions) f.submissions
-  pub sealed : Each (IsSealedWell f.history) f.submissions
 
 -- ---- what an accepted request was made of
 

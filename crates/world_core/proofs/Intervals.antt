@@ -21,6 +21,7 @@ use Rattle.world_core.proofs.Merge.{bytes_refl, number_refl}
 use Rattle.world_core.proofs.Bytes.{bytes_same, number_same, both_true}
 use Rattle.world_core.proofs.Places.{true_not_false}
 use Rattle.world_core.proofs.Requests.{moved_sets, restarted_sets}
+pub use Rattle.world_core.specs.Sound.{HasSets}
 
 -- ---- sets
 
@@ -73,11 +74,6 @@ pub intervals_none : (h : History) (pool : List ℕ) (number : ℕ) → set_of (
 intervals_none h pool number none = subst (λ o. EndIn o (intervals_of h pool number)) none (present_set_is_last h pool number)
 
 -- ---- one more command, in a group that is there
-
--- the sets of a group are the intervals, and the last is the present one
-pub record HasSets (h : History) (id : GroupId) (sets : List (List ℕ)) : Type 0 where
-  pub are : sets ≡ intervals_of h id.pool id.number
-  pub present : set_of (map_of h) id.pool id.number ≡ Some (last_set sets)
 
 abbrev pub later : History → MapCommand → History
 later h c = record h { commands = h.commands ++ c ∷ [] }

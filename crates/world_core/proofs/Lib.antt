@@ -18,3 +18,9 @@ pub mod Intervals
 pub mod Accepted
 pub mod Listings
 pub mod ScriptWords
+pub mod PlaceIn
+pub mod Sounds
+pub mod Calling
+pub mod RunPlaces
+pub mod Messages
+pub mod GroupsOf

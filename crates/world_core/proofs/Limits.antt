@@ -35,6 +35,7 @@ use Rattle.world_core.proofs.Bytes.{bytes_same}
 use Rattle.world_core.proofs.Acting.{each_join, each_weaker}
 use Rattle.world_core.proofs.Fronts.{IsSealedWell, IsBelow, Requested, submit_made, list_made}
 use Rattle.world_core.proofs.Places.{true_not_false, each_filter, all_pass, group_turned, NamedOnce, places_once, AtMostOne}
+pub use Rattle.world_core.specs.Sound.{IsSealedFor, FrontKept}
 
 -- ---- what an accepted event was let through by
 
@@ -128,15 +129,6 @@ creates_well state epoch name pg_num size min_size h =
     below_32 n k = grind (arith, nat_tests)
 
 -- ---- the front
-
-pub record IsSealedFor (history : History) (s : Sealed) : Type 0 where
-  pub well : IsSealedWell history s
-  pub below : s.group < s.view.pg_num
-
-pub record FrontKept (f : Front) : Type 0 where
-  pub accepted : IsAccepted f.history
-  pub sealed : Each (IsSealedFor f.history) f.submissions
-  pub few : (id : GroupId) → length (filter (is_for id) f.submissions) ≤ 16384
 
 pub once : (f : Front) → FrontKept f → NamedOnce (map_of f.history).pools
 once f h = named_once (map_of f.history).pools (pools_differ f.history h.accepted)

@@ -11,12 +11,7 @@ use Rattle.map_core.specs.declared.pool.PoolView.{PoolView}
 use Rattle.map_core.specs.declared.command.MapCommand.{MapCommand}
 use Rattle.map_core.proofs.Kept.{pools_stay, views_are_of_pools}
 use Rattle.world_core.specs.Standing.{group_count}
-
--- the map of a history has the pool, with so many groups
-pub record InMap (history : History) (name : List ℕ) (groups : ℕ) : Type 0 where
-  pub size : ℕ
-  pub min_size : ℕ
-  pub is : HasPool history name groups size min_size
+pub use Rattle.world_core.specs.Stands.{InMap}
 
 pub in_later : (history : History) (more : List MapCommand) (name : List ℕ) (groups : ℕ) → InMap history name groups → InMap (record history { commands = history.commands ++ more }) name groups
 in_later history more name groups h = record { size = h.size; min_size = h.min_size; is = pools_stay history more name groups h.size h.min_size h.is }

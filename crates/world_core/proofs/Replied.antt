@@ -9,7 +9,8 @@ use Rattle.group_core.specs.Each.{Each}
 use Rattle.group_core.specs.Group.{submitted}
 use Rattle.group_core.specs.Asked.{IsAsked}
 use Rattle.world_core.specs.World.{World, world_after}
-use Rattle.world_core.specs.Answers.{AnswersAreDecided}
+use Rattle.group_core.specs.Types.{Outcome}
+use Rattle.world_core.specs.Answers.{answer_at, IsAnswered, AnswersAreDecided}
 use Rattle.world_core.proofs.Worlds.{WorldStands, world_stands, world_legal, world_replied}
 
 -- what holds of each entry holds of one that is found
@@ -21,10 +22,8 @@ found_one P (x ∷ xs) id e all is = go (x.sealed.id == id) is (λ more. found_o
     go true one rest = let same : x ≡ e = cc in subst P same all.0
     go false more rest = rest more
 
-pub answers_are_decided : AnswersAreDecided
-answers_are_decided table daemons events id reply room is =
-    let w : World = world_after table daemons events in
-    let h : WorldStands w = world_stands table daemons events room in
+pub world_answered : (w : World) (id : ℕ) (reply : Outcome) → WorldStands w → answer_at w id ≡ Some reply → IsAnswered w id reply
+world_answered w id reply h is =
     let r = world_replied w h id reply is in
     let f : StandsIn w.audit id r.entry = find_tells w.audit id r.entry (world_legal w h) r.found in
     let asked : IsAsked w.front.submissions r.entry.sealed = found_one (λ x. IsAsked w.front.submissions x.sealed) w.audit id r.entry h.asked r.found in
@@ -43,3 +42,6 @@ answers_are_decided table daemons events id reply room is =
         denied = ap is_denied (sym r.is ∙ kept) ∙ (verdict_is_sealed f.before r.entry.sealed).0;
       };
     }
+
+pub answers_are_decided : AnswersAreDecided
+answers_are_decided table daemons events id reply room is = world_answered (world_after table daemons events) id reply (world_stands table daemons events room) is

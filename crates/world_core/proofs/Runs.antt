@@ -46,7 +46,7 @@ longer_all : (gs hs : List Group) (runs : List Run) → Longer gs hs → Each (F
 longer_all gs hs [] more f = refl
 longer_all gs hs (r ∷ rs) more f = λ i. longer_tells gs hs r more f.0 i ++ longer_all gs hs rs more f.1 i
 
-same_begins : (xs ys : List Entry) → xs ≡ ys → Begins xs ys
+pub same_begins : (xs ys : List Entry) → xs ≡ ys → Begins xs ys
 same_begins xs ys e = record { rest = []; whole = append-nil xs ∙ e }
 
 -- ---- one part
@@ -69,7 +69,7 @@ acted_longer w p id = go (is_same_group id p.id) refl
         subst P (sym there) (subst Q (sym (group_at_self p.id (λ g. group_step g p.event) keeps w.groups)) (stepped (group_at p.id w.groups)))
     go false is = same_begins (audit_at id w.groups) (audit_at id (act w p).groups) (sym (ap audit_in (group_at_other p.id id (λ g. group_step g p.event) keeps is w.groups)))
 
-all_of_it : (n : ℕ) (xs : List Entry) → n ≤ length xs → take (length xs - n) (drop n xs) ≡ drop n xs
+pub all_of_it : (n : ℕ) (xs : List Entry) → n ≤ length xs → take (length xs - n) (drop n xs) ≡ drop n xs
 all_of_it n xs h =
     let long : length (drop n xs) ≡ length xs - n = length-drop n xs in
     ap (λ k. take k (drop n xs)) (sym long) ∙ take-length (drop n xs)

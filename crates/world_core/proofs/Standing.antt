@@ -13,6 +13,7 @@ use Rattle.group_core.proofs.Groups.{run_good, start_good, audit_legal, run-appe
 use Rattle.group_core.proofs.Kept.{run_kept, start_kept}
 use Rattle.group_core.proofs.Submits.{all_submitted}
 use Rattle.entry_core.specs.Locality.{group_for}
+pub use Rattle.world_core.specs.Sound.{Submits, Stands}
 
 -- no event changes which group it is
 
@@ -68,24 +69,6 @@ step_is id (Restart d) g is =
 step_is id Kick g is = is
 
 -- a group that some events made, of which each submission is one of these, for this group
-
-abbrev pub Submits : List Sealed → GroupId → Event → Type 0
-Submits submissions id (Submit s) = IsAsked submissions s × (group_for s ≡ id)
-Submits submissions id (Deliver k) = Unit {0}
-Submits submissions id (Lose k) = Unit {0}
-Submits submissions id (Repeat k) = Unit {0}
-Submits submissions id (NewInterval acting up) = Unit {0}
-Submits submissions id (Restart d) = Unit {0}
-Submits submissions id Kick = Unit {0}
-
-pub record Stands (submissions : List Sealed) (g : Group) : Type 0 where
-  pub min_size : ℕ
-  pub count : ℕ
-  pub acting : List ℕ
-  pub up : List ℕ
-  pub events : List Event
-  pub submits : Each (Submits submissions g.group) events
-  pub is : run events (start g.group min_size count acting up) ≡ g
 
 pub stands_step : (submissions : List Sealed) (g : Group) (e : Event) → Stands submissions g → Submits submissions g.group e → Stands submissions (group_step g e)
 stands_step submissions g e h new =

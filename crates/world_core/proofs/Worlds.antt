@@ -28,19 +28,14 @@ use Rattle.world_core.specs.Merging.{part_of, IsKnown}
 use Rattle.world_core.specs.Front.{Front, sealed_by, front_step}
 use Rattle.world_core.specs.World.{World, Part, part, first_world, group_at, decided_in, act, acted, groups_of, members_of, map_parts, asked_parts, parts_of, begun_group, created_by, world_step, world_after}
 use Rattle.world_core.specs.Standing.{audit_in, audit_at, group_count, IsMerged, AllSubmitted, HasNumbers}
-use Rattle.world_core.specs.Answers.{answer_in, answer_to, answer_at, DecidedIsOneList, AuditGrows, AnswersStand}
+use Rattle.world_core.specs.Answers.{answer_in, answer_to, answer_at, IsOneList, DecidedIsOneList, AuditGrows, AnswersStand}
 use Rattle.world_core.proofs.Merge.{same_group, group_refl, parts_are_legal_together}
 use Rattle.world_core.proofs.Standing.{step_is, Submits, Stands, stands_legal}
 use Rattle.world_core.proofs.Acting.{act_stands, act_asked, act_merged, group_at_self, group_at_other, group_at_each, each_join, each_weaker}
 use Rattle.world_core.proofs.Bytes.{number_same}
 use Rattle.world_core.proofs.Numbers.{asked_later}
 use Rattle.world_core.proofs.Fronts.{IsSealedWell, placed, FrontStands, front_stands}
-
-pub record WorldStands (w : World) : Type 0 where
-  pub front : FrontStands w.front
-  pub groups : Each (Stands w.front.submissions) w.groups
-  pub asked : Each (λ x. IsAsked w.front.submissions x.sealed) w.audit
-  pub merged : IsMerged w
+pub use Rattle.world_core.specs.Sound.{WorldStands}
 
 -- ---- more submissions
 
@@ -174,7 +169,7 @@ joined_audits rs id (g ∷ gs) news h = go (is_same_group id g.group) (joined_au
 
 -- ---- one event
 
-step_stands : (w : World) (e : Event) → WorldStands w → length (world_step w e).front.submissions < 4294967296 → WorldStands (world_step w e)
+pub step_stands : (w : World) (e : Event) → WorldStands w → length (world_step w e).front.submissions < 4294967296 → WorldStands (world_step w e)
 step_stands w e h room =
     let rs : List Sealed = (front_step w.front e).submissions in
     let f = front_stands w.front e h.front room in
@@ -206,7 +201,7 @@ stands_through (e ∷ es) w h room =
     let b : length (world_step w e).front.submissions ≤ length (fold world_step (world_step w e) es).front.submissions = more_submitted es (world_step w e) in
     stands_through es (world_step w e) (step_stands w e h (omega arith)) room
 
-first_stands : (table : Table) (daemons : ℕ) → WorldStands (first_world table daemons)
+pub first_stands : (table : Table) (daemons : ℕ) → WorldStands (first_world table daemons)
 first_stands table daemons = record { front = record { given = tt; most = λ n. omega arith; asked = tt; sealed = tt }; groups = tt; asked = tt; merged = λ id. refl }
 
 pub world_stands : (table : Table) (daemons : ℕ) (events : List Event) → HasNumbers (world_after table daemons events) → WorldStands (world_after table daemons events)
@@ -283,15 +278,11 @@ world_replied w h id reply is = go (submitted w.front.submissions id) refl is
     go None none a = absurd (cc)
     go (Some s) asked a = at s asked (group_at (group_for s) w.groups) refl a
 
+pub world_one_list : (w : World) → WorldStands w → IsOneList w
+world_one_list w h = record { legal = world_legal w h; merged = h.merged; submitted = audit_placed w h; answered = world_replied w h }
+
 pub decided_is_one_list : DecidedIsOneList
-decided_is_one_list table daemons events room =
-    let h : WorldStands (world_after table daemons events) = world_stands table daemons events room in
-    record {
-      legal = world_legal (world_after table daemons events) h;
-      merged = h.merged;
-      submitted = audit_placed (world_after table daemons events) h;
-      answered = world_replied (world_after table daemons events) h;
-    }
+decided_is_one_list table daemons events room = world_one_list (world_after table daemons events) (world_stands table daemons events room)
 
 acted_grows : (parts : List Part) (w : World) → Begins w.audit (acted w parts).audit
 acted_grows [] w = record { rest = []; whole = append-nil w.audit }

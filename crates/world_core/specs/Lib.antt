@@ -14,3 +14,12 @@ pub mod Command
 pub mod Text
 pub mod Script
 pub mod Taking
+pub mod Refusing
+pub mod Moves
+pub mod Asking
+pub mod Stands
+pub mod Submitting
+pub mod Calls
+pub mod Inside
+pub mod Sound
+pub mod Applying

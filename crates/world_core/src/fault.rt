@@ -1,9 +1,15 @@
 //! Why a call on a world is refused.
 
+ghost use Rattle.std.specs.Prelude.{◌≡◌};
+ghost use Rattle.world_core.specs.Event.{OutOfMemory};
+ghost use Rattle.world_core.specs.Front.{users_fault};
+ghost use Rattle.world_core.specs.Refusing.{fault_of_map, fault_of_needs};
+
 use auth_db::AuthFault;
 use group_core::GroupFault;
 use map_core::MapFault;
 use object_core::NeedsFault;
+use std::alloc::{AllocError, AllocFailed};
 
 /// Why a call on a world is refused. Each leaves the world as it was, but for a delivery to a daemon that is down (P2), which
 /// has dropped its message.
@@ -35,4 +41,53 @@ pub enum WorldFault {
     Needs(NeedsFault),
     /// A fault of a group.
     Group(GroupFault),
+}
+
+impl From<AllocError> for WorldFault {
+    ghost from_gives = { λ _ fault. fault ≡ OutOfMemory };
+
+    fn from(_error: AllocError) -> WorldFault {
+        WorldFault::OutOfMemory
+    }
+}
+
+impl<T: Drop> From<AllocFailed<T>> for WorldFault {
+    ghost from_gives = { λ _ fault. fault ≡ OutOfMemory };
+
+    fn from(_error: AllocFailed<T>) -> WorldFault {
+        WorldFault::OutOfMemory
+    }
+}
+
+impl From<AuthFault> for WorldFault {
+    ghost from_gives = { λ lower fault. fault ≡ users_fault lower };
+
+    fn from(lower: AuthFault) -> WorldFault {
+        match lower {
+            AuthFault::OutOfMemory => WorldFault::OutOfMemory,
+            fault => WorldFault::Auth(fault),
+        }
+    }
+}
+
+impl From<MapFault> for WorldFault {
+    ghost from_gives = { λ lower fault. fault ≡ fault_of_map lower };
+
+    fn from(lower: MapFault) -> WorldFault {
+        match lower {
+            MapFault::OutOfMemory => WorldFault::OutOfMemory,
+            fault => WorldFault::Map(fault),
+        }
+    }
+}
+
+impl From<NeedsFault> for WorldFault {
+    ghost from_gives = { λ lower fault. fault ≡ fault_of_needs lower };
+
+    fn from(lower: NeedsFault) -> WorldFault {
+        match lower {
+            NeedsFault::OutOfMemory => WorldFault::OutOfMemory,
+            fault => WorldFault::Needs(fault),
+        }
+    }
 }

@@ -4,13 +4,23 @@
 //! over the commands of the Ceph manual and the placement groups of the RADOS paper.
 #![tactic(auto)]
 
+mod audit;
+mod calls;
+mod creating;
 mod event;
 mod fault;
 mod fault_text;
+mod front;
+mod group_places;
 mod laws;
+mod lists;
+mod moves;
 mod ops;
 mod script;
+mod running;
 mod session;
+mod submissions;
+mod world;
 
 pub use event::{Ask, AuthCommand, Event, Told};
 pub use fault::WorldFault;
@@ -20,3 +30,5 @@ pub use laws::{
     requests_are_submissions, runs_tell_the_audit, tickets_are_read, worlds_hold,
 };
 pub use ops::Ops;
+pub use running::run;
+pub use world::World;

@@ -1,0 +1,9 @@
+use Rattle.std.proofs.Common.{◌≡◌, ◌+◌, ◌*◌, ◌≤◌, drop}
+use Rattle.world_core.specs.Moves as spec
+use Rattle.world_core.proofs.group_places.place_in.Given as goal
+
+abbrev pub invariant-loop-pool : goal.invariant-loop-pool
+invariant-loop-pool l = record {
+  is : l.before + spec.place_in (drop l.pool-index l.pools) l.group ≡ spec.place_in l.pools l.group;
+  few : l.before ≤ 64 * l.pool-index;
+}

@@ -1,0 +1,69 @@
+-- Refinement: only contracts inside the crate use it.
+-- What one event does to a world, and one call to a group and its runs.
+use Rattle.std.specs.Prelude.{◌≡◌, ◌⊎◌, ℕ, List, [], ◌∷◌, ◌++◌, true, false, if◌then◌else◌, Option, None, Some, Result, Ok, Err, IfOk, length, nat_lt, slice_get, slice_set}
+use Rattle.entry_core.specs.declared.sealed.GroupId.{GroupId}
+use Rattle.group_core.specs.Group.{Group, group_step, left_by}
+use Rattle.group_core.specs.Group as group
+use Rattle.group_core.specs.declared.fault.GroupFault.{GroupFault}
+use Rattle.group_core.specs.declared.fault.GroupFault.TheVariants as group_fault
+use Rattle.world_core.specs.Event.{Event, Deliver, Lose, Repeat, Kick, Told, Done, Fault, OutOfMemory, OfGroup}
+use Rattle.world_core.specs.Front.{told_of}
+use Rattle.world_core.specs.World.{World, counts, refusal_of, world_step}
+use Rattle.world_core.specs.Refusing.{RefusedOrMemory}
+use Rattle.world_core.specs.declared.audit.Run.{Run}
+use Rattle.world_core.specs.declared.calls.GroupCall.{GroupCall}
+use Rattle.world_core.specs.declared.calls.GroupCall.TheVariants as calls
+
+-- what an event does, whatever came of it
+pub record Applies (old : World) (e : Event) (result : Result Told Fault) (new : World) : Type 0 where
+  pub steps : counts e result ≡ true → new ≡ world_step old e
+  pub tells : IfOk result (λ told. told ≡ told_of old.front e)
+  pub refused : RefusedOrMemory (refusal_of old e) result
+  pub unchanged : counts e result ≡ false → new ≡ old
+
+-- ---- calls on one group
+
+-- a fault of a group, where want of memory is the world's own
+abbrev pub fault_of_group : GroupFault → Fault
+fault_of_group group_fault.OutOfMemory = OutOfMemory
+fault_of_group (group_fault.NoMessage place) = OfGroup (group_fault.NoMessage place)
+fault_of_group group_fault.Unreachable = OfGroup group_fault.Unreachable
+fault_of_group group_fault.Full = OfGroup group_fault.Full
+fault_of_group group_fault.Doubled = OfGroup group_fault.Doubled
+
+-- a call, as the group sees it
+abbrev pub event_of : GroupCall → group.Event
+event_of (calls.Deliver place) = group.Deliver place
+event_of (calls.Lose place) = group.Lose place
+event_of (calls.Repeat place) = group.Repeat place
+event_of calls.Kick = group.Kick
+
+-- the event that is such a call on a group
+abbrev pub event_for : GroupId → GroupCall → Event
+event_for id (calls.Deliver place) = Deliver id place
+event_for id (calls.Lose place) = Lose id place
+event_for id (calls.Repeat place) = Repeat id place
+event_for id calls.Kick = Kick id
+
+-- what a call tells
+abbrev pub told_call : Result (Unit {0}) GroupFault → Result Told Fault
+told_call (Ok done) = Ok Done
+told_call (Err fault) = Err (fault_of_group fault)
+
+-- a call on an event: it happens where nothing refuses it, and is refused for the reason that there is or for want of memory
+abbrev pub StepsOrMemory : {T : Type 0} → Group → group.Event → Result T GroupFault → Group → Type 0
+StepsOrMemory old e (Ok done) new = (group.refusal_of old e ≡ None) × (new ≡ group_step old e)
+StepsOrMemory old e (Err fault) new = ((fault ≡ group_fault.OutOfMemory) × (new ≡ old)) ⊎ ((group.refusal_of old e ≡ Some fault) × (new ≡ left_by old e fault))
+
+-- the run from one count of decided entries to another, if there is any
+abbrev pub runs_from : ℕ → ℕ → ℕ → List Run
+runs_from place from upto = if nat_lt from upto then record { group = place; from = from; upto = upto } ∷ [] else []
+
+-- a call on the group at a place
+pub record CalledAt {T : Type 0} (groups : List Group) (runs : List Run) (place : ℕ) (e : group.Event) (result : Result T GroupFault) (groups_then : List Group) (runs_then : List Run) : Type 0 where
+  pub old : Group
+  pub new : Group
+  pub there : slice_get groups place ≡ Some old
+  pub steps : StepsOrMemory old e result new
+  pub groups_are : groups_then ≡ slice_set groups place new
+  pub runs_are : runs_then ≡ runs ++ runs_from place (length old.audit) (length new.audit)

@@ -1,0 +1,42 @@
+-- Statement: contracts of public calls use it.
+-- What calls on a world answer.
+use Rattle.std.specs.Prelude.{◌≡◌, ◌⊎◌, ℕ, Bool, true, List, ◌∷◌, ◌++◌, Option, None, Some, Result, Ok, Err, if◌then◌else◌, length, not, slice_get, take}
+use Rattle.grant_core.specs.Flat.{Table}
+use Rattle.entry_core.specs.declared.entry.Entry.{Entry}
+use Rattle.entry_core.specs.declared.reply.Reply.{Reply}
+use Rattle.entry_core.specs.declared.sealed.GroupId.{GroupId}
+use Rattle.group_core.specs.Group.{Group, is_submitted}
+use Rattle.group_core.specs.Replicated.{IsReplicated}
+use Rattle.group_core.specs.Types.{Outcome, Sent}
+use Rattle.world_core.specs.Event.{Event, Told, Fault, NoRequest, OutOfMemory}
+use Rattle.world_core.specs.World.{World, group_at, refusal_of, world_after}
+use Rattle.world_core.specs.Holds.{AreAccepted, HasIntervals}
+use Rattle.world_core.specs.Standing.{HasNumbers}
+use Rattle.world_core.specs.Answers.{IsOneList, IsAnswered, answer_at}
+use Rattle.world_core.specs.Accepted.{HasRequests, FrontTells, IsServed}
+
+-- why there is no answer: no such request was submitted
+abbrev pub answer_refusal : World → ℕ → Option Fault
+answer_refusal w id = if is_submitted w.front.submissions id then None else Some NoRequest
+
+-- what holds of every group of a world
+pub record KeepsGroup (w : World) (id : GroupId) (g : Group) : Type 0 where
+  pub served : IsServed w id g
+  pub replicated : IsReplicated g
+
+-- what holds of every world of the program
+pub record KeepsPromises (w : World) : Type 0 where
+  pub one_list : IsOneList w
+  pub numbers : HasNumbers w
+  pub requests : HasRequests w
+  pub front : FrontTells w
+  pub intervals : HasIntervals w
+  pub groups : (id : GroupId) (g : Group) → group_at id w.groups ≡ Some g → KeepsGroup w id g
+  pub answers : (id : ℕ) (reply : Outcome) → answer_at w id ≡ Some reply → IsAnswered w id reply
+
+-- the first event that was refused, counted from 0: those before it were accepted, and none of them was a delivery to a daemon that is down
+pub record IsFirstRefused (table : Table) (daemons : ℕ) (events : List Event) (place : ℕ) (fault : Fault) : Type 0 where
+  pub event : Event
+  pub there : slice_get events place ≡ Some event
+  pub before : AreAccepted table daemons (take place events)
+  pub refused : (fault ≡ OutOfMemory) ⊎ (refusal_of (world_after table daemons (take place events)) event ≡ Some fault)

@@ -1,0 +1,183 @@
+//! Users, map, sessions, submissions and lists: what no group, message or copy has a part in.
+
+ghost use Rattle.std.specs.Prelude.{◌≡◌, ◌≤◌, ◌<◌, ℕ, List, [], ◌∷◌, None, Ok, OnOk, OnErr, IfOk, IsOk, IsErr, length, option_copied};
+ghost use Rattle.object_core.specs.declared.op.Op as op;
+ghost use Rattle.group_core.specs.Each.{Each};
+ghost use Rattle.group_core.specs.Group.{submitted};
+ghost use Rattle.world_core.specs.Event.{Auth, Map, Open, Renew, Close, Submit, ListNames};
+ghost use Rattle.world_core.specs.Front.{error_of, first_front, front_refusal, front_step, requests_of, told_of};
+ghost use Rattle.world_core.specs.Listing.{list_at};
+ghost use Rattle.world_core.specs.Asking.{IsOfList, IsOfVector};
+ghost use Rattle.world_core.specs.Refusing.{RefusedOrMemory};
+
+use crate::event::{Ask, AuthCommand, Told};
+use crate::fault::WorldFault;
+use crate::lists::Lists;
+use crate::ops::Ops;
+use crate::session::{Pieced, Sessions};
+use crate::submissions::Submissions;
+use auth_db::AuthDb;
+use cap_text::{Name, OutOfMemory};
+use entry_core::{Id, Items, Sealed};
+use grant_core::ProfileTable;
+use map_core::{ClusterMap, MapCommand};
+use std::alloc::Global;
+use std::marker::Model;
+
+/// Users, map, sessions, submissions and lists. Contracts see it as the definitions' front.
+#[derive(Drop)]
+pub(crate) struct Front {
+    alloc: Global,
+    users: AuthDb,
+    map: ClusterMap,
+    sessions: Sessions,
+    submissions: Submissions,
+    lists: Lists,
+}
+
+impl Model for Front {
+    ghost use Rattle.world_core.specs.Front as definition;
+    ghost use Rattle.world_core.specs.Stands.{IsKept};
+
+    ghost Value = { definition.Front };
+
+    ghost view = { λ a. record { database = a.users; history = a.map; sessions = a.sessions; submissions = a.submissions; lists = a.lists } };
+
+    ghost invariant = { λ a. IsKept (record { database = a.users; history = a.map; sessions = a.sessions; submissions = a.submissions; lists = a.lists }) };
+}
+
+impl Front {
+    /// No users, no pools, no sessions. All daemons, 1 to 16, are up. It takes no memory.
+    pub fn new(alloc: Global, table: ProfileTable, daemons: u8) -> Front
+        requires some { 1 ≤ daemons }
+        requires few { daemons ≤ 16 }
+        ensures { result ≡ first_front table daemons }
+    {
+        unreachable!()
+    }
+
+    /// The users.
+    pub fn users(&self) -> &AuthDb
+        ensures { result.now ≡ self.now.database }
+    {
+        &self.users
+    }
+
+    /// The cluster map.
+    pub fn map(&self) -> &ClusterMap
+        ensures { result.now ≡ self.now.history }
+    {
+        &self.map
+    }
+
+    /// A command on the users. It is refused as the users refuse it.
+    pub fn auth(&mut self, command: AuthCommand) -> Result<Told, WorldFault>
+        ensures steps { OnOk result (self.new ≡ front_step self.old (Auth command)) }
+        ensures tells { IfOk result (λ told. told ≡ told_of self.old (Auth command)) }
+        ensures refused { RefusedOrMemory (front_refusal self.old (Auth command)) result }
+        ensures unchanged { OnErr result (self.new ≡ self.old) }
+    {
+        unreachable!()
+    }
+
+    /// A command on the map. It is refused as the map refuses it.
+    pub fn change_map(&mut self, command: MapCommand) -> Result<Told, WorldFault>
+        ensures steps { OnOk result (self.new ≡ front_step self.old (Map command)) }
+        ensures tells { IfOk result (λ told. told ≡ told_of self.old (Map command)) }
+        ensures refused { RefusedOrMemory (front_refusal self.old (Map command)) result }
+        ensures unchanged { OnErr result (self.new ≡ self.old) }
+    {
+        unreachable!()
+    }
+
+    /// A new session of a user. It is refused where there is no such user (A1, A3), and as one too many (W6).
+    pub fn open(&mut self, entity: Name, until: Option<u64>) -> Result<Told, WorldFault>
+        ensures steps { OnOk result (self.new ≡ front_step self.old (Open entity until)) }
+        ensures tells { IfOk result (λ told. told ≡ told_of self.old (Open entity until)) }
+        ensures refused { RefusedOrMemory (front_refusal self.old (Open entity until)) result }
+        ensures unchanged { OnErr result (self.new ≡ self.old) }
+    {
+        unreachable!()
+    }
+
+    /// A session's ticket is made anew. It is refused where there is no such open session (W1), and where its user is gone (A3).
+    pub fn renew(&mut self, session: u32, until: Option<u64>) -> Result<Told, WorldFault>
+        ensures steps { OnOk result (self.new ≡ front_step self.old (Renew session until)) }
+        ensures tells { IfOk result (λ told. told ≡ told_of self.old (Renew session until)) }
+        ensures refused { RefusedOrMemory (front_refusal self.old (Renew session until)) result }
+        ensures unchanged { OnErr result (self.new ≡ self.old) }
+    {
+        unreachable!()
+    }
+
+    /// A session ends. It is refused where there is no such open session (W1).
+    pub fn close(&mut self, session: u32) -> Result<Told, WorldFault>
+        ensures steps { OnOk result (self.new ≡ front_step self.old (Close session)) }
+        ensures tells { IfOk result (λ told. told ≡ told_of self.old (Close session)) }
+        ensures refused { RefusedOrMemory (front_refusal self.old (Close session)) result }
+        ensures unchanged { OnErr result (self.new ≡ self.old) }
+    {
+        unreachable!()
+    }
+
+    /// A vector on an object, sealed with the session's ticket and the pool as the asker saw it. Nothing is submitted yet.
+    ///
+    /// It is refused by the first of these that holds: W1, W4, W9, W2, W3, N1 to N3; want of memory may come before any.
+    pub fn vector(&self, ask: &Ask, object: Name, ops: Ops) -> Result<Sealed, WorldFault>
+        ensures sealed { IfOk result (λ request. requests_of self.now (Submit ask.now object ops) ≡ Ok (request ∷ [])) }
+        ensures fresh { IfOk result (λ request. submitted self.now.submissions request.id ≡ None) }
+        ensures refused { RefusedOrMemory (error_of (requests_of self.now (Submit ask.now object ops))) result }
+    {
+        unreachable!()
+    }
+
+    /// The pieces of a list of names, one for each group of the pool, sealed as a vector is. Nothing is submitted yet.
+    ///
+    /// It is refused by the first of these that holds: W1, W4, W9, W2, W3; want of memory may come before any.
+    pub fn pieces(&self, ask: &Ask) -> Result<Items<Sealed>, WorldFault>
+        requires { length self.now.submissions < 67108864 }
+        ensures sealed { IfOk result (λ requests. requests_of self.now (ListNames ask.now) ≡ Ok requests) }
+        ensures fresh { IfOk result (Each (λ request. submitted self.now.submissions request.id ≡ None)) }
+        ensures refused { RefusedOrMemory (error_of (requests_of self.now (ListNames ask.now))) result }
+    {
+        unreachable!()
+    }
+
+    /// Submits the request of a vector. Where memory is wanting, nothing changes.
+    pub fn record_vector(&mut self, ask: &Ask, request: Sealed) -> Result<Told, OutOfMemory>
+        requires asked { IsOfVector self.old ask.now request }
+        requires few { length self.old.submissions < 67108864 }
+        ensures steps { (object : List ℕ) (ops : List op.Op) → requests_of self.old (Submit ask.now object ops) ≡ Ok (request ∷ [])
+            → OnOk result (self.new ≡ front_step self.old (Submit ask.now object ops)) }
+        ensures tells { (object : List ℕ) (ops : List op.Op) → requests_of self.old (Submit ask.now object ops) ≡ Ok (request ∷ [])
+            → IfOk result (λ told. told ≡ told_of self.old (Submit ask.now object ops)) }
+        ensures unchanged { OnErr result (self.new ≡ self.old) }
+    {
+        unreachable!()
+    }
+
+    /// Submits the pieces of a list. Where memory is wanting, nothing changes.
+    pub fn record_pieces(&mut self, ask: &Ask, requests: Items<Sealed>) -> Result<Told, OutOfMemory>
+        requires asked { IsOfList self.old ask.now requests }
+        requires few { length self.old.submissions < 67108864 }
+        ensures steps { OnOk result (self.new ≡ front_step self.old (ListNames ask.now)) }
+        ensures tells { IfOk result (λ told. told ≡ told_of self.old (ListNames ask.now)) }
+        ensures unchanged { OnErr result (self.new ≡ self.old) }
+    {
+        unreachable!()
+    }
+
+    /// The request of an id, if it was submitted. It is found by hash, and takes no memory.
+    pub fn submitted(&self, id: Id) -> Option<&Sealed>
+        ensures { option_copied result ≡ submitted self.now.submissions id }
+    {
+        self.submissions.get(id)
+    }
+
+    /// The list that begins with a request, if one does. It is found by hash, and takes no memory.
+    pub fn list_at(&self, first: Id) -> Option<Pieced>
+        ensures { result ≡ list_at self.now first }
+    {
+        self.lists.get(first)
+    }
+}

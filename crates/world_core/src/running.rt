@@ -1,0 +1,29 @@
+//! Whole lists of events.
+
+ghost use Rattle.std.specs.Prelude.{◌≡◌, ◌≤◌, ◌⊎◌, IfOk, IfErr};
+ghost use Rattle.world_core.specs.Holds.{AreAccepted, Holds};
+ghost use Rattle.world_core.specs.Calls.{IsFirstRefused};
+
+use crate::event::Event;
+use crate::fault::WorldFault;
+use crate::world::World;
+use grant_core::ProfileTable;
+use std::alloc::Global;
+
+/// The world that these events make, one after another, of 1 to 16 daemons.
+///
+/// It stops at the first that is refused, also at a delivery to a daemon that is down (P2), and answers its place, counted from 0, and why.
+pub fn run(
+    alloc: Global,
+    table: ProfileTable,
+    daemons: u8,
+    events: &[Event],
+) -> Result<World, (usize, WorldFault)>
+    requires some { 1 ≤ daemons }
+    requires few { daemons ≤ 16 }
+    ensures holds { IfOk result (λ world. Holds table daemons events.now world) }
+    ensures accepted { IfOk result (λ world. AreAccepted table daemons events.now) }
+    ensures refused { IfErr result (λ stop. IsFirstRefused table daemons events.now stop.0 stop.1) }
+{
+    unreachable!()
+}

@@ -1,0 +1,86 @@
+//! The requests that were submitted.
+
+ghost use Rattle.std.specs.Prelude.{◌≡◌, ◌++◌, [], ◌∷◌, None, OnOk, OnErr, length, take, option_copied};
+ghost use Rattle.group_core.specs.Group.{submitted};
+ghost use Rattle.world_core.specs.Submitting.{AreNew};
+
+use entry_core::{Id, Items, OutOfMemory, Sealed};
+use indexmap::IndexMap;
+use std::alloc::Global;
+use std::marker::Model;
+
+/// Requests in order of submission, each found by its id.
+#[derive(Drop)]
+pub(crate) struct Submissions {
+    requests: IndexMap<Id, Sealed>,
+}
+
+impl Model for Submissions {
+    ghost use Rattle.std.specs.Prelude.{List};
+    ghost use Rattle.entry_core.specs.Request as request;
+    ghost use Rattle.world_core.specs.Submitting.{requests_in, AreKeyed};
+
+    ghost Value = { List request.Sealed };
+
+    ghost view = { λ a. requests_in a.requests.entries };
+
+    ghost invariant = { λ a. AreKeyed a.requests.entries };
+}
+
+impl Submissions {
+    /// No requests. It takes no memory.
+    pub fn new(alloc: Global) -> Submissions
+        ensures { result ≡ [] }
+    {
+        Submissions {
+            requests: IndexMap::new(alloc),
+        }
+    }
+
+    /// How many there are.
+    pub fn len(&self) -> usize
+        ensures { result ≡ length self.now }
+    {
+        self.requests.len()
+    }
+
+    /// The request of an id, if it was submitted.
+    pub fn get(&self, id: Id) -> Option<&Sealed>
+        ensures { option_copied result ≡ submitted self.now id }
+    {
+        self.requests.get(&id)
+    }
+
+    /// Adds a request of a new id.
+    pub fn push(&mut self, request: Sealed) -> Result<(), OutOfMemory>
+        requires { submitted self.old request.id ≡ None }
+        ensures ok { OnOk result (self.new ≡ self.old ++ request ∷ []) }
+        ensures err { OnErr result (self.new ≡ self.old) }
+    {
+        self.requests.insert(request.id(), request)?;
+        Ok(())
+    }
+
+    /// Keeps the first so many.
+    fn truncate(&mut self, count: usize)
+        ensures { self.new ≡ take count self.old }
+    {
+        self.requests.truncate(count);
+    }
+
+    /// Adds requests of new ids, all or none.
+    pub fn append(&mut self, requests: Items<Sealed>) -> Result<(), OutOfMemory>
+        requires { AreNew self.old requests }
+        ensures ok { OnOk result (self.new ≡ self.old ++ requests) }
+        ensures err { OnErr result (self.new ≡ self.old) }
+    {
+        let before = self.len();
+        for request in requests.into_vec() {
+            if let Err(error) = self.push(request) {
+                self.truncate(before);
+                return Err(error);
+            }
+        }
+        Ok(())
+    }
+}
