@@ -24,3 +24,7 @@ pub mod Calling
 pub mod RunPlaces
 pub mod Messages
 pub mod GroupsOf
+pub mod Submitted
+pub mod Refused
+pub mod Views
+pub mod FrontSteps

@@ -5,7 +5,7 @@ use Rattle.map_core.specs.declared.fault.MapFault.{MapFault}
 use Rattle.map_core.specs.declared.fault.MapFault.TheVariants as map_fault
 use Rattle.object_core.specs.declared.needs.NeedsFault.{NeedsFault}
 use Rattle.object_core.specs.declared.needs.NeedsFault.TheVariants as needs_fault
-use Rattle.world_core.specs.Event.{Fault, OutOfMemory, OfMap, OfNeeds}
+use Rattle.world_core.specs.Event.{Fault, NoPool, OutOfMemory, OfMap, OfNeeds}
 
 -- accepted only where nothing refuses it, and refused by what does, or for want of memory
 abbrev pub RefusedOrMemory : {T : Type 0} → Option Fault → Result T Fault → Type 0
@@ -26,3 +26,8 @@ fault_of_map fault = OfMap fault
 abbrev pub fault_of_needs : NeedsFault → Fault
 fault_of_needs needs_fault.OutOfMemory = OutOfMemory
 fault_of_needs fault = OfNeeds fault
+
+-- a fault of a view: there was no such pool, whatever the name or the epoch
+abbrev pub fault_of_view : MapFault → Fault
+fault_of_view map_fault.OutOfMemory = OutOfMemory
+fault_of_view fault = NoPool

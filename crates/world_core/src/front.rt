@@ -5,17 +5,21 @@ ghost use Rattle.object_core.specs.declared.op.Op as op;
 ghost use Rattle.group_core.specs.Each.{Each};
 ghost use Rattle.group_core.specs.Group.{submitted};
 ghost use Rattle.world_core.specs.Event.{Auth, Map, Open, Renew, Close, Submit, ListNames};
-ghost use Rattle.world_core.specs.Front.{error_of, first_front, front_refusal, front_step, requests_of, told_of};
+ghost use Rattle.map_core.specs.Limits.{HasLimits};
+ghost use Rattle.world_core.specs.Front.{asker_of, error_of, first_front, front_refusal, front_step, requests_of, told_of};
 ghost use Rattle.world_core.specs.Listing.{list_at};
 ghost use Rattle.world_core.specs.Asking.{IsOfList, IsOfVector};
 ghost use Rattle.world_core.specs.Refusing.{RefusedOrMemory};
 
+use crate::asking::{Asker, is_namespace, is_object_name, view_for};
 use crate::event::{Ask, AuthCommand, Told};
 use crate::fault::WorldFault;
 use crate::lists::Lists;
 use crate::ops::Ops;
-use crate::session::{Pieced, Sessions};
+use crate::sealing::{seal_pieces, seal_vector};
+use crate::session::{Pieced, Session, Sessions};
 use crate::submissions::Submissions;
+use crate::users::{change_users, check_user, ticket_for};
 use auth_db::AuthDb;
 use cap_text::{Name, OutOfMemory};
 use entry_core::{Id, Items, Sealed};
@@ -23,6 +27,9 @@ use grant_core::ProfileTable;
 use map_core::{ClusterMap, MapCommand};
 use std::alloc::Global;
 use std::marker::Model;
+
+/// The most sessions that there may be, closed ones counted.
+const MOST_SESSIONS: usize = 1024;
 
 /// Users, map, sessions, submissions and lists. Contracts see it as the definitions' front.
 #[derive(Drop)]
@@ -53,7 +60,18 @@ impl Front {
         requires few { daemons ≤ 16 }
         ensures { result ≡ first_front table daemons }
     {
-        unreachable!()
+        let map = match ClusterMap::new(alloc, daemons) {
+            Ok(map) => map,
+            Err(_) => unreachable!(),
+        };
+        Front {
+            alloc,
+            users: AuthDb::new(alloc, table),
+            map,
+            sessions: Sessions::new(alloc),
+            submissions: Submissions::new(alloc),
+            lists: Lists::new(alloc),
+        }
     }
 
     /// The users.
@@ -77,7 +95,8 @@ impl Front {
         ensures refused { RefusedOrMemory (front_refusal self.old (Auth command)) result }
         ensures unchanged { OnErr result (self.new ≡ self.old) }
     {
-        unreachable!()
+        let told = change_users(&mut self.users, command)?;
+        Ok(told)
     }
 
     /// A command on the map. It is refused as the map refuses it.
@@ -87,7 +106,8 @@ impl Front {
         ensures refused { RefusedOrMemory (front_refusal self.old (Map command)) result }
         ensures unchanged { OnErr result (self.new ≡ self.old) }
     {
-        unreachable!()
+        let epoch = self.map.apply(command)?;
+        Ok(Told::Epoch(epoch))
     }
 
     /// A new session of a user. It is refused where there is no such user (A1, A3), and as one too many (W6).
@@ -97,7 +117,14 @@ impl Front {
         ensures refused { RefusedOrMemory (front_refusal self.old (Open entity until)) result }
         ensures unchanged { OnErr result (self.new ≡ self.old) }
     {
-        unreachable!()
+        check_user(&self.users, &entity)?;
+        if self.sessions.len() >= MOST_SESSIONS {
+            return Err(WorldFault::Limit);
+        }
+        let number = self.sessions.len() as u32 + 1;
+        let ticket = ticket_for(&self.users, &entity, until)?;
+        self.sessions.push(Session::new(entity, ticket))?;
+        Ok(Told::Session(number))
     }
 
     /// A session's ticket is made anew. It is refused where there is no such open session (W1), and where its user is gone (A3).
@@ -107,7 +134,10 @@ impl Front {
         ensures refused { RefusedOrMemory (front_refusal self.old (Renew session until)) result }
         ensures unchanged { OnErr result (self.new ≡ self.old) }
     {
-        unreachable!()
+        let found = self.sessions.find(session)?;
+        let ticket = ticket_for(&self.users, &found.entity, until)?;
+        self.sessions.renew(session, ticket)?;
+        Ok(Told::Done)
     }
 
     /// A session ends. It is refused where there is no such open session (W1).
@@ -117,30 +147,60 @@ impl Front {
         ensures refused { RefusedOrMemory (front_refusal self.old (Close session)) result }
         ensures unchanged { OnErr result (self.new ≡ self.old) }
     {
-        unreachable!()
+        self.sessions.close(session)?;
+        Ok(Told::Done)
+    }
+
+    // Who asks: W1, W4, W9 and W2, in this order.
+    fn asker(&self, ask: &Ask) -> Result<Asker<'_>, WorldFault>
+        ensures asked { IfOk result (λ asker. asker_of self.now ask.now ≡ Ok (record { session = asker.session.now; view = asker.view })) }
+        ensures limits { IfOk result (λ asker. HasLimits asker.view.pg_num asker.view.size asker.view.min_size) }
+        ensures refused { RefusedOrMemory (error_of (asker_of self.now ask.now)) result }
+    {
+        let session = self.sessions.find(ask.session)?;
+        if ask.epoch < session.epoch || ask.epoch > self.map.epoch() {
+            return Err(WorldFault::StaleEpoch);
+        }
+        if ask.tick < session.tick {
+            return Err(WorldFault::StaleTick);
+        }
+        let view = view_for(&self.map, &ask.pool, ask.epoch)?;
+        Ok(Asker { session, view })
     }
 
     /// A vector on an object, sealed with the session's ticket and the pool as the asker saw it. Nothing is submitted yet.
     ///
     /// It is refused by the first of these that holds: W1, W4, W9, W2, W3, N1 to N3; want of memory may come before any.
     pub fn vector(&self, ask: &Ask, object: Name, ops: Ops) -> Result<Sealed, WorldFault>
+        ensures asked { IfOk result (IsOfVector self.now ask.now) }
         ensures sealed { IfOk result (λ request. requests_of self.now (Submit ask.now object ops) ≡ Ok (request ∷ [])) }
         ensures fresh { IfOk result (λ request. submitted self.now.submissions request.id ≡ None) }
         ensures refused { RefusedOrMemory (error_of (requests_of self.now (Submit ask.now object ops))) result }
     {
-        unreachable!()
+        let asker = self.asker(ask)?;
+        if !(is_object_name(&object) && is_namespace(&ask.namespace)) {
+            return Err(WorldFault::BadObjectName);
+        }
+        let Asker { session, view } = asker;
+        let request = seal_vector(self.alloc, ask, session, view, object, ops)?;
+        Ok(request)
     }
 
     /// The pieces of a list of names, one for each group of the pool, sealed as a vector is. Nothing is submitted yet.
     ///
     /// It is refused by the first of these that holds: W1, W4, W9, W2, W3; want of memory may come before any.
     pub fn pieces(&self, ask: &Ask) -> Result<Items<Sealed>, WorldFault>
-        requires { length self.now.submissions < 67108864 }
+        ensures asked { IfOk result (IsOfList self.now ask.now) }
         ensures sealed { IfOk result (λ requests. requests_of self.now (ListNames ask.now) ≡ Ok requests) }
         ensures fresh { IfOk result (Each (λ request. submitted self.now.submissions request.id ≡ None)) }
         ensures refused { RefusedOrMemory (error_of (requests_of self.now (ListNames ask.now))) result }
     {
-        unreachable!()
+        let asker = self.asker(ask)?;
+        if !is_namespace(&ask.namespace) {
+            return Err(WorldFault::BadObjectName);
+        }
+        let requests = seal_pieces(self.alloc, ask, &asker)?;
+        Ok(requests)
     }
 
     /// Submits the request of a vector. Where memory is wanting, nothing changes.
@@ -153,7 +213,10 @@ impl Front {
             → IfOk result (λ told. told ≡ told_of self.old (Submit ask.now object ops)) }
         ensures unchanged { OnErr result (self.new ≡ self.old) }
     {
-        unreachable!()
+        let id = request.id();
+        self.submissions.push(request)?;
+        self.sessions.ask(ask, 1);
+        Ok(Told::Request(id))
     }
 
     /// Submits the pieces of a list. Where memory is wanting, nothing changes.
@@ -164,7 +227,20 @@ impl Front {
         ensures tells { IfOk result (λ told. told ≡ told_of self.old (ListNames ask.now)) }
         ensures unchanged { OnErr result (self.new ≡ self.old) }
     {
-        unreachable!()
+        let list = Pieced {
+            first: requests.as_slice()[0].id(),
+            count: requests.len() as u32,
+        };
+        self.lists.push(list)?;
+        if let Err(error) = self.submissions.append(requests.as_slice()) {
+            self.lists.pop();
+            return Err(error);
+        }
+        self.sessions.ask(ask, list.count);
+        Ok(Told::List {
+            first: list.first,
+            count: list.count,
+        })
     }
 
     /// The request of an id, if it was submitted. It is found by hash, and takes no memory.

@@ -4,6 +4,7 @@
 //! over the commands of the Ceph manual and the placement groups of the RADOS paper.
 #![tactic(auto)]
 
+mod asking;
 mod audit;
 mod calls;
 mod creating;
@@ -16,10 +17,12 @@ mod laws;
 mod lists;
 mod moves;
 mod ops;
-mod script;
 mod running;
+mod script;
+mod sealing;
 mod session;
 mod submissions;
+mod users;
 mod world;
 
 pub use event::{Ask, AuthCommand, Event, Told};

@@ -4,7 +4,7 @@ ghost use Rattle.std.specs.Prelude.{◌≡◌, ◌++◌, [], ◌∷◌, None, On
 ghost use Rattle.group_core.specs.Group.{submitted};
 ghost use Rattle.world_core.specs.Submitting.{AreNew};
 
-use entry_core::{Id, Items, OutOfMemory, Sealed};
+use entry_core::{Id, OutOfMemory, Sealed, TryCopy};
 use indexmap::IndexMap;
 use std::alloc::Global;
 use std::marker::Model;
@@ -68,15 +68,25 @@ impl Submissions {
         self.requests.truncate(count);
     }
 
-    /// Adds requests of new ids, all or none.
-    pub fn append(&mut self, requests: Items<Sealed>) -> Result<(), OutOfMemory>
-        requires { AreNew self.old requests }
-        ensures ok { OnOk result (self.new ≡ self.old ++ requests) }
+    /// Adds a copy of a request of a new id, which shares its parts.
+    fn push_copy(&mut self, request: &Sealed) -> Result<(), OutOfMemory>
+        requires { submitted self.old request.now.id ≡ None }
+        ensures ok { OnOk result (self.new ≡ self.old ++ request.now ∷ []) }
+        ensures err { OnErr result (self.new ≡ self.old) }
+    {
+        let request = request.copy()?;
+        self.push(request)
+    }
+
+    /// Adds copies of requests of new ids, all or none.
+    pub fn append(&mut self, requests: &[Sealed]) -> Result<(), OutOfMemory>
+        requires { AreNew self.old requests.now }
+        ensures ok { OnOk result (self.new ≡ self.old ++ requests.now) }
         ensures err { OnErr result (self.new ≡ self.old) }
     {
         let before = self.len();
-        for request in requests.into_vec() {
-            if let Err(error) = self.push(request) {
+        for request in requests {
+            if let Err(error) = self.push_copy(request) {
                 self.truncate(before);
                 return Err(error);
             }

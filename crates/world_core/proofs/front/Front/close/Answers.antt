@@ -1,0 +1,10 @@
+use Rattle.std.proofs.Common.{◌≡◌, ◌∙◌, ap, sym}
+use Rattle.world_core.specs.Event.{Close}
+use Rattle.world_core.specs.Front.{Front, front_step}
+use Rattle.world_core.proofs.FrontSteps.{close_step}
+use Rattle.world_core.proofs.front.Front.close.Goals as goal
+
+pub returns-clause-steps : goal.returns-clause-steps
+returns-clause-steps c =
+    let inside : Front = record { database = c.self.inside.users; history = c.self.inside.map; sessions = c.self.inside.sessions; submissions = c.self.inside.submissions; lists = c.self.inside.lists } in
+    close_step inside c.args.session c.close.new.self c.in_ok-close.ensures.ok ∙ ap (λ f. front_step f (Close c.args.session)) c.self.view_is

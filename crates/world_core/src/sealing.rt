@@ -1,0 +1,81 @@
+//! Requests are sealed here, and nowhere else.
+
+ghost use Rattle.std.specs.Prelude.{◌≡◌, ◌≤◌, ◌<◌, ◌+◌, IfOk};
+ghost use Rattle.std.specs.Option.{option_map};
+ghost use Rattle.object_core.specs.Needs.{needs_fault};
+ghost use Rattle.entry_core.specs.Request.{Listing};
+ghost use Rattle.world_core.specs.Event.{OfNeeds};
+ghost use Rattle.world_core.specs.Refusing.{RefusedOrMemory};
+ghost use Rattle.world_core.specs.Front.{pieces_of, sealed_of, vector_of};
+
+use crate::asking::Asker;
+use crate::event::Ask;
+use crate::fault::WorldFault;
+use crate::ops::Ops;
+use crate::session::Session;
+use cap_text::Name;
+use entry_core::{Id, Items, OutOfMemory, Sealed};
+use map_core::PoolView;
+use place_core::group_of;
+use std::alloc::Global;
+
+/// The request of a vector. Its ticket is a copy of the session's, so the cost is linear in the ticket's grants.
+///
+/// It is refused as its operations are, by N1 to N3, or for want of memory.
+pub(crate) fn seal_vector(
+    alloc: Global,
+    ask: &Ask,
+    session: &Session,
+    view: PoolView,
+    object: Name,
+    ops: Ops,
+) -> Result<Sealed, WorldFault>
+    requires { 1 ≤ view.pg_num }
+    ensures sealed { IfOk result (λ s. s ≡ vector_of ask.now (record { session = session.now; view = view }) object ops) }
+    ensures refused { RefusedOrMemory (option_map OfNeeds (needs_fault ops)) result }
+{
+    let id = Id::new(ask.session, session.next);
+    let group = group_of(ask.namespace.as_str(), object.as_str(), view.pg_num);
+    let ticket = session.ticket.copy()?;
+    let namespace = ask.namespace.copy()?;
+    let ops = ops.into_vec();
+    let request = Sealed::vector(
+        alloc, id, ticket, ask.tick, view, group, namespace, object, ops,
+    )?;
+    Ok(request)
+}
+
+// The piece of a list for one group. Its ticket and its view are copies.
+fn seal_piece(
+    alloc: Global,
+    ask: &Ask,
+    asker: &Asker<'_>,
+    group: u32,
+) -> Result<Sealed, OutOfMemory>
+    requires groups { 1 ≤ asker.now.view.pg_num }
+    requires room { asker.now.session.now.next + group < 4294967296 }
+    ensures { IfOk result (λ s. s ≡ sealed_of ask.now (record { session = asker.now.session.now; view = asker.now.view }) Listing group group) }
+{
+    let id = Id::new(ask.session, asker.session.next + group);
+    let ticket = asker.session.ticket.copy()?;
+    let view = asker.view.copy()?;
+    let namespace = ask.namespace.copy()?;
+    Sealed::listing(alloc, id, ticket, ask.tick, view, group, namespace)
+}
+
+/// The pieces of a list, one for each group of the pool, under consecutive numbers.
+pub(crate) fn seal_pieces(
+    alloc: Global,
+    ask: &Ask,
+    asker: &Asker<'_>,
+) -> Result<Items<Sealed>, OutOfMemory>
+    requires groups { 1 ≤ asker.now.view.pg_num }
+    requires room { asker.now.session.now.next + asker.now.view.pg_num < 4294967296 }
+    ensures { IfOk result (λ all. all ≡ pieces_of ask.now (record { session = asker.now.session.now; view = asker.now.view })) }
+{
+    let mut all = Items::new(alloc);
+    for group in 0..asker.view.pg_num {
+        all.push(seal_piece(alloc, ask, asker, group)?)?;
+    }
+    Ok(all)
+}
