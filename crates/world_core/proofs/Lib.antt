@@ -28,3 +28,5 @@ pub mod Submitted
 pub mod Refused
 pub mod Views
 pub mod FrontSteps
+pub mod Sweeps
+pub mod Questions

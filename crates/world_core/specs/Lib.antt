@@ -23,3 +23,5 @@ pub mod Calls
 pub mod Inside
 pub mod Sound
 pub mod Applying
+pub mod Sweeping
+pub mod Steps
