@@ -40,8 +40,8 @@ pub located_here : (front : Front) (pool namespace object : List ℕ) (view : Po
 located_here front pool namespace object view set none named seen is =
     ap (λ o. located_text (group_of namespace object view.pg_num) (unwrap_or o [])) (sym is)
     ∙ sym (passed front pool namespace object none
-        ∙ ap (λ b. or_refused (name_test b) (located front pool namespace object (view_at front.history pool (epoch_of front.history)))) named
-        ∙ ap (located front pool namespace object) seen)
+    ∙ ap (λ b. or_refused (name_test b) (located front pool namespace object (view_at front.history pool (epoch_of front.history)))) named
+    ∙ ap (located front pool namespace object) seen)
 
 -- the same by the map, the epoch and the names that the program asked
 pub located_by : (front : Front) (pool namespace object : List ℕ) (history : History) (epoch : ℕ) (view : PoolView) (group : ℕ) (namespace' object' : List ℕ) (set : Option (List ℕ))
@@ -55,7 +55,7 @@ located_by front pool namespace object history epoch view group namespace' objec
     let seen_now : view_at front.history pool (epoch_of front.history) ≡ Some view = sym (ap (λ h. view_at h pool epoch) same ∙ ap (view_at front.history pool) now) ∙ seen in
     let here : group ≡ group_of namespace object view.pg_num = is ∙ ap (λ n. group_of n object' view.pg_num) spaced ∙ ap (λ o. group_of namespace o view.pg_num) called in
     let members_now : set_of (map_of front.history) pool (group_of namespace object view.pg_num) ≡ set =
-        sym (members ∙ ap (λ h. set_of (map_of h) pool group) same ∙ ap (set_of (map_of front.history) pool) here) in
+    sym (members ∙ ap (λ h. set_of (map_of h) pool group) same ∙ ap (set_of (map_of front.history) pool) here) in
     ap (λ g. located_text g (unwrap_or set [])) here ∙ located_here front pool namespace object view set none_now named seen_now members_now
 
 -- ---- answers

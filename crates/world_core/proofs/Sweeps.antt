@@ -1,9 +1,11 @@
 -- Message 0 of a group delivered or lost again and again.
 use Prim.Native.Nat.{zero, suc}
-use Rattle.std.proofs.Common.{◌≡◌, ◌∙◌, ◌⊎◌, inl, inr, ℕ, ◌+◌, ◌<◌, ◌≤◌, List, [], ◌∷◌, ◌++◌, Bool, true, false, if◌then◌else◌, Option, Some, None, length, refl, sym, ap, subst, arith, fold, append-nil, append_assoc, slice_get}
+use Rattle.std.proofs.Common.{◌≡◌, ◌∙◌, ◌⊎◌, inl, inr, ℕ, ◌+◌, ◌<◌, ◌≤◌, List, [], ◌∷◌, ◌++◌, Bool, true, false, if◌then◌else◌, Option, Some, None, length, refl, sym, ap, subst, arith, fold, append-nil, append_assoc, slice_get, get_or, drop, drop-cons, All}
 use Rattle.std.specs.Prelude.{nat_lt}
 use Rattle.std.specs.Option.{option_map, option_or}
 use Rattle.std.proofs.lemmas.List.Sums.{fold-append}
+use Rattle.std.proofs.Math.ListN.{drop_of_length-le}
+use Rattle.map_core.specs.State.{History}
 use Rattle.entry_core.specs.declared.sealed.GroupId.{GroupId}
 use Rattle.group_core.specs.Types.{Sent, Party, Osd, Client}
 use Rattle.group_core.specs.Group.{Group, group_step, refusal_to, refusal_at}
@@ -13,12 +15,12 @@ use Rattle.group_core.specs.Budget.{budget}
 use Rattle.group_core.specs.declared.fault.GroupFault.{GroupFault}
 use Rattle.group_core.specs.declared.fault.GroupFault.TheVariants.{Unreachable}
 use Rattle.group_core.proofs.Statements.{settling}
-use Rattle.world_core.specs.Event.{Event, Fault, OutOfMemory, OfGroup}
-use Rattle.world_core.specs.Front.{group_refusal}
+use Rattle.world_core.specs.Event.{Event, Fault, OutOfMemory, OfGroup, OfMap}
+use Rattle.world_core.specs.Front.{Front, group_refusal}
 use Rattle.world_core.specs.World.{World, group_at, at_group, world_step, refusal_of, refused_in, is_drop}
 use Rattle.world_core.specs.Calls.{KeepsPromises}
-use Rattle.world_core.specs.Script.{budget_in, has_messages, events_while, emptied_within, emptied, one_if_none, unrefused}
-use Rattle.world_core.specs.Sweeping.{event_at}
+use Rattle.world_core.specs.Script.{budget_in, has_messages, events_while, emptied_within, emptied, one_if_none, unrefused, on_each}
+use Rattle.world_core.specs.Sweeping.{event_at, IsThere}
 use Rattle.world_core.specs.declared.script.groups.Sweep.{Sweep}
 use Rattle.world_core.specs.declared.script.groups.Sweep.TheVariants.{Deliver, Lose}
 use Rattle.world_core.proofs.Acting.{group_at_self}
@@ -167,3 +169,65 @@ swept_on sweep id before now next count one h some steps low told = go h.most h.
 pub not_memory : (fault : Fault) (refusal : Option Fault) → (fault ≡ OutOfMemory → ⊥) → (fault ≡ OutOfMemory) ⊎ (refusal ≡ Some fault) → refusal ≡ Some fault
 not_memory fault refusal other (inl memory) = absurd (other memory)
 not_memory fault refusal other (inr is) = is
+
+-- ---- every group in turn
+
+pub record IsOnEach (events : GroupId → World → List Event) (ids : List GroupId) (index : ℕ) (before now : World) (count : ℕ) : Type 0 where
+  pub done : List Event
+  pub same : on_each events ids before ≡ done ++ on_each events (drop index ids) now
+  pub is : now ≡ fold world_step before done
+  pub counted : count ≡ unrefused before done
+
+pub each_begun : (events : GroupId → World → List Event) (ids : List GroupId) (w : World) → IsOnEach events ids 0 w w 0
+each_begun events ids w = record { done = []; same = refl; is = refl; counted = refl }
+
+pub each_on : (events : GroupId → World → List Event) (ids : List GroupId) (index : ℕ) (before now next : World) (count more : ℕ) (id d : GroupId) → IsOnEach events ids index before now count
+    → index < length ids → id ≡ get_or ids index d → next ≡ fold world_step now (events id now) → more ≡ unrefused now (events id now) → IsOnEach events ids (index + 1) before next (count + more)
+each_on events ids index before now next count more id d h low here steps told =
+    let next_index : suc index ≡ index + 1 = omega arith in
+    let cut : drop index ids ≡ id ∷ drop (index + 1) ids = drop-cons ids index d low ∙ ap (λ x. x ∷ drop (suc index) ids) (sym here) ∙ ap (λ k. id ∷ drop k ids) next_index in
+    record {
+      done = h.done ++ events id now;
+      same =
+          h.same ∙ ap (λ l. h.done ++ on_each events l now) cut ∙ ap (λ v. h.done ++ (events id now ++ on_each events (drop (index + 1) ids) v)) (sym steps)
+          ∙ sym (append_assoc h.done (events id now) (on_each events (drop (index + 1) ids) next));
+      is = steps ∙ ap (λ v. fold world_step v (events id now)) h.is ∙ sym (fold-append world_step before h.done (events id now));
+      counted =
+          let now_told : more ≡ unrefused (fold world_step before h.done) (events id now) = subst (λ v. more ≡ unrefused v (events id now)) h.is told in
+          let parts = unrefused-append before h.done (events id now) in
+          omega (arith, now_told, parts, h.counted);
+    }
+
+each_all : (events : GroupId → World → List Event) (ids : List GroupId) (index : ℕ) (before now : World) (count : ℕ) (h : IsOnEach events ids index before now count) → length ids ≤ index → h.done ≡ on_each events ids before
+each_all events ids index before now count h end = sym (h.same ∙ ap (λ l. h.done ++ on_each events l now) (drop_of_length-le ids end) ∙ append-nil h.done)
+
+pub each_world : (events : GroupId → World → List Event) (ids : List GroupId) (index : ℕ) (before now : World) (count : ℕ) → IsOnEach events ids index before now count → length ids ≤ index
+    → now ≡ fold world_step before (on_each events ids before)
+each_world events ids index before now count h end = h.is ∙ ap (fold world_step before) (each_all events ids index before now count h end)
+
+pub each_count : (events : GroupId → World → List Event) (ids : List GroupId) (index : ℕ) (before now : World) (count : ℕ) → IsOnEach events ids index before now count → length ids ≤ index
+    → count ≡ unrefused before (on_each events ids before)
+each_count events ids index before now count h end = h.counted ∙ ap (unrefused before) (each_all events ids index before now count h end)
+
+-- the events of a sweep leave the map
+pub swept_history : (sweep : Sweep) (id : GroupId) (most : ℕ) (w : World) → (fold world_step w (emptied_within (event_at sweep) id most w)).front.history ≡ w.front.history
+swept_history sweep id zero w = refl
+swept_history sweep id (suc most) w = go (has_messages (group_at id w.groups)) (swept_history sweep id most (world_step w (event_at sweep id 0)))
+  where
+    one : (sweep : Sweep) → (world_step w (event_at sweep id 0)).front.history ≡ w.front.history
+    one Deliver = refl
+    one Lose = refl
+
+    go : (b : Bool) → (fold world_step (world_step w (event_at sweep id 0)) (emptied_within (event_at sweep) id most (world_step w (event_at sweep id 0)))).front.history ≡ (world_step w (event_at sweep id 0)).front.history
+        → (fold world_step w (events_while b (event_at sweep id 0) w (emptied_within (event_at sweep) id most))).front.history ≡ w.front.history
+    go true rest = rest ∙ one sweep
+    go false rest = refl
+
+-- a group of the map is not refused
+pub there_now : (ids : List GroupId) (map history : History) (front : Front) (index : ℕ) (id d : GroupId) → All (IsThere map) ids → map ≡ history → front.history ≡ history → index < length ids → id ≡ get_or ids index d
+    → group_refusal front id ≡ None
+there_now ids map history front index id d all same now low here =
+    let one : IsThere map (get_or ids index d) = all index d low in
+    let this : IsThere map id = subst (IsThere map) (sym here) one in
+    let that : IsThere front.history id = subst (λ h. IsThere h id) (same ∙ sym now) this in
+    ap (option_map OfMap) that

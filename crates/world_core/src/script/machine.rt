@@ -1,9 +1,10 @@
 //! The world of a script, line by line.
 
-ghost use Rattle.std.specs.Prelude.{◌≡◌, ◌≤◌, OnOk, IfOk, IfErr, Some, string_bytes};
+ghost use Rattle.std.specs.Prelude.{◌≡◌, ◌≤◌, ◌++◌, ℕ, codes, Ok, OnOk, IfOk, IfErr, Some, string_bytes};
+ghost use Rattle.script_text.specs.Text.{line};
 ghost use Rattle.world_core.specs.Command.{LoseAll, KickAll, Tick};
 ghost use Rattle.world_core.specs.Script.{first_machine, script_step, ask_now, event_line, settle_line, line_of};
-ghost use Rattle.world_core.specs.Steps.{GoesTo, IsFaultOf, Does};
+ghost use Rattle.world_core.specs.Steps.{GoesTo, IsFaultOf, Does, at};
 
 use crate::event::{Ask, Event};
 use crate::fault::WorldFault;
@@ -62,6 +63,21 @@ impl Machine {
         }
     }
 
+    /// A new world of so many daemons, whose first epoch is printed.
+    pub(crate) fn begin(
+        alloc: Global,
+        daemons: u8,
+        text: &mut String,
+    ) -> Result<Machine, OutOfMemory>
+        requires some { 1 ≤ daemons }
+        requires few { daemons ≤ 16 }
+        ensures machine { IfOk result (λ machine. machine ≡ first_machine daemons) }
+        ensures text { OnOk result (string_bytes text.new ≡ string_bytes text.old ++ line (codes "epoch 1")) }
+    {
+        text.push_str("epoch 1\n")?;
+        Machine::new(alloc, daemons)
+    }
+
     /// Who asks now, and where.
     fn ask(&self, session: u32, pool: Name, namespace: Name) -> Ask
         ensures { result ≡ ask_now self.now.world.front self.now.tick session pool namespace }
@@ -75,18 +91,20 @@ impl Machine {
         }
     }
 
+    /// The world.
+    fn world(&self) -> &World
+        ensures { result.now ≡ self.now.world }
+    {
+        let _tick = self.tick;
+        &self.world
+    }
+
     /// Carries out an event, and prints what it tells or why it is refused.
     fn happen(&mut self, event: Event, text: &mut String) -> Result<(), OutOfMemory>
         ensures { OnOk result (Does self.old (event_line self.old event) (string_bytes text.old) (string_bytes text.new) self.new) }
     {
         let _tick = self.tick;
-        match self.world.apply(event) {
-            Ok(told) => push_told(text, told),
-            Err(fault) => match fault {
-                WorldFault::OutOfMemory => Err(AllocError),
-                fault => push_refused(text, fault),
-            },
-        }
+        happen(&mut self.world, event, text)
     }
 
     /// Delivers all messages of each group, and prints how many reached their addressee.
@@ -135,9 +153,9 @@ impl Machine {
         ensures goes { OnOk result (GoesTo (script_step (Some self.old) command) (string_bytes text.old) (string_bytes text.new) (Some self.new)) }
         ensures fault { IfErr result (IsFaultOf (script_step (Some self.old) command)) }
     {
-        let done = match command {
-            Command::Osds(_) => return Err(LineFault::BadLine),
-            Command::Happens(event) => self.happen(event, text),
+        match command {
+            Command::Osds(_) => Err(LineFault::BadLine),
+            Command::Happens(event) => ended(self.happen(event, text)),
             Command::Submit {
                 session,
                 pool,
@@ -146,7 +164,7 @@ impl Machine {
                 ops,
             } => {
                 let ask = self.ask(session, pool, namespace);
-                self.happen(Event::Submit { ask, object, ops }, text)
+                ended(self.happen(Event::Submit { ask, object, ops }, text))
             }
             Command::List {
                 session,
@@ -154,26 +172,46 @@ impl Machine {
                 namespace,
             } => {
                 let ask = self.ask(session, pool, namespace);
-                self.happen(Event::List(ask), text)
+                ended(self.happen(Event::List(ask), text))
             }
             Command::Locate {
                 pool,
                 namespace,
                 object,
-            } => locate(&self.world, &pool, &namespace, &object, text),
-            Command::ShowUser(name) => show_user(&self.world, &name, text),
-            Command::ListUsers => list_users(&self.world, text),
-            Command::Tick(tick) => self.set_tick(tick, text),
-            Command::Settle => self.settle(alloc, text),
-            Command::KickAll => self.kick_all(alloc, text),
-            Command::LoseAll => self.lose_all(alloc, text),
-            Command::Answer(id) => answer(&self.world, id, text),
-            Command::Listing(id) => listing(&self.world, id, text),
-            Command::Ready(group) => ready(&self.world, &group, text),
-        };
-        match done {
-            Ok(()) => Ok(()),
-            Err(_) => Err(LineFault::OutOfMemory),
+            } => ended(locate(self.world(), &pool, &namespace, &object, text)),
+            Command::ShowUser(name) => ended(show_user(self.world(), &name, text)),
+            Command::ListUsers => ended(list_users(self.world(), text)),
+            Command::Tick(tick) => ended(self.set_tick(tick, text)),
+            Command::Settle => ended(self.settle(alloc, text)),
+            Command::KickAll => ended(self.kick_all(alloc, text)),
+            Command::LoseAll => ended(self.lose_all(alloc, text)),
+            Command::Answer(id) => ended(answer(self.world(), id, text)),
+            Command::Listing(id) => ended(listing(self.world(), id, text)),
+            Command::Ready(group) => ended(ready(self.world(), &group, text)),
         }
+    }
+}
+
+/// How a line ends that is not bad.
+fn ended(done: Result<(), OutOfMemory>) -> Result<(), LineFault>
+    ensures done { OnOk result (done ≡ Ok tt) }
+    ensures memory { IfErr result (λ fault. fault ≡ LineFault.OutOfMemory) }
+{
+    match done {
+        Ok(()) => Ok(()),
+        Err(_) => Err(LineFault::OutOfMemory),
+    }
+}
+
+/// Carries out an event, and prints what it tells or why it is refused.
+fn happen(world: &mut World, event: Event, text: &mut String) -> Result<(), OutOfMemory>
+    ensures { (tick : ℕ) → OnOk result (Does (at tick world.old) (event_line (at tick world.old) event) (string_bytes text.old) (string_bytes text.new) (at tick world.new)) }
+{
+    match world.apply(event) {
+        Ok(told) => push_told(text, told),
+        Err(fault) => match fault {
+            WorldFault::OutOfMemory => Err(AllocError),
+            fault => push_refused(text, fault),
+        },
     }
 }
