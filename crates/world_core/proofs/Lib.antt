@@ -30,3 +30,4 @@ pub mod Views
 pub mod FrontSteps
 pub mod Sweeps
 pub mod Questions
+pub mod ScriptLines

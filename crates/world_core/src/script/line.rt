@@ -1,6 +1,7 @@
 //! Lines of a script, one after another.
 
 ghost use Rattle.std.specs.Prelude.{◌≡◌, OnOk, IfErr, None, string_bytes};
+ghost use Rattle.world_core.specs.Command.{Osds};
 ghost use Rattle.world_core.specs.Script.{line_step, script_step};
 ghost use Rattle.world_core.specs.Steps.{GoesTo, IsFaultOf, LineWrote};
 
@@ -23,12 +24,31 @@ fn begin(
     ensures fault { IfErr result (IsFaultOf (script_step state.old command)) }
 {
     match command {
-        Command::Osds(daemons) => {
-            let machine = Machine::begin(alloc, daemons, text)?;
+        Command::Osds(daemons) => begin_with(alloc, state, daemons, text),
+        _ => Err(LineFault::BadLine),
+    }
+}
+
+/// Makes the world. No line has another number of daemons than 1 to 16.
+fn begin_with(
+    alloc: Global,
+    state: &mut Option<Machine>,
+    daemons: u8,
+    text: &mut String,
+) -> Result<(), LineFault>
+    requires { state.old ≡ None }
+    ensures goes { OnOk result (GoesTo (script_step None (Osds daemons)) (string_bytes text.old) (string_bytes text.new) state.new) }
+    ensures memory { IfErr result (λ fault. fault ≡ LineFault.OutOfMemory) }
+{
+    if daemons < 1 || daemons > 16 {
+        return Err(LineFault::OutOfMemory);
+    }
+    match Machine::begin(alloc, daemons, text) {
+        Ok(machine) => {
             *state = Some(machine);
             Ok(())
         }
-        _ => Err(LineFault::BadLine),
+        Err(_) => Err(LineFault::OutOfMemory),
     }
 }
 
