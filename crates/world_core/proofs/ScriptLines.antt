@@ -1,11 +1,16 @@
 -- The lines of a script, one after another.
-use Rattle.std.proofs.Common.{◌≡◌, ◌∙◌, ℕ, ◌+◌, List, [], ◌∷◌, ◌++◌, Bool, true, false, Option, Some, None, Result, Ok, Err, OnOk, refl, sym, ap, subst, arith, fold, append-nil, append_assoc, if◌then◌else◌}
+use Rattle.std.proofs.Common.{◌≡◌, ◌∙◌, ℕ, ◌+◌, List, [], ◌∷◌, ◌++◌, Bool, true, false, Option, Some, None, Result, Ok, Err, OnOk, IfErr, ◌≤◌, refl, sym, ap, subst, arith, fold, append-nil, append_assoc, if◌then◌else◌}
+use Rattle.std.specs.Io.KnownBytes.{Appends, Keeps}
+use Rattle.script_text.specs.Streams.{AppendsPart}
+use Rattle.script_text.specs.declared.fault.ScriptFault.{ScriptFault}
+use Rattle.script_text.specs.declared.fault.ScriptFault.TheVariants as ends
+use Rattle.script_text.proofs.Known.{appends_kept, appends_more}
 use Rattle.world_core.specs.Event.{Event, Fault}
 use Rattle.world_core.specs.World.{World, world_step, refusal_of, is_drop}
 use Rattle.world_core.specs.Command.{Command, Osds}
 use Rattle.world_core.specs.Text.{refused_text}
-use Rattle.world_core.specs.Script.{Step, Goes, IsBad, IsOther, Ending, Whole, BadAt, Output, Machine, event_told, event_line, after_line, line_step, script_step, onward, behind, outputs}
-use Rattle.world_core.specs.Steps.{Does, at, GoesTo}
+use Rattle.world_core.specs.Script.{Step, Goes, IsBad, IsOther, Ending, Whole, BadAt, Output, Machine, event_told, event_line, after_line, line_step, script_step, onward, behind, outputs, script_output, WroteOf}
+use Rattle.world_core.specs.Steps.{Does, at, GoesTo, LineWrote, IsOfLines}
 
 pub on_ok : {A E : Type 0} {P Q : Type 0} (r : Result A E) → (P → Q) → OnOk r P → OnOk r Q
 on_ok (Ok x) f p = f p
@@ -42,3 +47,61 @@ line_is_bad whole done line rest all taken s cut is bad =
 pub not_first : (command : Command) → ((daemons : ℕ) → command ≡ Osds daemons → ⊥) → script_step None command ≡ IsBad
 not_first (Osds daemons) other = absurd (other daemons refl)
 not_first command other = refl
+
+-- ---- what was written
+
+printed_is : (before after : Option Machine) (line start printed given : List ℕ) → GoesTo (line_step script_step before line) start printed after → start ≡ [] → given ≡ printed
+    → (text : List ℕ) × (line_step script_step before line ≡ Goes text after) × (given ≡ text)
+printed_is before after line start printed given goes empty same = go (line_step script_step before line) refl goes
+  where
+    go : (st : Step (Option Machine)) → line_step script_step before line ≡ st → GoesTo st start printed after → (text : List ℕ) × (line_step script_step before line ≡ Goes text after) × (given ≡ text)
+    go (Goes text s) is there = (text, is ∙ ap (Goes text) (sym there.1), same ∙ there.0 ∙ ap (λ l. l ++ text) empty)
+    go IsBad is there = absurd there
+    go IsOther is there = absurd there
+
+pub line_written : (before : Option Machine) (line : List ℕ) (number : ℕ) (after : Option Machine) (old new : Option (List ℕ)) (result : Result (Unit {0}) ScriptFault) (start printed given : List ℕ)
+    → GoesTo (line_step script_step before line) start printed after → start ≡ [] → given ≡ printed
+    → OnOk result (Appends old new given) → AppendsPart old new given → IfErr result (λ fault. fault ≡ ends.Write) → LineWrote before line number after old new result
+line_written before line number after old new result start printed given goes empty same all part only = go (printed_is before after line start printed given goes empty same) result all only
+  where
+    go : (text : List ℕ) × (line_step script_step before line ≡ Goes text after) × (given ≡ text) → (r : Result (Unit {0}) ScriptFault) → OnOk r (Appends old new given) → IfErr r (λ fault. fault ≡ ends.Write)
+        → LineWrote before line number after old new r
+    go p (Ok done) all only = (p.0, p.1, subst (Appends old new) p.2 all)
+    go p (Err ends.Write) all only = (p.0, p.1, subst (AppendsPart old new) p.2 part)
+    go p (Err (ends.BadLine n)) all only = absurd (cc)
+    go p (Err (ends.OutOfMemory n)) all only = absurd (cc)
+    go p (Err ends.Read) all only = absurd (cc)
+    go p (Err ends.TooMuch) all only = absurd (cc)
+
+pub ended_whole : (input : List ℕ) (old new : Option (List ℕ)) (done : List ℕ) (lines : List (List ℕ)) (taken : ℕ) (s : Option Machine) → Appends old new done
+    → script_output input ≡ behind done (outputs script_step lines taken s) → lines ≡ [] → WroteOf input old new (Ok tt)
+ended_whole input old new done lines taken s app is none =
+    let end : script_output input ≡ record { text = done ++ []; ending = Whole } = is ∙ ap (λ ls. behind done (outputs script_step ls taken s)) none in
+    (ap (λ (o : Output). o.ending) end, subst (Appends old new) (sym (ap (λ (o : Output). o.text) end ∙ append-nil done)) app)
+
+pub ended_by : (input : List ℕ) (old mid new : Option (List ℕ)) (done line : List ℕ) (rest lines : List (List ℕ)) (taken number : ℕ) (s after : Option Machine) (fault : ScriptFault) → Appends old mid done
+    → script_output input ≡ behind done (outputs script_step lines taken s) → lines ≡ line ∷ rest → number ≡ taken + 1
+    → LineWrote s line number after mid new (Err fault) → WroteOf input old new (Err fault)
+ended_by input old mid new done line rest lines taken number s after (ends.BadLine n) app is cut counted wrote =
+    let end : script_output input ≡ record { text = done ++ []; ending = BadAt (taken + 1) } = line_is_bad (script_output input) done line rest lines taken s cut is wrote.1 in
+    (ap (λ (o : Output). o.ending) end ∙ ap BadAt (sym (wrote.0 ∙ counted)),
+     subst (Appends old new) (sym (ap (λ (o : Output). o.text) end ∙ append-nil done)) (appends_kept old mid new done app wrote.2))
+ended_by input old mid new done line rest lines taken number s after ends.Write app is cut counted wrote =
+    let text = wrote.0 in
+    let (p, q, more) = wrote.2 in
+    let o : Output = outputs script_step rest (taken + 1) after in
+    let all : script_output input ≡ behind (done ++ text) o = line_goes (script_output input) done text line rest lines taken s after cut is wrote.1 in
+    let pieces : (done ++ p) ++ (q.0 ++ o.text) ≡ (done ++ text) ++ o.text =
+        append_assoc done p (q.0 ++ o.text) ∙ ap (λ l. done ++ l) (sym (append_assoc p q.0 o.text) ∙ ap (λ l. l ++ o.text) q.1) ∙ sym (append_assoc done text o.text) in
+    (done ++ p, (q.0 ++ o.text, pieces ∙ sym (ap (λ (v : Output). v.text) all)), appends_more old mid new done p app more)
+ended_by input old mid new done line rest lines taken number s after (ends.OutOfMemory n) app is cut counted wrote =
+    (done, ((outputs script_step lines taken s).text, sym (ap (λ (v : Output). v.text) is)), appends_kept old mid new done app wrote.1)
+ended_by input old mid new done line rest lines taken number s after ends.Read app is cut counted wrote = absurd wrote
+ended_by input old mid new done line rest lines taken number s after ends.TooMuch app is cut counted wrote = absurd wrote
+
+pub of_lines : (s after : Option Machine) (line : List ℕ) (number : ℕ) (old new : Option (List ℕ)) (fault : ScriptFault) → LineWrote s line number after old new (Err fault) → 1 ≤ number → IsOfLines fault
+of_lines s after line number old new (ends.BadLine n) wrote low = tt
+of_lines s after line number old new ends.Write wrote low = tt
+of_lines s after line number old new (ends.OutOfMemory n) wrote low = let same : n ≡ number = wrote.0 in omega arith
+of_lines s after line number old new ends.Read wrote low = wrote
+of_lines s after line number old new ends.TooMuch wrote low = wrote
