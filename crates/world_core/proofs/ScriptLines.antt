@@ -5,11 +5,14 @@ use Rattle.script_text.specs.Streams.{AppendsPart}
 use Rattle.script_text.specs.declared.fault.ScriptFault.{ScriptFault}
 use Rattle.script_text.specs.declared.fault.ScriptFault.TheVariants as ends
 use Rattle.script_text.proofs.Known.{appends_kept, appends_more}
-use Rattle.world_core.specs.Event.{Event, Fault}
+use Rattle.object_core.specs.declared.op.Op.{Op}
+use Rattle.entry_core.specs.declared.sealed.GroupId.{GroupId}
+use Rattle.world_core.specs.Event.{Ask, Event, Fault}
+use Rattle.world_core.specs.Event as happens
 use Rattle.world_core.specs.World.{World, world_step, refusal_of, is_drop}
-use Rattle.world_core.specs.Command.{Command, Osds}
+use Rattle.world_core.specs.Command.{Command, Osds, Submit, ListNames, Ready}
 use Rattle.world_core.specs.Text.{refused_text}
-use Rattle.world_core.specs.Script.{Step, Goes, IsBad, IsOther, Ending, Whole, BadAt, Output, Machine, event_told, event_line, after_line, line_step, script_step, onward, behind, outputs, script_output, WroteOf}
+use Rattle.world_core.specs.Script.{Step, Goes, IsBad, IsOther, Ending, Whole, BadAt, Output, Machine, event_told, event_line, after_line, line_step, script_step, onward, behind, outputs, script_output, WroteOf, ask_now, ready_line_text}
 use Rattle.world_core.specs.Steps.{Does, at, GoesTo, LineWrote, IsOfLines}
 
 pub on_ok : {A E : Type 0} {P Q : Type 0} (r : Result A E) → (P → Q) → OnOk r P → OnOk r Q
@@ -83,16 +86,17 @@ pub ended_by : (input : List ℕ) (old mid new : Option (List ℕ)) (done line :
     → script_output input ≡ behind done (outputs script_step lines taken s) → lines ≡ line ∷ rest → number ≡ taken + 1
     → LineWrote s line number after mid new (Err fault) → WroteOf input old new (Err fault)
 ended_by input old mid new done line rest lines taken number s after (ends.BadLine n) app is cut counted wrote =
-    let end : script_output input ≡ record { text = done ++ []; ending = BadAt (taken + 1) } = line_is_bad (script_output input) done line rest lines taken s cut is wrote.1 in
-    (ap (λ (o : Output). o.ending) end ∙ ap BadAt (sym (wrote.0 ∙ counted)),
-     subst (Appends old new) (sym (ap (λ (o : Output). o.text) end ∙ append-nil done)) (appends_kept old mid new done app wrote.2))
+    let end : script_output input ≡ record { text = done ++ []; ending = BadAt (taken + 1) } = line_is_bad (script_output input) done line rest lines taken s cut is wrote.1 in (
+      ap (λ (o : Output). o.ending) end ∙ ap BadAt (sym (wrote.0 ∙ counted)),
+      subst (Appends old new) (sym (ap (λ (o : Output). o.text) end ∙ append-nil done)) (appends_kept old mid new done app wrote.2),
+    )
 ended_by input old mid new done line rest lines taken number s after ends.Write app is cut counted wrote =
     let text = wrote.0 in
     let (p, q, more) = wrote.2 in
     let o : Output = outputs script_step rest (taken + 1) after in
     let all : script_output input ≡ behind (done ++ text) o = line_goes (script_output input) done text line rest lines taken s after cut is wrote.1 in
     let pieces : (done ++ p) ++ (q.0 ++ o.text) ≡ (done ++ text) ++ o.text =
-        append_assoc done p (q.0 ++ o.text) ∙ ap (λ l. done ++ l) (sym (append_assoc p q.0 o.text) ∙ ap (λ l. l ++ o.text) q.1) ∙ sym (append_assoc done text o.text) in
+    append_assoc done p (q.0 ++ o.text) ∙ ap (λ l. done ++ l) (sym (append_assoc p q.0 o.text) ∙ ap (λ l. l ++ o.text) q.1) ∙ sym (append_assoc done text o.text) in
     (done ++ p, (q.0 ++ o.text, pieces ∙ sym (ap (λ (v : Output). v.text) all)), appends_more old mid new done p app more)
 ended_by input old mid new done line rest lines taken number s after (ends.OutOfMemory n) app is cut counted wrote =
     (done, ((outputs script_step lines taken s).text, sym (ap (λ (v : Output). v.text) is)), appends_kept old mid new done app wrote.1)
@@ -105,3 +109,25 @@ of_lines s after line number old new ends.Write wrote low = tt
 of_lines s after line number old new (ends.OutOfMemory n) wrote low = let same : n ≡ number = wrote.0 in omega arith
 of_lines s after line number old new ends.Read wrote low = wrote
 of_lines s after line number old new ends.TooMuch wrote low = wrote
+
+-- ---- commands
+
+pub then_ended : {E F P Q : Type 0} (done : Result (Unit {0}) E) (ended : Result (Unit {0}) F) → (P → Q) → OnOk ended (done ≡ Ok tt) → OnOk done P → OnOk ended Q
+then_ended {E} {F} {P} {Q} done (Ok x) f same p = f (subst (λ r. OnOk r P) same p)
+then_ended done (Err e) f same p = same
+
+pub submit_goes : (m after : Machine) (session : ℕ) (pool namespace object : List ℕ) (ops : List Op) (a : Ask) (command : Command) (old new : List ℕ) → command ≡ Submit session pool namespace object ops
+    → a ≡ ask_now m.world.front m.tick session pool namespace → Does m (event_line m (happens.Submit a object ops)) old new after → GoesTo (script_step (Some m) command) old new (Some after)
+submit_goes m after session pool namespace object ops a command old new is same does =
+    let now : Does m (event_line m (happens.Submit (ask_now m.world.front m.tick session pool namespace) object ops)) old new after = subst (λ v. Does m (event_line m (happens.Submit v object ops)) old new after) same does in
+    subst (λ k. GoesTo (script_step (Some m) k) old new (Some after)) (sym is) (now.0, ap Some now.1)
+
+pub list_goes : (m after : Machine) (session : ℕ) (pool namespace : List ℕ) (a : Ask) (command : Command) (old new : List ℕ) → command ≡ ListNames session pool namespace
+    → a ≡ ask_now m.world.front m.tick session pool namespace → Does m (event_line m (happens.ListNames a)) old new after → GoesTo (script_step (Some m) command) old new (Some after)
+list_goes m after session pool namespace a command old new is same does =
+    let now : Does m (event_line m (happens.ListNames (ask_now m.world.front m.tick session pool namespace))) old new after = subst (λ v. Does m (event_line m (happens.ListNames v)) old new after) same does in
+    subst (λ k. GoesTo (script_step (Some m) k) old new (Some after)) (sym is) (now.0, ap Some now.1)
+
+pub ready_goes : (m : Machine) (id : GroupId) (w : World) (command : Command) (old new : List ℕ) → command ≡ Ready id → w ≡ m.world → new ≡ old ++ ready_line_text w id → GoesTo (script_step (Some m) command) old new (Some m)
+ready_goes m id w command old new is same text =
+    subst (λ k. GoesTo (script_step (Some m) k) old new (Some m)) (sym is) (text ∙ ap (λ v. old ++ ready_line_text v id) same, refl)
