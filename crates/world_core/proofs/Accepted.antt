@@ -24,7 +24,6 @@ use Rattle.entry_core.specs.declared.sealed.GroupId.{GroupId}
 use Rattle.group_core.specs.Each.{Each}
 use Rattle.group_core.specs.Group.{Group, IsSet, EventFits, group_step, run, start, last_set, is_submitted}
 use Rattle.group_core.specs.Group as group
-use Rattle.group_core.specs.Laws.{IsReachedWithin}
 use Rattle.group_core.specs.Reached.{IsReached}
 use Rattle.group_core.specs.Recovery.{ActsWithin}
 use Rattle.group_core.specs.declared.fault.GroupFault.{GroupFault}

@@ -1,8 +1,6 @@
 -- What an event without requests leaves of a front.
-use Rattle.std.proofs.Common.{◌≡◌, ◌∙◌, ℕ, ◌+◌, ◌-◌, ◌≤◌, ◌<◌, true, List, [], ◌∷◌, ◌++◌, Option, Some, None, is_some, length, refl, sym, ap, subst, arith, append-nil}
-use Rattle.std.specs.Prelude.{Result, Ok, Err, slice_set}
-use Rattle.std.specs.Option.{option_map}
-use Rattle.grant_core.specs.Flat.{Table}
+use Rattle.std.proofs.Common.{◌≡◌, ◌∙◌, ℕ, ◌-◌, ◌≤◌, ◌<◌, true, List, [], ◌∷◌, ◌++◌, Option, is_some, length, refl, sym, ap, subst, arith, append-nil}
+use Rattle.std.specs.Prelude.{Ok, slice_set}
 use Rattle.auth_db.specs.Users.{Database, after}
 use Rattle.map_core.specs.State.{History}
 use Rattle.map_core.specs.declared.command.MapCommand.{MapCommand}
@@ -11,7 +9,7 @@ use Rattle.group_core.specs.Each.{Each}
 use Rattle.group_core.specs.Group.{submitted}
 use Rattle.world_core.specs.Event.{AuthCommand, Event, Auth, Map, Open, Renew, Close}
 use Rattle.world_core.specs.Front.{Front, Session, Pieced, command_of, front_step, lists_step, sealed_by, opened, ticket_for, session_at, session_of, if_ok, requests_of}
-use Rattle.world_core.specs.Stands.{FrontStands, IsKept}
+use Rattle.world_core.specs.Stands.{IsKept}
 use Rattle.world_core.proofs.Fronts.{front_stands}
 
 pub auth_step : (f : Front) (command : AuthCommand) (d : Database) → d ≡ after f.database (command_of command) → record f { database = d } ≡ front_step f (Auth command)

@@ -17,7 +17,7 @@ use Rattle.entry_core.specs.Request.{Sealed, Listing}
 use Rattle.group_core.specs.Each.{Each}
 use Rattle.group_core.specs.Asked.{IsAsked}
 use Rattle.world_core.specs.Event.{Ask, Event, Auth, Map, Open, Renew, Close, Submit, ListNames, Deliver, Lose, Repeat, Kick, Fault, NoPool, StaleEpoch, StaleTick, BadObjectName, OfNeeds}
-use Rattle.entry_core.specs.Locality.{Hashes, IsPlaced}
+use Rattle.entry_core.specs.Locality.{IsPlaced}
 use Rattle.world_core.specs.Standing.{group_count}
 pub use Rattle.world_core.specs.Stands.{IsSealedWell, FrontStands}
 use Rattle.world_core.specs.Front.{Session, Front, Asker, ◌>>=◌, need, unless, lower, if_ok, session_of, session_at, opened, ticket_for, asker_of, is_object_name, is_namespace, sealed_of, vector_of, pieces_of, requests_of, sealed_by, asks_more, asked, front_step}

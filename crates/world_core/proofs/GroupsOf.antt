@@ -1,6 +1,6 @@
 -- The groups of a sound world are those of its map, each as the map has it.
 use Prim.Native.Nat.{zero, suc}
-use Rattle.std.proofs.Common.{◌≡◌, ◌∙◌, ℕ, ◌+◌, ◌<◌, ◌≤◌, List, [], ◌∷◌, ◌++◌, Bool, true, false, cond, Option, Some, None, if◌then◌else◌, map, refl, sym, ap, subst, arith}
+use Rattle.std.proofs.Common.{◌≡◌, ◌∙◌, ℕ, ◌+◌, ◌<◌, ◌≤◌, List, [], ◌∷◌, Bool, true, false, cond, Option, Some, None, if◌then◌else◌, map, refl, sym, ap, subst, arith}
 use Rattle.std.specs.Prelude.{slice_get}
 use Rattle.std.specs.List.{filter, flat_map, find, range_with_len}
 use Rattle.place_core.specs.Place.{numbers_of}
@@ -14,7 +14,8 @@ use Rattle.world_core.specs.Groups.{is_same_group}
 use Rattle.world_core.specs.World.{World, group_at, groups_of}
 use Rattle.world_core.specs.Moves.{AreGroupsOf, IsAt}
 use Rattle.world_core.specs.Sound.{GroupKept, IsSound, IsKept}
-use Rattle.std.proofs.Common.{Result}
+use Rattle.std.proofs.Common.{Result, get_or, length}
+use Rattle.std.proofs.lemmas.Option.{slice_get_read}
 use Rattle.std.specs.Option.{option_map}
 use Rattle.map_core.specs.State.{History}
 use Rattle.map_core.specs.Refusal.{acting_refusal}
@@ -29,7 +30,7 @@ use Rattle.world_core.proofs.Messages.{Called, called}
 use Rattle.world_core.proofs.Acting.{each_join, each_weaker}
 use Rattle.world_core.proofs.Bytes.{bytes_same}
 use Rattle.world_core.proofs.Limits.{once}
-use Rattle.world_core.proofs.Merge.{same_group, group_refl, bytes_refl}
+use Rattle.world_core.proofs.Merge.{group_refl, bytes_refl}
 use Rattle.world_core.proofs.Places.{NamedOnce, numbered, places_once}
 use Rattle.world_core.proofs.Sounds.{ids_of}
 
@@ -131,3 +132,10 @@ pub call_done : (f : Front) (gs : List Group) (runs : List Run) (id : GroupId) (
     → CalledAt gs runs place (event_of c) r gs' runs' → Called f gs runs id c r gs' runs'
 call_done f gs runs id c place history r gs' runs' h same none at did =
     called f gs runs id c place r gs' runs' h.fit (asked_there f id history None same none) (asked_place f gs runs id place history h same at) did
+
+-- the group that stands at the place that was asked for
+pub asked_found : (f : Front) (gs : List Group) (runs : List Run) (id : GroupId) (place : ℕ) (history : History) (g : Group) → IsKept f gs runs → history ≡ f.history → ((groups : List Group) → AreGroupsOf history groups → IsAt groups id place)
+    → g ≡ get_or gs place g → group_at id gs ≡ Some g
+asked_found f gs runs id place history g h same at here =
+    let a : IsAt gs id place = asked_place f gs runs id place history h same at in
+    a.found ∙ sym a.there ∙ slice_get_read gs (length gs) place g refl a.within here

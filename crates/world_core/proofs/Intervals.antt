@@ -25,7 +25,7 @@ pub use Rattle.world_core.specs.Sound.{HasSets}
 
 -- ---- sets
 
-same_set_is : (a b : List ℕ) → same_set a b ≡ true → a ≡ b
+pub same_set_is : (a b : List ℕ) → same_set a b ≡ true → a ≡ b
 same_set_is [] [] h = refl
 same_set_is [] (y ∷ ys) h = absurd (cc)
 same_set_is (x ∷ xs) [] h = absurd (cc)
@@ -33,7 +33,7 @@ same_set_is (x ∷ xs) (y ∷ ys) h =
     let both = both_true (x == y) (same_set xs ys) h in
     ap (λ n. n ∷ xs) (number_same x y both.0) ∙ ap (λ l. y ∷ l) (same_set_is xs ys both.1)
 
-same_set_refl : (a : List ℕ) → same_set a a ≡ true
+pub same_set_refl : (a : List ℕ) → same_set a a ≡ true
 same_set_refl [] = refl
 same_set_refl (x ∷ xs) = ap (λ b. b && same_set xs xs) (number_refl x) ∙ same_set_refl xs
 
@@ -46,7 +46,7 @@ last_pushed sets set =
     let e : length (sets ++ set ∷ []) - 1 ≡ length sets = omega (arith, length-append sets (set ∷ [])) in
     ap (λ n. slice_index_or (sets ++ set ∷ []) n []) e ∙ at_end sets set
 
-restarts_is : (d : ℕ) (set : List ℕ) → list_any (λ x. x == d) set ≡ is_in set d
+pub restarts_is : (d : ℕ) (set : List ℕ) → list_any (λ x. x == d) set ≡ is_in set d
 restarts_is d [] = refl
 restarts_is d (x ∷ xs) = ap (λ b. (x == d) || b) (restarts_is d xs)
 

@@ -95,7 +95,7 @@ none_named name (p ∷ ps) h = go (is_named name p) refl (none_named name ps (λ
     go true e rest = absurd (h 0 [] (omega arith) (sym (bytes_same p.name name e)))
     go false e rest = rest
 
-named_once : (ps : List Pool) → AllPairs (λ a b. a ≢ b) (map (λ (p : Pool). p.name) ps) → NamedOnce ps
+pub named_once : (ps : List Pool) → AllPairs (λ a b. a ≢ b) (map (λ (p : Pool). p.name) ps) → NamedOnce ps
 named_once [] h = tt
 named_once (p ∷ ps) h = (none_named p.name ps (λ j d low. h 0 (suc j) d (omega arith) (omega arith)), named_once ps (λ i j d less low. h (suc i) (suc j) d (omega arith) (omega arith)))
 
@@ -176,7 +176,7 @@ found_limits test (q ∷ qs) p all h = go (test q) h (λ k. found_limits test qs
 pub pool_limits : (f : Front) (name : List ℕ) (p : Pool) → FrontKept f → find (is_named name) (map_of f.history).pools ≡ Some p → IsPool p
 pool_limits f name p h found = found_limits (is_named name) (map_of f.history).pools p (limits_now f h) found
 
-asked_for : (f : Front) → FrontKept f → (rs : List Sealed) → Each (IsSealedWell f.history) rs → Each IsBelow rs → Each (IsSealedFor f.history) rs
+pub asked_for : (f : Front) → FrontKept f → (rs : List Sealed) → Each (IsSealedWell f.history) rs → Each IsBelow rs → Each (IsSealedFor f.history) rs
 asked_for f h [] well below = tt
 asked_for f h (s ∷ ss) well below =
     let p = well.0.pool in

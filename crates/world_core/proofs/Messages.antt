@@ -2,9 +2,7 @@
 use Rattle.std.proofs.Common.{◌≡◌, ◌∙◌, ◌⊎◌, inl, inr, ℕ, List, [], ◌∷◌, ◌++◌, Bool, true, false, if◌then◌else◌, Option, Some, None, Result, Ok, Err, length, drop, refl, sym, ap, subst, append-nil}
 use Rattle.std.specs.Prelude.{slice_get, slice_set}
 use Rattle.std.specs.Option.{option_map, option_or}
-use Rattle.std.proofs.lemmas.List.{drop_all}
 use Rattle.entry_core.specs.Log.{is_in}
-use Rattle.entry_core.specs.declared.entry.Entry.{Entry}
 use Rattle.entry_core.specs.declared.sealed.GroupId.{GroupId}
 use Rattle.group_core.specs.Each.{Each}
 use Rattle.group_core.specs.History.{Begins}
@@ -28,11 +26,14 @@ use Rattle.world_core.specs.Inside.{world_of, entries_told}
 use Rattle.world_core.specs.Sound.{FitsAt, IsSound, IsKept}
 use Rattle.world_core.specs.Applying.{Applies, CalledAt, StepsOrMemory, event_for, event_of, fault_of_group, runs_from, told_call}
 use Rattle.world_core.proofs.Calling.{no_run, set_same}
-use Rattle.world_core.proofs.RunPlaces.{News, changed_runs}
+use Rattle.world_core.proofs.RunPlaces.{changed_runs}
 use Rattle.world_core.proofs.Runs.{same_begins}
-use Rattle.world_core.proofs.Sounds.{sound_on}
+use Rattle.grant_core.specs.Flat.{Table}
+use Rattle.world_core.specs.Holds.{Holds}
+use Rattle.world_core.proofs.Holding.{holds_on}
+use Rattle.world_core.proofs.Sounds.{has_numbers_on, sound_on}
 
-true_not_false : true ≡ false → ⊥
+pub true_not_false : true ≡ false → ⊥
 true_not_false e = cc
 
 -- ---- worlds that were applied an event
@@ -105,7 +106,7 @@ call_refused f id (calls.Lose place) = refl
 call_refused f id (calls.Repeat place) = refl
 call_refused f id calls.Kick = refl
 
-or_none : {X : Type 0} (o : Option X) → option_or o None ≡ o
+pub or_none : {X : Type 0} (o : Option X) → option_or o None ≡ o
 or_none None = refl
 or_none (Some x) = refl
 
@@ -282,3 +283,9 @@ called_none w id c fault some =
 -- what applied leaves of what the code keeps
 pub kept_on : (f f' : Front) (gs gs' : List Group) (runs runs' : List Run) (e : Event) (r : Result Told Fault) → IsKept f gs runs → Applies (world_of f gs runs) e r (world_of f' gs' runs') → Each (FitsAt gs') runs' → IsKept f' gs' runs'
 kept_on f f' gs gs' runs runs' e r h a fit = record { sound = applied_sound (world_of f gs runs) (world_of f' gs' runs') e r h.sound a; fit = fit }
+
+-- what held of the events before holds with this one
+pub applied_holds : (old new : World) (e : Event) (r : Result Told Fault) → IsSound old → Applies old e r new → (table : Table) (daemons : ℕ) (before : List Event) → Holds table daemons before old → counts e r ≡ true → Holds table daemons (before ++ e ∷ []) new
+applied_holds old new e r h a table daemons before holds is =
+    let P : World → Type 0 = λ w. Holds table daemons (before ++ e ∷ []) w in
+    subst P (sym (a.steps is)) (holds_on table daemons before e old holds (has_numbers_on old e h.kept.front (accepted_when old e r a.refused is)))

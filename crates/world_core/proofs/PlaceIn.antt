@@ -1,6 +1,6 @@
 -- Where a group stands: after the groups of the earlier pools and those of its own with smaller numbers.
 use Prim.Native.Nat.{zero, suc}
-use Rattle.std.proofs.Common.{◌≡◌, ◌∙◌, ℕ, ◌+◌, ◌<◌, ◌≤◌, ◌==◌, ◌&&◌, List, [], ◌∷◌, ◌++◌, Bool, true, false, cond, not, if◌then◌else◌, Option, Some, None, is_some, length, map, refl, sym, ap, subst, arith}
+use Rattle.std.proofs.Common.{◌≡◌, ◌∙◌, ℕ, ◌+◌, ◌<◌, ◌==◌, ◌&&◌, List, [], ◌∷◌, ◌++◌, Bool, true, false, cond, if◌then◌else◌, Option, Some, None, is_some, length, map, refl, sym, ap, subst, arith}
 use Rattle.std.specs.Prelude.{nat_le}
 use Rattle.std.specs.List.{flat_map, range_with_len, find}
 use Rattle.std.specs.Option.{option_map_or}
@@ -91,7 +91,7 @@ own id k (suc n) rest (g ∷ gs) (suc further) is less are =
 
 -- ---- all pools
 
-stands : (id : GroupId) (pools : List Pool) (p : Pool) → find (is_named id.pool) pools ≡ Some p → id.number < p.pg_num
+pub stands : (id : GroupId) (pools : List Pool) (p : Pool) → find (is_named id.pool) pools ≡ Some p → id.number < p.pg_num
     → (groups : List Group) → map (λ g. g.group) groups ≡ flat_map groups_of pools → IsAt groups id (place_in pools id)
 stands id [] p found less groups are = absurd (cc)
 stands id (q ∷ qs) p found less groups are = go (is_named id.pool q) refl found (λ k. stands id qs p k less)

@@ -5,7 +5,6 @@ use Rattle.std.specs.Option.{option_map_or}
 use Rattle.map_core.specs.State.{History}
 use Rattle.map_core.specs.Map.{is_named, map_of, pool_in, view_at}
 use Rattle.map_core.specs.Refusal.{groups_in}
-use Rattle.map_core.specs.Laws.{HasPool}
 use Rattle.map_core.specs.declared.pool.Pool.{Pool}
 use Rattle.map_core.specs.declared.pool.PoolView.{PoolView}
 use Rattle.map_core.specs.declared.command.MapCommand.{MapCommand}

@@ -1,5 +1,5 @@
 -- Why a call of the front is refused.
-use Rattle.std.proofs.Common.{◌≡◌, ◌∙◌, ◌⊎◌, inl, inr, ℕ, ◌+◌, ◌≤◌, ◌<◌, ◌||◌, ◌==◌, Bool, true, false, not, cond, List, [], ◌∷◌, Option, Some, None, Result, Ok, Err, is_some, length, take, unwrap_or, refl, sym, ap, subst, arith, if◌then◌else◌}
+use Rattle.std.proofs.Common.{◌≡◌, ◌∙◌, ◌⊎◌, inl, inr, ℕ, ◌||◌, Bool, true, false, cond, List, Option, Some, None, Result, Ok, Err, unwrap_or, refl, sym, ap}
 use Rattle.std.specs.Option.{option_map}
 use Rattle.std.specs.Result.{IsErrAnd}
 use Rattle.auth_db.specs.declared.fault.AuthFault.{AuthFault}
@@ -17,7 +17,7 @@ use Rattle.map_core.specs.declared.fault.MapFault.{MapFault}
 use Rattle.map_core.specs.declared.fault.MapFault.TheVariants as map_fault
 use Rattle.object_core.specs.declared.needs.NeedsFault.{NeedsFault}
 use Rattle.object_core.specs.declared.needs.NeedsFault.TheVariants as needs_fault
-use Rattle.world_core.specs.Event.{Told, Made, There, Fault, OutOfMemory, OfUsers, OfMap, OfNeeds}
+use Rattle.world_core.specs.Event.{Made, There, Fault, OutOfMemory, OfUsers, OfMap, OfNeeds}
 use Rattle.world_core.specs.Front.{users_fault, told_creation, ticket_with, ticket_for}
 use Rattle.world_core.specs.Refusing.{RefusedOrMemory, fault_of_map, fault_of_needs}
 use Rattle.world_core.proofs.Tickets.{tickets_are_read}

@@ -108,7 +108,7 @@ moved_sets sets acting = if same_set acting (last_set sets) then sets else sets 
 abbrev pub restarted_sets : List (List ℕ) → ℕ → List (List ℕ)
 restarted_sets sets d = if is_in (last_set sets) d then sets ++ last_set sets ∷ [] else sets
 
-interval_facts : (g : Group) (acting up : List ℕ) → group.refusal_of g (group.NewInterval acting up) ≡ None
+pub interval_facts : (g : Group) (acting up : List ℕ) → group.refusal_of g (group.NewInterval acting up) ≡ None
     → facts (group_step g (group.NewInterval acting up)) ≡ record (facts g) { sets = moved_sets g.sets acting; up = up }
 interval_facts g acting up none = go (same_set acting (last_set g.sets)) (has_all_intervals g) none
   where
@@ -118,7 +118,7 @@ interval_facts g acting up none = go (same_set acting (last_set g.sets)) (has_al
     go false true h = absurd (cc)
     go false false h = refl
 
-restart_facts : (g : Group) (d : ℕ) → group.refusal_of g (group.Restart d) ≡ None → facts (group_step g (group.Restart d)) ≡ record (facts g) { sets = restarted_sets g.sets d }
+pub restart_facts : (g : Group) (d : ℕ) → group.refusal_of g (group.Restart d) ≡ None → facts (group_step g (group.Restart d)) ≡ record (facts g) { sets = restarted_sets g.sets d }
 restart_facts g d none = go (is_in (last_set g.sets) d) (has_all_intervals g) none
   where
     go : (b c : Bool) → (if b then (if c then Some group_fault.Full else None) else None) ≡ None

@@ -1,19 +1,16 @@
 -- Runs of groups by their places tell the same entries after each event, and those that it decided.
 use Prim.Native.Nat.{zero, suc}
-use Rattle.std.proofs.Common.{◌≡◌, ◌∙◌, ℕ, ◌<◌, ◌≤◌, ◌-◌, List, [], ◌∷◌, ◌++◌, Bool, true, false, if◌then◌else◌, Option, Some, None, refl, sym, ap, subst, arith, append-nil, length, take, drop, map, length-drop, length-append}
+use Rattle.std.proofs.lemmas.Option.{slice_get_read}
+use Rattle.std.proofs.Common.{◌+◌, get_or}
+use Rattle.std.proofs.Common.{◌≡◌, ◌∙◌, ℕ, ◌<◌, ◌≤◌, ◌-◌, List, [], ◌∷◌, ◌++◌, Bool, true, false, if◌then◌else◌, Some, refl, sym, ap, subst, arith, append-nil, length, take, drop, length-drop, length-append}
 use Rattle.std.specs.Prelude.{nat_lt, slice_get, slice_set}
-use Rattle.std.specs.List.{flat_map}
-use Rattle.std.proofs.lemmas.List.{take-append-le, drop-append-le, drop_all, length-set}
+use Rattle.std.proofs.lemmas.List.{take-append-le, drop-append-le, drop_all, length-set, take_more}
 use Rattle.std.proofs.lemmas.Grind.{flat_map-append}
 use Rattle.std.proofs.lemmas.Bool.{ltb-true, lt-ltb}
 use Rattle.entry_core.specs.declared.entry.Entry.{Entry}
-use Rattle.entry_core.specs.declared.sealed.GroupId.{GroupId}
 use Rattle.group_core.specs.Each.{Each}
 use Rattle.group_core.specs.History.{Begins}
-use Rattle.group_core.specs.Group.{Group, Event, group_step}
-use Rattle.group_core.proofs.Groups.{audit_grows}
-use Rattle.world_core.specs.Groups.{is_same_group}
-use Rattle.world_core.specs.World.{at_group}
+use Rattle.group_core.specs.Group.{Group}
 use Rattle.world_core.specs.Standing.{audit_in}
 use Rattle.world_core.specs.declared.audit.Run.{Run}
 use Rattle.world_core.specs.Inside.{run_entries, entries_told}
@@ -130,3 +127,22 @@ changed_runs gs runs place old new there more fit =
           ∙ ap (λ l. l ++ entries_told (slice_set gs place new) (runs_from place (length old.audit) (length new.audit))) (told_on gs (slice_set gs place new) runs longer fit)
           ∙ ap (λ l. entries_told gs runs ++ l) news.tell;
     }
+
+-- ---- one run more
+
+each_get : (P : Run → Type 0) (runs : List Run) (i : ℕ) (d : Run) → Each P runs → i < length runs → P (get_or runs i d)
+each_get P [] i d all low = absurd (omega arith)
+each_get P (r ∷ rs) zero d all low = all.0
+each_get P (r ∷ rs) (suc i) d all low = each_get P rs i d all.1 (omega arith)
+
+pub told_next : (gs : List Group) (runs : List Run) (i : ℕ) (d : Run) (g : Group) (es all : List Entry) → Each (FitsAt gs) runs → i < length runs → g ≡ get_or gs (get_or runs i d).group g → es ≡ g.audit
+    → all ≡ entries_told gs (take i runs) → all ++ take ((get_or runs i d).upto - (get_or runs i d).from) (drop (get_or runs i d).from es) ≡ entries_told gs (take (i + 1) runs)
+told_next gs runs i d g es all fit low here is are =
+    let r : Run = get_or runs i d in
+    let f : FitsAt gs r = each_get (FitsAt gs) runs i d fit low in
+    let there : slice_get gs r.group ≡ Some g = slice_get_read gs (length gs) r.group g refl f.there here in
+    ap (λ l. l ++ take (r.upto - r.from) (drop r.from es)) are
+    ∙ ap (λ l. entries_told gs (take i runs) ++ take (r.upto - r.from) (drop r.from l)) (is ∙ sym (ap audit_in there))
+    ∙ ap (λ l. entries_told gs (take i runs) ++ l) (sym (append-nil (run_entries gs r)))
+    ∙ sym (flat_map-append (run_entries gs) (take i runs) (r ∷ []))
+    ∙ ap (entries_told gs) (sym (take_more runs i d low))

@@ -1,11 +1,10 @@
 -- Every world of the program is sound: at first, and after one more accepted event.
-use Prim.Native.Nat.{zero, suc}
-use Rattle.std.proofs.Common.{◌≡◌, ◌∙◌, ℕ, ◌<◌, ◌≤◌, List, [], ◌∷◌, ◌++◌, Bool, true, false, if◌then◌else◌, Some, None, map, length, refl, sym, ap, subst, arith, append-nil}
-use Rattle.std.specs.List.{flat_map, range_with_len}
+use Rattle.std.proofs.Common.{◌≡◌, ◌∙◌, ℕ, ◌<◌, ◌≤◌, List, [], ◌∷◌, ◌++◌, Bool, true, false, if◌then◌else◌, map, length, refl, sym, ap, arith, append-nil}
+use Rattle.std.specs.List.{flat_map}
 use Rattle.std.proofs.lemmas.Grind.{flat_map-append}
 use Rattle.std.proofs.lemmas.List.{map-append}
 use Rattle.grant_core.specs.Flat.{Table}
-use Rattle.map_core.specs.State.{MapState, History}
+use Rattle.map_core.specs.State.{MapState}
 use Rattle.map_core.specs.Map.{map_of, after, change_first, created, is_named, tagged, pools_after}
 use Rattle.map_core.specs.declared.pool.Pool.{Pool}
 use Rattle.map_core.specs.declared.command.MapCommand.{MapCommand}
@@ -18,10 +17,10 @@ use Rattle.group_core.proofs.Reached.{reached_good}
 use Rattle.world_core.specs.Calls.{KeepsPromises}
 use Rattle.world_core.specs.Event.{Event, Auth, Map, Open, Renew, Close, Submit, ListNames, Deliver, Lose, Repeat, Kick}
 use Rattle.world_core.specs.Groups.{is_same_group}
-use Rattle.world_core.specs.Front.{Front, first_front, front_step}
+use Rattle.world_core.specs.Front.{Front, front_step}
 use Rattle.world_core.specs.World.{World, Part, first_world, at_group, groups_of, act, acted, parts_of, begun_group, created_by, is_accepted, world_step}
 use Rattle.world_core.specs.Standing.{HasNumbers}
-use Rattle.world_core.specs.Sound.{FrontKept, WorldStands, WorldKept, HasGroups, IsSound}
+use Rattle.world_core.specs.Sound.{FrontKept, HasGroups, IsSound}
 use Rattle.world_core.proofs.Standing.{step_is}
 use Rattle.world_core.proofs.Worlds.{first_stands, step_stands, world_one_list}
 use Rattle.world_core.proofs.Replied.{world_answered}

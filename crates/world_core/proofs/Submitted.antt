@@ -1,16 +1,14 @@
 -- Requests and lists by their ids.
 use Prim.Native.Nat.{zero, suc}
-use Rattle.std.proofs.Common.{◌≡◌, ◌∙◌, ℕ, ◌==◌, ◌<◌, Bool, true, false, cond, List, [], ◌∷◌, ◌++◌, Option, Some, None, map, length, take, drop, get_or, refl, sym, ap, subst, arith, append_assoc, add-one, drop-cons, if◌then◌else◌, eqb-true, eq-eqb}
-use Rattle.std.specs.Option.{option_map, is_some}
+use Rattle.std.proofs.Common.{◌≡◌, ◌∙◌, ℕ, ◌==◌, Bool, true, false, cond, List, [], ◌∷◌, ◌++◌, Option, Some, None, take, refl, sym, ap, eqb-true, eq-eqb}
+use Rattle.std.specs.Option.{option_map}
 use Rattle.std.specs.List.{find}
 use Rattle.std.specs.Map.{lookup}
-use Rattle.std.proofs.lemmas.List.{map-append, take-append-drop}
-use Rattle.std.proofs.Math.Seq.{take-suc}
+use Rattle.std.proofs.lemmas.List.{map-append}
 use Rattle.entry_core.specs.Request.{Sealed}
-use Rattle.group_core.specs.Each.{Each}
 use Rattle.group_core.specs.Group.{submitted}
 use Rattle.world_core.specs.Front.{Pieced}
-use Rattle.world_core.specs.Submitting.{requests_in, AreKeyed, AreNew, lists_in}
+use Rattle.world_core.specs.Submitting.{requests_in, AreKeyed, lists_in}
 
 same_turned : (a b : ℕ) → (a == b) ≡ (b == a)
 same_turned a b = go (a == b) refl

@@ -1,11 +1,10 @@
 -- A pool that was seen has a word for its name, and was seen at an epoch that there was.
-use Rattle.std.proofs.Common.{◌≡◌, ◌∙◌, ◌⊎◌, inl, inr, ℕ, ◌+◌, ◌≤◌, ◌<◌, ◌||◌, ◌==◌, Bool, true, false, not, cond, List, [], ◌∷◌, ◌++◌, Option, Some, None, is_some, length, take, fold, find, unwrap_or, refl, sym, ap, subst, arith, if◌then◌else◌}
+use Rattle.std.proofs.Common.{◌≡◌, ◌∙◌, ◌⊎◌, inl, inr, ℕ, ◌+◌, ◌≤◌, ◌||◌, ◌==◌, Bool, true, false, not, cond, List, [], ◌∷◌, ◌++◌, Option, Some, None, is_some, fold, find, unwrap_or, refl, sym, ap, arith}
 use Rattle.std.specs.Prelude.{nat_lt}
-use Rattle.std.specs.Option.{option_map}
-use Rattle.std.proofs.lemmas.Bool.{eqb-true, false≢true}
+use Rattle.std.proofs.lemmas.Bool.{eqb-true}
 use Rattle.std.proofs.lemmas.Bool.Decides.{nat_tests}
 use Rattle.map_core.specs.State.{MapState, History}
-use Rattle.map_core.specs.Map.{change_first, is_named, tagged, created, pools_after, after, initial, map_after, map_of, epoch_of, pool_in, view_at}
+use Rattle.map_core.specs.Map.{change_first, is_named, tagged, created, pools_after, after, initial, map_of, epoch_of, pool_in, view_at}
 use Rattle.map_core.specs.Refusal.{refusal, tests, first_of, view_refusal, is_word}
 use Rattle.map_core.specs.Limits.{AcceptedFrom, IsAccepted}
 use Rattle.map_core.specs.Laws.{HasPool}
@@ -18,7 +17,7 @@ use Rattle.map_core.specs.declared.fault.MapFault.TheVariants as map_fault
 use Rattle.map_core.proofs.Acceptance.{all_fail, not_false}
 use Rattle.map_core.proofs.Kept.{views_are_of_pools}
 use Rattle.group_core.specs.Each.{Each}
-use Rattle.world_core.specs.Event.{Fault, NoPool, OutOfMemory}
+use Rattle.world_core.specs.Event.{NoPool, OutOfMemory}
 use Rattle.world_core.specs.Front.{need, error_of}
 use Rattle.world_core.specs.Refusing.{fault_of_view}
 use Rattle.world_core.proofs.Refused.{first_or_memory}

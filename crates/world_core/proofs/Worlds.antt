@@ -34,7 +34,7 @@ use Rattle.world_core.proofs.Standing.{step_is, Submits, Stands, stands_legal}
 use Rattle.world_core.proofs.Acting.{act_stands, act_asked, act_merged, group_at_self, group_at_other, group_at_each, each_join, each_weaker}
 use Rattle.world_core.proofs.Bytes.{number_same}
 use Rattle.world_core.proofs.Numbers.{asked_later}
-use Rattle.world_core.proofs.Fronts.{IsSealedWell, placed, FrontStands, front_stands}
+use Rattle.world_core.proofs.Fronts.{IsSealedWell, placed, front_stands}
 pub use Rattle.world_core.specs.Sound.{WorldStands}
 
 -- ---- more submissions

@@ -1,6 +1,6 @@
 -- Refinement: only contracts inside the crate use it.
 -- What one event does to a world, and one call to a group and its runs.
-use Rattle.std.specs.Prelude.{◌≡◌, ◌⊎◌, ℕ, List, [], ◌∷◌, ◌++◌, true, false, if◌then◌else◌, Option, None, Some, Result, Ok, Err, IfOk, length, nat_lt, slice_get, slice_set}
+use Rattle.std.specs.Prelude.{◌≡◌, ◌⊎◌, ℕ, List, [], ◌∷◌, ◌++◌, true, false, if◌then◌else◌, None, Some, Result, Ok, Err, IfOk, length, nat_lt, slice_get, slice_set}
 use Rattle.entry_core.specs.declared.sealed.GroupId.{GroupId}
 use Rattle.group_core.specs.Group.{Group, group_step, left_by}
 use Rattle.group_core.specs.Group as group

@@ -1,6 +1,6 @@
 -- Refinement: only contracts inside the crate use it.
 -- What the fields of a world stand for.
-use Rattle.std.specs.Prelude.{◌-◌, List, Option, None, Some, take, drop, slice_get}
+use Rattle.std.specs.Prelude.{◌-◌, List, take, drop, slice_get}
 use Rattle.std.specs.List.{flat_map}
 use Rattle.entry_core.specs.declared.entry.Entry.{Entry}
 use Rattle.group_core.specs.Group.{Group}

@@ -14,6 +14,7 @@ pub mod Command
 pub mod Text
 pub mod Script
 pub mod Taking
+pub mod TakenWords
 pub mod Refusing
 pub mod Moves
 pub mod Asking

@@ -1,7 +1,7 @@
 -- Refinement: only contracts inside the crate use it.
 -- What a command on the map is to all groups at once.
 use Rattle.std.specs.Prelude.{◌≡◌, ℕ, ◌+◌, ◌<◌, List, [], ◌∷◌, Bool, true, false, if◌then◌else◌, Option, None, Some, fold, length, map, slice_get, slice_set}
-use Rattle.std.specs.List.{flat_map}
+use Rattle.std.specs.List.{flat_map, range_with_len}
 use Rattle.std.specs.Option.{option_or}
 use Rattle.place_core.specs.Place.{numbers_of}
 use Rattle.map_core.specs.State.{MapState, History}
@@ -9,14 +9,14 @@ use Rattle.map_core.specs.Map.{is_named, map_of, after}
 use Rattle.map_core.specs.Intervals.{set_of}
 use Rattle.map_core.specs.declared.pool.Pool.{Pool}
 use Rattle.map_core.specs.declared.command.MapCommand.{MapCommand}
-use Rattle.map_core.specs.declared.command.MapCommand.TheVariants.{OsdUp, OsdDown, OsdRestart}
+use Rattle.map_core.specs.declared.command.MapCommand.TheVariants.{PoolCreate, OsdUp, OsdDown, OsdRestart}
 use Rattle.entry_core.specs.declared.sealed.GroupId.{GroupId}
 use Rattle.group_core.specs.Each.{Each}
 use Rattle.group_core.specs.Group.{Group, group_step, last_set}
 use Rattle.group_core.specs.Group as group
 use Rattle.group_core.specs.Moves.{Prepared}
 use Rattle.group_core.specs.declared.fault.GroupFault.{GroupFault}
-use Rattle.world_core.specs.World.{Part, group_at, at_group, groups_of, members_of}
+use Rattle.world_core.specs.World.{Part, group_at, at_group, groups_of, members_of, begun_group}
 
 -- one group after its part
 abbrev pub stepped_by : List Group → Part → List Group
@@ -45,6 +45,12 @@ abbrev pub move_of : MapState → MapCommand → GroupId → group.Event
 move_of state (OsdRestart daemon) id = group.Restart daemon
 move_of state command id = group.NewInterval (members_of (after state command) id) (numbers_of (after state command).up)
 
+-- the groups that a command creates, by number
+abbrev pub made_by : MapState → MapCommand → List Group
+made_by state (PoolCreate name pg_num size min_size) =
+    map (begun_group (after state (PoolCreate name pg_num size min_size)) min_size) (map (λ n. record { pool = name; number = n }) (range_with_len 0 pg_num))
+made_by state _ = []
+
 -- each group after its own part
 abbrev pub all_moved : (GroupId → group.Event) → List Group → List Group
 all_moved event groups = map (λ g. group_step g (event g.group)) groups
@@ -57,6 +63,9 @@ first_refusal event (g ∷ gs) = option_or (group.refusal_of g (event g.group)) 
 -- a group, ready for its part
 abbrev pub prepared : (GroupId → group.Event) → Group → Prepared
 prepared event g = record { group = g; event = event g.group }
+
+abbrev pub all_prepared : (GroupId → group.Event) → List Group → List Prepared
+all_prepared event groups = map (prepared event) groups
 
 -- what a prepared group was, and what it becomes
 abbrev pub given_up : Prepared → Group

@@ -1,14 +1,13 @@
 -- Refinement: only contracts inside the crate use it.
 -- What holds of every world of the program: facts of its front, of its groups and of its runs, and of no history of events.
-use Rattle.std.specs.Prelude.{◌≡◌, ℕ, ◌+◌, ◌-◌, ◌*◌, ◌<◌, ◌≤◌, List, Option, None, Some, length, map, slice_get}
+use Rattle.std.specs.Prelude.{◌≡◌, ℕ, ◌<◌, ◌≤◌, List, Some, length, map, slice_get}
 use Rattle.std.specs.List.{filter, flat_map}
 use Rattle.place_core.specs.Place.{numbers_of}
 use Rattle.map_core.specs.State.{History}
 use Rattle.map_core.specs.Map.{map_of}
 use Rattle.map_core.specs.Limits.{IsAccepted}
 use Rattle.map_core.specs.Intervals.{set_of, intervals_of}
-use Rattle.map_core.specs.Laws.{HasPool}
-use Rattle.entry_core.specs.Locality.{Hashes, group_for}
+use Rattle.entry_core.specs.Locality.{group_for}
 use Rattle.entry_core.specs.Request.{Sealed}
 use Rattle.entry_core.specs.declared.sealed.GroupId.{GroupId}
 use Rattle.group_core.specs.Each.{Each}
@@ -16,7 +15,7 @@ use Rattle.group_core.specs.Asked.{IsAsked}
 use Rattle.group_core.specs.Group.{Group, Event, Submit, Deliver, Lose, Repeat, NewInterval, Restart, Kick, last_set, run, start}
 use Rattle.group_core.specs.Laws.{IsReachedWithin}
 use Rattle.world_core.specs.Groups.{is_for}
-use Rattle.world_core.specs.Front.{Front, Session}
+use Rattle.world_core.specs.Front.{Front}
 use Rattle.world_core.specs.World.{World, group_at, groups_of}
 use Rattle.world_core.specs.Standing.{audit_in, IsMerged}
 use Rattle.world_core.specs.Stands.{InMap, IsSealedWell, FrontStands}

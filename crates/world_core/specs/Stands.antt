@@ -48,7 +48,7 @@ pub record FrontStands (f : Front) : Type 0 where
   pub asked : Each (IsAsked f.submissions) f.submissions
   pub sealed : Each (IsSealedWell f.history) f.submissions
 
--- a front of code: there is room for the numbers of a list more than it takes requests, and each list begins with a request
+-- what a front in code keeps besides: at most 2 ^ 26 requests and the 64 of one list more, so that each number fits, and each list begins with a request
 pub record IsKept (f : Front) : Type 0 where
   pub stands : FrontStands f
   pub few : length f.submissions ≤ 67108928

@@ -35,8 +35,8 @@ fn are_printable(bytes: &[u8]) -> bool
     bytes.iter().all(|byte| *byte >= 33 && *byte <= 126)
 }
 
-/// Whether it is an object's name: 1 to 255 bytes of 33 to 126.
-pub(crate) fn is_object_name(name: &Name) -> bool
+// Whether it is an object's name: 1 to 255 bytes of 33 to 126.
+fn is_object_name(name: &Name) -> bool
     ensures { result ≡ spec.is_object_name name.now }
 {
     let bytes = name.as_str().as_bytes();
@@ -49,6 +49,13 @@ pub(crate) fn is_namespace(name: &Name) -> bool
 {
     let bytes = name.as_str().as_bytes();
     bytes.len() <= LONGEST_NAMESPACE && are_printable(bytes)
+}
+
+/// Whether an object's name and its namespace are what they may be.
+pub(crate) fn are_names(object: &Name, namespace: &Name) -> bool
+    ensures { result ≡ (spec.is_object_name object.now && spec.is_namespace namespace.now) }
+{
+    is_object_name(object) && is_namespace(namespace)
 }
 
 /// The pool of a name as it was at an epoch that is not after the present one, or W2.

@@ -1,7 +1,14 @@
 //! Where the decided entries stand in the groups' own lists.
 
-ghost use Rattle.std.specs.Prelude.{◌≡◌, ◌<◌, ◌++◌, vec_len, vec_capacity};
+ghost use Rattle.std.specs.Prelude.{◌≡◌, ◌<◌, ◌++◌, vec_len, vec_capacity, IfOk, OnOk};
+ghost use Rattle.group_core.specs.Each.{Each};
 ghost use Rattle.world_core.specs.Applying.{runs_from};
+ghost use Rattle.world_core.specs.Inside.{entries_told};
+ghost use Rattle.world_core.specs.Sound.{FitsAt};
+
+use entry_core::{Entry, Items, OutOfMemory, TryCopy};
+use group_core::Group;
+use std::alloc::Global;
 
 /// The entries of one group that one event decided.
 #[derive(Clone, Copy, Drop)]
@@ -22,4 +29,42 @@ pub(crate) fn keep(runs: &mut Vec<Run>, group: usize, from: usize, upto: usize)
     if from < upto {
         let _ = runs.push(Run { group, from, upto });
     }
+}
+
+/// Adds copies of entries.
+fn add_copies(all: &mut Items<Entry>, entries: &[Entry]) -> Result<(), OutOfMemory>
+    ensures { OnOk result (all.new ≡ all.old ++ entries.now) }
+{
+    for entry in entries {
+        let copy = match entry.copy() {
+            Ok(copy) => copy,
+            Err(error) => return Err(error),
+        };
+        match all.push(copy) {
+            Ok(()) => {}
+            Err(error) => return Err(error),
+        }
+    }
+    Ok(())
+}
+
+/// Copies of the entries of all runs, in order.
+pub(crate) fn collect(
+    alloc: Global,
+    groups: &[Group],
+    runs: &[Run],
+) -> Result<Vec<Entry>, OutOfMemory>
+    requires { Each (FitsAt groups.now) runs.now }
+    ensures { IfOk result (λ all. all.items ≡ entries_told groups.now runs.now) }
+{
+    let mut all = Items::new(alloc);
+    for run in runs {
+        let group = &groups[run.group];
+        let entries = &group.decided()[run.from..run.upto];
+        match add_copies(&mut all, entries) {
+            Ok(()) => {}
+            Err(error) => return Err(error),
+        }
+    }
+    Ok(all.into_vec())
 }

@@ -1,9 +1,11 @@
 //! What happens to a world, and what it tells.
 
+ghost use Rattle.std.specs.Prelude.{◌≡◌, IfOk};
+
 use crate::ops::Ops;
 use auth_db::Caps;
-use cap_text::Name;
-use entry_core::{GroupId, Id};
+use cap_text::{Name, OutOfMemory};
+use entry_core::{GroupId, Id, TryCopy};
 use map_core::{Epoch, MapCommand};
 
 /// A command on the users: those of the Ceph manual's User Management chapter.
@@ -78,4 +80,84 @@ pub enum Told {
     Request(Id),
     /// The id of a list's first piece, and how many pieces there are, under consecutive numbers.
     List { first: Id, count: u32 },
+}
+
+impl AuthCommand {
+    /// An equal command.
+    pub fn copy(&self) -> Result<AuthCommand, OutOfMemory>
+        ensures { IfOk result (λ command. command ≡ self.now) }
+    {
+        match self {
+            AuthCommand::Add { name, caps } => Ok(AuthCommand::Add {
+                name: name.copy()?,
+                caps: caps.copy()?,
+            }),
+            AuthCommand::GetOrCreate { name, caps } => Ok(AuthCommand::GetOrCreate {
+                name: name.copy()?,
+                caps: caps.copy()?,
+            }),
+            AuthCommand::SetCaps { name, caps } => Ok(AuthCommand::SetCaps {
+                name: name.copy()?,
+                caps: caps.copy()?,
+            }),
+            AuthCommand::Delete { name } => Ok(AuthCommand::Delete { name: name.copy()? }),
+        }
+    }
+}
+
+impl Ask {
+    /// An equal question.
+    pub fn copy(&self) -> Result<Ask, OutOfMemory>
+        ensures { IfOk result (λ ask. ask ≡ self.now) }
+    {
+        Ok(Ask {
+            session: self.session,
+            epoch: self.epoch,
+            tick: self.tick,
+            pool: self.pool.copy()?,
+            namespace: self.namespace.copy()?,
+        })
+    }
+}
+
+impl Event {
+    /// An equal event.
+    pub fn copy(&self) -> Result<Event, OutOfMemory>
+        ensures { IfOk result (λ event. event ≡ self.now) }
+    {
+        match self {
+            Event::Auth(command) => Ok(Event::Auth(command.copy()?)),
+            Event::Map(command) => Ok(Event::Map(command.copy()?)),
+            Event::Open { entity, until } => Ok(Event::Open {
+                entity: entity.copy()?,
+                until: *until,
+            }),
+            Event::Renew { session, until } => Ok(Event::Renew {
+                session: *session,
+                until: *until,
+            }),
+            Event::Close { session } => Ok(Event::Close { session: *session }),
+            Event::Submit { ask, object, ops } => Ok(Event::Submit {
+                ask: ask.copy()?,
+                object: object.copy()?,
+                ops: ops.copy()?,
+            }),
+            Event::List(ask) => Ok(Event::List(ask.copy()?)),
+            Event::Deliver { group, place } => Ok(Event::Deliver {
+                group: group.copy()?,
+                place: *place,
+            }),
+            Event::Lose { group, place } => Ok(Event::Lose {
+                group: group.copy()?,
+                place: *place,
+            }),
+            Event::Repeat { group, place } => Ok(Event::Repeat {
+                group: group.copy()?,
+                place: *place,
+            }),
+            Event::Kick { group } => Ok(Event::Kick {
+                group: group.copy()?,
+            }),
+        }
+    }
 }

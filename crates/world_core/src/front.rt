@@ -1,6 +1,6 @@
 //! Users, map, sessions, submissions and lists: what no group, message or copy has a part in.
 
-ghost use Rattle.std.specs.Prelude.{◌≡◌, ◌≤◌, ◌<◌, ℕ, List, [], ◌∷◌, None, Ok, OnOk, OnErr, IfOk, IsOk, IsErr, length, option_copied};
+ghost use Rattle.std.specs.Prelude.{◌≡◌, ◌≤◌, ◌<◌, ℕ, List, [], ◌∷◌, None, Ok, OnOk, OnErr, IfOk, length, option_copied};
 ghost use Rattle.object_core.specs.declared.op.Op as op;
 ghost use Rattle.group_core.specs.Each.{Each};
 ghost use Rattle.group_core.specs.Group.{submitted};
@@ -11,7 +11,7 @@ ghost use Rattle.world_core.specs.Listing.{list_at};
 ghost use Rattle.world_core.specs.Asking.{IsOfList, IsOfVector};
 ghost use Rattle.world_core.specs.Refusing.{RefusedOrMemory};
 
-use crate::asking::{Asker, is_namespace, is_object_name, view_for};
+use crate::asking::{Asker, are_names, is_namespace, view_for};
 use crate::event::{Ask, AuthCommand, Told};
 use crate::fault::WorldFault;
 use crate::lists::Lists;
@@ -171,14 +171,14 @@ impl Front {
     /// A vector on an object, sealed with the session's ticket and the pool as the asker saw it. Nothing is submitted yet.
     ///
     /// It is refused by the first of these that holds: W1, W4, W9, W2, W3, N1 to N3; want of memory may come before any.
+    #[tactic(auto, unfolding(crate::specs::Front::requests_of))]
     pub fn vector(&self, ask: &Ask, object: Name, ops: Ops) -> Result<Sealed, WorldFault>
-        ensures asked { IfOk result (IsOfVector self.now ask.now) }
         ensures sealed { IfOk result (λ request. requests_of self.now (Submit ask.now object ops) ≡ Ok (request ∷ [])) }
         ensures fresh { IfOk result (λ request. submitted self.now.submissions request.id ≡ None) }
         ensures refused { RefusedOrMemory (error_of (requests_of self.now (Submit ask.now object ops))) result }
     {
         let asker = self.asker(ask)?;
-        if !(is_object_name(&object) && is_namespace(&ask.namespace)) {
+        if !are_names(&object, &ask.namespace) {
             return Err(WorldFault::BadObjectName);
         }
         let Asker { session, view } = asker;
@@ -189,6 +189,7 @@ impl Front {
     /// The pieces of a list of names, one for each group of the pool, sealed as a vector is. Nothing is submitted yet.
     ///
     /// It is refused by the first of these that holds: W1, W4, W9, W2, W3; want of memory may come before any.
+    #[tactic(auto, unfolding(crate::specs::Front::requests_of))]
     pub fn pieces(&self, ask: &Ask) -> Result<Items<Sealed>, WorldFault>
         ensures asked { IfOk result (IsOfList self.now ask.now) }
         ensures sealed { IfOk result (λ requests. requests_of self.now (ListNames ask.now) ≡ Ok requests) }
@@ -203,7 +204,8 @@ impl Front {
         Ok(requests)
     }
 
-    /// Submits the request of a vector. Where memory is wanting, nothing changes.
+    /// Submits the request of a vector, where there are fewer than 2^26. Where memory is wanting, nothing changes.
+    #[tactic(auto, unfolding(crate::specs::Front::requests_of))]
     pub fn record_vector(&mut self, ask: &Ask, request: Sealed) -> Result<Told, OutOfMemory>
         requires asked { IsOfVector self.old ask.now request }
         requires few { length self.old.submissions < 67108864 }
@@ -219,7 +221,8 @@ impl Front {
         Ok(Told::Request(id))
     }
 
-    /// Submits the pieces of a list. Where memory is wanting, nothing changes.
+    /// Submits the pieces of a list, all or none, where there are fewer than 2^26 requests. Where memory is wanting, nothing changes.
+    #[tactic(auto, unfolding(crate::specs::Front::requests_of))]
     pub fn record_pieces(&mut self, ask: &Ask, requests: Items<Sealed>) -> Result<Told, OutOfMemory>
         requires asked { IsOfList self.old ask.now requests }
         requires few { length self.old.submissions < 67108864 }
@@ -227,20 +230,15 @@ impl Front {
         ensures tells { IfOk result (λ told. told ≡ told_of self.old (ListNames ask.now)) }
         ensures unchanged { OnErr result (self.new ≡ self.old) }
     {
-        let list = Pieced {
-            first: requests.as_slice()[0].id(),
-            count: requests.len() as u32,
-        };
-        self.lists.push(list)?;
+        let first = requests.as_slice()[0].id();
+        let count = requests.len() as u32;
+        self.lists.push(Pieced { first, count })?;
         if let Err(error) = self.submissions.append(requests.as_slice()) {
             self.lists.pop();
             return Err(error);
         }
-        self.sessions.ask(ask, list.count);
-        Ok(Told::List {
-            first: list.first,
-            count: list.count,
-        })
+        self.sessions.ask(ask, count);
+        Ok(Told::List { first, count })
     }
 
     /// The request of an id, if it was submitted. It is found by hash, and takes no memory.

@@ -100,7 +100,7 @@ fn is_word_byte(byte: u8) -> bool
 }
 
 /// How many groups the pools before a group's have, and its number.
-fn place_in(pools: &[Pool], group: &GroupId) -> usize
+pub(crate) fn place_in(pools: &[Pool], group: &GroupId) -> usize
     requires limits { All IsPool pools.now }
     requires few { length pools.now ≤ 32 }
     ensures { result ≡ spec.place_in pools.now group.now }

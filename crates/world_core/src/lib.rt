@@ -4,6 +4,7 @@
 //! over the commands of the Ceph manual and the placement groups of the RADOS paper.
 #![tactic(auto)]
 
+mod after_command;
 mod asking;
 mod audit;
 mod calls;
@@ -22,6 +23,7 @@ mod script;
 mod sealing;
 mod session;
 mod submissions;
+mod taking;
 mod users;
 mod world;
 

@@ -1,5 +1,6 @@
 //! Vectors of operations.
 
+use cap_text::OutOfMemory;
 use object_core::Op;
 use std::marker::Model;
 
@@ -19,7 +20,7 @@ impl Model for Ops {
 }
 
 impl Ops {
-    ghost use Rattle.std.specs.Prelude.{◌≡◌};
+    ghost use Rattle.std.specs.Prelude.{◌≡◌, IfOk};
 
     /// These operations. It takes no memory.
     pub fn from_vec(ops: Vec<Op>) -> Ops
@@ -40,5 +41,16 @@ impl Ops {
         ensures { result.items ≡ self }
     {
         self.ops
+    }
+
+    /// Equal operations.
+    pub fn copy(&self) -> Result<Ops, OutOfMemory>
+        ensures { IfOk result (λ ops. ops ≡ self.now) }
+    {
+        let mut ops = Vec::new(*self.ops.allocator());
+        for op in self.ops.as_slice() {
+            ops.push(op.copy()?)?;
+        }
+        Ok(Ops { ops })
     }
 }

@@ -25,5 +25,19 @@ pub fn run(
     ensures accepted { IfOk result (λ world. AreAccepted table daemons events.now) }
     ensures refused { IfErr result (λ stop. IsFirstRefused table daemons events.now stop.0 stop.1) }
 {
-    unreachable!()
+    let mut world = match World::new(alloc, table, daemons) {
+        Ok(world) => world,
+        Err(_) => unreachable!(),
+    };
+    for (place, event) in events.iter().enumerate() {
+        let copy = match event.copy() {
+            Ok(copy) => copy,
+            Err(_) => return Err((place, WorldFault::OutOfMemory)),
+        };
+        match world.apply(copy) {
+            Ok(_) => {}
+            Err(fault) => return Err((place, fault)),
+        }
+    }
+    Ok(world)
 }

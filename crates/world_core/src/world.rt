@@ -1,31 +1,34 @@
 //! A world: users, map, sessions and groups, one event at a time.
 
-ghost use Rattle.std.specs.Prelude.{◌≡◌, ◌≤◌, ◌++◌, [], ◌∷◌, ℕ, List, true, false, Ok, Some, IfOk, IsOkAnd, IsSomeAnd, option_copied};
+ghost use Rattle.std.specs.Prelude.{◌≡◌, ◌≤◌, ◌++◌, [], ◌∷◌, ℕ, List, true, false, Ok, Some, IfOk, IsOkAnd, IsSomeAnd};
 ghost use Rattle.grant_core.specs.Flat.{Table};
 ghost use Rattle.group_core.specs.Recovery.{is_ready};
 ghost use Rattle.world_core.specs.Event as events;
-ghost use Rattle.world_core.specs.Front.{told_of, group_refusal, error_of};
+ghost use Rattle.world_core.specs.Front.{told_of, group_refusal};
 ghost use Rattle.world_core.specs.World.{first_world, world_step, refusal_of, counts, group_at};
 ghost use Rattle.world_core.specs.Holds.{Holds};
-ghost use Rattle.world_core.specs.Answers.{answer_at};
-ghost use Rattle.world_core.specs.Listing.{listing_at};
 ghost use Rattle.world_core.specs.Refusing.{RefusedExactly, RefusedOrMemory};
-ghost use Rattle.world_core.specs.Calls.{answer_refusal, KeepsPromises};
+ghost use Rattle.world_core.specs.Calls.{KeepsPromises};
 
-use crate::audit::Run;
+use crate::audit::{Run, collect};
 use crate::calls::{GroupCall, call_at, told};
-use crate::event::{Event, Told};
+use crate::event::{Ask, AuthCommand, Event, Told};
 use crate::fault::WorldFault;
 use crate::front::Front;
 use crate::group_places::place_of;
+use crate::moves::apply_map;
+use crate::ops::Ops;
+use crate::taking::{take_back_all, take_requests};
 use auth_db::AuthDb;
-use entry_core::{Entry, GroupId, Id, OutOfMemory, Reply};
+use cap_text::Name;
+use entry_core::{Entry, GroupId, OutOfMemory};
 use grant_core::ProfileTable;
 use group_core::Group;
-use map_core::ClusterMap;
+use map_core::{ClusterMap, MapCommand};
 use peer_core::Sent;
 use std::alloc::Global;
 use std::marker::Model;
+use std::slice;
 
 /// Users, a map, sessions and groups, with what was decided (this project's profile, over the commands of the Ceph manual
 /// and the placement groups of the RADOS paper).
@@ -78,35 +81,17 @@ impl World {
         ensures refused { RefusedOrMemory (refusal_of self.old event) result }
         ensures unchanged { counts event result ≡ false → self.new ≡ self.old }
     {
-        unreachable!()
-    }
-
-    /// The reply to the request of this id that reached the client first, or `None` while there is none.
-    ///
-    /// W5 where no such request was submitted. It takes no memory.
-    pub fn answer(&self, id: Id) -> Result<Option<&Reply>, WorldFault>
-        ensures answer { IfOk result (λ reply. option_copied reply ≡ answer_at self.now id) }
-        ensures refused { RefusedExactly (answer_refusal self.now id) result }
-    {
-        unreachable!()
-    }
-
-    /// What the list that begins with the request of this id came to: the names of the objects in the order of their bytes, or
-    /// the first piece's denial; `None` while a piece has no answer.
-    ///
-    /// W5 where no list begins with it; W7 for want of memory.
-    pub fn listing(&self, first: Id) -> Result<Option<Reply>, WorldFault>
-        ensures listing { IfOk result (λ reply. listing_at self.now first ≡ Ok reply) }
-        ensures refused { RefusedOrMemory (error_of (listing_at self.now first)) result }
-    {
-        unreachable!()
+        let _front = &self.front;
+        self.carry_out(event)
     }
 
     /// A copy of the decided entries of all groups, in the order in which they were decided.
     pub fn audit(&self) -> Result<Vec<Entry>, OutOfMemory>
         ensures { IfOk result (λ entries. entries.items ≡ self.now.audit) }
     {
-        unreachable!()
+        let _front = &self.front;
+        let alloc = *self.groups.allocator();
+        collect(alloc, self.groups.as_slice(), self.runs.as_slice())
     }
 
     /// The messages of a group on their way, in order of sending.
@@ -117,7 +102,13 @@ impl World {
         ensures wire { IfOk result (λ sent. IsSomeAnd (group_at group.now self.now.groups) (λ g. sent.now ≡ g.wire)) }
         ensures refused { RefusedExactly (group_refusal self.now.front group.now) result }
     {
-        unreachable!()
+        let _runs = &self.runs;
+        let place = match place_of(self.front.map(), group) {
+            Ok(place) => place,
+            Err(fault) => return Err(fault),
+        };
+        let found = &self.groups[place];
+        Ok(found.wire())
     }
 
     /// Whether a group can be recovered by hand, as `Group::ready` says.
@@ -127,7 +118,13 @@ impl World {
         ensures ready { IfOk result (λ ready. IsSomeAnd (group_at group.now self.now.groups) (λ g. ready ≡ is_ready g)) }
         ensures refused { RefusedExactly (group_refusal self.now.front group.now) result }
     {
-        unreachable!()
+        let _runs = &self.runs;
+        let place = match place_of(self.front.map(), group) {
+            Ok(place) => place,
+            Err(fault) => return Err(fault),
+        };
+        let found = &self.groups[place];
+        Ok(found.ready())
     }
 
     /// The users.
@@ -166,6 +163,25 @@ impl World {
     ghost use Rattle.world_core.specs.Event.{Auth, Map, Open, Renew, Close, Submit, ListNames};
     ghost use Rattle.world_core.specs.Applying.{Applies, event_for};
 
+    /// Carries out an event.
+    fn carry_out(&mut self, event: Event) -> Result<Told, WorldFault>
+        ensures { Applies self.old event result self.new }
+    {
+        match event {
+            Event::Auth(command) => self.auth(command),
+            Event::Map(command) => self.change_map(command),
+            Event::Open { entity, until } => self.open(entity, until),
+            Event::Renew { session, until } => self.renew(session, until),
+            Event::Close { session } => self.close(session),
+            Event::Submit { ask, object, ops } => self.submit(ask, object, ops),
+            Event::List(ask) => self.list(ask),
+            Event::Deliver { group, place } => self.call(&group, GroupCall::Deliver(place)),
+            Event::Lose { group, place } => self.call(&group, GroupCall::Lose(place)),
+            Event::Repeat { group, place } => self.call(&group, GroupCall::Repeat(place)),
+            Event::Kick { group } => self.call(&group, GroupCall::Kick),
+        }
+    }
+
     /// A call on one group.
     fn call(&mut self, group: &GroupId, what: GroupCall) -> Result<Told, WorldFault>
         ensures { Applies self.old (event_for group.now what) result self.new }
@@ -176,5 +192,97 @@ impl World {
         };
         let done = call_at(&mut self.groups, &mut self.runs, place, what);
         told(done)
+    }
+
+    /// A command on the users.
+    fn auth(&mut self, command: AuthCommand) -> Result<Told, WorldFault>
+        ensures { Applies self.old (Auth command) result self.new }
+    {
+        let _groups = &self.groups;
+        let _runs = &self.runs;
+        self.front.auth(command)
+    }
+
+    /// A new session of a user.
+    fn open(&mut self, entity: Name, until: Option<u64>) -> Result<Told, WorldFault>
+        ensures { Applies self.old (Open entity until) result self.new }
+    {
+        let _groups = &self.groups;
+        let _runs = &self.runs;
+        self.front.open(entity, until)
+    }
+
+    /// A session's ticket is made anew.
+    fn renew(&mut self, session: u32, until: Option<u64>) -> Result<Told, WorldFault>
+        ensures { Applies self.old (Renew session until) result self.new }
+    {
+        let _groups = &self.groups;
+        let _runs = &self.runs;
+        self.front.renew(session, until)
+    }
+
+    /// A session ends.
+    fn close(&mut self, session: u32) -> Result<Told, WorldFault>
+        ensures { Applies self.old (Close session) result self.new }
+    {
+        let _groups = &self.groups;
+        let _runs = &self.runs;
+        self.front.close(session)
+    }
+
+    /// A command on the map.
+    fn change_map(&mut self, command: MapCommand) -> Result<Told, WorldFault>
+        ensures { Applies self.old (Map command) result self.new }
+    {
+        let _runs = &self.runs;
+        apply_map(&mut self.front, &mut self.groups, command)
+    }
+
+    /// A vector of operations on an object.
+    fn submit(&mut self, ask: Ask, object: Name, ops: Ops) -> Result<Told, WorldFault>
+        ensures { Applies self.old (Submit ask object ops) result self.new }
+    {
+        let _runs = &self.runs;
+        let request = match self.front.vector(&ask, object, ops) {
+            Ok(request) => request,
+            Err(fault) => return Err(fault),
+        };
+        let one = slice::from_ref(&request);
+        let map = self.front.map();
+        let places = match take_requests(&mut self.groups, map, one) {
+            Ok(places) => places,
+            Err(fault) => return Err(fault),
+        };
+        match self.front.record_vector(&ask, request) {
+            Ok(told) => Ok(told),
+            Err(_) => {
+                take_back_all(&mut self.groups, places.as_slice());
+                Err(WorldFault::OutOfMemory)
+            }
+        }
+    }
+
+    /// A list of names: one request to each group of a pool.
+    fn list(&mut self, ask: Ask) -> Result<Told, WorldFault>
+        ensures { Applies self.old (ListNames ask) result self.new }
+    {
+        let _runs = &self.runs;
+        let requests = match self.front.pieces(&ask) {
+            Ok(requests) => requests,
+            Err(fault) => return Err(fault),
+        };
+        let pieces = requests.as_slice();
+        let map = self.front.map();
+        let places = match take_requests(&mut self.groups, map, pieces) {
+            Ok(places) => places,
+            Err(fault) => return Err(fault),
+        };
+        match self.front.record_pieces(&ask, requests) {
+            Ok(told) => Ok(told),
+            Err(_) => {
+                take_back_all(&mut self.groups, places.as_slice());
+                Err(WorldFault::OutOfMemory)
+            }
+        }
     }
 }

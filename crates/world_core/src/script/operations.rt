@@ -2,7 +2,7 @@
 
 ghost use Rattle.std.specs.Prelude.{IfOk, IsSome, ◌<◌, ◌≤◌, length};
 ghost use Rattle.world_core.specs.Command as spec;
-ghost use Rattle.world_core.specs.Taking.{Takes};
+ghost use Rattle.world_core.specs.TakenWords.{Takes};
 
 use crate::ops::Ops;
 use crate::script::taking::{bytes, name, number};

@@ -3,7 +3,7 @@
 ghost use Rattle.std.specs.Prelude.{◌≡◌, IfOk};
 ghost use Rattle.world_core.specs.Command as spec;
 ghost use Rattle.world_core.specs.Command.{read_line};
-ghost use Rattle.world_core.specs.Taking.{Takes};
+ghost use Rattle.world_core.specs.TakenWords.{Takes};
 
 use crate::script::command::Command;
 use crate::script::map_commands::osd;

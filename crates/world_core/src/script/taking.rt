@@ -2,7 +2,7 @@
 
 ghost use Rattle.std.specs.Prelude.{IfOk, ◌≤◌, length};
 ghost use Rattle.world_core.specs.Command.{a_word, a_number, an_id, a_daemon, a_group, an_end};
-ghost use Rattle.world_core.specs.Taking.{Takes};
+ghost use Rattle.world_core.specs.TakenWords.{Takes};
 
 use cap_text::{Name, OutOfMemory};
 use entry_core::{GroupId, Id};

@@ -3,7 +3,7 @@
 ghost use Rattle.std.specs.Prelude.{◌≡◌, IfOk, Some, None, is_none, if◌then◌else◌};
 ghost use Rattle.world_core.specs.Command as spec;
 ghost use Rattle.world_core.specs.Command.{with_text, if_new};
-ghost use Rattle.world_core.specs.Taking.{Takes};
+ghost use Rattle.world_core.specs.TakenWords.{Takes};
 
 use auth_db::Caps;
 use cap_text::{Name, OutOfMemory};

@@ -1,5 +1,4 @@
-use Rattle.std.proofs.Common.{◌≡◌, ◌∙◌, ◌++◌, Some, length, refl, sym, ap}
-use Rattle.std.specs.Prelude.{slice_get}
+use Rattle.std.proofs.Common.{◌∙◌, ◌++◌, length, refl, ap}
 use Rattle.std.proofs.lemmas.Option.{slice_get_read}
 use Rattle.world_core.specs.Applying.{event_of, runs_from}
 use Rattle.world_core.proofs.Calling.{called_nothing, steps_or_memory, there_is}

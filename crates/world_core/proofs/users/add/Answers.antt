@@ -1,4 +1,4 @@
-use Rattle.std.proofs.Common.{◌≡◌, ◌⊎◌, inr, Some, subst}
+use Rattle.std.proofs.Common.{◌≡◌, ◌⊎◌, Some, subst}
 use Rattle.auth_db.specs.Refusals.{auth_refusal}
 use Rattle.auth_db.specs.Users.{Add}
 use Rattle.auth_db.specs.declared.fault.AuthFault.TheVariants.{OutOfMemory}

@@ -1,4 +1,4 @@
-use Rattle.std.proofs.Common.{◌≡◌, ◌⊎◌, inr, Some, Ok, subst, ◌∙◌, ap}
+use Rattle.std.proofs.Common.{◌≡◌, ◌⊎◌, Some, Ok, subst, ◌∙◌, ap}
 use Rattle.auth_db.specs.Refusals.{auth_refusal}
 use Rattle.auth_db.specs.Users.{GetOrCreate, user_at}
 use Rattle.auth_db.specs.declared.fault.AuthFault.TheVariants.{OutOfMemory}

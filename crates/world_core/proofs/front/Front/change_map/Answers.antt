@@ -1,4 +1,4 @@
-use Rattle.std.proofs.Common.{◌≡◌, ◌∙◌, ap, sym, subst}
+use Rattle.std.proofs.Common.{◌∙◌, ap, subst}
 use Rattle.world_core.specs.Event.{Map, OfMap}
 use Rattle.world_core.specs.Front.{Front, front_step}
 use Rattle.world_core.proofs.FrontSteps.{map_step, map_kept}

@@ -1,4 +1,4 @@
-use Rattle.std.proofs.Common.{◌≡◌, ◌∙◌, ap, sym}
+use Rattle.std.proofs.Common.{◌∙◌, ap}
 use Rattle.world_core.specs.Event.{Close}
 use Rattle.world_core.specs.Front.{Front, front_step}
 use Rattle.world_core.proofs.FrontSteps.{close_step}

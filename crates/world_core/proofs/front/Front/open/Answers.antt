@@ -1,6 +1,6 @@
-use Rattle.std.proofs.Common.{◌≡◌, ◌∙◌, ap, sym, ◌++◌, ◌∷◌, []}
+use Rattle.std.proofs.Common.{◌∙◌, ap, ◌++◌, ◌∷◌, []}
 use Rattle.world_core.specs.Event.{Open}
-use Rattle.world_core.specs.Front.{Front, front_step, opened, ticket_for}
+use Rattle.world_core.specs.Front.{Front, front_step, opened}
 use Rattle.world_core.proofs.FrontSteps.{open_step, open_kept}
 use Rattle.world_core.proofs.front.Front.open.Goals as goal
 

@@ -1,6 +1,6 @@
-use Rattle.std.proofs.Common.{◌≡◌, ◌∙◌, ap, sym}
+use Rattle.std.proofs.Common.{◌∙◌, ap}
 use Rattle.world_core.specs.Event.{Renew}
-use Rattle.world_core.specs.Front.{Front, front_step, Session, ticket_for}
+use Rattle.world_core.specs.Front.{Front, front_step, ticket_for}
 use Rattle.world_core.proofs.FrontSteps.{renew_step, renew_kept, session_same}
 use Rattle.world_core.proofs.front.Front.renew.Goals as goal
 

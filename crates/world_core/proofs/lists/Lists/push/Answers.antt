@@ -1,4 +1,4 @@
-use Rattle.std.proofs.Common.{◌≡◌, ◌∙◌, ◌++◌, ◌∷◌, [], ◌==◌, ap, nat_eq}
+use Rattle.std.proofs.Common.{◌∙◌, ◌++◌, ◌∷◌, [], ◌==◌, ap, nat_eq}
 use Rattle.std.specs.List.{find}
 use Rattle.indexmap.proofs.CallerLemmas.{insert_entry-new}
 use Rattle.world_core.specs.Front.{Pieced}

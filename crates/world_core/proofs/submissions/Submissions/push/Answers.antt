@@ -1,5 +1,4 @@
-use Rattle.std.proofs.Common.{◌≡◌, ◌∙◌, ◌++◌, ◌∷◌, [], ℕ, ap, sym, subst, nat_eq}
-use Rattle.std.specs.Prelude.{None}
+use Rattle.std.proofs.Common.{◌∙◌, ◌++◌, ◌∷◌, [], ℕ, ap, sym, subst, nat_eq}
 use Rattle.indexmap.proofs.CallerLemmas.{insert_entry-new}
 use Rattle.group_core.specs.Group.{submitted}
 use Rattle.world_core.specs.Submitting.{requests_in, AreKeyed}

@@ -1,7 +1,6 @@
-use Rattle.std.proofs.Common.{◌≡◌, ◌<◌, ◌∙◌, Err, length, subst, sym, ap}
-use Rattle.world_core.specs.Applying.{Applies, event_for, event_of, told_call}
+use Rattle.world_core.specs.Applying.{event_for, told_call}
 use Rattle.world_core.specs.Inside.{world_of}
-use Rattle.world_core.proofs.Messages.{Called, called_none, kept_on}
+use Rattle.world_core.proofs.Messages.{called_none, kept_on}
 use Rattle.world_core.proofs.GroupsOf.{asked_place, asked_there, call_done}
 use Rattle.world_core.proofs.world.World.call.Goals as goal
 

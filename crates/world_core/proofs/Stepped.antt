@@ -1,0 +1,242 @@
+-- The groups after all parts of an event: each part reaches one group, and a move reaches each group once.
+use Prim.Native.Nat.{zero, suc}
+use Rattle.std.proofs.Common.{◌≡◌, ◌∙◌, ℕ, ◌+◌, ◌<◌, ◌==◌, ◌&&◌, List, [], ◌∷◌, ◌++◌, Bool, true, false, cond, if◌then◌else◌, Option, Some, None, map, length, drop, refl, sym, ap, subst, arith, append-nil}
+use Rattle.std.specs.List.{flat_map, range_with_len, find}
+use Rattle.std.specs.Option.{option_or}
+use Rattle.std.specs.Str.{bytes_eq}
+use Rattle.map_core.specs.State.{MapState, History}
+use Rattle.map_core.specs.Map.{is_named, map_of}
+use Rattle.map_core.specs.Limits.{IsAccepted}
+use Rattle.map_core.specs.declared.pool.Pool.{Pool}
+use Rattle.map_core.specs.declared.command.MapCommand.{MapCommand}
+use Rattle.map_core.specs.declared.command.MapCommand.TheVariants.{PoolCreate, AppEnable, AppSet, AppRm, OsdUp, OsdDown, OsdRestart}
+use Rattle.map_core.proofs.Kept.{pools_differ}
+use Rattle.entry_core.specs.Log.{is_in}
+use Rattle.entry_core.specs.declared.sealed.GroupId.{GroupId}
+use Rattle.group_core.specs.Each.{Each}
+use Rattle.peer_core.specs.Steps.{restarted}
+use Rattle.group_core.specs.Group.{Group, group_step, refusal_of, last_set, same_set, has_all_intervals, with_up, begin}
+use Rattle.group_core.specs.Group as group
+use Rattle.world_core.specs.Groups.{is_same_group}
+use Rattle.world_core.specs.World.{World, Part, part, group_at, at_group, groups_of, map_parts, parts_of, created_by, decided_in, act, acted, refused_in, part_refusal, parts_refusal}
+use Rattle.world_core.specs.Event.{Map}
+use Rattle.world_core.specs.Front.{Front}
+use Rattle.world_core.specs.Moves.{stepped, stepped_by, moves_groups, move_of, made_by, all_moved, first_refusal}
+use Rattle.world_core.proofs.Bytes.{number_same}
+use Rattle.world_core.proofs.Merge.{group_refl}
+use Rattle.world_core.proofs.Standing.{step_is}
+use Rattle.world_core.proofs.Acting.{each_join}
+use Rattle.world_core.proofs.Places.{numbered, true_not_false, group_turned, bytes_turned, NamedOnce}
+use Rattle.world_core.proofs.Limits.{named_once}
+
+pub acted_stepped : (w : World) (parts : List Part) → (acted w parts).groups ≡ stepped parts w.groups
+acted_stepped w [] = refl
+acted_stepped w (p ∷ ps) = acted_stepped (act w p) ps
+
+-- ---- no two places are one
+
+abbrev Apart : GroupId → List GroupId → Type 0
+Apart id ids = Each (λ other. is_same_group id other ≡ false) ids
+
+abbrev pub Distinct : List GroupId → Type 0
+Distinct [] = Unit {0}
+Distinct (id ∷ ids) = Apart id ids × Distinct ids
+
+distinct_join : (xs ys : List GroupId) → Distinct xs → Distinct ys → Each (λ x. Apart x ys) xs → Distinct (xs ++ ys)
+distinct_join [] ys d e apart = e
+distinct_join (x ∷ xs) ys d e apart = (each_join (λ other. is_same_group x other ≡ false) xs ys d.0 apart.0, distinct_join xs ys d.1 e apart.1)
+
+and_false : (a b : Bool) → b ≡ false → (a && b) ≡ false
+and_false true b h = h
+and_false false b h = refl
+
+number_apart : (a b : ℕ) → a < b → (a == b) ≡ false
+number_apart a b less = go (a == b) refl
+  where
+    go : (c : Bool) → (a == b) ≡ c → c ≡ false
+    go false e = refl
+    go true e = absurd (let same : a ≡ b = number_same a b e in omega arith)
+
+numbers_apart : (pool : List ℕ) (a k n : ℕ) → a < k → Apart (numbered pool a) (map (numbered pool) (range_with_len k n))
+numbers_apart pool a k zero less = tt
+numbers_apart pool a k (suc n) less = (and_false (bytes_eq pool pool) (a == k) (number_apart a k less), numbers_apart pool a (k + 1) n (omega arith))
+
+one_pool : (pool : List ℕ) (k n : ℕ) → Distinct (map (numbered pool) (range_with_len k n))
+one_pool pool k zero = tt
+one_pool pool k (suc n) = (numbers_apart pool k (k + 1) n (omega arith), one_pool pool (k + 1) n)
+
+-- a place of another pool than these
+other_numbers : (id : GroupId) (pool : List ℕ) (ns : List ℕ) → bytes_eq id.pool pool ≡ false → Apart id (map (numbered pool) ns)
+other_numbers id pool [] apart = tt
+other_numbers id pool (n ∷ ns) apart = (ap (λ b. b && (id.number == n)) apart, other_numbers id pool ns apart)
+
+other_pools : (id : GroupId) (ps : List Pool) → find (is_named id.pool) ps ≡ None → Apart id (flat_map groups_of ps)
+other_pools id [] none = tt
+other_pools id (p ∷ ps) none = go (is_named id.pool p) refl none (λ k. other_pools id ps k)
+  where
+    go : (b : Bool) → is_named id.pool p ≡ b → cond b (Some p) (find (is_named id.pool) ps) ≡ None → (find (is_named id.pool) ps ≡ None → Apart id (flat_map groups_of ps)) → Apart id (groups_of p ++ flat_map groups_of ps)
+    go true is one more = absurd (cc)
+    go false is rest more =
+        each_join (λ other. is_same_group id other ≡ false) (groups_of p) (flat_map groups_of ps) (other_numbers id p.name (range_with_len 0 p.pg_num) (bytes_turned p.name id.pool is)) (more rest)
+
+all_other : (pool : List ℕ) (ns : List ℕ) (ps : List Pool) → find (is_named pool) ps ≡ None → Each (λ x. Apart x (flat_map groups_of ps)) (map (numbered pool) ns)
+all_other pool [] ps none = tt
+all_other pool (n ∷ ns) ps none = (other_pools (numbered pool n) ps none, all_other pool ns ps none)
+
+pools_distinct : (ps : List Pool) → NamedOnce ps → Distinct (flat_map groups_of ps)
+pools_distinct [] once = tt
+pools_distinct (p ∷ ps) once =
+    distinct_join (groups_of p) (flat_map groups_of ps) (one_pool p.name 0 p.pg_num) (pools_distinct ps once.1) (all_other p.name (range_with_len 0 p.pg_num) ps once.0)
+
+pub places_distinct : (history : History) → IsAccepted history → Distinct (flat_map groups_of (map_of history).pools)
+places_distinct history accepted = pools_distinct (map_of history).pools (named_once (map_of history).pools (pools_differ history accepted))
+
+-- ---- a part of each place, and a group at each
+
+abbrev parts_for : (GroupId → group.Event) → List Group → List Part
+parts_for event groups = map (λ id. part id (event id)) (map (λ g. g.group) groups)
+
+abbrev NotFor : Group → List Part → Type 0
+NotFor g ps = Each (λ p. is_same_group p.id g.group ≡ false) ps
+
+not_for : (event : GroupId → group.Event) (g : Group) (gs : List Group) → Apart g.group (map (λ h. h.group) gs) → NotFor g (parts_for event gs)
+not_for event g [] apart = tt
+not_for event g (h ∷ hs) apart = (group_turned h.group g.group ∙ apart.0, not_for event g hs apart.1)
+
+past : (g : Group) (gs : List Group) (ps : List Part) → NotFor g ps → stepped ps (g ∷ gs) ≡ g ∷ stepped ps gs
+past g gs [] not = refl
+past g gs (p ∷ ps) not =
+    ap (λ b. stepped ps (if b then group_step g p.event ∷ gs else g ∷ stepped_by gs p)) not.0 ∙ past g (stepped_by gs p) ps not.1
+
+pub stepped_all : (event : GroupId → group.Event) (groups : List Group) → Distinct (map (λ g. g.group) groups) → stepped (parts_for event groups) groups ≡ all_moved event groups
+stepped_all event [] d = refl
+stepped_all event (g ∷ gs) d =
+    let next : Group = group_step g (event g.group) in
+    let keeps : next.group ≡ g.group = step_is g.group (event g.group) g refl in
+    let P : GroupId → Type 0 = λ id. Apart id (map (λ h. h.group) gs) in
+    ap (λ b. stepped (parts_for event gs) (if b then next ∷ gs else g ∷ at_group g.group (λ h. group_step h (event g.group)) gs)) (group_refl g.group)
+    ∙ past next gs (parts_for event gs) (not_for event next gs (subst P (sym keeps) d.0))
+    ∙ ap (λ l. next ∷ l) (stepped_all event gs d.1)
+
+refusals_past : (g : Group) (gs : List Group) (ps : List Part) → NotFor g ps → parts_refusal (g ∷ gs) ps ≡ parts_refusal gs ps
+refusals_past g gs [] not = refl
+refusals_past g gs (p ∷ ps) not =
+    ap (λ b. option_or (refused_in (if b then Some g else group_at p.id gs) p.event) (parts_refusal (g ∷ gs) ps)) not.0
+    ∙ ap (option_or (part_refusal gs p)) (refusals_past g gs ps not.1)
+
+pub refusals_all : (event : GroupId → group.Event) (groups : List Group) → Distinct (map (λ g. g.group) groups) → parts_refusal groups (parts_for event groups) ≡ first_refusal event groups
+refusals_all event [] d = refl
+refusals_all event (g ∷ gs) d =
+    ap (λ b. option_or (refused_in (if b then Some g else group_at g.group gs) (event g.group)) (parts_refusal (g ∷ gs) (parts_for event gs))) (group_refl g.group)
+    ∙ ap (option_or (refusal_of g (event g.group))) (refusals_past g gs (parts_for event gs) (not_for event g gs d.0) ∙ refusals_all event gs d.1)
+
+-- ---- the parts of a command
+
+pub moving_parts : (state : MapState) (c : MapCommand) → moves_groups c ≡ true → map_parts state c ≡ map (λ id. part id (move_of state c id)) (flat_map groups_of state.pools)
+moving_parts state (OsdUp d) moves = refl
+moving_parts state (OsdDown d) moves = refl
+moving_parts state (OsdRestart d) moves = refl
+moving_parts state (PoolCreate name pg_num size min_size) moves = absurd (true_not_false (sym moves))
+moving_parts state (AppEnable pool app) moves = absurd (true_not_false (sym moves))
+moving_parts state (AppSet pool app key value) moves = absurd (true_not_false (sym moves))
+moving_parts state (AppRm pool app key) moves = absurd (true_not_false (sym moves))
+
+pub no_parts : (state : MapState) (c : MapCommand) → moves_groups c ≡ false → map_parts state c ≡ []
+no_parts state (OsdUp d) still = absurd (true_not_false still)
+no_parts state (OsdDown d) still = absurd (true_not_false still)
+no_parts state (OsdRestart d) still = absurd (true_not_false still)
+no_parts state (PoolCreate name pg_num size min_size) still = refl
+no_parts state (AppEnable pool app) still = refl
+no_parts state (AppSet pool app key value) still = refl
+no_parts state (AppRm pool app key) still = refl
+
+pub none_created : (front : Front) (c : MapCommand) → moves_groups c ≡ true → created_by front (Map c) ≡ []
+none_created front (OsdUp d) moves = refl
+none_created front (OsdDown d) moves = refl
+none_created front (OsdRestart d) moves = refl
+none_created front (PoolCreate name pg_num size min_size) moves = absurd (true_not_false (sym moves))
+none_created front (AppEnable pool app) moves = absurd (true_not_false (sym moves))
+none_created front (AppSet pool app key value) moves = absurd (true_not_false (sym moves))
+none_created front (AppRm pool app key) moves = absurd (true_not_false (sym moves))
+
+pub created_made : (front : Front) (c : MapCommand) → created_by front (Map c) ≡ made_by (map_of front.history) c
+created_made front (OsdUp d) = refl
+created_made front (OsdDown d) = refl
+created_made front (OsdRestart d) = refl
+created_made front (PoolCreate name pg_num size min_size) = refl
+created_made front (AppEnable pool app) = refl
+created_made front (AppSet pool app key value) = refl
+created_made front (AppRm pool app key) = refl
+
+-- the groups of a map, after a command on a daemon
+pub stepped_moved : (front : Front) (c : MapCommand) (groups : List Group) → IsAccepted front.history → map (λ g. g.group) groups ≡ flat_map groups_of (map_of front.history).pools → moves_groups c ≡ true
+    → stepped (parts_of front (Map c)) groups ≡ all_moved (move_of (map_of front.history) c) groups
+stepped_moved front c groups accepted places moves =
+    let event : GroupId → group.Event = move_of (map_of front.history) c in
+    ap (λ ps. stepped ps groups) (moving_parts (map_of front.history) c moves ∙ ap (map (λ id. part id (event id))) (sym places))
+    ∙ stepped_all event groups (subst Distinct (sym places) (places_distinct front.history accepted))
+
+-- why groups refuse it
+pub refusals_moved : (front : Front) (c : MapCommand) (groups : List Group) → IsAccepted front.history → map (λ g. g.group) groups ≡ flat_map groups_of (map_of front.history).pools → moves_groups c ≡ true
+    → parts_refusal groups (parts_of front (Map c)) ≡ first_refusal (move_of (map_of front.history) c) groups
+refusals_moved front c groups accepted places moves =
+    let event : GroupId → group.Event = move_of (map_of front.history) c in
+    ap (parts_refusal groups) (moving_parts (map_of front.history) c moves ∙ ap (map (λ id. part id (event id))) (sym places))
+    ∙ refusals_all event groups (subst Distinct (sym places) (places_distinct front.history accepted))
+
+-- ---- a command on the map decides nothing
+
+abbrev IsMove : group.Event → Type 0
+IsMove (group.NewInterval acting up) = Unit {0}
+IsMove (group.Restart d) = Unit {0}
+IsMove (group.Submit s) = ⊥
+IsMove (group.Deliver k) = ⊥
+IsMove (group.Lose k) = ⊥
+IsMove (group.Repeat k) = ⊥
+IsMove group.Kick = ⊥
+
+quiet : (g : Group) (e : group.Event) → IsMove e → (group_step g e).audit ≡ g.audit
+quiet g (group.NewInterval acting up) m = go (same_set acting (last_set g.sets)) (has_all_intervals g)
+  where
+    go : (b c : Bool) → (if b then with_up g up else (if c then g else begin (with_up g up) acting)).audit ≡ g.audit
+    go true c = refl
+    go false true = refl
+    go false false = refl
+quiet g (group.Restart d) m = go (is_in (last_set g.sets) d) (has_all_intervals g)
+  where
+    go : (b c : Bool)
+        → (if b then (if c then g else begin (record g { copies = map (λ x. if x.number == d then restarted x else x) g.copies }) (last_set g.sets)) else record g { copies = map (λ x. if x.number == d then restarted x else x) g.copies }).audit ≡ g.audit
+    go true true = refl
+    go true false = refl
+    go false c = refl
+quiet g (group.Submit s) m = absurd m
+quiet g (group.Deliver k) m = absurd m
+quiet g (group.Lose k) m = absurd m
+quiet g (group.Repeat k) m = absurd m
+quiet g group.Kick m = absurd m
+
+none_left : {X : Type 0} (xs : List X) → drop (length xs) xs ≡ []
+none_left [] = refl
+none_left (x ∷ xs) = none_left xs
+
+decides_none : (found : Option Group) (e : group.Event) → IsMove e → decided_in found e ≡ []
+decides_none None e m = refl
+decides_none (Some g) e m = ap (drop (length g.audit)) (quiet g e m) ∙ none_left g.audit
+
+quiet_parts : (w : World) (ps : List Part) → Each (λ p. IsMove p.event) ps → (acted w ps).audit ≡ w.audit
+quiet_parts w [] m = refl
+quiet_parts w (p ∷ ps) m =
+    quiet_parts (act w p) ps m.1 ∙ ap (λ l. w.audit ++ l) (decides_none (group_at p.id w.groups) p.event m.0) ∙ append-nil w.audit
+
+all_moves : (event : GroupId → group.Event) (ids : List GroupId) → ((id : GroupId) → IsMove (event id)) → Each (λ p. IsMove p.event) (map (λ id. part id (event id)) ids)
+all_moves event [] m = tt
+all_moves event (id ∷ ids) m = (m id, all_moves event ids m)
+
+pub map_decides_nothing : (w : World) (c : MapCommand) → (acted w (parts_of w.front (Map c))).audit ≡ w.audit
+map_decides_nothing w (OsdUp d) = quiet_parts w (parts_of w.front (Map (OsdUp d))) (all_moves (move_of (map_of w.front.history) (OsdUp d)) (flat_map groups_of (map_of w.front.history).pools) (λ id. tt))
+map_decides_nothing w (OsdDown d) = quiet_parts w (parts_of w.front (Map (OsdDown d))) (all_moves (move_of (map_of w.front.history) (OsdDown d)) (flat_map groups_of (map_of w.front.history).pools) (λ id. tt))
+map_decides_nothing w (OsdRestart d) = quiet_parts w (parts_of w.front (Map (OsdRestart d))) (all_moves (move_of (map_of w.front.history) (OsdRestart d)) (flat_map groups_of (map_of w.front.history).pools) (λ id. tt))
+map_decides_nothing w (PoolCreate name pg_num size min_size) = refl
+map_decides_nothing w (AppEnable pool app) = refl
+map_decides_nothing w (AppSet pool app key value) = refl
+map_decides_nothing w (AppRm pool app key) = refl

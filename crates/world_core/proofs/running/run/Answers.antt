@@ -1,0 +1,18 @@
+use Rattle.std.proofs.Common.{◌≡◌, take, subst}
+use Rattle.std.proofs.lemmas.List.{take_all}
+use Rattle.world_core.proofs.RunsOfEvents.{IsAfter, after_next, after_none}
+use Rattle.world_core.proofs.running.run.Goals as goal
+
+pub loop-place-init : goal.loop-place-init
+loop-place-init c = after_none c.args.table c.args.daemons c.in-Ok.world c.in-Ok.ensures
+
+pub loop-place-preserved : goal.loop-place-preserved
+loop-place-preserved c =
+    after_next c.args.table c.args.daemons c.args.events.now c.loop-place.place c.index-events-place.result c.index-events-place.result c.in-Ok-copy.copy c.loop-place.world c.apply.new.self c.in-Ok-apply.field-0
+    c.loop-place-test.true c.index-events-place.is c.in-Ok-copy.ensures c.loop-place.invariant (c.in-Ok-apply.ensures.holds c.args.table c.args.daemons) c.in-Ok-apply.ensures.refused
+
+pub returns : goal.returns
+returns c =
+    let all : take c.loop-place.place c.args.events.now ≡ c.args.events.now = take_all c.loop-place.place c.args.events.now c.loop-place-test.false in
+    let h : IsAfter c.args.table c.args.daemons c.args.events.now c.loop-place.world = subst (λ l. IsAfter c.args.table c.args.daemons l c.loop-place.world) all c.loop-place.invariant in
+    record { holds = h.holds; accepted = h.accepted; refused = tt }
