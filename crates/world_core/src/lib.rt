@@ -5,6 +5,7 @@
 #![tactic(auto)]
 
 mod after_command;
+mod answers_stub;
 mod asking;
 mod audit;
 mod calls;
