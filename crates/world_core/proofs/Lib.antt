@@ -17,6 +17,7 @@ pub mod Requests
 pub mod Intervals
 pub mod Accepted
 pub mod Listings
+pub mod ScriptWords
 pub mod PlaceIn
 pub mod AllMoved
 pub mod FullMoves
@@ -32,6 +33,9 @@ pub mod Calling
 pub mod RunPlaces
 pub mod Messages
 pub mod GroupsOf
+pub mod Sweeps
+pub mod Questions
+pub mod ScriptLines
 pub mod FrontEvents
 pub mod Silent
 pub mod MapEvents

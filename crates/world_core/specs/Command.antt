@@ -1,7 +1,7 @@
 -- Statement: contracts of public calls use it.
 -- The commands of a script, by the words of their lines: this project's profile, after Ceph's command line.
 use Prim.Native.Nat.{zero, suc}
-use Rattle.std.specs.Prelude.{ℕ, ◌*◌, ◌+◌, min, List, [], ◌∷◌, Bool, true, false, ◌&&◌, if◌then◌else◌, nat_le, Option, None, Some, length, codes}
+use Rattle.std.specs.Prelude.{ℕ, ◌*◌, ◌+◌, min, List, [], ◌∷◌, true, false, ◌&&◌, if◌then◌else◌, nat_le, Option, None, Some, length, codes}
 use Rattle.std.specs.Option.{option_map, option_and_then}
 use Rattle.std.specs.Str.{bytes_eq}
 use Rattle.script_text.specs.Words.{words_of}
@@ -109,6 +109,21 @@ write_op ws =
     and_then (a_word ws) (λ bytes.
     said (op.Write offset bytes)))
 
+abbrev pub write_full_op : Reads Op
+write_full_op ws = and_then (a_word ws) (λ bytes. said (op.WriteFull bytes))
+
+abbrev pub append_op : Reads Op
+append_op ws = and_then (a_word ws) (λ bytes. said (op.Append bytes))
+
+abbrev pub truncate_op : Reads Op
+truncate_op ws = and_then (a_number ws) (λ size. said (op.Truncate size))
+
+abbrev pub get_attribute_op : Reads Op
+get_attribute_op ws = and_then (a_word ws) (λ name. said (op.GetAttribute name))
+
+abbrev pub remove_attribute_op : Reads Op
+remove_attribute_op ws = and_then (a_word ws) (λ name. said (op.RemoveAttribute name))
+
 abbrev pub set_attribute_op : Reads Op
 set_attribute_op ws =
     and_then (a_word ws) (λ name ws.
@@ -127,15 +142,15 @@ op_named w ws =
     if bytes_eq w (codes "read") then read_op ws
     else if bytes_eq w (codes "stat") then said op.Stat ws
     else if bytes_eq w (codes "write") then write_op ws
-    else if bytes_eq w (codes "writefull") then and_then (a_word ws) (λ bytes. said (op.WriteFull bytes))
-    else if bytes_eq w (codes "append") then and_then (a_word ws) (λ bytes. said (op.Append bytes))
-    else if bytes_eq w (codes "truncate") then and_then (a_number ws) (λ size. said (op.Truncate size))
+    else if bytes_eq w (codes "writefull") then write_full_op ws
+    else if bytes_eq w (codes "append") then append_op ws
+    else if bytes_eq w (codes "truncate") then truncate_op ws
     else if bytes_eq w (codes "remove") then said op.Remove ws
     else if bytes_eq w (codes "create") then said (op.Create false) ws
     else if bytes_eq w (codes "create-exclusive") then said (op.Create true) ws
-    else if bytes_eq w (codes "getxattr") then and_then (a_word ws) (λ name. said (op.GetAttribute name))
+    else if bytes_eq w (codes "getxattr") then get_attribute_op ws
     else if bytes_eq w (codes "setxattr") then set_attribute_op ws
-    else if bytes_eq w (codes "rmxattr") then and_then (a_word ws) (λ name. said (op.RemoveAttribute name))
+    else if bytes_eq w (codes "rmxattr") then remove_attribute_op ws
     else if bytes_eq w (codes "call") then call_op ws
     else None
 
@@ -162,12 +177,14 @@ ops ws = said_if (ops_within (length ws) ws) []
 
 -- ---- commands
 
--- an event that needs no more than the line
-abbrev pub an_event : {A : Type 0} → (A → Event) → Option (A × List Word) → Option (Command × List Word)
-an_event event found = and_then found (λ x. said (Happens (event x)))
+-- a change of the map
+
+abbrev pub changing : Option MapCommand → Option Command
+changing None = None
+changing (Some command) = Some (Happens (happens.Map command))
 
 abbrev pub change : Option (MapCommand × List Word) → Option (Command × List Word)
-change found = an_event happens.Map found
+change found = and_then found (λ command. said (Happens (happens.Map command)))
 
 abbrev pub enable_application : Reads MapCommand
 enable_application ws =
@@ -197,6 +214,9 @@ application_named w ws =
     else if bytes_eq w (codes "rm") then remove_application ws
     else None
 
+abbrev pub application : Reads MapCommand
+application ws = and_then (a_word ws) application_named
+
 abbrev pub create_pool : Reads MapCommand
 create_pool ws =
     and_then (a_word ws) (λ name ws.
@@ -208,8 +228,20 @@ create_pool ws =
 abbrev pub pool_named : Word → Reads MapCommand
 pool_named w ws =
     if bytes_eq w (codes "create") then create_pool ws
-    else if bytes_eq w (codes "application") then and_then (a_word ws) application_named
+    else if bytes_eq w (codes "application") then application ws
     else None
+
+abbrev pub pool : Reads MapCommand
+pool ws = and_then (a_word ws) pool_named
+
+abbrev pub up : Reads MapCommand
+up ws = and_then (a_daemon ws) (λ daemon. said (OsdUp daemon))
+
+abbrev pub down : Reads MapCommand
+down ws = and_then (a_daemon ws) (λ daemon. said (OsdDown daemon))
+
+abbrev pub restart : Reads MapCommand
+restart ws = and_then (a_daemon ws) (λ daemon. said (OsdRestart daemon))
 
 abbrev pub locate : Reads Command
 locate ws =
@@ -220,29 +252,61 @@ locate ws =
 
 abbrev pub osd_named : Word → Reads Command
 osd_named w ws =
-    if bytes_eq w (codes "pool") then change (and_then (a_word ws) pool_named)
-    else if bytes_eq w (codes "up") then change (and_then (a_daemon ws) (λ daemon. said (OsdUp daemon)))
-    else if bytes_eq w (codes "down") then change (and_then (a_daemon ws) (λ daemon. said (OsdDown daemon)))
-    else if bytes_eq w (codes "restart") then change (and_then (a_daemon ws) (λ daemon. said (OsdRestart daemon)))
+    if bytes_eq w (codes "pool") then change (pool ws)
+    else if bytes_eq w (codes "up") then change (up ws)
+    else if bytes_eq w (codes "down") then change (down ws)
+    else if bytes_eq w (codes "restart") then change (restart ws)
     else if bytes_eq w (codes "map") then locate ws
     else None
 
+abbrev pub osd : Reads Command
+osd ws = and_then (a_word ws) osd_named
+
+-- a change of the users
+
+abbrev pub changing_users : Option AuthCommand → Option Command
+changing_users None = None
+changing_users (Some command) = Some (Happens (happens.Auth command))
+
+abbrev pub change_users : Option (AuthCommand × List Word) → Option (Command × List Word)
+change_users found = and_then found (λ command. said (Happens (happens.Auth command)))
+
 -- a name and its texts
-abbrev pub a_user : (Word → Caps → AuthCommand) → Reads Command
-a_user command ws = an_event happens.Auth (
+abbrev pub a_user : Reads (Word × Caps)
+a_user ws =
     and_then (a_word ws) (λ name ws.
     and_then (texts ws) (λ caps.
-    said (command name caps))))
+    said (name, caps)))
+
+abbrev pub add_user : Reads AuthCommand
+add_user ws = and_then (a_user ws) (λ user. said (happens.Add user.0 user.1))
+
+abbrev pub set_caps : Reads AuthCommand
+set_caps ws = and_then (a_user ws) (λ user. said (happens.SetCaps user.0 user.1))
+
+abbrev pub get_or_create : Reads AuthCommand
+get_or_create ws = and_then (a_user ws) (λ user. said (happens.GetOrCreate user.0 user.1))
+
+abbrev pub delete_user : Reads AuthCommand
+delete_user ws = and_then (a_word ws) (λ name. said (happens.Delete name))
+
+abbrev pub show_user : Reads Command
+show_user ws = and_then (a_word ws) (λ name. said (ShowUser name))
 
 abbrev pub auth_named : Word → Reads Command
 auth_named w ws =
-    if bytes_eq w (codes "add") then a_user happens.Add ws
-    else if bytes_eq w (codes "caps") then a_user happens.SetCaps ws
-    else if bytes_eq w (codes "get-or-create") then a_user happens.GetOrCreate ws
-    else if bytes_eq w (codes "del") then an_event happens.Auth (and_then (a_word ws) (λ name. said (happens.Delete name)))
-    else if bytes_eq w (codes "get") then and_then (a_word ws) (λ name. said (ShowUser name))
+    if bytes_eq w (codes "add") then change_users (add_user ws)
+    else if bytes_eq w (codes "caps") then change_users (set_caps ws)
+    else if bytes_eq w (codes "get-or-create") then change_users (get_or_create ws)
+    else if bytes_eq w (codes "del") then change_users (delete_user ws)
+    else if bytes_eq w (codes "get") then show_user ws
     else if bytes_eq w (codes "ls") then said ListUsers ws
     else None
+
+abbrev pub auth : Reads Command
+auth ws = and_then (a_word ws) auth_named
+
+-- sessions and their requests
 
 abbrev pub open_session : Reads Command
 open_session ws =
@@ -272,12 +336,36 @@ list_names ws =
     and_then (a_word ws) (λ namespace.
     said (ListNames session pool namespace))))
 
+abbrev pub close_session : Reads Command
+close_session ws = and_then (a_number ws) (λ session. said (Happens (happens.Close session)))
+
+abbrev pub set_tick : Reads Command
+set_tick ws = and_then (a_number ws) (λ tick. said (Tick tick))
+
 -- a message, by its group and its place on the wire
-abbrev pub a_message : (GroupId → ℕ → Event) → Reads Command
-a_message event ws =
+abbrev pub a_message : Reads (GroupId × ℕ)
+a_message ws =
     and_then (a_group ws) (λ group ws.
     and_then (a_number ws) (λ place.
-    said (Happens (event group place))))
+    said (group, place)))
+
+abbrev pub deliver : Reads Command
+deliver ws = and_then (a_message ws) (λ m. said (Happens (happens.Deliver m.0 m.1)))
+
+abbrev pub lose : Reads Command
+lose ws = and_then (a_message ws) (λ m. said (Happens (happens.Lose m.0 m.1)))
+
+abbrev pub send_again : Reads Command
+send_again ws = and_then (a_message ws) (λ m. said (Happens (happens.Repeat m.0 m.1)))
+
+abbrev pub answer : Reads Command
+answer ws = and_then (an_id ws) (λ id. said (Answer id))
+
+abbrev pub listing : Reads Command
+listing ws = and_then (an_id ws) (λ id. said (Listing id))
+
+abbrev pub ready : Reads Command
+ready ws = and_then (a_group ws) (λ group. said (Ready group))
 
 -- 1 to 16 daemons
 abbrev pub daemons : Reads Command
@@ -286,23 +374,23 @@ daemons ws = and_then (a_number ws) (λ count ws. if nat_le 1 count && nat_le co
 abbrev pub command_named : Word → Reads Command
 command_named w ws =
     if bytes_eq w (codes "osds") then daemons ws
-    else if bytes_eq w (codes "osd") then and_then (a_word ws) osd_named
-    else if bytes_eq w (codes "auth") then and_then (a_word ws) auth_named
+    else if bytes_eq w (codes "osd") then osd ws
+    else if bytes_eq w (codes "auth") then auth ws
     else if bytes_eq w (codes "open") then open_session ws
     else if bytes_eq w (codes "renew") then renew_session ws
-    else if bytes_eq w (codes "close") then an_event happens.Close (a_number ws)
-    else if bytes_eq w (codes "tick") then and_then (a_number ws) (λ tick. said (Tick tick))
+    else if bytes_eq w (codes "close") then close_session ws
+    else if bytes_eq w (codes "tick") then set_tick ws
     else if bytes_eq w (codes "do") then submit ws
     else if bytes_eq w (codes "ls") then list_names ws
-    else if bytes_eq w (codes "deliver") then a_message happens.Deliver ws
-    else if bytes_eq w (codes "lose") then a_message happens.Lose ws
-    else if bytes_eq w (codes "repeat") then a_message happens.Repeat ws
+    else if bytes_eq w (codes "deliver") then deliver ws
+    else if bytes_eq w (codes "lose") then lose ws
+    else if bytes_eq w (codes "repeat") then send_again ws
     else if bytes_eq w (codes "settle") then said Settle ws
     else if bytes_eq w (codes "kick") then said KickAll ws
     else if bytes_eq w (codes "lose-all") then said LoseAll ws
-    else if bytes_eq w (codes "answer") then and_then (an_id ws) (λ id. said (Answer id))
-    else if bytes_eq w (codes "listing") then and_then (an_id ws) (λ id. said (Listing id))
-    else if bytes_eq w (codes "ready") then and_then (a_group ws) (λ group. said (Ready group))
+    else if bytes_eq w (codes "answer") then answer ws
+    else if bytes_eq w (codes "listing") then listing ws
+    else if bytes_eq w (codes "ready") then ready ws
     else None
 
 -- all words of a line, and none behind
@@ -311,8 +399,11 @@ whole None = None
 whole (Some (x, [])) = Some x
 whole (Some (x, w ∷ ws)) = None
 
+abbrev pub command : Reads Command
+command ws = and_then (a_word ws) command_named
+
 abbrev pub command_of : List Word → Option Command
-command_of ws = whole (and_then (a_word ws) command_named)
+command_of ws = whole (command ws)
 
 -- the command of a line that is not blank, or none: the line is bad
 abbrev pub read_line : List ℕ → Option Command

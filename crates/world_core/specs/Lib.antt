@@ -10,6 +10,11 @@ pub mod Audit
 pub mod Holds
 pub mod Listing
 pub mod Accepted
+pub mod Command
+pub mod Text
+pub mod Script
+pub mod Taking
+pub mod TakenWords
 pub mod Refusing
 pub mod Moves
 pub mod Asking
@@ -28,3 +33,5 @@ pub mod Inside
 pub mod Sound
 pub mod Applying
 pub mod Taking
+pub mod Sweeping
+pub mod Steps

@@ -1,6 +1,6 @@
 -- Statement: contracts of public calls use it.
 -- The printed texts of a script: this project's profile.
-use Rattle.std.specs.Prelude.{ℕ, ◌/◌, ◌%◌, List, [], ◌∷◌, ◌++◌, Bool, Option, None, Some, Result, Ok, Err, if◌then◌else◌, length, codes, decimal}
+use Rattle.std.specs.Prelude.{ℕ, ◌/◌, ◌%◌, List, [], ◌++◌, Bool, Option, None, Some, Result, Ok, Err, if◌then◌else◌, length, codes, decimal}
 use Rattle.std.specs.List.{flat_map}
 use Rattle.std.specs.Map.{keys_of}
 use Rattle.script_text.specs.Text.{line, item, quoted}

@@ -36,7 +36,7 @@ fn are_printable(bytes: &[u8]) -> bool
 }
 
 // Whether it is an object's name: 1 to 255 bytes of 33 to 126.
-fn is_object_name(name: &Name) -> bool
+pub(crate) fn is_object_name(name: &Name) -> bool
     ensures { result ≡ spec.is_object_name name.now }
 {
     let bytes = name.as_str().as_bytes();

@@ -5,12 +5,14 @@
 #![tactic(auto)]
 
 mod after_command;
+mod answers_stub;
 mod asking;
 mod audit;
 mod calls;
 mod creating;
 mod event;
 mod fault;
+mod fault_text;
 mod front;
 mod group_places;
 mod laws;
