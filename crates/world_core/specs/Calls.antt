@@ -5,7 +5,7 @@ use Rattle.grant_core.specs.Flat.{Table}
 use Rattle.entry_core.specs.declared.sealed.GroupId.{GroupId}
 use Rattle.group_core.specs.Group.{Group}
 use Rattle.group_core.specs.Replicated.{IsReplicated}
-use Rattle.group_core.specs.Types.{Outcome}
+use Rattle.group_core.specs.Types.{EntryReply}
 use Rattle.world_core.specs.Event.{Event, Fault, OutOfMemory}
 use Rattle.world_core.specs.World.{World, group_at, refusal_of, world_after}
 use Rattle.world_core.specs.Holds.{AreAccepted, HasIntervals}
@@ -26,7 +26,7 @@ pub record KeepsPromises (w : World) : Type 0 where
   pub front : FrontTells w
   pub intervals : HasIntervals w
   pub groups : (id : GroupId) (g : Group) → group_at id w.groups ≡ Some g → KeepsGroup w id g
-  pub answers : (id : ℕ) (reply : Outcome) → answer_at w id ≡ Some reply → IsAnswered w id reply
+  pub answers : (id : ℕ) (reply : EntryReply) → answer_at w id ≡ Some reply → IsAnswered w id reply
 
 -- the first event that was refused, counted from 0: those before it were accepted, and none of them was a delivery to a daemon that is down
 pub record IsFirstRefused (table : Table) (daemons : ℕ) (events : List Event) (place : ℕ) (fault : Fault) : Type 0 where
