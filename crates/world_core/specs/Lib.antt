@@ -23,15 +23,11 @@ pub mod Submitting
 pub mod Places
 pub mod Recovery
 pub mod ListingLaws
-pub mod Command
-pub mod Text
-pub mod Script
 pub mod Plain
 pub mod Worked
 pub mod Calls
 pub mod Inside
 pub mod Sound
 pub mod Applying
-pub mod Taking
 pub mod Sweeping
 pub mod Steps
