@@ -8,7 +8,19 @@ mod events;
 #[cfg(test)]
 mod failover;
 #[cfg(test)]
+mod group_refusals;
+#[cfg(test)]
+mod limits;
+#[cfg(test)]
+mod names;
+#[cfg(test)]
+mod refusals;
+#[cfg(test)]
 mod replies;
+#[cfg(test)]
+mod schedules;
+#[cfg(test)]
+mod sessions;
 #[cfg(test)]
 mod steps;
 #[cfg(test)]

@@ -42,17 +42,27 @@ pub(super) fn apply(alloc: Global, world: &mut World, does: Does) -> Result<Tell
     Ok(answered(world.apply(event)))
 }
 
-// How many messages of a group are on their way, none where there is no such group.
-fn waiting(alloc: Global, world: &World, number: u32) -> Result<usize, Fail> {
-    let id = group(alloc, "data", number)?;
-    match world.wire(&id) {
+// How many messages of a group are on their way, or the number of the refusal.
+pub(super) fn wire_length(
+    alloc: Global,
+    world: &World,
+    pool: &str,
+    place: u32,
+) -> Result<Result<usize, &'static str>, Fail> {
+    let id = group(alloc, pool, place)?;
+    Ok(match world.wire(&id) {
         Ok(sent) => Ok(sent.len()),
-        Err(_) => Ok(0),
-    }
+        Err(fault) => Err(number(fault)),
+    })
+}
+
+// The same of a group of the pool `data`, 0 where there is none.
+fn waiting(alloc: Global, world: &World, place: u32) -> Result<usize, Fail> {
+    Ok(wire_length(alloc, world, "data", place)?.unwrap_or(0))
 }
 
 // Delivers message 0 of a group until none is left, and says how many were delivered. It gives up after 10,000.
-fn settle(alloc: Global, world: &mut World, number: u32) -> Result<Option<u32>, Fail> {
+pub(super) fn settle(alloc: Global, world: &mut World, number: u32) -> Result<Option<u32>, Fail> {
     let mut delivered = 0u32;
     for _ in 0..10000 {
         if waiting(alloc, world, number)? == 0 {
@@ -103,7 +113,12 @@ fn has_decided(world: &World, id: Id, says: Says) -> Result<bool, Fail> {
 }
 
 // Whether a group is ready, or the number of the refusal.
-fn readiness(alloc: Global, world: &World, pool: &str, place: u32) -> Result<&'static str, Fail> {
+pub(super) fn readiness(
+    alloc: Global,
+    world: &World,
+    pool: &str,
+    place: u32,
+) -> Result<&'static str, Fail> {
     let id = group(alloc, pool, place)?;
     Ok(match world.ready(&id) {
         Ok(true) => "yes",
