@@ -108,7 +108,7 @@ fn a_list_stops_at_the_first_refusal(rt: HostRuntime) -> Result<(), Fail> {
 }
 
 // The same one after another, with what each tells.
-const TOLD: [Step; 18] = [
+pub(super) const TOLD: [Step; 18] = [
     At(1),
     Event(Create("data", 1, 3, 2), Tells::Epoch(2)),
     Event(AddUser("client.a", TEXT), Tells::Done),

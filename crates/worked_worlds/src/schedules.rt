@@ -15,7 +15,7 @@ use world_core::World;
 const KICK: Does = Kick("data", 0);
 
 // Two daemons that are both needed. One is down, so a request waits; then it is up again.
-const ONE_DOWN: [Step; 11] = [
+pub(super) const ONE_DOWN: [Step; 11] = [
     Event(Create("data", 1, 2, 2), Tells::Epoch(2)),
     Event(AddUser("client.a", "allow rw"), Done),
     Event(Open("client.a", None), Session(1)),
@@ -37,7 +37,7 @@ const SETTLED: [Step; 4] = [
 ];
 
 // The same, with another request, where every message is lost first, and a kick follows.
-const KICKED: [Step; 9] = [
+pub(super) const KICKED: [Step; 9] = [
     Event(Submit((1, 4, 0), X, Work::Read), Request(1, 2)),
     LoseAll(0),
     Settle(0, 0),
