@@ -25,6 +25,10 @@ Example: osdgate compare --auth now.json --auth planned.json --check";
 const WHO_EXAMPLE: &str =
     "Example: ceph auth ls --format json | osdgate who --auth - --pool data --object x --read";
 
+const RUN_EXAMPLE: &str = "Example: osdgate run incident.txt";
+
+const SCRIPT_HELP: &str = "The script, standard input where it is `-` or not given";
+
 const AUTH_HELP: &str =
     "What `ceph auth ls --format json` or `ceph auth get NAME --format json` prints, `-` for standard input";
 
@@ -131,6 +135,17 @@ fn compare_command<'a>(alloc: Global) -> Result<Command<'a>, AllocError> {
         .arg(check)
 }
 
+fn run_command<'a>(alloc: Global) -> Result<Command<'a>, AllocError> {
+    let script = Arg::new(alloc, "script")
+        .action(ArgAction::Set)
+        .value_name("FILE")
+        .help(SCRIPT_HELP);
+    Command::new(alloc, "run")
+        .about("Runs a script of events in a world of its own, and prints what happens")
+        .after_help(RUN_EXAMPLE)
+        .arg(script)
+}
+
 /// The program's command line.
 pub(crate) fn whole_command<'a>(alloc: Global) -> Result<Command<'a>, AllocError> {
     Command::new(alloc, "osdgate")
@@ -142,5 +157,6 @@ pub(crate) fn whole_command<'a>(alloc: Global) -> Result<Command<'a>, AllocError
         .subcommand(verdict_command(alloc)?)?
         .subcommand(explain_command(alloc)?)?
         .subcommand(compare_command(alloc)?)?
-        .subcommand(who_command(alloc)?)
+        .subcommand(who_command(alloc)?)?
+        .subcommand(run_command(alloc)?)
 }

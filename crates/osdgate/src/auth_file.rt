@@ -9,9 +9,12 @@ use std::alloc::{AllocFailed, Global};
 use std::{fmt, io};
 
 /// Files by their paths.
-pub(crate) trait AuthFiles {
+pub(crate) trait InputFiles {
     /// The whole text of a file. It is an error where the file cannot be read, or is no UTF-8.
     fn read(&self, path: &str) -> io::Result<String>;
+
+    /// All bytes of a file. It is an error where the file cannot be read.
+    fn read_bytes(&self, path: &str) -> io::Result<Vec<u8>>;
 }
 
 /// An entity of a cluster. Its key is not kept.

@@ -3,12 +3,13 @@
 ghost use Rattle.std.specs.Prelude.{◌≤◌};
 
 use crate::arguments::whole_command;
-use crate::auth_file::{AuthFault, AuthFiles, Entity, entities_of};
+use crate::auth_file::{AuthFault, Entity, InputFiles, entities_of};
 use crate::caret::point_at_fault;
 use crate::compare::compare_text;
 use crate::compare_auth::compare_entities;
 use crate::explain::explain_text;
 use crate::printed::Printed;
+use crate::run::{RunFault, run_path};
 use crate::verdict::{Answer, Times, answer, text_of};
 use crate::who::who_text;
 use crate::words::WordsFault;
@@ -100,6 +101,15 @@ impl<T: Drop> From<AllocFailed<T>> for NoAnswer {
 struct Answered<'a> {
     printed: Printed,
     caps: &'a str,
+}
+
+/// What words come to.
+#[derive(Drop)]
+enum Done<'a> {
+    /// An answer, to be written.
+    Answer(Answered<'a>),
+    /// A script was run, and what it prints is written.
+    Script(Result<(), RunFault>),
 }
 
 /// An application tag: a text is cut at its first `:`, and what is behind it at its first `=`. A text with a
@@ -210,7 +220,7 @@ fn printed_verdict(alloc: Global, matches: &ArgMatches<'_>) -> Result<Printed, N
 }
 
 /// The entities of a file, or of standard input where the path is `-`.
-fn read_entities<F: AuthFiles, R: Read>(
+fn read_entities<F: InputFiles, R: Read>(
     alloc: Global,
     files: &F,
     reader: &mut R,
@@ -226,7 +236,7 @@ fn read_entities<F: AuthFiles, R: Read>(
 }
 
 /// The entities of the file that is called so.
-fn entities_in<F: AuthFiles, R: Read>(
+fn entities_in<F: InputFiles, R: Read>(
     alloc: Global,
     files: &F,
     reader: &mut R,
@@ -241,7 +251,7 @@ fn entities_in<F: AuthFiles, R: Read>(
 }
 
 /// What `osdgate who` prints.
-fn printed_who<F: AuthFiles, R: Read>(
+fn printed_who<F: InputFiles, R: Read>(
     alloc: Global,
     files: &F,
     reader: &mut R,
@@ -272,7 +282,7 @@ fn printed_who<F: AuthFiles, R: Read>(
 }
 
 /// What `osdgate compare` prints of two files.
-fn printed_files<F: AuthFiles, R: Read>(
+fn printed_files<F: InputFiles, R: Read>(
     alloc: Global,
     files: &F,
     reader: &mut R,
@@ -289,7 +299,7 @@ fn printed_files<F: AuthFiles, R: Read>(
 }
 
 /// What `osdgate compare` prints.
-fn printed_comparison<F: AuthFiles, R: Read>(
+fn printed_comparison<F: InputFiles, R: Read>(
     alloc: Global,
     files: &F,
     reader: &mut R,
@@ -313,14 +323,32 @@ fn refused_caps<'a>(matches: &ArgMatches<'a>, printed: &Printed) -> &'a str {
     }
 }
 
-/// What the words ask for.
-fn answer_words<'a, S: AsStr, F: AuthFiles, R: Read>(
+/// Tells how a script ended, and answers the status.
+fn finish_script<E: Write>(ended: Result<(), RunFault>, err: &mut E) -> u8
+    ensures { result ≤ 2 }
+{
+    match ended {
+        Ok(()) => return DONE,
+        Err(RunFault::Script(fault)) => {
+            let _ = write!(err, "osdgate: {fault}\n");
+        }
+        Err(RunFault::Unread(error)) => {
+            let _ = write!(err, "osdgate: the script cannot be read: {error}\n");
+        }
+        Err(RunFault::OutOfMemory) => {
+            let _ = write_out(err, "osdgate: S5 OutOfMemory 0\n");
+        }
+    }
+    FAULT
+}
+
+/// What the words ask for, other than a script.
+fn answer_matches<'a, F: InputFiles, R: Read>(
     alloc: Global,
-    words: &'a [S],
+    matches: &ArgMatches<'a>,
     files: &F,
     reader: &mut R,
 ) -> Result<Answered<'a>, NoAnswer> {
-    let matches = whole_command(alloc)?.try_get_matches_from(words)?;
     match matches.subcommand() {
         Some(("verdict", inner)) => Ok(Answered {
             printed: printed_verdict(alloc, inner)?,
@@ -343,6 +371,24 @@ fn answer_words<'a, S: AsStr, F: AuthFiles, R: Read>(
             caps: "",
         }),
         _ => Err(NoAnswer::Words(BadWords::Command)),
+    }
+}
+
+/// What the words ask for. What a script prints is written as it runs.
+fn answer_words<'a, S: AsStr, F: InputFiles, R: Read, O: Write>(
+    alloc: Global,
+    words: &'a [S],
+    files: &F,
+    reader: &mut R,
+    out: &mut O,
+) -> Result<Done<'a>, NoAnswer> {
+    let matches = whole_command(alloc)?.try_get_matches_from(words)?;
+    match matches.subcommand() {
+        Some(("run", inner)) => {
+            let path = inner.get_str("script").unwrap_or("-");
+            Ok(Done::Script(run_path(alloc, files, path, reader, out)))
+        }
+        _ => Ok(Done::Answer(answer_matches(alloc, &matches, files, reader)?)),
     }
 }
 
@@ -415,12 +461,12 @@ pub(crate) fn refuse_words<O: Write, E: Write>(fault: WordsFault, out: &mut O, e
 }
 
 /// Runs the program on the words of its command line, the first of which is the program's own name, and
-/// answers its exit status: 0 where it is done, 1 where a fault was answered, a file has no entities, or the answer
-/// could not be written, 2 where the words are no command line.
+/// answers its exit status: 0 where it is done, 1 where a fault was answered, a file has no entities, a script did not
+/// run to its end, or the answer could not be written, 2 where the words are no command line.
 ///
 /// Answers, and the help that was asked for, go to `out`, and what is wrong with a command line to `err`. Where a
 /// capability text has a fault, the text and a caret under the fault's byte go to `err` as well.
-pub(crate) fn run_command<S: AsStr, F: AuthFiles, R: Read, O: Write, E: Write>(
+pub(crate) fn run_command<S: AsStr, F: InputFiles, R: Read, O: Write, E: Write>(
     alloc: Global,
     words: &[S],
     files: &F,
@@ -430,8 +476,9 @@ pub(crate) fn run_command<S: AsStr, F: AuthFiles, R: Read, O: Write, E: Write>(
 ) -> u8
     ensures { result ≤ 2 }
 {
-    match answer_words(alloc, words, files, reader) {
-        Ok(answered) => finish_answer(alloc, &answered, out, err),
+    match answer_words(alloc, words, files, reader, out) {
+        Ok(Done::Answer(answered)) => finish_answer(alloc, &answered, out, err),
+        Ok(Done::Script(ended)) => finish_script(ended, err),
         Err(NoAnswer::Words(bad)) => {
             let _ = write_out(err, bad.text());
             BAD_COMMAND_LINE

@@ -10,11 +10,12 @@ mod compare_auth;
 mod explain;
 mod printed;
 mod request;
+mod run;
 mod verdict;
 mod who;
 mod words;
 
-use auth_file::AuthFiles;
+use auth_file::InputFiles;
 use command::{refuse_words, run_command};
 use std::process::ExitCode;
 use std::{fs, io};
@@ -23,13 +24,19 @@ use words::words;
 #[cfg(test)]
 mod compare_tests;
 #[cfg(test)]
+mod run_tests;
+#[cfg(test)]
 mod tests;
 #[cfg(test)]
 mod who_tests;
 
-impl AuthFiles for HostRuntime {
+impl InputFiles for HostRuntime {
     fn read(&self, path: &str) -> io::Result<String> {
         fs::read_to_string(self, path)
+    }
+
+    fn read_bytes(&self, path: &str) -> io::Result<Vec<u8>> {
+        fs::read(self, path)
     }
 }
 

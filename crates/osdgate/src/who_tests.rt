@@ -1,6 +1,6 @@
 //! Entities of files, run on words.
 
-use crate::auth_file::AuthFiles;
+use crate::auth_file::InputFiles;
 use crate::command::run_command;
 use std::alloc::Global;
 use std::io;
@@ -47,6 +47,7 @@ fn file_of(path: &str) -> Option<&'static str> {
         "odd" => Some(ODD),
         "changed" => Some(CHANGED),
         "empty" => Some("[]"),
+        "script" => Some("osds 2\nosd down 1\n"),
         "less" => Some(
             r#"[{"entity":"client.backup","caps":{"osd":"allow r pool=data"}},{"entity":"client.app","caps":{"osd":"allow rw pool=data namespace=a"}}]"#,
         ),
@@ -57,24 +58,28 @@ fn file_of(path: &str) -> Option<&'static str> {
     }
 }
 
-impl AuthFiles for TestFiles {
+impl InputFiles for TestFiles {
     fn read(&self, path: &str) -> io::Result<String> {
         match file_of(path) {
             None => Err(io::Error::from(io::ErrorKind::NotFound)),
             Some(text) => Ok(String::from_str(self.alloc, text)?),
         }
     }
+
+    fn read_bytes(&self, path: &str) -> io::Result<Vec<u8>> {
+        Ok(self.read(path)?.into_bytes())
+    }
 }
 
 /// What a command prints on standard output and standard error, and its status.
 #[derive(Debug, Drop)]
-struct Ran {
-    out: String,
-    err: String,
-    status: u8,
+pub(crate) struct Ran {
+    pub(crate) out: String,
+    pub(crate) err: String,
+    pub(crate) status: u8,
 }
 
-fn run_with(alloc: Global, words: &[&str], input: &str) -> Result<Ran, Fail> {
+pub(crate) fn run_with(alloc: Global, words: &[&str], input: &str) -> Result<Ran, Fail> {
     let mut out: Vec<u8> = Vec::new(alloc);
     let mut err: Vec<u8> = Vec::new(alloc);
     let mut reader = input.as_bytes();
