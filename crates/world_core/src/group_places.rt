@@ -1,7 +1,6 @@
 //! Where a group stands among the groups of the world.
 
 ghost use Rattle.std.specs.Prelude.{◌≡◌, ◌≤◌, List, All, length, IfOk, None, option_copied};
-ghost use Rattle.std.specs.List.{list_all};
 ghost use Rattle.std.specs.Option.{option_map};
 ghost use Rattle.group_core.specs.Group.{Group};
 ghost use Rattle.map_core.specs.Limits.{IsPool};
@@ -14,7 +13,7 @@ ghost use Rattle.world_core.specs.Moves.{AreGroupsOf, IsAt};
 ghost use Rattle.world_core.specs.Moves as spec;
 
 use crate::fault::WorldFault;
-use cap_text::Name;
+use cap_text::{Name, are_word_bytes};
 use entry_core::GroupId;
 use map_core::{ClusterMap, MapFault, Pool};
 
@@ -76,27 +75,6 @@ fn is_word(name: &Name) -> bool
 {
     let bytes = name.as_str().as_bytes();
     bytes.len() >= 1 && bytes.len() <= 64 && are_word_bytes(bytes)
-}
-
-/// Whether these are all word bytes.
-fn are_word_bytes(bytes: &[u8]) -> bool
-    ensures { result ≡ list_all map_tests.is_word_byte bytes.now }
-{
-    bytes.iter().all(|byte| is_word_byte(*byte))
-}
-
-/// A letter, a digit, `_`, `.`, `/` or `-`.
-#[tactic(auto, unfolding(map_core::specs::Refusal::is_word_byte))]
-fn is_word_byte(byte: u8) -> bool
-    ensures { result ≡ map_tests.is_word_byte byte }
-{
-    (byte >= b'A' && byte <= b'Z')
-        || (byte >= b'a' && byte <= b'z')
-        || (byte >= b'0' && byte <= b'9')
-        || byte == b'_'
-        || byte == b'.'
-        || byte == b'/'
-        || byte == b'-'
 }
 
 /// How many groups the pools before a group's have, and its number.
