@@ -37,7 +37,7 @@ use Rattle.world_core.proofs.Sounds.{ids_of}
 -- ---- each place of the map stands there once
 
 -- the pool of the place, which has its number
-record HasPlace (pools : List Pool) (id : GroupId) : Type 0 where
+pub record HasPlace (pools : List Pool) (id : GroupId) : Type 0 where
   pub pool : Pool
   pub found : find (is_named id.pool) pools ≡ Some pool
   pub less : id.number < pool.pg_num
@@ -56,7 +56,7 @@ later_place p ps id none h = go (is_named id.pool p) refl
         absurd (let both : None ≡ Some h.pool = sym none ∙ ap (λ n. find (is_named n) ps) name ∙ h.found in cc)
     go false is = record { pool = h.pool; found = ap (λ b. cond b (Some p) (find (is_named id.pool) ps)) is ∙ h.found; less = h.less }
 
-all_places : (pools : List Pool) → NamedOnce pools → Each (HasPlace pools) (flat_map groups_of pools)
+pub all_places : (pools : List Pool) → NamedOnce pools → Each (HasPlace pools) (flat_map groups_of pools)
 all_places [] once = tt
 all_places (p ∷ ps) once =
     each_join (HasPlace (p ∷ ps)) (groups_of p) (flat_map groups_of ps) (own_places p ps 0 p.pg_num (omega arith))

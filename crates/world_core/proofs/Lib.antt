@@ -36,6 +36,7 @@ pub mod GroupsOf
 pub mod Sweeps
 pub mod Questions
 pub mod ScriptLines
+pub mod FewDaemons
 pub mod FrontEvents
 pub mod Silent
 pub mod MapEvents
@@ -44,6 +45,7 @@ pub mod RequestEvents
 pub mod RunsOfEvents
 pub mod Recording
 pub mod PlaceGroups
+pub mod PlacesThere
 pub mod KickRecovery
 pub mod ListingLaws
 pub mod PlainGroups

@@ -4,9 +4,9 @@ use Rattle.std.specs.Prelude.{nat_le}
 use Rattle.std.specs.List.{filter, find, flat_map}
 use Rattle.std.specs.Option.{option_map, option_map_or}
 use Rattle.std.proofs.lemmas.Bool.Decides.{nat_tests}
-use Rattle.map_core.specs.State.{MapState}
+use Rattle.map_core.specs.State.{MapState, History}
 use Rattle.map_core.specs.Map.{change_first, is_named, tagged, created, after, initial, map_of, pool_in}
-use Rattle.map_core.specs.Refusal.{refusal, tests, acting_tests, first_of, groups_in, is_word}
+use Rattle.map_core.specs.Refusal.{refusal, tests, acting_tests, acting_refusal, first_of, groups_in, is_word}
 use Rattle.map_core.specs.Limits.{AcceptedFrom, IsAccepted}
 use Rattle.map_core.specs.declared.fault.MapFault.TheVariants as fault
 use Rattle.map_core.specs.declared.pool.Pool.{Pool}
@@ -204,25 +204,29 @@ named_so name (q ∷ qs) p h = go (is_named name q) refl h (λ k. named_so name 
     go true e k rest = let same : q ≡ p = cc in ap (λ (r : Pool). r.name) (sym same) ∙ bytes_same q.name name e
     go false e k rest = rest k
 
-place_named : (f : Front) (id : GroupId) → IsAccepted f.history → IsPlace f.history id → group_refusal f id ≡ None
+-- the map refuses none of its places
+pub place_there : (h : History) (id : GroupId) → IsAccepted h → IsPlace h id → acting_refusal h id.pool id.number ≡ None
 unfolding pool_in groups_in
-place_named f id accepted p =
-    ap (option_map OfMap) (by (not (is_word id.pool)) (not (is_some (find (is_named id.pool) (map_of f.history).pools)))
-    (nat_le (option_map_or (λ (q : Pool). q.pg_num) (find (is_named id.pool) (map_of f.history).pools) 0) id.number)
+place_there h id accepted p =
+    by (not (is_word id.pool)) (not (is_some (find (is_named id.pool) (map_of h).pools)))
+    (nat_le (option_map_or (λ (q : Pool). q.pg_num) (find (is_named id.pool) (map_of h).pools) 0) id.number)
     (ap not word)
     (ap (λ o. not (is_some o)) p.found)
-    (ap (λ o. nat_le (option_map_or (λ (q : Pool). q.pg_num) o 0) id.number) p.found ∙ not_above p.pool.pg_num id.number p.number))
+    (ap (λ o. nat_le (option_map_or (λ (q : Pool). q.pg_num) o 0) id.number) p.found ∙ not_above p.pool.pg_num id.number p.number)
   where
     word : is_word id.pool ≡ true
     word =
-        ap is_word (sym (named_so id.pool (map_of f.history).pools p.pool p.found))
-        ∙ found_named (is_named id.pool) (map_of f.history).pools p.pool (names_through f.history.commands (initial f.history.daemons) 1 accepted tt) p.found
+        ap is_word (sym (named_so id.pool (map_of h).pools p.pool p.found))
+        ∙ found_named (is_named id.pool) (map_of h).pools p.pool (names_through h.commands (initial h.daemons) 1 accepted tt) p.found
 
     by : (a b c : Bool) → a ≡ false → b ≡ false → c ≡ false → first_of ((a, fault.BadName) ∷ (b, fault.NoPool) ∷ (c, fault.NoGroup) ∷ []) ≡ None
     by false false false x y z = refl
     by true b c x y z = absurd (cc)
     by false true c x y z = absurd (cc)
     by false false true x y z = absurd (cc)
+
+place_named : (f : Front) (id : GroupId) → IsAccepted f.history → IsPlace f.history id → group_refusal f id ≡ None
+place_named f id accepted p = ap (option_map OfMap) (place_there f.history id accepted p)
 
 pub groups_are_found_by_place : GroupsAreFoundByPlace
 groups_are_found_by_place table daemons events id accepted =

@@ -6,12 +6,18 @@ use Rattle.script_text.specs.Streams.{AppendsPart}
 use Rattle.script_text.specs.declared.fault.ScriptFault.{ScriptFault}
 use Rattle.script_text.specs.declared.fault.ScriptFault.TheVariants as ends
 use Rattle.world_core.specs.World.{World}
+use Rattle.world_core.specs.Command.{Command, Osds}
 use Rattle.world_core.specs.Script.{Step, Goes, IsBad, IsOther, Machine, Line, after_line, line_step, script_step}
 use Rattle.world_core.specs.declared.script.machine.LineFault.{LineFault}
 use Rattle.world_core.specs.declared.script.machine.LineFault.TheVariants.{BadLine, OutOfMemory}
 
 abbrev pub at : ℕ → World → Machine
 at tick world = record { world = world; tick = tick }
+
+-- a number of daemons is 1 to 16
+abbrev pub HasFewDaemons : Command → Type 0
+HasFewDaemons (Osds daemons) = (1 ≤ daemons) × (daemons ≤ 16)
+HasFewDaemons command = Unit {0}
 
 -- the line's text was added, and its events happened
 abbrev pub Does : Machine → Line → (old new : List ℕ) → Machine → Type 0

@@ -38,4 +38,6 @@ pub use laws::{
 };
 pub use ops::Ops;
 pub use running::run;
+pub use script::run_script;
+pub use script_text::ScriptFault;
 pub use world::World;

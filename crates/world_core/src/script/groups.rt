@@ -36,10 +36,12 @@ fn push_groups(groups: &mut Vec<GroupId>, pool: &Pool) -> Result<(), OutOfMemory
     Ok(())
 }
 
-/// The groups of a map, pool after pool.
+/// The groups of a map, pool after pool. The map refuses none of them.
 fn places(alloc: Global, map: &ClusterMap) -> Result<Vec<GroupId>, OutOfMemory>
-    ensures { IfOk result (λ groups. groups.items ≡ flat_map groups_of (map_of map.now).pools) }
+    ensures groups { IfOk result (λ groups. groups.items ≡ flat_map groups_of (map_of map.now).pools) }
+    ensures there { IfOk result (λ groups. All (IsThere map.now) groups.items) }
 {
+    let _epoch = map.epoch();
     let mut groups = Vec::new(alloc);
     for pool in map.pools() {
         push_groups(&mut groups, pool)?;
@@ -65,7 +67,7 @@ fn has_messages(world: &World, group: &GroupId) -> bool
 {
     match world.wire(group) {
         Ok(sent) => !sent.is_empty(),
-        Err(_) => false,
+        Err(_) => unreachable!(),
     }
 }
 
@@ -88,24 +90,12 @@ fn sweep_one(world: &mut World, sweep: Sweep, group: &GroupId) -> Result<bool, O
     }
 }
 
-/// Whether a world has the group, as it has each of its map.
-fn is_there(world: &World, group: &GroupId) -> bool
-    ensures { result ≡ true → group_refusal world.now.front group.now ≡ None }
-{
-    match world.wire(group) {
-        Ok(_) => true,
-        Err(_) => false,
-    }
-}
-
 /// Delivers or loses message 0 of a group of the map until none is left, and counts those that nothing refused.
 fn sweep_group(world: &mut World, sweep: Sweep, group: &GroupId) -> Result<u64, OutOfMemory>
+    requires { group_refusal world.old.front group.now ≡ None }
     ensures after { OnOk result (world.new ≡ fold world_step world.old (emptied (event_at sweep) group.now world.old)) }
     ensures count { IfOk result (λ count. count ≡ unrefused world.old (emptied (event_at sweep) group.now world.old)) }
 {
-    if !is_there(world, group) {
-        return Err(AllocError);
-    }
     let mut count: u64 = 0;
     while has_messages(world, group) {
         if sweep_one(world, sweep, group)? {
@@ -141,12 +131,16 @@ pub(crate) fn sweep_groups(
 
 /// Kicks a group of the map, which nothing but want of memory refuses.
 fn kick_group(world: &mut World, group: &GroupId) -> Result<(), OutOfMemory>
+    requires { group_refusal world.old.front group.now ≡ None }
     ensures { OnOk result (world.new ≡ world_step world.old (Kick group.now)) }
 {
     let group = group.copy()?;
     match world.apply(Event::Kick { group }) {
         Ok(_) => Ok(()),
-        Err(_) => Err(AllocError),
+        Err(fault) => match fault {
+            WorldFault::OutOfMemory => Err(AllocError),
+            _ => unreachable!(),
+        },
     }
 }
 

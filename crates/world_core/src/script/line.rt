@@ -1,9 +1,9 @@
 //! Lines of a script, one after another.
 
-ghost use Rattle.std.specs.Prelude.{◌≡◌, OnOk, IfErr, None, string_bytes};
+ghost use Rattle.std.specs.Prelude.{◌≡◌, ◌≤◌, OnOk, IfErr, None, string_bytes};
 ghost use Rattle.world_core.specs.Command.{Osds};
 ghost use Rattle.world_core.specs.Script.{line_step, script_step};
-ghost use Rattle.world_core.specs.Steps.{GoesTo, IsFaultOf, LineWrote};
+ghost use Rattle.world_core.specs.Steps.{GoesTo, IsFaultOf, LineWrote, HasFewDaemons};
 
 use crate::script::command::Command;
 use crate::script::machine::{LineFault, Machine};
@@ -19,7 +19,8 @@ fn begin(
     command: Command,
     text: &mut String,
 ) -> Result<(), LineFault>
-    requires { state.old ≡ None }
+    requires none { state.old ≡ None }
+    requires few { HasFewDaemons command }
     ensures goes { OnOk result (GoesTo (script_step state.old command) (string_bytes text.old) (string_bytes text.new) state.new) }
     ensures fault { IfErr result (IsFaultOf (script_step state.old command)) }
 {
@@ -29,20 +30,19 @@ fn begin(
     }
 }
 
-/// Makes the world. No line has another number of daemons than 1 to 16.
+/// Makes the world.
 fn begin_with(
     alloc: Global,
     state: &mut Option<Machine>,
     daemons: u8,
     text: &mut String,
 ) -> Result<(), LineFault>
-    requires { state.old ≡ None }
+    requires none { state.old ≡ None }
+    requires some { 1 ≤ daemons }
+    requires few { daemons ≤ 16 }
     ensures goes { OnOk result (GoesTo (script_step None (Osds daemons)) (string_bytes text.old) (string_bytes text.new) state.new) }
     ensures memory { IfErr result (λ fault. fault ≡ LineFault.OutOfMemory) }
 {
-    if daemons < 1 || daemons > 16 {
-        return Err(LineFault::OutOfMemory);
-    }
     match Machine::begin(alloc, daemons, text) {
         Ok(machine) => {
             *state = Some(machine);
@@ -59,6 +59,7 @@ fn run_command(
     command: Command,
     text: &mut String,
 ) -> Result<(), LineFault>
+    requires { HasFewDaemons command }
     ensures goes { OnOk result (GoesTo (script_step state.old command) (string_bytes text.old) (string_bytes text.new) state.new) }
     ensures fault { IfErr result (IsFaultOf (script_step state.old command)) }
 {

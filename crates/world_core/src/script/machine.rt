@@ -59,7 +59,7 @@ impl Machine {
         };
         match World::new(alloc, table, daemons) {
             Ok(world) => Ok(Machine { world, tick: 0 }),
-            Err(_) => Err(AllocError),
+            Err(_) => unreachable!(),
         }
     }
 

@@ -3,7 +3,7 @@ use Rattle.world_core.proofs.Sweeps.{IsSwept, begun, swept_count, swept_on}
 use Rattle.world_core.proofs.script.groups.sweep_group.Goals as goal
 
 pub loop-sweep-init : goal.loop-sweep-init
-loop-sweep-init c = begun c.args.sweep c.args.group.now c.args.world.now (c.is_there.ensures c.if-not-is_there.false)
+loop-sweep-init c = begun c.args.sweep c.args.group.now c.args.world.now c.requires
 
 pub loop-sweep-preserved-in-Some : goal.loop-sweep-preserved-in-Some
 loop-sweep-preserved-in-Some c =
