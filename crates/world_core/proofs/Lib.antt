@@ -54,3 +54,4 @@ pub mod PlainSettles
 pub mod PlainScripts
 pub mod PlainKeepings
 pub mod WorkedScripts
+pub mod Answering

@@ -1,17 +1,21 @@
 -- Statement: contracts of public calls use it.
 -- What calls on a world answer.
-use Rattle.std.specs.Prelude.{◌≡◌, ◌⊎◌, ℕ, List, Some, slice_get, take}
+use Rattle.std.specs.Prelude.{◌≡◌, ◌⊎◌, ℕ, List, Option, None, Some, if◌then◌else◌, slice_get, take}
 use Rattle.grant_core.specs.Flat.{Table}
 use Rattle.entry_core.specs.declared.sealed.GroupId.{GroupId}
-use Rattle.group_core.specs.Group.{Group}
+use Rattle.group_core.specs.Group.{Group, is_submitted}
 use Rattle.group_core.specs.Replicated.{IsReplicated}
 use Rattle.group_core.specs.Types.{EntryReply}
-use Rattle.world_core.specs.Event.{Event, Fault, OutOfMemory}
+use Rattle.world_core.specs.Event.{Event, Fault, NoRequest, OutOfMemory}
 use Rattle.world_core.specs.World.{World, group_at, refusal_of, world_after}
 use Rattle.world_core.specs.Holds.{AreAccepted, HasIntervals}
 use Rattle.world_core.specs.Standing.{HasNumbers}
 use Rattle.world_core.specs.Answers.{IsOneList, IsAnswered, answer_at}
 use Rattle.world_core.specs.Accepted.{HasRequests, FrontTells, IsServed}
+
+-- why there is no answer: no such request was submitted
+abbrev pub answer_refusal : World → ℕ → Option Fault
+answer_refusal w id = if is_submitted w.front.submissions id then None else Some NoRequest
 
 -- what holds of every group of a world
 pub record KeepsGroup (w : World) (id : GroupId) (g : Group) : Type 0 where
