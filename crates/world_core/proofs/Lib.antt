@@ -56,3 +56,4 @@ pub mod PlainSettles
 pub mod PlainScripts
 pub mod PlainKeepings
 pub mod WorkedScripts
+pub mod Answering

@@ -60,7 +60,7 @@ located_by front pool namespace object history epoch view group namespace' objec
 
 -- ---- answers
 
-asked_for : (rs : List Sealed) (id : ℕ) → is_submitted rs id ≡ is_some (submitted rs id)
+pub asked_for : (rs : List Sealed) (id : ℕ) → is_submitted rs id ≡ is_some (submitted rs id)
 asked_for [] id = refl
 asked_for (r ∷ rs) id = go (r.id == id) (asked_for rs id)
   where

@@ -95,7 +95,7 @@ stands_legal submissions g h =
     subst (λ v. Legal v.audit) h.is (audit_legal (run h.events (start g.group h.min_size h.count h.acting h.up)) (run_good h.events (start g.group h.min_size h.count h.acting h.up) (start_good g.group h.min_size h.count h.acting h.up)))
 
 -- what was submitted under a number is one of the requests
-found_each : (P : Sealed → Type 0) (rs : List Sealed) (id : ℕ) (s : Sealed) → Each P rs → submitted rs id ≡ Some s → P s
+pub found_each : (P : Sealed → Type 0) (rs : List Sealed) (id : ℕ) (s : Sealed) → Each P rs → submitted rs id ≡ Some s → P s
 found_each P [] id s h is = absurd (cc)
 found_each P (r ∷ rs) id s h is = go (r.id == id) is (λ more. found_each P rs id s h.1 more)
   where

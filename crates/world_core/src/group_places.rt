@@ -2,6 +2,7 @@
 
 ghost use Rattle.std.specs.Prelude.{◌≡◌, ◌≤◌, List, All, length, IfOk, None, option_copied};
 ghost use Rattle.std.specs.Option.{option_map};
+ghost use Rattle.entry_core.specs.Locality.{group_for};
 ghost use Rattle.group_core.specs.Group.{Group};
 ghost use Rattle.map_core.specs.Limits.{IsPool};
 ghost use Rattle.map_core.specs.Map.{pool_in};
@@ -11,10 +12,11 @@ ghost use Rattle.world_core.specs.Event.{OfMap};
 ghost use Rattle.world_core.specs.Front.{error_of};
 ghost use Rattle.world_core.specs.Moves.{AreGroupsOf, IsAt};
 ghost use Rattle.world_core.specs.Moves as spec;
+ghost use Rattle.world_core.specs.Sound.{IsSealedFor};
 
 use crate::fault::WorldFault;
 use cap_text::{Name, are_word_bytes};
-use entry_core::GroupId;
+use entry_core::{GroupId, Sealed};
 use map_core::{ClusterMap, MapFault, Pool};
 
 /// The place of a group among the groups of a map's pools: as many as the earlier pools have, and its number. It takes no
@@ -29,8 +31,19 @@ pub(crate) fn place_of(map: &ClusterMap, group: &GroupId) -> Result<usize, World
     let pools = map.pools();
     match refusal(pools, group) {
         Some(fault) => Err(WorldFault::Map(fault)),
-        None => Ok(place_in(pools, group)),
+        None => Ok(place_in(pools, &group.pool, group.number)),
     }
+}
+
+/// The place of the group that a request is for, whose pool the map has. It takes no memory, and a step for each pool, of which
+/// there are at most 32.
+pub(crate) fn place_of_request(map: &ClusterMap, request: &Sealed) -> usize
+    requires { IsSealedFor map.now request.now }
+    ensures { (groups : List Group) → AreGroupsOf map.now groups → IsAt groups (group_for request.now) result }
+{
+    let _epoch = map.epoch();
+    let pools = map.pools();
+    place_for(pools, request)
 }
 
 /// Why a group has no place.
@@ -77,18 +90,27 @@ fn is_word(name: &Name) -> bool
     bytes.len() >= 1 && bytes.len() <= 64 && are_word_bytes(bytes)
 }
 
-/// How many groups the pools before a group's have, and its number.
-pub(crate) fn place_in(pools: &[Pool], group: &GroupId) -> usize
+/// How many groups the pools before the one of a name have, and a group's number there.
+fn place_in(pools: &[Pool], name: &Name, number: u32) -> usize
     requires limits { All IsPool pools.now }
     requires few { length pools.now ≤ 32 }
-    ensures { result ≡ spec.place_in pools.now group.now }
+    ensures { result ≡ spec.place_in pools.now (record { pool = name.now; number = number }) }
 {
     let mut before: usize = 0;
     for pool in pools {
-        if pool.name.equals(&group.pool) {
+        if pool.name.equals(name) {
             break;
         }
         before += pool.pg_num as usize;
     }
-    before + group.number as usize
+    before + number as usize
+}
+
+/// How many groups the pools before a request's have, and its group's number. It takes no memory.
+pub(crate) fn place_for(pools: &[Pool], request: &Sealed) -> usize
+    requires limits { All IsPool pools.now }
+    requires few { length pools.now ≤ 32 }
+    ensures { result ≡ spec.place_in pools.now (group_for request.now) }
+{
+    place_in(pools, &request.view().pool, request.group_number())
 }

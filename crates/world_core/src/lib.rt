@@ -5,7 +5,6 @@
 #![tactic(auto)]
 
 mod after_command;
-mod answers_stub;
 mod asking;
 mod audit;
 mod calls;

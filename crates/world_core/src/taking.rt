@@ -14,23 +14,11 @@ ghost use Rattle.world_core.specs.Moves as moves;
 ghost use Rattle.world_core.specs.Taking.{Takes, TakesAll, is_full_at, places_for};
 
 use crate::fault::WorldFault;
-use crate::group_places::place_in;
+use crate::group_places::place_for;
 use entry_core::{Items, OutOfMemory, Sealed, TryCopy};
 use group_core::{Group, GroupFault};
 use map_core::{ClusterMap, Pool};
 use std::alloc::{AllocError, Global};
-
-/// Where the group of a request stands.
-fn place_for(pools: &[Pool], request: &Sealed) -> Result<usize, OutOfMemory>
-    requires limits { All IsPool pools.now }
-    requires few { length pools.now ≤ 32 }
-    ensures { IfOk result (λ place. place ≡ moves.place_in pools.now (group_for request.now)) }
-{
-    match request.group() {
-        Ok(group) => Ok(place_in(pools, &group)),
-        Err(error) => Err(error),
-    }
-}
 
 /// Where the groups of requests stand.
 pub(crate) fn places(
@@ -44,11 +32,7 @@ pub(crate) fn places(
     let pools = map.pools();
     let mut all = Items::new(alloc);
     for request in requests {
-        let place = match place_for(pools, request) {
-            Ok(place) => place,
-            Err(error) => return Err(error),
-        };
-        match all.push(place) {
+        match all.push(place_for(pools, request)) {
             Ok(()) => {}
             Err(error) => return Err(error),
         }

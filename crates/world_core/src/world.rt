@@ -10,6 +10,8 @@ ghost use Rattle.world_core.specs.Holds.{Holds};
 ghost use Rattle.world_core.specs.Refusing.{RefusedExactly, RefusedOrMemory};
 ghost use Rattle.world_core.specs.Calls.{KeepsPromises};
 
+mod answers;
+
 use crate::audit::{Run, collect};
 use crate::calls::{GroupCall, call_at, told};
 use crate::event::{Ask, AuthCommand, Event, Told};
