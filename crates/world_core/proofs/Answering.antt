@@ -1,24 +1,26 @@
 -- What a request that was submitted is answered.
-use Rattle.std.proofs.Common.{◌≡◌, ◌∙◌, ℕ, ◌<◌, List, Option, None, Some, if◌then◌else◌, is_some, length, refl, sym, ap, subst, arith}
-use Rattle.std.proofs.lemmas.Option.{slice_get_read}
-use Rattle.std.specs.Prelude.{get_or}
+use Rattle.std.proofs.Common.{◌≡◌, ◌∙◌, ℕ, ◌+◌, ◌*◌, ◌/◌, ◌%◌, ◌<◌, ◌≤◌, List, Option, None, Some, if◌then◌else◌, is_some, length, refl, sym, ap, subst, arith}
+use Rattle.std.specs.Prelude.{IfSome}
+use Rattle.std.proofs.lemmas.Nat.{mod-mul-add}
+use Rattle.std.proofs.Math.Nat.{mod-add-div'}
 use Rattle.map_core.specs.State.{History}
 use Rattle.map_core.specs.Map.{map_of}
-use Rattle.map_core.specs.declared.pool.Pool.{Pool}
 use Rattle.entry_core.specs.Request.{Sealed}
 use Rattle.entry_core.specs.Locality.{group_for}
 use Rattle.entry_core.specs.declared.reply.Reply.{Reply}
 use Rattle.group_core.specs.Group.{Group, submitted, answer_of}
-use Rattle.world_core.specs.Event.{NoRequest}
+use Rattle.world_core.specs.Event.{Fault, NoRequest}
 use Rattle.world_core.specs.Front.{Front}
 use Rattle.world_core.specs.World.{group_at}
 use Rattle.world_core.specs.Moves.{AreGroupsOf, IsAt, place_in}
 use Rattle.world_core.specs.Answers.{answer_to, answer_in, answer_at}
 use Rattle.world_core.specs.Calls.{answer_refusal}
 use Rattle.world_core.specs.Sound.{IsKept, IsSealedFor}
+use Rattle.world_core.specs.Stands.{next_at, IsGiven}
 use Rattle.world_core.specs.Inside.{world_of}
 use Rattle.world_core.specs.declared.audit.Run.{Run}
-use Rattle.world_core.proofs.GroupsOf.{asked_place, asked_found}
+use Rattle.world_core.proofs.Limits.{few_submissions}
+use Rattle.world_core.proofs.ListingLaws.{found_number}
 use Rattle.world_core.proofs.PlaceIn.{stands}
 use Rattle.world_core.proofs.Pools.{found_in}
 use Rattle.world_core.proofs.Questions.{asked_for}
@@ -48,3 +50,54 @@ unrefused f gs runs id s is = ap (λ b. if b then None else Some NoRequest) (ask
 
 pub refused : (f : Front) (gs : List Group) (runs : List Run) (id : ℕ) → None ≡ submitted f.submissions id → answer_refusal (world_of f gs runs) id ≡ Some NoRequest
 refused f gs runs id is = ap (λ b. if b then None else Some NoRequest) (asked_for f.submissions id ∙ ap is_some (sym is))
+
+-- no answer where nothing was submitted
+pub unanswered : (f : Front) (gs : List Group) (runs : List Run) (id : ℕ) (fault : Fault) → answer_refusal (world_of f gs runs) id ≡ Some fault → None ≡ answer_at (world_of f gs runs) id
+unanswered f gs runs id fault is = go (submitted f.submissions id) refl
+  where
+    go : (o : Option Sealed) → submitted f.submissions id ≡ o → None ≡ answer_to gs id o
+    go None e = refl
+    go (Some s) e = absurd (let none : None ≡ Some fault = sym (unrefused f gs runs id s (sym e)) ∙ is in cc)
+
+-- ---- numbers
+
+low_number : (id session number most : ℕ) → id ≡ session * 4294967296 + number → number < most → most ≤ 33554433 → id % 4294967296 + 1 < 4294967296
+low_number id session number most is past few =
+    let low : number < 4294967296 = omega arith in
+    let same : id % 4294967296 ≡ number = ap (λ n. n % 4294967296) is ∙ mod-mul-add session 4294967296 number low in
+    omega arith
+
+-- a request that was submitted has a number that another can follow
+pub follows : (f : Front) (gs : List Group) (runs : List Run) (id : ℕ) (s : Sealed) → IsKept f gs runs → submitted f.submissions id ≡ Some s → id % 4294967296 + 1 < 4294967296
+follows f gs runs id s h is =
+    let given : IsGiven f.sessions s.id = found_each (λ r. IsGiven f.sessions r.id) f.submissions id s h.sound.stands.front.given is in
+    let most : next_at f.sessions given.session ≤ length f.submissions + 1 = h.sound.stands.front.most given.session in
+    let few : length f.submissions ≤ 33554432 = few_submissions f h.sound.kept.front in
+    low_number id given.session given.number (next_at f.sessions given.session) (sym (found_number f.submissions id s is) ∙ given.is) given.past (omega arith)
+
+-- and so has one that was answered
+pub answered_follows : (f : Front) (gs : List Group) (runs : List Run) (id : ℕ) (r : Reply) → IsKept f gs runs → Some r ≡ answer_at (world_of f gs runs) id → id % 4294967296 + 1 < 4294967296
+answered_follows f gs runs id r h is = go (submitted f.submissions id) refl is
+  where
+    go : (o : Option Sealed) → submitted f.submissions id ≡ o → Some r ≡ answer_to gs id o → id % 4294967296 + 1 < 4294967296
+    go None e k = absurd (cc)
+    go (Some s) e k = follows f gs runs id s h e
+
+pub if_some : {X : Type 0} (o : Option X) (P : Type 0) → ((x : X) → o ≡ Some x → P) → IfSome o (λ _. P)
+if_some None P f = tt
+if_some (Some x) P f = f x refl
+
+-- the next number of a session
+pub low_next : (first place id : ℕ) → first % 4294967296 + place < 4294967296 → id ≡ first + place → id % 4294967296 + 1 < 4294967296 → first % 4294967296 + (place + 1) < 4294967296
+low_next first place id low is next =
+    let whole : first % 4294967296 + first / 4294967296 * 4294967296 ≡ first = mod-add-div' first 4294967296 in
+    let parts : id ≡ first / 4294967296 * 4294967296 + (first % 4294967296 + place) = add_parts id first place (first % 4294967296) (first / 4294967296 * 4294967296) is whole in
+    let same : id % 4294967296 ≡ first % 4294967296 + place =
+    ap (λ n. n % 4294967296) parts ∙ mod-mul-add (first / 4294967296) 4294967296 (first % 4294967296 + place) low in
+    one_more_low (first % 4294967296) place (id % 4294967296) same next
+  where
+    add_parts : (id first place rest whole : ℕ) → id ≡ first + place → rest + whole ≡ first → id ≡ whole + (rest + place)
+    add_parts id first place rest whole a b = omega arith
+
+    one_more_low : (rest place number : ℕ) → number ≡ rest + place → number + 1 < 4294967296 → rest + (place + 1) < 4294967296
+    one_more_low rest place number a b = omega arith

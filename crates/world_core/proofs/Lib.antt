@@ -57,3 +57,4 @@ pub mod PlainScripts
 pub mod PlainKeepings
 pub mod WorkedScripts
 pub mod Answering
+pub mod JoinedPieces

@@ -266,7 +266,7 @@ unfolding answer_on
 reply_denied log s refused = ap (λ b. (if b then performed (store_of log) s s.work else replied (denial s)).reply) refused
 
 -- the number of a submission that is found
-found_number : (rs : List Sealed) (id : ℕ) (s : Sealed) → submitted rs id ≡ Some s → s.id ≡ id
+pub found_number : (rs : List Sealed) (id : ℕ) (s : Sealed) → submitted rs id ≡ Some s → s.id ≡ id
 found_number [] id s h = absurd (cc)
 found_number (r ∷ rs) id s h = go (r.id == id) refl h (λ k. found_number rs id s k)
   where

@@ -1,5 +1,5 @@
 -- What questions to a world print.
-use Rattle.std.proofs.Common.{◌≡◌, ◌∙◌, ◌&&◌, ◌||◌, ◌==◌, ℕ, List, [], ◌∷◌, Bool, true, false, if◌then◌else◌, Option, Some, None, Result, Ok, Err, refl, sym, ap, is_some, unwrap_or}
+use Rattle.std.proofs.Common.{◌≡◌, ◌∙◌, ◌&&◌, ◌||◌, ◌==◌, ℕ, List, [], ◌∷◌, Bool, true, false, if◌then◌else◌, Option, Some, None, Ok, Err, refl, sym, ap, is_some, unwrap_or}
 use Rattle.std.specs.Option.{option_map, option_or}
 use Rattle.map_core.specs.State.{History}
 use Rattle.map_core.specs.Map.{map_of, epoch_of, view_at}
@@ -8,7 +8,6 @@ use Rattle.map_core.specs.Refusal.{view_refusal}
 use Rattle.map_core.specs.declared.pool.PoolView.{PoolView}
 use Rattle.place_core.specs.Place.{group_of}
 use Rattle.entry_core.specs.Request.{Sealed}
-use Rattle.entry_core.specs.declared.reply.Reply.{Reply}
 use Rattle.group_core.specs.Group.{submitted, is_submitted}
 use Rattle.world_core.specs.Event.{Fault, NoRequest, BadObjectName, OfMap}
 use Rattle.world_core.specs.Front.{Front, is_object_name, is_namespace}

@@ -31,3 +31,4 @@ pub mod Sound
 pub mod Applying
 pub mod Sweeping
 pub mod Steps
+pub mod Joining

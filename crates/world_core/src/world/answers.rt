@@ -1,6 +1,6 @@
-//! What the client was answered.
+//! What the client was answered, and what its lists came to.
 
-ghost use Rattle.std.specs.Prelude.{◌≡◌, IfOk, Ok, option_copied};
+ghost use Rattle.std.specs.Prelude.{◌≡◌, ◌+◌, ◌<◌, ◌%◌, IfOk, IfSome, Ok, option_copied};
 ghost use Rattle.world_core.specs.Answers.{answer_at};
 ghost use Rattle.world_core.specs.Calls.{answer_refusal};
 ghost use Rattle.world_core.specs.Front.{error_of};
@@ -9,6 +9,7 @@ ghost use Rattle.world_core.specs.Refusing.{RefusedExactly, RefusedOrMemory};
 
 use crate::fault::WorldFault;
 use crate::group_places::place_of_request;
+use crate::joining::join_pieces;
 use crate::world::World;
 use entry_core::{Id, Reply};
 
@@ -31,10 +32,38 @@ impl World {
         Ok(found.answer(id))
     }
 
+    /// The reply to the request of an id, if it was submitted and answered. The next number is an id's too.
+    pub(crate) fn reply_to(&self, id: Id) -> Option<&Reply>
+        ensures reply { option_copied result ≡ answer_at self.now id }
+        ensures low { IfSome result (λ _. id % 4294967296 + 1 < 4294967296) }
+    {
+        let _front = &self.front;
+        let _groups = &self.groups;
+        let _runs = &self.runs;
+        match self.answer(id) {
+            Ok(reply) => reply,
+            Err(_) => None,
+        }
+    }
+
+    /// What the list came to that begins with a request: none until each of its pieces has its answer, then the first denial, or
+    /// the names of all pieces in the order of their bytes (this project's profile).
+    ///
+    /// W5 where no list begins with this id, and W7 where memory is wanting. A step for each piece, and one insertion for each
+    /// name.
     pub fn listing(&self, first: Id) -> Result<Option<Reply>, WorldFault>
         ensures listing { IfOk result (λ reply. listing_at self.now first ≡ Ok reply) }
         ensures refused { RefusedOrMemory (error_of (listing_at self.now first)) result }
     {
-        unreachable!()
+        let _runs = &self.runs;
+        let list = match self.front.list_at(first) {
+            Some(list) => list,
+            None => return Err(WorldFault::NoRequest),
+        };
+        let alloc = *self.groups.allocator();
+        match join_pieces(alloc, self, list.first, list.count) {
+            Ok(reply) => Ok(reply),
+            Err(_) => Err(WorldFault::OutOfMemory),
+        }
     }
 }

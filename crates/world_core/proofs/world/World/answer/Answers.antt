@@ -1,4 +1,4 @@
-use Rattle.std.proofs.Common.{rules, ◌≡◌, ◌<◌, Some, None, length}
+use Rattle.std.proofs.Common.{rules, ◌≡◌, ◌<◌, Some, length}
 use Rattle.entry_core.specs.Locality.{group_for}
 use Rattle.world_core.specs.World.{group_at}
 use Rattle.world_core.proofs.Answering.{submitted_for, answered_by, unrefused, refused}

@@ -1,0 +1,106 @@
+-- The answers of a list's pieces, put together one after another.
+use Prim.Native.Nat.{suc}
+use Rattle.std.proofs.Common.{◌≡◌, ◌∙◌, ℕ, ◌+◌, ◌-◌, ◌<◌, List, [], ◌∷◌, ◌++◌, Bool, true, false, cond, if◌then◌else◌, Option, Some, None, String, string_bytes, map, unwrap_or, Ok, Err, refl, sym, ap, arith, append-nil}
+use Rattle.std.specs.List.{flat_map, find, range_with_len}
+use Rattle.std.specs.Option.{option_map, option_or}
+use Rattle.std.specs.BTreeSet.{insert_key}
+use Rattle.std.specs.Ordering.{match_ordering}
+use Rattle.std.specs.declared.alloc.Global.{Global}
+use Rattle.std.specs.declared.cmp.Ordering.{Ordering}
+use Rattle.std.specs.declared.cmp.Ordering.TheVariants.{Less, Equal, Greater}
+use Rattle.std.proofs.lemmas.List.Sums.{fold-append}
+use Rattle.entry_core.specs.Laws.{is_denied}
+use Rattle.entry_core.specs.Store.{bytes_cmp}
+use Rattle.entry_core.specs.declared.reply.Reply.{Reply}
+use Rattle.entry_core.specs.declared.reply.Reply.TheVariants.{Names}
+use Rattle.world_core.specs.Event.{NoRequest}
+use Rattle.world_core.specs.Front.{Pieced}
+use Rattle.world_core.specs.World.{World}
+use Rattle.world_core.specs.Answers.{answer_at}
+use Rattle.world_core.specs.Listing.{names_in, consed, all_of, joined, listing_of, list_at, listing_at}
+use Rattle.world_core.specs.Joining.{with_names, with_reply, reply_of, joined_with}
+use Rattle.world_core.specs.declared.joining.Joined.{Joined}
+
+-- ---- answers
+
+with_next : (j : Joined) (r : Reply) (rs : List Reply) → joined_with (with_reply j r) rs ≡ joined_with j (r ∷ rs)
+with_next j r rs =
+    ap (λ o. unwrap_or o (Names (with_names (with_names j.names (names_in r)) (flat_map names_in rs)))) (first_one j.denial (is_denied r))
+    ∙ ap (λ l. unwrap_or (option_or j.denial (find is_denied (r ∷ rs))) (Names l)) (sym (fold-append (insert_key bytes_cmp) j.names (names_in r) (flat_map names_in rs)))
+  where
+    first_one : (d : Option Reply) (b : Bool) → option_or (option_or d (if b then Some r else None)) (find is_denied rs) ≡ option_or d (cond b (Some r) (find is_denied rs))
+    first_one (Some x) b = refl
+    first_one None true = refl
+    first_one None false = refl
+
+with_none : (j : Joined) → joined_with j [] ≡ reply_of j
+with_none j = ap (λ o. unwrap_or o (Names j.names)) (same j.denial)
+  where
+    same : (d : Option Reply) → option_or d None ≡ d
+    same None = refl
+    same (Some x) = refl
+
+-- ---- pieces
+
+-- what is left of a list from a piece on
+abbrev pub rest_of : (ℕ → Option Reply) → Pieced → ℕ → Option (List Reply)
+rest_of answer p place = all_of (map answer (range_with_len (p.first + place) (p.count - place)))
+
+rest_is : (answer : ℕ → Option Reply) (p : Pieced) (place : ℕ) → place < p.count → rest_of answer p place ≡ consed (answer (p.first + place)) (rest_of answer p (place + 1))
+rest_is answer p place less =
+    let more : p.count - place ≡ suc (p.count - (place + 1)) = omega arith in
+    let next : p.first + place + 1 ≡ p.first + (place + 1) = omega arith in
+    ap (λ n. all_of (map answer (range_with_len (p.first + place) n))) more ∙ ap (λ k. consed (answer (p.first + place)) (all_of (map answer (range_with_len k (p.count - (place + 1)))))) next
+
+pub begins : (answer : ℕ → Option Reply) (p : Pieced) → option_map (joined_with (record { denial = None; names = [] })) (rest_of answer p 0) ≡ listing_of answer p
+begins answer p =
+    let from : p.first + 0 ≡ p.first = omega arith in
+    let all : p.count - 0 ≡ p.count = omega arith in
+    ap (λ k. option_map joined (all_of (map answer (range_with_len k (p.count - 0))))) from ∙ ap (λ n. option_map joined (all_of (map answer (range_with_len p.first n)))) all
+
+pub one_more : (answer : ℕ → Option Reply) (p : Pieced) (place : ℕ) (j : Joined) (r : Reply) → place < p.count → Some r ≡ answer (p.first + place)
+    → option_map (joined_with (with_reply j r)) (rest_of answer p (place + 1)) ≡ option_map (joined_with j) (rest_of answer p place)
+one_more answer p place j r less is = sym (ap (option_map (joined_with j)) (rest_is answer p place less ∙ ap (λ o. consed o (rest_of answer p (place + 1))) (sym is)) ∙ go (rest_of answer p (place + 1)))
+  where
+    go : (o : Option (List Reply)) → option_map (joined_with j) (consed (Some r) o) ≡ option_map (joined_with (with_reply j r)) o
+    go None = refl
+    go (Some rs) = ap Some (sym (with_next j r rs))
+
+pub one_open : (answer : ℕ → Option Reply) (p : Pieced) (place : ℕ) (j : Joined) → place < p.count → None ≡ answer (p.first + place)
+    → None ≡ option_map (joined_with j) (rest_of answer p place)
+one_open answer p place j less is = sym (ap (option_map (joined_with j)) (rest_is answer p place less ∙ ap (λ o. consed o (rest_of answer p (place + 1))) (sym is)))
+
+pub ends : (answer : ℕ → Option Reply) (p : Pieced) (place : ℕ) (j : Joined) → place ≡ p.count → Some (reply_of j) ≡ option_map (joined_with j) (rest_of answer p place)
+ends answer p place j is =
+    let none : p.count - place ≡ 0 = omega arith in
+    sym (ap (λ n. option_map (joined_with j) (all_of (map answer (range_with_len (p.first + place) n)))) none ∙ ap Some (with_none j))
+
+-- ---- names in a tree
+
+abbrev texts_cmp : String Global → String Global → Ordering
+texts_cmp a b = bytes_cmp (string_bytes a) (string_bytes b)
+
+pub text_added : (xs ys : List (String Global)) (k : String Global) → ys ≡ insert_key texts_cmp xs k → map string_bytes ys ≡ insert_key bytes_cmp (map string_bytes xs) (string_bytes k)
+text_added xs ys k h = ap (map string_bytes) h ∙ go xs
+  where
+    by : (o : Ordering) (x : String Global) (xs rest : List (String Global)) (ks : List (List ℕ)) → map string_bytes rest ≡ ks
+        → map string_bytes (match_ordering o (k ∷ x ∷ xs) (x ∷ xs) (x ∷ rest)) ≡ match_ordering o (string_bytes k ∷ string_bytes x ∷ map string_bytes xs) (string_bytes x ∷ map string_bytes xs) (string_bytes x ∷ ks)
+    by Less x xs rest ks is = refl
+    by Equal x xs rest ks is = refl
+    by Greater x xs rest ks is = ap (λ l. string_bytes x ∷ l) is
+
+    go : (xs : List (String Global)) → map string_bytes (insert_key texts_cmp xs k) ≡ insert_key bytes_cmp (map string_bytes xs) (string_bytes k)
+    go [] = refl
+    go (x ∷ xs) = by (texts_cmp k x) x xs _ _ (go xs)
+
+-- the texts that were read, once none is left
+pub all_texts : (front : List (List ℕ)) (rest start xs : List (String Global)) → rest ≡ [] → front ++ map string_bytes rest ≡ map string_bytes start → start ≡ xs → front ≡ map string_bytes xs
+all_texts front rest start xs none read is = sym (append-nil front) ∙ ap (λ r. front ++ map string_bytes r) (sym none) ∙ read ∙ ap (map string_bytes) is
+
+-- ---- what is told
+
+pub not_listed : (w : World) (first : ℕ) → None ≡ list_at w.front first → listing_at w first ≡ Err NoRequest
+not_listed w first none = let found : list_at w.front first ≡ None = sym none in rw found refl
+
+pub is_listed : (w : World) (first : ℕ) (p : Pieced) (reply : Option Reply) → Some p ≡ list_at w.front first → reply ≡ listing_of (answer_at w) p → listing_at w first ≡ Ok reply
+is_listed w first p reply some is = let found : list_at w.front first ≡ Some p = sym some in let told : listing_at w first ≡ Ok (listing_of (answer_at w) p) = rw found refl in told ∙ ap Ok (sym is)
