@@ -1,7 +1,6 @@
 //! Scripts, run on words.
 
-use crate::who_tests::{Ran, run_with};
-use std::alloc::Global;
+use crate::who_tests::run_with;
 use std::test::Fail;
 
 /// Two requests that are done, and one that is denied.
@@ -127,87 +126,117 @@ settled 2
 const RECOVERY: &str = "\
 osds 2
 osd pool create data 1 2 2
+auth add client.a osd 'allow rw pool=data'
+open client.a
+do 1 data '' x append hello
 osd down 1
 ready data 0
+lose-all
+kick
 settle
+answer 1.1
 osd up 1
 ready data 0
+lose-all
+kick
 settle
+answer 1.1
 ";
 
-fn run_on(alloc: Global, input: &str) -> Result<Ran, Fail> {
-    run_with(alloc, &["osdgate", "run"], input)
+const RECOVERY_PRINTS: &str = "\
+epoch 1
+epoch 2
+ok
+session 1
+request 1.1
+epoch 3
+no
+ok
+ok
+settled 3
+1.1 waiting
+epoch 4
+yes
+ok
+ok
+settled 10
+1.1 ok
+- \"\"
+";
+
+/// A script, what it prints, and what is told of its end.
+struct Case {
+    script: &'static str,
+    prints: &'static str,
+    told: &'static str,
 }
 
-fn expect_printed(alloc: Global, script: &str, prints: &str) -> Result<(), Fail> {
-    let ran = run_on(alloc, script)?;
-    assert_eq!(ran.out.as_str(), prints);
-    assert_eq!(ran.err.as_str(), "");
-    assert_eq!(ran.status, 0);
+/// Scripts that run to their ends, and scripts that do not.
+const CASES: &[Case] = &[
+    Case {
+        script: FIRST,
+        prints: FIRST_PRINTS,
+        told: "",
+    },
+    Case {
+        script: FAILOVER,
+        prints: FAILOVER_PRINTS,
+        told: "",
+    },
+    Case {
+        script: EXPIRY,
+        prints: EXPIRY_PRINTS,
+        told: "",
+    },
+    Case {
+        script: RECOVERY,
+        prints: RECOVERY_PRINTS,
+        told: "",
+    },
+    Case {
+        script: "",
+        prints: "",
+        told: "",
+    },
+    Case {
+        script: "osds 3\nosd dwon 0\nauth ls\n",
+        prints: "epoch 1\n",
+        told: "osdgate: S3 BadLine 2\n",
+    },
+    Case {
+        script: "auth ls\n",
+        prints: "",
+        told: "osdgate: S3 BadLine 1\n",
+    },
+];
+
+#[test]
+fn scripts_print_what_happens(rt: HostRuntime) -> Result<(), Fail> {
+    let alloc = rt.alloc();
+    for case in CASES {
+        let ran = run_with(alloc, &["osdgate", "run"], case.script)?;
+        assert_eq!(rt; ran.out.as_str(), case.prints);
+        assert_eq!(rt; ran.err.as_str(), case.told);
+        assert_eq!(rt; ran.status == 0, case.told.is_empty());
+    }
     Ok(())
 }
 
-fn expect_ended(alloc: Global, script: &str, prints: &str, told: &str) -> Result<(), Fail> {
-    let ran = run_on(alloc, script)?;
-    assert_eq!(ran.out.as_str(), prints);
-    assert_eq!(ran.err.as_str(), told);
-    assert_eq!(ran.status, 1);
-    Ok(())
-}
-
 #[test]
-fn requests_are_done_and_denied(alloc: Global) -> Result<(), Fail> {
-    expect_printed(alloc, FIRST, FIRST_PRINTS)
-}
-
-#[test]
-fn a_failover_changes_no_verdict(alloc: Global) -> Result<(), Fail> {
-    expect_printed(alloc, FAILOVER, FAILOVER_PRINTS)
-}
-
-#[test]
-fn a_ticket_ends(alloc: Global) -> Result<(), Fail> {
-    expect_printed(alloc, EXPIRY, EXPIRY_PRINTS)
-}
-
-#[test]
-fn a_group_is_ready_once_its_daemon_is_back(alloc: Global) -> Result<(), Fail> {
-    let ran = run_on(alloc, RECOVERY)?;
-    assert!(ran.out.as_str().contains("epoch 3\nno\n"));
-    assert!(ran.out.as_str().contains("epoch 4\nyes\n"));
-    Ok(())
-}
-
-#[test]
-fn a_bad_line_ends_a_script(alloc: Global) -> Result<(), Fail> {
-    expect_ended(
-        alloc,
-        "osds 3\nosd dwon 0\nauth ls\n",
-        "epoch 1\n",
-        "osdgate: S3 BadLine 2\n",
-    )?;
-    expect_ended(alloc, "auth ls\n", "", "osdgate: S3 BadLine 1\n")
-}
-
-#[test]
-fn an_empty_script_prints_nothing(alloc: Global) -> Result<(), Fail> {
-    expect_printed(alloc, "", "")
-}
-
-#[test]
-fn a_script_is_read_from_a_file(alloc: Global) -> Result<(), Fail> {
+fn a_script_is_read_from_a_file(rt: HostRuntime) -> Result<(), Fail> {
+    let alloc = rt.alloc();
     let ran = run_with(alloc, &["osdgate", "run", "script"], "osds 1\n")?;
-    assert_eq!(ran.out.as_str(), "epoch 1\nepoch 2\n");
-    assert_eq!(ran.status, 0);
+    assert_eq!(rt; ran.out.as_str(), "epoch 1\nepoch 2\n");
+    assert_eq!(rt; ran.status, 0);
     let dash = run_with(alloc, &["osdgate", "run", "-"], "osds 1\n")?;
-    assert_eq!(dash.out.as_str(), "epoch 1\n");
+    assert_eq!(rt; dash.out.as_str(), "epoch 1\n");
     let gone = run_with(alloc, &["osdgate", "run", "nowhere"], "osds 1\n")?;
-    assert_eq!(gone.out.as_str(), "");
-    assert!(
+    assert_eq!(rt; gone.out.as_str(), "");
+    assert!(rt;
         gone.err
             .as_str()
             .starts_with("osdgate: the script cannot be read: ")
     );
-    assert_eq!(gone.status, 1);
+    assert_eq!(rt; gone.status, 1);
     Ok(())
 }
