@@ -1,6 +1,6 @@
 -- The answers of a list's pieces, put together one after another.
 use Prim.Native.Nat.{suc}
-use Rattle.std.proofs.Common.{◌≡◌, ◌∙◌, ℕ, ◌+◌, ◌-◌, ◌<◌, List, [], ◌∷◌, ◌++◌, Bool, true, false, cond, if◌then◌else◌, Option, Some, None, String, string_bytes, map, unwrap_or, Ok, Err, refl, sym, ap, arith, append-nil}
+use Rattle.std.proofs.Common.{◌≡◌, ◌∙◌, ℕ, ◌+◌, ◌-◌, ◌<◌, List, [], ◌∷◌, ◌++◌, Bool, true, false, cond, if◌then◌else◌, Option, Some, None, String, string_bytes, map, unwrap_or, refl, sym, ap, arith, append-nil}
 use Rattle.std.specs.List.{flat_map, find, range_with_len}
 use Rattle.std.specs.Option.{option_map, option_or}
 use Rattle.std.specs.BTreeSet.{insert_key}
@@ -13,11 +13,8 @@ use Rattle.entry_core.specs.Laws.{is_denied}
 use Rattle.entry_core.specs.Store.{bytes_cmp}
 use Rattle.entry_core.specs.declared.reply.Reply.{Reply}
 use Rattle.entry_core.specs.declared.reply.Reply.TheVariants.{Names}
-use Rattle.world_core.specs.Event.{NoRequest}
 use Rattle.world_core.specs.Front.{Pieced}
-use Rattle.world_core.specs.World.{World}
-use Rattle.world_core.specs.Answers.{answer_at}
-use Rattle.world_core.specs.Listing.{names_in, consed, all_of, joined, listing_of, list_at, listing_at}
+use Rattle.world_core.specs.Listing.{names_in, consed, all_of, joined, listing_of}
 use Rattle.world_core.specs.Joining.{with_names, with_reply, reply_of, joined_with}
 use Rattle.world_core.specs.declared.joining.Joined.{Joined}
 
@@ -96,11 +93,3 @@ text_added xs ys k h = ap (map string_bytes) h ∙ go xs
 -- the texts that were read, once none is left
 pub all_texts : (front : List (List ℕ)) (rest start xs : List (String Global)) → rest ≡ [] → front ++ map string_bytes rest ≡ map string_bytes start → start ≡ xs → front ≡ map string_bytes xs
 all_texts front rest start xs none read is = sym (append-nil front) ∙ ap (λ r. front ++ map string_bytes r) (sym none) ∙ read ∙ ap (map string_bytes) is
-
--- ---- what is told
-
-pub not_listed : (w : World) (first : ℕ) → None ≡ list_at w.front first → listing_at w first ≡ Err NoRequest
-not_listed w first none = let found : list_at w.front first ≡ None = sym none in rw found refl
-
-pub is_listed : (w : World) (first : ℕ) (p : Pieced) (reply : Option Reply) → Some p ≡ list_at w.front first → reply ≡ listing_of (answer_at w) p → listing_at w first ≡ Ok reply
-is_listed w first p reply some is = let found : list_at w.front first ≡ Some p = sym some in let told : listing_at w first ≡ Ok (listing_of (answer_at w) p) = rw found refl in told ∙ ap Ok (sym is)

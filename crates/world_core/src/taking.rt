@@ -1,23 +1,20 @@
 //! Requests that groups take together: all of them, or none.
 
-ghost use Rattle.std.specs.Prelude.{◌≡◌, ◌⊎◌, ◌<◌, ◌≤◌, List, All, true, false, length, IfOk, IfErr, OnOk, OnErr};
+ghost use Rattle.std.specs.Prelude.{◌≡◌, ◌⊎◌, ◌<◌, List, true, false, length, IfOk, IfErr, OnOk, OnErr};
 ghost use Rattle.std.specs.List.{list_any};
-ghost use Rattle.entry_core.specs.Locality.{group_for};
 ghost use Rattle.entry_core.specs.Request as request;
 ghost use Rattle.group_core.specs.Each.{Each};
 ghost use Rattle.group_core.specs.Group as group;
 ghost use Rattle.group_core.specs.declared.fault.GroupFault.TheVariants as group_fault;
-ghost use Rattle.map_core.specs.Limits.{IsPool};
 ghost use Rattle.map_core.specs.Map.{map_of};
 ghost use Rattle.world_core.specs.Event as events;
-ghost use Rattle.world_core.specs.Moves as moves;
 ghost use Rattle.world_core.specs.Taking.{Takes, TakesAll, is_full_at, places_for};
 
 use crate::fault::WorldFault;
 use crate::group_places::place_for;
 use entry_core::{Items, OutOfMemory, Sealed, TryCopy};
 use group_core::{Group, GroupFault};
-use map_core::{ClusterMap, Pool};
+use map_core::ClusterMap;
 use std::alloc::{AllocError, Global};
 
 /// Where the groups of requests stand.
