@@ -3,7 +3,7 @@ use Rattle.std.proofs.Common.{◌≡◌, refl, ◌∙◌, sym, subst}
 use Rattle.std.specs.Fmt.{digits}
 use Rattle.map_core.specs.Map.{pool_in, view_at}
 use Rattle.map_core.specs.Intervals.{size_in, set_of}
-use Rattle.map_core.specs.Refusal.{is_word_byte, is_word, tags_in, pairs_in, has_app, has_key, in_limits, refusal, groups_in}
+use Rattle.map_core.specs.Refusal.{is_word, tags_in, pairs_in, has_app, has_key, in_limits, refusal, groups_in}
 use Rattle.place_core.specs.Place.{rank_of, is_before, acting_of, numbers_of}
 use Rattle.cap_text.specs.Machine.{step}
 use Rattle.cap_text.specs.ReadText.{read_text}
@@ -15,7 +15,7 @@ use Rattle.world_core.proofs.PlainKeepings.{keepings_agree}
 use Rattle.world_core.proofs.PlainScripts.{plain_scripts_print}
 
 computed : output_in in_list script ≡ record { text = printed; ending = Whole }
-unfolding digits pool_in view_at size_in set_of is_word_byte is_word tags_in pairs_in has_app has_key in_limits refusal groups_in rank_of is_before acting_of numbers_of step requests_of read_text
+unfolding digits pool_in view_at size_in set_of is_word tags_in pairs_in has_app has_key in_limits refusal groups_in rank_of is_before acting_of numbers_of step requests_of read_text
 computed = refl
 
 pub worked_script : WorkedScript
@@ -26,7 +26,7 @@ worked_script =
     plain_scripts_print script (subst P (sym is) tt) ∙ is
 
 computed_longer : output_in in_list longer_script ≡ record { text = longer_printed; ending = BadAt 48 }
-unfolding digits pool_in view_at size_in set_of is_word_byte is_word tags_in pairs_in has_app has_key in_limits refusal groups_in rank_of is_before acting_of numbers_of step requests_of read_text
+unfolding digits pool_in view_at size_in set_of is_word tags_in pairs_in has_app has_key in_limits refusal groups_in rank_of is_before acting_of numbers_of step requests_of read_text
 computed_longer = refl
 
 pub worked_longer_script : WorkedLongerScript
@@ -37,5 +37,5 @@ worked_longer_script =
     plain_scripts_print longer_script (subst P (sym is) tt) ∙ is
 
 pub worlds_count : WorldsCount
-unfolding WorldsCount digits pool_in view_at size_in set_of is_word_byte is_word tags_in pairs_in has_app has_key in_limits refusal groups_in rank_of is_before acting_of numbers_of step requests_of read_text
+unfolding WorldsCount digits pool_in view_at size_in set_of is_word tags_in pairs_in has_app has_key in_limits refusal groups_in rank_of is_before acting_of numbers_of step requests_of read_text
 worlds_count = (refl, refl)
