@@ -97,25 +97,29 @@ fn read_all(alloc: Global, daemons: u8, chapters: &[Chapter<'_>]) -> Result<usiz
 
 const EMPTY: Option<Says> = Some(Says::Output(""));
 
+// A group moved while a request was on its way.
+const MOVED_AWAY: [Chapter<'static>; 1] = [(
+    &TOLD,
+    &[
+        Answer(1, 1, Some(Says::Output("1"))),
+        Answer(1, 2, Some(Says::Denied(Condition::Tag))),
+        NoAnswer(1, 3, "W5"),
+    ],
+)];
+
+// A request waits for a daemon, and is answered after a kick.
+const KICKED_LATER: [Chapter<'static>; 2] = [
+    (&ONE_DOWN, &[Answer(1, 1, None)]),
+    (
+        &KICKED,
+        &[Answer(1, 1, EMPTY), Answer(1, 2, Some(Says::Output("a")))],
+    ),
+];
+
 #[test]
 fn answers_of_worked_worlds(rt: HostRuntime) -> Result<(), Fail> {
-    let moved: [Chapter<'_>; 1] = [(
-        &TOLD,
-        &[
-            Answer(1, 1, Some(Says::Output("1"))),
-            Answer(1, 2, Some(Says::Denied(Condition::Tag))),
-            NoAnswer(1, 3, "W5"),
-        ],
-    )];
-    assert_eq!(&rt; read_all(rt.alloc(), 3, &moved)?, 1);
-    let kicked: [Chapter<'_>; 2] = [
-        (&ONE_DOWN, &[Answer(1, 1, None)]),
-        (
-            &KICKED,
-            &[Answer(1, 1, EMPTY), Answer(1, 2, Some(Says::Output("a")))],
-        ),
-    ];
-    assert_eq!(&rt; read_all(rt.alloc(), 2, &kicked)?, 2);
+    assert_eq!(&rt; read_all(rt.alloc(), 3, &MOVED_AWAY)?, 1);
+    assert_eq!(&rt; read_all(rt.alloc(), 2, &KICKED_LATER)?, 2);
     Ok(())
 }
 
