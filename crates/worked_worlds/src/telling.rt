@@ -1,6 +1,7 @@
 //! What a world tells of an event, or the number of its refusal.
 
 use auth_db::AuthFault;
+use entry_core::Id;
 use group_core::GroupFault;
 use map_core::{Epoch, MapFault};
 use object_core::NeedsFault;
@@ -85,16 +86,33 @@ pub(super) fn number(fault: WorldFault) -> &'static str {
     }
 }
 
+// The number of a request.
+fn request(id: Id) -> Tells {
+    Tells::Request(id.session(), id.number())
+}
+
+// The first number of a list, and how many pieces it has.
+fn list(first: Id, count: u32) -> Tells {
+    Tells::List(first.session(), first.number(), count)
+}
+
+// What an accepted event told.
+fn told_by(told: Told) -> Tells {
+    match told {
+        Told::Done => Tells::Done,
+        Told::Made => Tells::Made,
+        Told::There => Tells::There,
+        Told::Epoch(epoch) => Tells::Epoch(epoch),
+        Told::Session(session) => Tells::Session(session),
+        Told::Request(id) => request(id),
+        Told::List { first, count } => list(first, count),
+    }
+}
+
 // What an event told.
 pub(super) fn answered(told: Result<Told, WorldFault>) -> Tells {
     match told {
-        Ok(Told::Done) => Tells::Done,
-        Ok(Told::Made) => Tells::Made,
-        Ok(Told::There) => Tells::There,
-        Ok(Told::Epoch(epoch)) => Tells::Epoch(epoch),
-        Ok(Told::Session(session)) => Tells::Session(session),
-        Ok(Told::Request(id)) => Tells::Request(id.session(), id.number()),
-        Ok(Told::List { first, count }) => Tells::List(first.session(), first.number(), count),
+        Ok(told) => told_by(told),
         Err(fault) => Tells::Refused(number(fault)),
     }
 }
