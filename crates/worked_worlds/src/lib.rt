@@ -1,0 +1,25 @@
+//! The worked examples of worlds, as tests. Each calls only what is public.
+//!
+//! They stand here and not beside the code, since a crate with tests is proved a second time with them.
+#![tactic(auto)]
+
+#[cfg(test)]
+mod answers;
+#[cfg(test)]
+mod events;
+#[cfg(test)]
+mod failover;
+#[cfg(test)]
+mod names;
+#[cfg(test)]
+mod refusals;
+#[cfg(test)]
+mod replies;
+#[cfg(test)]
+mod schedules;
+#[cfg(test)]
+mod sessions;
+#[cfg(test)]
+mod steps;
+#[cfg(test)]
+mod telling;
