@@ -1,6 +1,6 @@
 -- Statement: contracts of public calls use it.
 -- Why a call on the users is refused: this project's profile.
-use Rattle.std.specs.Prelude.{◌≡◌, ◌⊎◌, ℕ, List, [], ◌∷◌, Bool, not, ◌||◌, if◌then◌else◌, Option, None, Some, option_map, MatchOption, Result, Ok, Err, unwrap_or, length, nat_le}
+use Rattle.std.specs.Prelude.{◌≡◌, ◌⊎◌, ℕ, List, [], ◌∷◌, Bool, not, ◌||◌, if◌then◌else◌, Option, None, Some, option_map, MatchOption, Result, Ok, Err, length, nat_le}
 use Rattle.std.specs.Option.{option_or}
 use Rattle.std.specs.Result.{result_err}
 use Rattle.cap_text.specs.declared.fault.CapFault.{CapFault}
@@ -55,11 +55,6 @@ again name stored caps =
 abbrev pub RefusedExactly : {T : Type 0} → Option AuthFault → Result T AuthFault → Type 0
 RefusedExactly refusal (Ok x) = refusal ≡ None
 RefusedExactly refusal (Err fault) = refusal ≡ Some fault
-
--- the same, or refused for want of memory where nothing else refuses
-abbrev pub RefusedFirst : {T : Type 0} → Option AuthFault → Result T AuthFault → Type 0
-RefusedFirst refusal (Ok x) = refusal ≡ None
-RefusedFirst refusal (Err fault) = fault ≡ unwrap_or refusal OutOfMemory
 
 -- ---- what an osd text is refused by
 

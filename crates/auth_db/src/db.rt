@@ -7,7 +7,8 @@ ghost use Rattle.std.specs.Map.{keys_of, values_of};
 ghost use Rattle.std.specs.Ordering.{nat_cmp};
 ghost use Rattle.std.specs.Cmp.Lexicographic.{slice_cmp};
 ghost use Rattle.auth_db.specs.Entries.{users_of};
-ghost use Rattle.auth_db.specs.Refusals.{again, auth_refusal, Judged, RefusalsAreTheTexts, RefusedExactly, RefusedFirst, RefusedOrMemory};
+ghost use Rattle.cap_text.specs.Refused.{RefusedFirst};
+ghost use Rattle.auth_db.specs.Refusals.{again, auth_refusal, Judged, RefusalsAreTheTexts, RefusedExactly, RefusedOrMemory};
 ghost use Rattle.auth_db.specs.Refusals as spec;
 ghost use Rattle.auth_db.specs.Names.{is_user_name};
 ghost use Rattle.auth_db.specs.Texts.{IsGood, has_long_text};
@@ -191,7 +192,7 @@ impl AuthDb {
     /// It is refused by A1 where the name is none, by A3 where there is no such user, and by A7 for want of memory.
     pub fn ticket(&self, name: &str, until: Option<u64>) -> Result<Ticket, AuthFault>
         ensures ticket { IfOk result (λ ticket. HasTicket self.now name.now until ticket) }
-        ensures refused { RefusedFirst (spec.known_refusal self.now.users name.now) result }
+        ensures refused { RefusedFirst (spec.known_refusal self.now.users name.now) AuthFault.OutOfMemory result }
     {
         if !is_user_name(name) {
             return Err(AuthFault::BadName);

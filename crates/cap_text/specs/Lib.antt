@@ -12,3 +12,4 @@ pub mod Machine
 pub mod FaultText
 pub mod Sheet
 pub mod ReadText
+pub mod Refused

@@ -2,7 +2,7 @@
 
 ghost use Rattle.std.specs.Prelude.{◌≡◌, ◌≤◌, false, IfOk, IfSome, None, option_copied};
 ghost use Rattle.verdict_core.specs.Verdict.{report_of};
-ghost use Rattle.object_core.specs.Faults.{RefusedFirst};
+ghost use Rattle.cap_text.specs.Refused.{RefusedFirst};
 ghost use Rattle.object_core.specs.Needs.{needs_fault};
 ghost use Rattle.entry_core.specs.Deciding.{is_allowed_sealed, is_listed, name_of};
 ghost use Rattle.entry_core.specs.Request.{Vector, Listing, place_of, needs_for};
@@ -76,7 +76,7 @@ impl Sealed {
         ops: Vec<Op>,
     ) -> Result<Sealed, NeedsFault>
         requires { 1 ≤ view.pg_num }
-        ensures refused { RefusedFirst (needs_fault ops.items) result }
+        ensures refused { RefusedFirst (needs_fault ops.items) NeedsFault.OutOfMemory result }
         ensures sealed { IfOk result (λ s. s
             ≡ record { id = id; ticket = ticket; tick = tick; view = view; group = group; namespace = namespace; work = Vector object ops.items }) }
     {

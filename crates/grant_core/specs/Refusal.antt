@@ -1,6 +1,6 @@
 -- Statement: contracts of public calls use it.
 -- Why a profile is not added, and why a list is not expanded: this project's profile.
-use Rattle.std.specs.Prelude.{◌≡◌, ℕ, ◌+◌, List, [], ◌∷◌, length, Bool, if◌then◌else◌, is_some, Option, None, Some, Result, Ok, Err, unwrap_or, nat_lt, nat_le}
+use Rattle.std.specs.Prelude.{ℕ, ◌+◌, List, [], ◌∷◌, length, Bool, if◌then◌else◌, is_some, Option, None, Some, nat_lt, nat_le}
 use Rattle.std.specs.Option.{option_or}
 use Rattle.std.specs.List.{list_any}
 use Rattle.std.specs.Str.{bytes_eq}
@@ -43,8 +43,3 @@ add_refusal table name body =
     if has_profile table name then Some DuplicateProfile
     else (if nat_le 32 (length table) then Some TooManyProfiles
     else option_or (first_fault (body_fault table) 1 body) (too_large table body))
-
--- a call is accepted only where nothing refuses it, and refused by what must, or for want of memory where nothing else does
-abbrev pub RefusedFirst : {T E : Type 0} → Option E → E → Result T E → Type 0
-RefusedFirst refusal memory (Ok x) = refusal ≡ None
-RefusedFirst refusal memory (Err fault) = fault ≡ unwrap_or refusal memory

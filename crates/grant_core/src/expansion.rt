@@ -3,7 +3,8 @@
 ghost use Rattle.std.specs.Prelude.{◌≡◌, ◌≤◌, ◌+◌, ◌++◌, length, map, take, IfOk};
 ghost use Rattle.grant_core.specs.Flat.{filled, filled_use, flat, under};
 ghost use Rattle.grant_core.specs.Found.{parts_before};
-ghost use Rattle.grant_core.specs.Refusal.{expand_refusal, RefusedFirst};
+ghost use Rattle.cap_text.specs.Refused.{RefusedFirst};
+ghost use Rattle.grant_core.specs.Refusal.{expand_refusal};
 ghost use Rattle.grant_core.specs.Table.{table_of, IsSized};
 ghost use Rattle.grant_core.specs.Tree.{flat_branches};
 

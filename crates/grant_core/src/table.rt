@@ -4,7 +4,8 @@ ghost use Rattle.std.specs.Prelude.{◌≡◌, ◌+◌, ◌<◌, ◌≤◌, ◌+
 ghost use Rattle.cap_text.specs.declared.grant.ProfileUse.{ProfileUse};
 ghost use Rattle.grant_core.specs.Flat.{flat};
 ghost use Rattle.grant_core.specs.Found.{IsFound, parts_before};
-ghost use Rattle.grant_core.specs.Refusal.{add_refusal, RefusedFirst};
+ghost use Rattle.cap_text.specs.Refused.{RefusedFirst};
+ghost use Rattle.grant_core.specs.Refusal.{add_refusal};
 ghost use Rattle.grant_core.specs.Refusal as spec;
 ghost use Rattle.grant_core.specs.Table.{table_of, IsSized};
 

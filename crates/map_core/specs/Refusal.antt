@@ -1,6 +1,6 @@
 -- Statement: contracts of public calls use it.
 -- Why a command or a question is refused (names and limits: this project's profile).
-use Rattle.std.specs.Prelude.{◌≡◌, ◌≢◌, ℕ, ◌+◌, unwrap_or, List, [], ◌∷◌, Bool, true, false, not, ◌||◌, ◌&&◌, if◌then◌else◌, ◌==◌, Option, None, Some, Result, Ok, Err, length, slice_index_or, nat_lt, nat_le, is_some}
+use Rattle.std.specs.Prelude.{◌≢◌, ℕ, ◌+◌, List, [], ◌∷◌, Bool, true, false, not, ◌||◌, ◌&&◌, if◌then◌else◌, ◌==◌, Option, None, Some, length, slice_index_or, nat_lt, nat_le, is_some}
 use Rattle.std.specs.List.{list_any, list_all, find}
 use Rattle.std.specs.Option.{option_map_or}
 use Rattle.std.specs.Str.{bytes_eq}
@@ -121,8 +121,3 @@ acting_tests pools name group =
 
 abbrev pub acting_refusal : History → List ℕ → ℕ → Option MapFault
 acting_refusal history name group = first_of (acting_tests (map_of history).pools name group)
-
--- a call is accepted only where nothing refuses it, and refused by what must, or for want of memory where nothing else does
-abbrev pub RefusedFirst : {T E : Type 0} → Option E → E → Result T E → Type 0
-RefusedFirst refusal memory (Ok x) = refusal ≡ None
-RefusedFirst refusal memory (Err fault) = fault ≡ unwrap_or refusal memory

@@ -4,7 +4,7 @@ ghost use Rattle.std.specs.Prelude.{◌≡◌, ◌≤◌, ◌++◌, [], ◌∷�
 ghost use Rattle.std.specs.Option.{option_to_list};
 ghost use Rattle.map_core.specs.Map.{epoch_of, map_of, after};
 ghost use Rattle.map_core.specs.Map as spec;
-ghost use Rattle.map_core.specs.Refusal.{RefusedFirst};
+ghost use Rattle.cap_text.specs.Refused.{RefusedFirst};
 ghost use Rattle.map_core.specs.Refusal as tests;
 ghost use Rattle.map_core.specs.Intervals.{set_of, intervals_of};
 ghost use Rattle.map_core.specs.Intervals as intervals;

@@ -3,7 +3,7 @@
 ghost use Rattle.std.specs.Prelude.{◌≡◌, IfOk, OnErr, is_some, fold, None, Some, true};
 ghost use Rattle.std.specs.Option.{option_map};
 ghost use Rattle.map_core.specs.Map.{pool_in, view_of};
-ghost use Rattle.map_core.specs.Refusal.{RefusedFirst};
+ghost use Rattle.cap_text.specs.Refused.{RefusedFirst};
 ghost use Rattle.map_core.specs.Replay.{pool_step, no_pool};
 
 use crate::command::MapCommand;

@@ -1,6 +1,6 @@
 -- Statement: contracts of public calls use it.
 -- How a vector is refused, in print and by number: this project's profile.
-use Rattle.std.specs.Prelude.{◌≡◌, ℕ, List, Option, None, Some, Result, Ok, Err, codes, unwrap_or}
+use Rattle.std.specs.Prelude.{ℕ, List, Option, None, Some, codes}
 use Rattle.object_core.specs.declared.needs.NeedsFault.{NeedsFault}
 use Rattle.object_core.specs.declared.needs.NeedsFault.TheVariants.{EmptyVector, TooManyOps, NoMethod, OutOfMemory}
 
@@ -17,8 +17,3 @@ number_of_fault EmptyVector = Some 22
 number_of_fault TooManyOps = Some 22
 number_of_fault NoMethod = Some 95
 number_of_fault OutOfMemory = None
-
--- a result is refused exactly where there is a refusal, by it; want of memory comes only where there is none
-abbrev pub RefusedFirst : {T : Type 0} → Option NeedsFault → Result T NeedsFault → Type 0
-RefusedFirst refusal (Ok value) = refusal ≡ None
-RefusedFirst refusal (Err fault) = fault ≡ unwrap_or refusal OutOfMemory

@@ -2,7 +2,8 @@
 
 ghost use Rattle.std.specs.Prelude.{◌≡◌, ◌++◌, Some, None, IfOk, OnOk, option_to_list};
 ghost use Rattle.std.specs.List.{list_any, filter_map};
-ghost use Rattle.object_core.specs.Faults.{RefusedFirst, text_of, number_of_fault};
+ghost use Rattle.cap_text.specs.Refused.{RefusedFirst};
+ghost use Rattle.object_core.specs.Faults.{text_of, number_of_fault};
 ghost use Rattle.object_core.specs.Needs.{needs_fault};
 ghost use Rattle.object_core.specs.Needs as spec;
 ghost use Rattle.object_core.specs.declared.needs.NeedsFault.TheVariants as faults;
@@ -173,7 +174,7 @@ fn writes(ops: &[Op]) -> bool
 /// Refused are the empty vector, one of more than 16 operations, and one that calls an unknown method, in
 /// this order; want of memory comes last.
 pub fn needs_of(alloc: Global, ops: &[Op]) -> Result<Needs, NeedsFault>
-    ensures refused { RefusedFirst (needs_fault ops.now) result }
+    ensures refused { RefusedFirst (needs_fault ops.now) NeedsFault.OutOfMemory result }
     ensures needs { IfOk result (λ needs. needs ≡ spec.needs_of ops.now) }
 {
     match needs_fault(ops) {

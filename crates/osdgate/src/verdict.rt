@@ -1,7 +1,7 @@
 //! What a capability text and a request come to, as a value and as a text.
 
 ghost use Rattle.std.specs.Prelude.{◌≡◌, IfOk, Some, string_bytes};
-ghost use Rattle.object_core.specs.Faults as vectors;
+ghost use Rattle.cap_text.specs.Refused.{RefusedFirst};
 ghost use Rattle.object_core.specs.Needs.{needs_of};
 ghost use Rattle.osdgate.specs.Answer as spec;
 ghost use Rattle.osdgate.specs.Answer.{IsAnswer, IsVerdictText, answer_of, needed, calls_fault};
@@ -90,7 +90,7 @@ fn judged(
 
 /// What a request with these calls asks for. Without calls it asks for nothing.
 pub(crate) fn needs_of_calls(alloc: Global, calls: &[Op]) -> Result<Needs, NeedsFault>
-    ensures refused { vectors.RefusedFirst (calls_fault calls.now) result }
+    ensures refused { RefusedFirst (calls_fault calls.now) NeedsFault.OutOfMemory result }
     ensures needs { IfOk result (λ needs. needs ≡ needs_of calls.now) }
 {
     if calls.is_empty() {

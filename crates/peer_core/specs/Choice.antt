@@ -16,18 +16,18 @@ abbrev pub best : PeerInfo → List PeerInfo → PeerInfo
 best a [] = a
 best a (b ∷ bs) = best (if is_better b a then b else a) bs
 
--- each of these intervals, from j on, that is at least base and has enough members has one that was heard
+-- each of these intervals, of which the first is numbered so, that is at least base and has enough members has one that was heard
 abbrev pub covers : ℕ → ℕ → (ℕ → Bool) → ℕ → List (List ℕ) → Bool
-covers min_size base informed j [] = true
-covers min_size base informed j (members ∷ sets) =
-    (nat_lt j base || nat_lt (length members) min_size || list_any informed members)
-    && covers min_size base informed (j + 1) sets
+covers min_size base informed interval [] = true
+covers min_size base informed interval (members ∷ sets) =
+    (nat_lt interval base || nat_lt (length members) min_size || list_any informed members)
+    && covers min_size base informed (interval + 1) sets
 
 abbrev pub own_offer : Daemon → PeerInfo
 own_offer c = record { number = c.number; base = c.base; log = c.log }
 
 abbrev pub is_informed : Daemon → List PeerInfo → ℕ → Bool
-is_informed c informed m = (m == c.number) || list_any (λ i. i.number == m) informed
+is_informed c informed member = (member == c.number) || list_any (λ i. i.number == member) informed
 
 -- every member was heard, and no interval since the greatest base is without a copy that was
 abbrev pub can_choose : Daemon → List PeerInfo → Bool

@@ -10,9 +10,9 @@ use Rattle.peer_core.specs.Choice.{best, own_offer, is_informed, can_choose}
 use Rattle.peer_core.specs.Steps.{Stepped, still, send}
 use Rattle.peer_core.specs.Serve.{reply_with, serve}
 
--- a copy that hears of interval n promises it, and drops its role if that is new
+-- a copy that hears of an interval promises it, and drops its role if that is new
 abbrev pub promise_interval : Daemon → ℕ → Daemon
-promise_interval c n = if nat_lt c.promise n then record c { promise = n; role = Idle; waiting = [] } else c
+promise_interval c interval = if nat_lt c.promise interval then record c { promise = interval; role = Idle; waiting = [] } else c
 
 -- requests
 
@@ -39,9 +39,9 @@ on_request c s = if list_any (λ w. w.id == s.id) c.waiting then still c else on
 -- the chosen log is this copy's, and goes to each other member
 abbrev pub install_chosen : Daemon → List Entry → List ℕ → Stepped
 install_chosen c log [] = serve c.waiting (record c { base = c.promise; log = log; role = Active None })
-install_chosen c log (m ∷ ms) = record {
+install_chosen c log (member ∷ members) = record {
   copy = record c { base = c.promise; log = log; role = Installing [] };
-  sent = map (λ m. send c (Osd m) (Install c.promise log)) (m ∷ ms);
+  sent = map (λ member. send c (Osd member) (Install c.promise log)) (member ∷ members);
 }
 
 abbrev pub try_choice : Daemon → List PeerInfo → Stepped
@@ -51,7 +51,7 @@ try_choice c informed =
     else still (record c { role = Peering informed })
 
 abbrev pub queries : Daemon → List Sent
-queries c = map (λ d. send c (Osd d) (Query c.promise)) (asked c)
+queries c = map (λ daemon. send c (Osd daemon) (Query c.promise)) (asked c)
 
 -- a copy that was told these sets
 abbrev pub learn_sets : Daemon → List (List ℕ) → Daemon
@@ -73,50 +73,50 @@ on_interval c sets =
     else still c
 
 abbrev pub on_query : Daemon → Party → ℕ → Stepped
-on_query c from n =
-    if nat_lt n c.promise
+on_query c from interval =
+    if nat_lt interval c.promise
     then still c
-    else record { copy = promise_interval c n; sent = send c from (Info n c.base c.log) ∷ [] }
+    else record { copy = promise_interval c interval; sent = send c from (Info interval c.base c.log) ∷ [] }
 
 abbrev pub on_info : Role → Daemon → ℕ → PeerInfo → Stepped
-on_info (Peering informed) c n offer =
-    if (c.promise == n) && not (is_informed c informed offer.number) then try_choice c (informed ++ offer ∷ []) else still c
-on_info Idle c n offer = still c
-on_info (Installing done) c n offer = still c
-on_info (Active flight) c n offer = still c
+on_info (Peering informed) c interval offer =
+    if (c.promise == interval) && not (is_informed c informed offer.number) then try_choice c (informed ++ offer ∷ []) else still c
+on_info Idle c interval offer = still c
+on_info (Installing done) c interval offer = still c
+on_info (Active flight) c interval offer = still c
 
 abbrev pub on_install : Daemon → Party → ℕ → List Entry → Stepped
-on_install c from n log =
-    if nat_lt n c.promise
+on_install c from interval log =
+    if nat_lt interval c.promise
     then still c
     else (
-    let next : Daemon = promise_interval c n in
+    let next : Daemon = promise_interval c interval in
     record {
-      copy = if nat_lt c.base n then record next { base = n; log = log } else next;
-      sent = send c from (Installed n) ∷ [];
+      copy = if nat_lt c.base interval then record next { base = interval; log = log } else next;
+      sent = send c from (Installed interval) ∷ [];
     }
     )
 
 abbrev pub on_installed : Role → Daemon → ℕ → ℕ → Stepped
-on_installed (Installing done) c n m =
-    if c.promise == n
-    then (if all_count c (counted c done m) then serve c.waiting c else still (record c { role = Installing (counted c done m) }))
+on_installed (Installing done) c interval member =
+    if c.promise == interval
+    then (if all_count c (counted c done member) then serve c.waiting c else still (record c { role = Installing (counted c done member) }))
     else still c
-on_installed Idle c n m = still c
-on_installed (Peering informed) c n m = still c
-on_installed (Active flight) c n m = still c
+on_installed Idle c interval member = still c
+on_installed (Peering informed) c interval member = still c
+on_installed (Active flight) c interval member = still c
 
 -- entries
 
 -- the copy acknowledges a place that it has
 abbrev pub acknowledged : Daemon → Party → ℕ → ℕ → Stepped
-acknowledged c from n place =
-    if nat_lt (length c.log) place then still c else record { copy = c; sent = send c from (Appended n place) ∷ [] }
+acknowledged c from interval place =
+    if nat_lt (length c.log) place then still c else record { copy = c; sent = send c from (Appended interval place) ∷ [] }
 
 abbrev pub on_append : Daemon → Party → ℕ → ℕ → Sealed → Stepped
-on_append c from n place s =
-    if (c.promise == n) && (c.base == n)
-    then (if (length c.log + 1 == place) && not (is_in (ids c.log) s.id) then acknowledged (with_entry c s) from n place else acknowledged c from n place)
+on_append c from interval place s =
+    if (c.promise == interval) && (c.base == interval)
+    then (if (length c.log + 1 == place) && not (is_in (ids c.log) s.id) then acknowledged (with_entry c s) from interval place else acknowledged c from interval place)
     else still c
 
 -- the last entry is held by every member
@@ -125,51 +125,51 @@ complete c None = serve c.waiting c
 complete c (Some e) = record { copy = (serve c.waiting c).copy; sent = reply_with c e ++ (serve c.waiting c).sent }
 
 abbrev pub on_appended : Role → Daemon → ℕ → ℕ → ℕ → Stepped
-on_appended (Active (Some holders)) c n place m =
-    if (c.promise == n) && (place == length c.log)
-    then (if all_count c (counted c holders m) then complete c (last c.log) else still (record c { role = Active (Some (counted c holders m)) }))
+on_appended (Active (Some holders)) c interval place member =
+    if (c.promise == interval) && (place == length c.log)
+    then (if all_count c (counted c holders member) then complete c (last c.log) else still (record c { role = Active (Some (counted c holders member)) }))
     else still c
-on_appended (Active None) c n place m = still c
-on_appended Idle c n place m = still c
-on_appended (Peering informed) c n place m = still c
-on_appended (Installing done) c n place m = still c
+on_appended (Active None) c interval place member = still c
+on_appended Idle c interval place member = still c
+on_appended (Peering informed) c interval place member = still c
+on_appended (Installing done) c interval place member = still c
 
 -- any message
 
 -- what comes from a daemon alone
 abbrev pub of_daemon : Party → (ℕ → Stepped) → Stepped → Stepped
-of_daemon (Osd m) f other = f m
+of_daemon (Osd member) f other = f member
 of_daemon Client f other = other
 
 abbrev pub on_body : Body → Daemon → Party → Stepped
 on_body (Interval sets) c from = on_interval c sets
-on_body (Query n) c from = on_query c from n
-on_body (Info n base log) c from = of_daemon from (λ m. on_info c.role c n (record { number = m; base = base; log = log })) (still c)
-on_body (Install n log) c from = on_install c from n log
-on_body (Installed n) c from = of_daemon from (λ m. on_installed c.role c n m) (still c)
-on_body (Append n place s) c from = on_append c from n place s
-on_body (Appended n place) c from = of_daemon from (λ m. on_appended c.role c n place m) (still c)
+on_body (Query interval) c from = on_query c from interval
+on_body (Info interval base log) c from = of_daemon from (λ member. on_info c.role c interval (record { number = member; base = base; log = log })) (still c)
+on_body (Install interval log) c from = on_install c from interval log
+on_body (Installed interval) c from = of_daemon from (λ member. on_installed c.role c interval member) (still c)
+on_body (Append interval place s) c from = on_append c from interval place s
+on_body (Appended interval place) c from = of_daemon from (λ member. on_appended c.role c interval place member) (still c)
 on_body (Request s) c from = on_request c s
 on_body (Reply id reply) c from = still c
 on_body (NotHere id) c from = still c
 
 abbrev pub copy_step : Daemon → Message → Stepped
-copy_step c m = on_body m.body c m.from
+copy_step c message = on_body message.body c message.from
 
 -- what a copy sends again
 
 abbrev pub append_again : Daemon → Option Entry → List ℕ → List Sent
-append_again c None ms = []
-append_again c (Some e) ms = map (λ m. send c (Osd m) (Append c.promise (length c.log) e.sealed)) ms
+append_again c None members = []
+append_again c (Some e) members = map (λ member. send c (Osd member) (Append c.promise (length c.log) e.sealed)) members
 
 -- the daemons that were asked and did not answer
 abbrev pub uninformed : Daemon → List PeerInfo → List ℕ
-uninformed c informed = filter (λ d. not (is_informed c informed d)) (asked c)
+uninformed c informed = filter (λ daemon. not (is_informed c informed daemon)) (asked c)
 
 abbrev pub retransmit_as : Role → Daemon → List Sent
 retransmit_as Idle c = []
-retransmit_as (Peering informed) c = map (λ d. send c (Osd d) (Query c.promise)) (uninformed c informed)
-retransmit_as (Installing done) c = map (λ m. send c (Osd m) (Install c.promise c.log)) (missing c done)
+retransmit_as (Peering informed) c = map (λ daemon. send c (Osd daemon) (Query c.promise)) (uninformed c informed)
+retransmit_as (Installing done) c = map (λ member. send c (Osd member) (Install c.promise c.log)) (missing c done)
 retransmit_as (Active None) c = []
 retransmit_as (Active (Some holders)) c = append_again c (last c.log) (missing c holders)
 

@@ -7,12 +7,12 @@ use Rattle.peer_core.specs.Choice.{is_informed}
 use Rattle.peer_core.specs.Decided.{with_entry}
 use Rattle.peer_core.specs.Serve.{serve, append_to, reply_with}
 
--- whether a copy is peering for interval n, and has not heard of this daemon
+-- whether a copy is peering for this interval, and has not heard of this daemon
 abbrev pub awaits : Role → Daemon → ℕ → ℕ → Bool
-awaits (Peering informed) c n m = (c.promise == n) && not (is_informed c informed m)
-awaits Idle c n m = false
-awaits (Installing done) c n m = false
-awaits (Active flight) c n m = false
+awaits (Peering informed) c interval member = (c.promise == interval) && not (is_informed c informed member)
+awaits Idle c interval member = false
+awaits (Installing done) c interval member = false
+awaits (Active flight) c interval member = false
 
 -- the log after a request that it may have
 abbrev pub log_with : Option Entry → List Entry → Sealed → List Entry

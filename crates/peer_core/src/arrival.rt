@@ -14,26 +14,26 @@ impl State {
     fn on_info_from(
         &mut self,
         from: Party,
-        n: u64,
+        interval: u64,
         base: u64,
         log: BoxedLog,
     ) -> Result<Items<Sent>, OutOfMemory>
-        ensures ok { IfOk result (λ sent. rules.of_daemon from (λ m. rules.on_info self.old.role self.old n (record { number = m; base = base; log = log })) (still self.old) ≡ record { copy = self.new; sent = sent }) }
+        ensures ok { IfOk result (λ sent. rules.of_daemon from (λ member. rules.on_info self.old.role self.old interval (record { number = member; base = base; log = log })) (still self.old) ≡ record { copy = self.new; sent = sent }) }
         ensures err { OnErr result (self.new ≡ self.old) }
     {
         match from {
-            Party::Osd(number) => self.on_info(n, PeerInfo { number, base, log }),
+            Party::Osd(number) => self.on_info(interval, PeerInfo { number, base, log }),
             Party::Client => Ok(Items::new(self.log.allocator())),
         }
     }
 
     /// A daemon has the chosen log.
-    fn on_installed_from(&mut self, from: Party, n: u64) -> Result<Items<Sent>, OutOfMemory>
-        ensures ok { IfOk result (λ sent. rules.of_daemon from (λ m. rules.on_installed self.old.role self.old n m) (still self.old) ≡ record { copy = self.new; sent = sent }) }
+    fn on_installed_from(&mut self, from: Party, interval: u64) -> Result<Items<Sent>, OutOfMemory>
+        ensures ok { IfOk result (λ sent. rules.of_daemon from (λ member. rules.on_installed self.old.role self.old interval member) (still self.old) ≡ record { copy = self.new; sent = sent }) }
         ensures err { OnErr result (self.new ≡ self.old) }
     {
         match from {
-            Party::Osd(number) => self.on_installed(n, number),
+            Party::Osd(number) => self.on_installed(interval, number),
             Party::Client => Ok(Items::new(self.log.allocator())),
         }
     }
@@ -42,14 +42,14 @@ impl State {
     fn on_appended_from(
         &mut self,
         from: Party,
-        n: u64,
+        interval: u64,
         place: usize,
     ) -> Result<Items<Sent>, OutOfMemory>
-        ensures ok { IfOk result (λ sent. rules.of_daemon from (λ m. rules.on_appended self.old.role self.old n place m) (still self.old) ≡ record { copy = self.new; sent = sent }) }
+        ensures ok { IfOk result (λ sent. rules.of_daemon from (λ member. rules.on_appended self.old.role self.old interval place member) (still self.old) ≡ record { copy = self.new; sent = sent }) }
         ensures err { OnErr result (self.new ≡ self.old) }
     {
         match from {
-            Party::Osd(number) => self.on_appended(n, place, number),
+            Party::Osd(number) => self.on_appended(interval, place, number),
             Party::Client => Ok(Items::new(self.log.allocator())),
         }
     }

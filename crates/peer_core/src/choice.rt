@@ -47,8 +47,8 @@ impl State {
     fn any_informed(&self, members: &[u8], informed: &[PeerInfo]) -> bool
         ensures { result ≡ list_any (is_informed self.now informed.now) members.now }
     {
-        for m in members {
-            if self.is_informed(informed, *m) {
+        for member in members {
+            if self.is_informed(informed, *member) {
                 return true;
             }
         }
@@ -58,8 +58,8 @@ impl State {
     fn all_informed(&self, members: &[u8], informed: &[PeerInfo]) -> bool
         ensures { result ≡ list_all (is_informed self.now informed.now) members.now }
     {
-        for m in members {
-            if !self.is_informed(informed, *m) {
+        for member in members {
+            if !self.is_informed(informed, *member) {
                 return false;
             }
         }
@@ -79,22 +79,22 @@ impl State {
         }
     }
 
-    /// Whether interval j can't have taken entries that no copy that was heard has.
-    fn is_covered(&self, j: u64, members: &[u8], base: u64, informed: &[PeerInfo]) -> bool
-        ensures { result ≡ (nat_lt j base || nat_lt (length members.now) self.now.min_size || list_any (is_informed self.now informed.now) members.now) }
+    /// Whether an interval can't have taken entries that no copy that was heard has.
+    fn is_covered(&self, interval: u64, members: &[u8], base: u64, informed: &[PeerInfo]) -> bool
+        ensures { result ≡ (nat_lt interval base || nat_lt (length members.now) self.now.min_size || list_any (is_informed self.now informed.now) members.now) }
     {
-        j < base || members.len() < self.min_size || self.any_informed(members, informed)
+        interval < base || members.len() < self.min_size || self.any_informed(members, informed)
     }
 
     fn covers(&self, base: u64, informed: &[PeerInfo]) -> bool
         ensures { result ≡ covers self.now.min_size base (is_informed self.now informed.now) 1 (take (self.now.promise - 1) self.now.known) }
     {
-        let mut j = 1;
+        let mut interval = 1;
         for members in self.earlier_sets() {
-            if !self.is_covered(j, members.as_slice(), base, informed) {
+            if !self.is_covered(interval, members.as_slice(), base, informed) {
                 return false;
             }
-            j += 1;
+            interval += 1;
         }
         true
     }

@@ -25,7 +25,7 @@ impl Model for Daemon {
 
     ghost Value = { types.Daemon };
 
-    ghost view = { λ d. d.state };
+    ghost view = { λ daemon. daemon.state };
 }
 
 impl Daemon {

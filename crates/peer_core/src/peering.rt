@@ -132,12 +132,12 @@ impl State {
         Ok(Items::new(alloc))
     }
 
-    /// Whether it is peering for interval n, and has not heard of this daemon.
-    fn awaits(&self, n: u64, number: u8) -> bool
-        ensures { result ≡ awaits self.now.role self.now n number }
+    /// Whether it is peering for this interval, and has not heard of this daemon.
+    fn awaits(&self, interval: u64, number: u8) -> bool
+        ensures { result ≡ awaits self.now.role self.now interval number }
     {
         match &self.role {
-            Role::Peering(informed) => self.promise == n
+            Role::Peering(informed) => self.promise == interval
                 && !self.is_informed(informed.as_slice(), number),
             _ => false,
         }
@@ -165,12 +165,12 @@ impl State {
     }
 
     /// Hears of a copy.
-    pub fn on_info(&mut self, n: u64, offer: PeerInfo) -> Result<Items<Sent>, OutOfMemory>
-        ensures ok { IfOk result (λ sent. on_info self.old.role self.old n offer ≡ record { copy = self.new; sent = sent }) }
+    pub fn on_info(&mut self, interval: u64, offer: PeerInfo) -> Result<Items<Sent>, OutOfMemory>
+        ensures ok { IfOk result (λ sent. on_info self.old.role self.old interval offer ≡ record { copy = self.new; sent = sent }) }
         ensures err { OnErr result (self.new ≡ self.old) }
     {
         let sent = Items::new(self.log.allocator());
-        if !self.awaits(n, offer.number) {
+        if !self.awaits(interval, offer.number) {
             return Ok(sent);
         }
         self.hear(offer)?;
@@ -184,16 +184,16 @@ impl State {
     }
 
     /// Counts a member that has the chosen log. Once all have it, the copy is active and takes what waits.
-    pub fn on_installed(&mut self, n: u64, m: u8) -> Result<Items<Sent>, OutOfMemory>
-        ensures ok { IfOk result (λ sent. on_installed self.old.role self.old n m ≡ record { copy = self.new; sent = sent }) }
+    pub fn on_installed(&mut self, interval: u64, member: u8) -> Result<Items<Sent>, OutOfMemory>
+        ensures ok { IfOk result (λ sent. on_installed self.old.role self.old interval member ≡ record { copy = self.new; sent = sent }) }
         ensures err { OnErr result (self.new ≡ self.old) }
     {
         let sent = Items::new(self.log.allocator());
         let done = match &self.role {
-            Role::Installing(done) if self.promise == n => *done,
+            Role::Installing(done) if self.promise == interval => *done,
             _ => return Ok(sent),
         };
-        let done = self.counted(&done, m);
+        let done = self.counted(&done, member);
         if self.all_count(&done) {
             return self.serve(sent);
         }
@@ -202,21 +202,21 @@ impl State {
     }
 
     /// Tells the asker of this copy, and promises its interval where that is new.
-    pub fn on_query(&mut self, from: Party, n: u64) -> Result<Items<Sent>, OutOfMemory>
-        ensures ok { IfOk result (λ sent. on_query self.old from n ≡ record { copy = self.new; sent = sent }) }
+    pub fn on_query(&mut self, from: Party, interval: u64) -> Result<Items<Sent>, OutOfMemory>
+        ensures ok { IfOk result (λ sent. on_query self.old from interval ≡ record { copy = self.new; sent = sent }) }
         ensures err { OnErr result (self.new ≡ self.old) }
     {
         let mut sent = Items::new(self.log.allocator());
-        if n < self.promise {
+        if interval < self.promise {
             return Ok(sent);
         }
         let body = Body::Info {
-            interval: n,
+            interval,
             base: self.base,
             log: BoxedLog::new(self.log.copy()?)?,
         };
         sent.push(self.send(from, body))?;
-        self.promise_interval(n);
+        self.promise_interval(interval);
         Ok(sent)
     }
 
@@ -224,20 +224,20 @@ impl State {
     pub fn on_install(
         &mut self,
         from: Party,
-        n: u64,
+        interval: u64,
         log: BoxedLog,
     ) -> Result<Items<Sent>, OutOfMemory>
-        ensures ok { IfOk result (λ sent. on_install self.old from n log ≡ record { copy = self.new; sent = sent }) }
+        ensures ok { IfOk result (λ sent. on_install self.old from interval log ≡ record { copy = self.new; sent = sent }) }
         ensures err { OnErr result (self.new ≡ self.old) }
     {
         let mut sent = Items::new(self.log.allocator());
-        if n < self.promise {
+        if interval < self.promise {
             return Ok(sent);
         }
-        sent.push(self.send(from, Body::Installed { interval: n }))?;
-        self.promise_interval(n);
-        if self.base < n {
-            self.base = n;
+        sent.push(self.send(from, Body::Installed { interval }))?;
+        self.promise_interval(interval);
+        if self.base < interval {
+            self.base = interval;
             self.log = log.into_inner();
         }
         Ok(sent)

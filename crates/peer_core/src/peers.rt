@@ -80,8 +80,8 @@ impl State {
     pub fn is_alone(&self) -> bool
         ensures { result ≡ (length (others self.now) == 0) }
     {
-        for m in self.set() {
-            if *m != self.number {
+        for member in self.set() {
+            if *member != self.number {
                 return false;
             }
         }
@@ -100,9 +100,9 @@ impl State {
         ensures { result ≡ counted self.now done.now number }
     {
         let mut counted = ActingSet::new();
-        for m in self.set() {
-            if self.is_counted(done, number, *m) {
-                counted.push(*m);
+        for member in self.set() {
+            if self.is_counted(done, number, *member) {
+                counted.push(*member);
             }
         }
         counted
@@ -112,8 +112,8 @@ impl State {
     pub fn all_count(&self, counted: &ActingSet) -> bool
         ensures { result ≡ all_count self.now counted.now }
     {
-        for m in self.set() {
-            if *m != self.number && !has_member(counted, *m) {
+        for member in self.set() {
+            if *member != self.number && !has_member(counted, *member) {
                 return false;
             }
         }
@@ -160,14 +160,14 @@ impl State {
         informed: &[PeerInfo],
         sent: &mut Items<Sent>,
     ) -> Result<(), OutOfMemory>
-        ensures { OnOk result (sent.new ≡ sent.old ++ map (λ d. send self.now (types.Osd d) (types.Query self.now.promise)) (filter (λ d. not (is_informed self.now informed.now d)) (filter (λ d. is_asked self.now d) daemons.now))) }
+        ensures { OnOk result (sent.new ≡ sent.old ++ map (λ daemon. send self.now (types.Osd daemon) (types.Query self.now.promise)) (filter (λ daemon. not (is_informed self.now informed.now daemon)) (filter (λ daemon. is_asked self.now daemon) daemons.now))) }
     {
-        for d in daemons {
-            if self.asks(*d) && !self.is_informed(informed, *d) {
+        for daemon in daemons {
+            if self.asks(*daemon) && !self.is_informed(informed, *daemon) {
                 let body = Body::Query {
                     interval: self.promise,
                 };
-                sent.push(self.send(Party::Osd(*d), body))?;
+                sent.push(self.send(Party::Osd(*daemon), body))?;
             }
         }
         Ok(())
@@ -179,7 +179,7 @@ impl State {
         informed: &[PeerInfo],
         sent: &mut Items<Sent>,
     ) -> Result<(), OutOfMemory>
-        ensures { OnOk result (sent.new ≡ sent.old ++ map (λ d. send self.now (types.Osd d) (types.Query self.now.promise)) (uninformed self.now informed.now)) }
+        ensures { OnOk result (sent.new ≡ sent.old ++ map (λ daemon. send self.now (types.Osd daemon) (types.Query self.now.promise)) (uninformed self.now informed.now)) }
     {
         self.query(&DAEMONS, informed, sent)
     }
@@ -202,11 +202,11 @@ impl State {
         done: &ActingSet,
         sent: &mut Items<Sent>,
     ) -> Result<(), OutOfMemory>
-        ensures { OnOk result (sent.new ≡ sent.old ++ map (λ m. send self.now (types.Osd m) (types.Install self.now.promise log.now)) (missing self.now done.now)) }
+        ensures { OnOk result (sent.new ≡ sent.old ++ map (λ member. send self.now (types.Osd member) (types.Install self.now.promise log.now)) (missing self.now done.now)) }
     {
-        for m in self.set() {
-            if *m != self.number && !has_member(done, *m) {
-                sent.push(self.install_for(*m, log)?)?;
+        for member in self.set() {
+            if *member != self.number && !has_member(done, *member) {
+                sent.push(self.install_for(*member, log)?)?;
             }
         }
         Ok(())
@@ -220,16 +220,16 @@ impl State {
         holders: &ActingSet,
         sent: &mut Items<Sent>,
     ) -> Result<(), OutOfMemory>
-        ensures { OnOk result (sent.new ≡ sent.old ++ map (λ m. send self.now (types.Osd m) (types.Append self.now.promise place request.now)) (missing self.now holders.now)) }
+        ensures { OnOk result (sent.new ≡ sent.old ++ map (λ member. send self.now (types.Osd member) (types.Append self.now.promise place request.now)) (missing self.now holders.now)) }
     {
-        for m in self.set() {
-            if *m != self.number && !has_member(holders, *m) {
+        for member in self.set() {
+            if *member != self.number && !has_member(holders, *member) {
                 let body = Body::Append {
                     interval: self.promise,
                     place,
                     request: request.copy()?,
                 };
-                sent.push(self.send(Party::Osd(*m), body))?;
+                sent.push(self.send(Party::Osd(*member), body))?;
             }
         }
         Ok(())

@@ -21,20 +21,20 @@ impl State {
     pub fn on_append(
         &mut self,
         from: Party,
-        n: u64,
+        interval: u64,
         place: usize,
         request: Sealed,
     ) -> Result<Items<Sent>, OutOfMemory>
-        ensures ok { IfOk result (λ sent. rules.on_append self.old from n place request ≡ record { copy = self.new; sent = sent }) }
+        ensures ok { IfOk result (λ sent. rules.on_append self.old from interval place request ≡ record { copy = self.new; sent = sent }) }
         ensures err { OnErr result (self.new ≡ self.old) }
     {
         let mut sent = Items::new(self.log.allocator());
-        if self.promise != n || self.base != n {
+        if self.promise != interval || self.base != interval {
             return Ok(sent);
         }
         let is_next = self.log.entries().len() + 1 == place && !self.log.contains(request.id());
         if is_next || place <= self.log.len() {
-            let body = Body::Appended { interval: n, place };
+            let body = Body::Appended { interval, place };
             sent.push(self.send(from, body))?;
         }
         if is_next {
@@ -66,16 +66,16 @@ impl State {
     }
 
     /// Counts a member that has the entry in flight. Once all have it, it is answered, and what waits is taken.
-    pub fn on_appended(&mut self, n: u64, place: usize, m: u8) -> Result<Items<Sent>, OutOfMemory>
-        ensures ok { IfOk result (λ sent. rules.on_appended self.old.role self.old n place m ≡ record { copy = self.new; sent = sent }) }
+    pub fn on_appended(&mut self, interval: u64, place: usize, member: u8) -> Result<Items<Sent>, OutOfMemory>
+        ensures ok { IfOk result (λ sent. rules.on_appended self.old.role self.old interval place member ≡ record { copy = self.new; sent = sent }) }
         ensures err { OnErr result (self.new ≡ self.old) }
     {
         let sent = Items::new(self.log.allocator());
         let holders = match &self.role {
-            Role::Active(Some(holders)) if self.promise == n && place == self.log.len() => *holders,
+            Role::Active(Some(holders)) if self.promise == interval && place == self.log.len() => *holders,
             _ => return Ok(sent),
         };
-        let holders = self.counted(&holders, m);
+        let holders = self.counted(&holders, member);
         if self.all_count(&holders) {
             return self.complete();
         }

@@ -52,12 +52,12 @@ impl State {
         self.waiting = Queue::new(alloc);
     }
 
-    /// Promises interval n, and drops the role, where n is new.
-    pub fn promise_interval(&mut self, n: u64)
-        ensures { self.new ≡ promise_interval self.old n }
+    /// Promises an interval, and drops the role, where the interval is new.
+    pub fn promise_interval(&mut self, interval: u64)
+        ensures { self.new ≡ promise_interval self.old interval }
     {
-        if self.promise < n {
-            self.promise = n;
+        if self.promise < interval {
+            self.promise = interval;
             self.role = Role::Idle;
             self.waiting = Queue::new(self.log.allocator());
         }

@@ -34,14 +34,14 @@ remove-requires c =
 pub invariant_of-self-then-not-is_up : goal.invariant_of-self-then-not-is_up
 invariant_of-self-then-not-is_up c =
     let here : slice_get c.self.inside.state.wire.sent c.args.k ≡ Some c.in-Some.message.now = ap (λ l. slice_get l c.args.k) (sym c.as_slice.ensures) ∙ sym c.in-Some.ensures in
-    let down : is_in (numbers_of c.self.inside.state.up) c.in-Osd.d ≡ false = sym c.is_up.ensures ∙ c.if-not-is_up.true in
-    whole_dropped c.self.invariant c.args.k c.in-Osd.d c.in-Some.message.now c.remove.new.self.sent here c.in-Osd.is down c.remove.ensures
+    let down : is_in (numbers_of c.self.inside.state.up) c.in-Osd.daemon ≡ false = sym c.is_up.ensures ∙ c.if-not-is_up.true in
+    whole_dropped c.self.invariant c.args.k c.in-Osd.daemon c.in-Some.message.now c.remove.new.self.sent here c.in-Osd.is down c.remove.ensures
 
 pub returns-then-not-is_up-clause-dropped : goal.returns-then-not-is_up-clause-dropped
 returns-then-not-is_up-clause-dropped c = λ _. (
     let here : slice_get c.self.inside.state.wire.sent c.args.k ≡ Some c.in-Some.message.now = ap (λ l. slice_get l c.args.k) (sym c.as_slice.ensures) ∙ sym c.in-Some.ensures in
-    let down : is_in (numbers_of c.self.inside.state.up) c.in-Osd.d ≡ false = sym c.is_up.ensures ∙ c.if-not-is_up.true in
-    drop_lowers c.self.view_is c.self.invariant c.args.k c.in-Osd.d c.in-Some.message.now c.remove.new.self.sent here c.in-Osd.is down c.remove.ensures)
+    let down : is_in (numbers_of c.self.inside.state.up) c.in-Osd.daemon ≡ false = sym c.is_up.ensures ∙ c.if-not-is_up.true in
+    drop_lowers c.self.view_is c.self.invariant c.args.k c.in-Osd.daemon c.in-Some.message.now c.remove.new.self.sent here c.in-Osd.is down c.remove.ensures)
 
 pub returns-in_ok-reach_daemon-in-Osd-clause-delivered : goal.returns-in_ok-reach_daemon-in-Osd-clause-delivered
 returns-in_ok-reach_daemon-in-Osd-clause-delivered c =

@@ -3,7 +3,7 @@ use Rattle.std.specs.List.{filter, list_all}
 use Rattle.entry_core.specs.Log.{is_in}
 use Rattle.peer_core.proofs.state.State.all_count.Given as goal
 
-abbrev pub invariant-loop-m : goal.invariant-loop-m
-invariant-loop-m l =
-    list_all (λ m. is_in l.counted m) (filter (λ m. not (m == l.self.number)) (drop l.m-index l.m-items))
-    ≡ list_all (λ m. is_in l.counted m) (filter (λ m. not (m == l.self.number)) l.m-items)
+abbrev pub invariant-loop-member : goal.invariant-loop-member
+invariant-loop-member l =
+    list_all (λ m. is_in l.counted m) (filter (λ m. not (m == l.self.number)) (drop l.member-index l.member-items))
+    ≡ list_all (λ m. is_in l.counted m) (filter (λ m. not (m == l.self.number)) l.member-items)

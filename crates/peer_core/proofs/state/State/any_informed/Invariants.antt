@@ -3,5 +3,5 @@ use Rattle.std.specs.List.{list_any}
 use Rattle.peer_core.specs.Choice.{is_informed}
 use Rattle.peer_core.proofs.state.State.any_informed.Given as goal
 
-abbrev pub invariant-loop-m : goal.invariant-loop-m
-invariant-loop-m l = list_any (is_informed l.self l.informed) (drop l.m-index l.members) ≡ list_any (is_informed l.self l.informed) l.members
+abbrev pub invariant-loop-member : goal.invariant-loop-member
+invariant-loop-member l = list_any (is_informed l.self l.informed) (drop l.member-index l.members) ≡ list_any (is_informed l.self l.informed) l.members

@@ -6,23 +6,23 @@ use Rattle.peer_core.proofs.state.State.counted.Goals.{then-is_counted, else-is_
 
 pub push-requires-clause-room : goal.push-requires-clause-room
 push-requires-clause-room c =
-    room_left (λ m. not (m == c.args.self.now.number)) (λ m. is_in c.args.done.now m || (m == c.args.number)) c.set-m-items.result.now c.loop-m.counted c.loop-m.m-index
-    c.set-m-items.ensures.few c.loop-m-test.true c.loop-m.invariant
+    room_left (λ m. not (m == c.args.self.now.number)) (λ m. is_in c.args.done.now m || (m == c.args.number)) c.set-member-items.result.now c.loop-member.counted c.loop-member.member-index
+    c.set-member-items.ensures.few c.loop-member-test.true c.loop-member.invariant
 
 pub push-requires-clause-other : goal.push-requires-clause-other
 push-requires-clause-other c =
-    is_new (λ m. not (m == c.args.self.now.number)) (λ m. is_in c.args.done.now m || (m == c.args.number)) c.set-m-items.result.now c.loop-m.counted c.loop-m.m-index 0
-    c.set-m-items.ensures.once c.loop-m-test.true c.loop-m.invariant
+    is_new (λ m. not (m == c.args.self.now.number)) (λ m. is_in c.args.done.now m || (m == c.args.number)) c.set-member-items.result.now c.loop-member.counted c.loop-member.member-index 0
+    c.set-member-items.ensures.once c.loop-member-test.true c.loop-member.invariant
 
-pub loop-m-preserved : goal.loop-m-preserved
-loop-m-preserved c =
+pub loop-member-preserved : goal.loop-member-preserved
+loop-member-preserved c =
     elim c.if-is_counted.branch [
       | then-is_counted w ↦
           w.counted-is ∙ w.push.ensures
-          ∙ takes (λ m. not (m == c.args.self.now.number)) (λ m. is_in c.args.done.now m || (m == c.args.number)) c.set-m-items.result.now c.loop-m.counted c.loop-m.m-index
-          c.loop-m-test.true c.loop-m.invariant (sym c.is_counted.ensures ∙ w.if-is_counted.true)
+          ∙ takes (λ m. not (m == c.args.self.now.number)) (λ m. is_in c.args.done.now m || (m == c.args.number)) c.set-member-items.result.now c.loop-member.counted c.loop-member.member-index
+          c.loop-member-test.true c.loop-member.invariant (sym c.is_counted.ensures ∙ w.if-is_counted.true)
       | else-is_counted w ↦
           w.counted-is
-          ∙ skips (λ m. not (m == c.args.self.now.number)) (λ m. is_in c.args.done.now m || (m == c.args.number)) c.set-m-items.result.now c.loop-m.counted c.loop-m.m-index
-          c.loop-m-test.true c.loop-m.invariant (sym c.is_counted.ensures ∙ w.if-is_counted.false)
+          ∙ skips (λ m. not (m == c.args.self.now.number)) (λ m. is_in c.args.done.now m || (m == c.args.number)) c.set-member-items.result.now c.loop-member.counted c.loop-member.member-index
+          c.loop-member-test.true c.loop-member.invariant (sym c.is_counted.ensures ∙ w.if-is_counted.false)
     ]

@@ -4,6 +4,6 @@ use Rattle.peer_core.proofs.state.State.covers.Given as goal
 
 abbrev pub invariant-loop-members : goal.invariant-loop-members
 invariant-loop-members l = record {
-  number : l.j ≡ l.members-index + 1;
-  rest : covers l.self.min_size l.base (is_informed l.self l.informed) l.j (drop l.members-index l.members-items) ≡ covers l.self.min_size l.base (is_informed l.self l.informed) 1 l.members-items;
+  number : l.interval ≡ l.members-index + 1;
+  rest : covers l.self.min_size l.base (is_informed l.self l.informed) l.interval (drop l.members-index l.members-items) ≡ covers l.self.min_size l.base (is_informed l.self l.informed) 1 l.members-items;
 }

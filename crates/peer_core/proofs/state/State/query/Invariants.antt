@@ -6,6 +6,6 @@ use Rattle.peer_core.specs.Choice.{is_informed}
 use Rattle.peer_core.specs.Steps.{send}
 use Rattle.peer_core.proofs.state.State.query.Given as goal
 
-abbrev pub invariant-loop-d : goal.invariant-loop-d
-invariant-loop-d l =
-    l.sent ≡ l.fn.sent ++ map (λ d. send l.self (Osd d) (Query l.self.promise)) (filter (λ d. not (is_informed l.self l.informed d)) (filter (λ d. is_asked l.self d) (take l.d-index l.daemons)))
+abbrev pub invariant-loop-daemon : goal.invariant-loop-daemon
+invariant-loop-daemon l =
+    l.sent ≡ l.fn.sent ++ map (λ d. send l.self (Osd d) (Query l.self.promise)) (filter (λ d. not (is_informed l.self l.informed d)) (filter (λ d. is_asked l.self d) (take l.daemon-index l.daemons)))
