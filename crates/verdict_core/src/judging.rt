@@ -2,7 +2,6 @@
 
 ghost use Rattle.std.specs.Prelude.{◌≡◌};
 ghost use Rattle.std.specs.List.{list_any, list_all};
-ghost use Rattle.std.specs.Option.{ForSome};
 ghost use Rattle.verdict_core.specs.Verdict.{is_allowed};
 ghost use Rattle.verdict_core.specs.Verdict as spec;
 
@@ -36,34 +35,20 @@ fn has_usable_at_length(grants: &[(Path, AllowGrant)], target: &Target<'_>, need
         .any(|entry| is_usable(&entry.1, target, needs))
 }
 
-/// Whether some grant is usable, if a few comparisons of words tell of each grant that is looked at.
-#[inline(always)]
-fn has_usable_at_once(
-    grants: &[(Path, AllowGrant)],
-    target: &Target<'_>,
-    needs: &Needs,
-) -> Option<bool>
-    ensures { ForSome result (λ usable. usable ≡ list_any (λ entry. spec.is_usable entry.1 target.now needs.now) grants.now) }
-{
-    for entry in grants {
-        let Some(usable) = is_usable_at_once(&entry.1, target, needs) else {
-            return None;
-        };
-        if usable {
-            return Some(true);
-        }
-    }
-    Some(false)
-}
-
-/// Whether some grant is usable.
+/// Whether some grant is usable. The walk goes by a few comparisons of words, and where they do not tell of a grant,
+/// another one goes on from it, so that nothing of the grants behind is kept.
 pub(crate) fn has_usable(grants: &[(Path, AllowGrant)], target: &Target<'_>, needs: &Needs) -> bool
     ensures { result ≡ list_any (λ entry. spec.is_usable entry.1 target.now needs.now) grants.now }
 {
-    match has_usable_at_once(grants, target, needs) {
-        Some(usable) => usable,
-        None => has_usable_at_length(grants, target, needs),
+    let mut rest = grants;
+    while let Some((entry, others)) = rest.split_first() {
+        match is_usable_at_once(&entry.1, target, needs) {
+            Some(true) => return true,
+            Some(false) => rest = others,
+            None => return has_usable_at_length(rest, target, needs),
+        }
     }
+    false
 }
 
 /// Whether each call is covered. It is a call of its own, since most requests have no calls.

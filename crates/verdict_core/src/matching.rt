@@ -1,6 +1,6 @@
 //! One grant against one request.
 
-ghost use Rattle.std.specs.Prelude.{◌≡◌, ◌&&◌, ◌||◌, not};
+ghost use Rattle.std.specs.Prelude.{◌≡◌, ◌&&◌, ◌||◌, [], ◌∷◌, not};
 ghost use Rattle.std.specs.List.{list_any};
 ghost use Rattle.std.specs.Option.{ForSome};
 ghost use Rattle.std.specs.Str.{bytes_eq};
@@ -57,10 +57,8 @@ fn has_value(value: &Name, pairs: &Pairs) -> bool
 fn has_pair(key: &Name, value: &Part, pairs: &Pairs) -> bool
     ensures { result ≡ list_any (λ pair. bytes_eq key.now pair.0 && spec.matches_part value.now pair.1) pairs.now }
 {
-    pairs
-        .as_slice()
-        .iter()
-        .any(|pair| matches_part(value, &pair.1) && key.equals(&pair.0))
+    pairs.as_slice().iter().any(|pair| matches_part(value, &pair.1)
+        && is_text(key, pair.0.as_str()))
 }
 
 fn matches_pairs(key: &Part, value: &Part, pairs: &Pairs) -> bool
@@ -78,7 +76,8 @@ fn matches_pairs(key: &Part, value: &Part, pairs: &Pairs) -> bool
 fn matches_application(tag: &Tag, app: &AppTags) -> bool
     ensures { result ≡ spec.matches_application tag.now app.now }
 {
-    matches_pairs(&tag.key, &tag.value, &app.pairs) && tag.application.equals(&app.application)
+    matches_pairs(&tag.key, &tag.value, &app.pairs)
+        && is_text(&tag.application, app.application.as_str())
 }
 
 /// Whether some application of the pool agrees with a tag. It is a call of its own, so that a walk over grants without
@@ -211,8 +210,58 @@ fn matches_prefix_at_once(wanted: &Option<Name>, object: &str) -> Option<bool>
     }
 }
 
-/// Whether a grant is usable, if a few comparisons of words tell: they do where it has no tag, and each name that is
-/// compared has 2 to 16 bytes. It calls nothing, so that a walk by it saves no registers.
+/// `matches_part`, if two comparisons of words tell.
+#[inline(always)]
+fn matches_part_at_once(part: &Part, text: &Name) -> Option<bool>
+    ensures { ForSome result (λ holds. holds ≡ spec.matches_part part.now text.now) }
+{
+    match part {
+        Part::Any => Some(true),
+        Part::Is(name) => is_text_at_once(name, text.as_str()),
+    }
+}
+
+/// Whether an application with this one pair agrees with a tag, if comparisons of words tell.
+#[inline(always)]
+fn matches_pair_at_once(tag: &Tag, application: &Name, pair: &(Name, Name)) -> Option<bool>
+    ensures { ForSome result (λ holds. holds ≡ (bytes_eq tag.now.application application.now && spec.matches_pairs tag.now.key tag.now.value (pair.now ∷ []))) }
+{
+    let Some(value) = matches_part_at_once(&tag.value, &pair.1) else {
+        return None;
+    };
+    if !value {
+        return Some(false);
+    }
+    let Some(key) = matches_part_at_once(&tag.key, &pair.0) else {
+        return None;
+    };
+    if !key {
+        return Some(false);
+    }
+    is_text_at_once(&tag.application, application.as_str())
+}
+
+/// `matches_tag`, if comparisons of words tell: of a tag they do where the pool has one application with one pair, as
+/// a pool of CephFS has.
+#[inline(always)]
+fn matches_tag_at_once(wanted: &Option<Tag>, tags: &Tags) -> Option<bool>
+    ensures { ForSome result (λ holds. holds ≡ spec.matches_tag wanted.now tags.now) }
+{
+    let Some(tag) = wanted else {
+        return Some(true);
+    };
+    let [app] = tags.as_slice() else {
+        return None;
+    };
+    let [pair] = app.pairs.as_slice() else {
+        return None;
+    };
+    matches_pair_at_once(tag, &app.application, pair)
+}
+
+/// Whether a grant is usable, if a few comparisons of words tell: they do where each name that is compared has 2 to 16
+/// bytes, and the pool of a tag has one application with one pair. It calls nothing, so that a walk by it saves few
+/// registers.
 #[inline(always)]
 pub(crate) fn is_usable_at_once(
     grant: &AllowGrant,
@@ -239,10 +288,13 @@ pub(crate) fn is_usable_at_once(
     if !namespace {
         return Some(false);
     }
-    match &grant.tag {
-        None => Some(serves(&grant.access, needs)),
-        Some(_) => None,
+    let Some(tag) = matches_tag_at_once(&grant.tag, target.tags) else {
+        return None;
+    };
+    if !tag {
+        return Some(false);
     }
+    Some(serves(&grant.access, needs))
 }
 
 /// Whether an access covers a call.

@@ -1,8 +1,0 @@
-use Rattle.std.proofs.Common.{◌≡◌, false, take}
-use Rattle.std.specs.List.{list_any}
-use Rattle.verdict_core.specs.Verdict as spec
-use Rattle.verdict_core.proofs.judging.has_usable_at_once.Given as goal
-
--- none of the grants so far is usable
-abbrev pub invariant-loop-entry : goal.invariant-loop-entry
-invariant-loop-entry l = list_any (λ entry. spec.is_usable entry.1 l.target l.needs) (take l.entry-index l.grants) ≡ false
