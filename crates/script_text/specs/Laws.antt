@@ -5,7 +5,7 @@ use Rattle.std.specs.List.{flat_map, list_all}
 use Rattle.script_text.specs.Lines.{lines_of}
 use Rattle.script_text.specs.Words.{words_of}
 use Rattle.script_text.specs.Numbers.{number_of, pair_of}
-use Rattle.script_text.specs.Text.{line, quoted, stands_for_itself}
+use Rattle.script_text.specs.Text.{line, numeral, quoted, stands_for_itself}
 
 -- the lines of a text, each with its end, are the text, whose last line may have had no end
 abbrev pub LinesAreTheText : Type 0
@@ -25,3 +25,7 @@ NumbersAreReadBack = (n : ℕ) → n < 2 ^ 32 → number_of (decimal n) ≡ Some
 
 abbrev pub PairsAreReadBack : Type 0
 PairsAreReadBack = (a b : ℕ) → a < 2 ^ 32 → b < 2 ^ 32 → pair_of (decimal a ++ codes "." ++ decimal b) ≡ Some (a, b)
+
+-- std's decimal text has at most 64 digits; up to there the numeral is the same
+abbrev pub NumeralsAreDecimal : Type 0
+NumeralsAreDecimal = (n : ℕ) → n < 10 ^ 64 → numeral n ≡ decimal n

@@ -1,5 +1,6 @@
 -- Statement: contracts of public calls use it.
 -- The printed texts of a script: this project's profile.
+use Prim.Native.Nat.{zero, suc}
 use Rattle.std.specs.Prelude.{ℕ, ◌+◌, ◌/◌, ◌%◌, List, [], ◌∷◌, ◌++◌, Bool, ◌||◌, ◌&&◌, not, if◌then◌else◌, ◌==◌, nat_lt, codes}
 use Rattle.std.specs.List.{flat_map}
 use Rattle.script_text.specs.Words.{is_printable}
@@ -25,3 +26,12 @@ glyph b = if stands_for_itself b then b ∷ [] else 92 ∷ 120 ∷ hex_digit (b 
 
 abbrev pub quoted : List ℕ → List ℕ
 quoted text = 34 ∷ (flat_map glyph text ++ 34 ∷ [])
+
+-- a number in at most so many decimal digits
+abbrev pub numeral_within : ℕ → ℕ → List ℕ
+numeral_within zero n = []
+numeral_within (suc most) n = if nat_lt n 10 then (48 + n) ∷ [] else numeral_within most (n / 10) ++ (48 + n % 10) ∷ []
+
+-- a number in decimal digits, however many it has: never more than the number and one
+abbrev pub numeral : ℕ → List ℕ
+numeral n = numeral_within (suc n) n

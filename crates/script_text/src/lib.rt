@@ -3,6 +3,7 @@
 //! This crate knows no command. What a script's words mean is said by the crates above.
 #![tactic(auto)]
 
+mod counts;
 mod fault;
 mod laws;
 mod lines;
@@ -11,10 +12,11 @@ mod printing;
 mod streams;
 mod words;
 
+pub use counts::{Count, push_count};
 pub use fault::ScriptFault;
 pub use laws::{
-    lines_are_read_back, lines_are_the_text, numbers_are_read_back, pairs_are_read_back,
-    quoted_is_read_back,
+    lines_are_read_back, lines_are_the_text, numbers_are_read_back, numerals_are_decimal,
+    pairs_are_read_back, quoted_is_read_back,
 };
 pub use lines::{Line, Lines};
 pub use numbers::{number_of, pair_of};

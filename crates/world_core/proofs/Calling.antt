@@ -1,11 +1,12 @@
 -- What a call on one group does to the group, and to the runs.
 use Prim.Native.Nat.{zero, suc}
-use Rattle.std.proofs.Common.{◌≡◌, ◌∙◌, inl, inr, ℕ, ◌<◌, List, [], ◌∷◌, ◌++◌, Bool, true, false, if◌then◌else◌, Some, Result, Ok, Err, length, refl, sym, ap, arith, append-nil}
+use Rattle.std.proofs.Common.{◌≡◌, ◌∙◌, inl, inr, ℕ, ◌<◌, List, [], ◌∷◌, ◌++◌, Bool, true, false, if◌then◌else◌, Option, None, Some, Result, Ok, Err, IsOk, length, refl, sym, ap, arith, append-nil}
 use Rattle.std.specs.Prelude.{nat_lt, slice_get, slice_set}
 use Rattle.std.proofs.lemmas.Bool.{ltb-true}
-use Rattle.group_core.specs.Group.{Group, Event}
+use Rattle.group_core.specs.Group.{Group, Event, Lose, Repeat, Kick, group_step, refusal_of, left_by, lose, again}
 use Rattle.group_core.specs.declared.fault.GroupFault.{GroupFault as Fault}
 use Rattle.group_core.specs.declared.fault.GroupFault.TheVariants.{NoMessage, Unreachable, Full, OutOfMemory, Doubled}
+use Rattle.group_core.specs.Types.{Sent}
 use Rattle.group_core.specs.Reached.{Steps}
 use Rattle.world_core.specs.declared.audit.Run.{Run}
 use Rattle.world_core.specs.Applying.{StepsOrMemory, runs_from, CalledAt}
@@ -32,18 +33,61 @@ set_same [] place g h = refl
 set_same (x ∷ xs) zero g h = let same : x ≡ g = cc in ap (λ v. v ∷ xs) (sym same)
 set_same (x ∷ xs) (suc place) g h = ap (λ l. x ∷ l) (set_same xs place g h)
 
--- where there is no memory, nothing happens
-pub called_nothing : (gs : List Group) (runs : List Run) (place : ℕ) (e : Event) (g : Group) → slice_get gs place ≡ Some g → CalledAt {T = Unit {0}} gs runs place e (Err OutOfMemory) gs runs
-called_nothing gs runs place e g there = record {
-  old = g;
-  new = g;
+-- where nothing is decided, nothing is kept
+pub kept_nothing : (runs : List Run) (place n : ℕ) → runs ≡ runs ++ runs_from place n n
+kept_nothing runs place n = sym (append-nil runs) ∙ ap (λ l. runs ++ l) (sym (no_run place n))
+
+-- ---- calls that decide nothing
+
+audit_left : (old new : Group) (e : Event) (r : Result (Unit {0}) Fault) → Steps old e r new → (group_step old e).audit ≡ old.audit → ((f : Fault) → left_by old e f ≡ old) → new.audit ≡ old.audit
+audit_left old new e (Ok done) h stays left = ap (λ g. g.audit) h.1 ∙ stays
+audit_left old new e (Err (NoMessage k)) h stays left = ap (λ g. g.audit) (h.1 ∙ left (NoMessage k))
+audit_left old new e (Err Unreachable) h stays left = ap (λ g. g.audit) (h.1 ∙ left Unreachable)
+audit_left old new e (Err Full) h stays left = ap (λ g. g.audit) (h.1 ∙ left Full)
+audit_left old new e (Err Doubled) h stays left = ap (λ g. g.audit) (h.1 ∙ left Doubled)
+audit_left old new e (Err OutOfMemory) h stays left = ap (λ g. g.audit) h.1
+
+called_quietly : (gs : List Group) (runs : List Run) (place : ℕ) (e : Event) (old new : Group) (r : Result (Unit {0}) Fault) → slice_get gs place ≡ Some old → Steps old e r new
+    → (group_step old e).audit ≡ old.audit → ((f : Fault) → left_by old e f ≡ old) → CalledAt gs runs place e r (slice_set gs place new) runs
+called_quietly gs runs place e old new r there steps stays left = record {
+  old = old;
+  new = new;
   there = there;
-  steps = inl (refl, refl);
-  groups_are = sym (set_same gs place g there);
-  runs_are = sym (append-nil runs) ∙ ap (λ l. runs ++ l) (sym (no_run place (length g.audit)));
+  steps = steps_or_memory old new e r steps;
+  groups_are = refl;
+  runs_are =
+      kept_nothing runs place (length old.audit)
+      ∙ ap (λ n. runs ++ runs_from place (length old.audit) n) (ap length (sym (audit_left old new e r steps stays left)));
 }
 
-pub there_is : (gs : List Group) (place : ℕ) → place < length gs → (g : Group) × (slice_get gs place ≡ Some g)
-there_is [] place low = absurd (omega arith)
-there_is (x ∷ xs) zero low = (x, refl)
-there_is (x ∷ xs) (suc place) low = there_is xs place (omega arith)
+lose_decides_none : (g : Group) (k : ℕ) → (group_step g (Lose k)).audit ≡ g.audit
+lose_decides_none g k = go (slice_get g.wire k)
+  where
+    go : (m : Option Sent) → (lose g k m).audit ≡ g.audit
+    go None = refl
+    go (Some m) = refl
+
+repeat_decides_none : (g : Group) (k : ℕ) → (group_step g (Repeat k)).audit ≡ g.audit
+repeat_decides_none g k = go (slice_get g.wire k)
+  where
+    go : (m : Option Sent) → (again g m).audit ≡ g.audit
+    go None = refl
+    go (Some m) = refl
+
+pub called_lose : (gs : List Group) (runs : List Run) (place k : ℕ) (old new : Group) (r : Result (Unit {0}) Fault) → slice_get gs place ≡ Some old → Steps old (Lose k) r new → CalledAt gs runs place (Lose k) r (slice_set gs place new) runs
+called_lose gs runs place k old new r there steps = called_quietly gs runs place (Lose k) old new r there steps (lose_decides_none old k) (λ f. refl)
+
+pub called_repeat : (gs : List Group) (runs : List Run) (place k : ℕ) (old new : Group) (r : Result (Unit {0}) Fault) → slice_get gs place ≡ Some old → Steps old (Repeat k) r new → CalledAt gs runs place (Repeat k) r (slice_set gs place new) runs
+called_repeat gs runs place k old new r there steps = called_quietly gs runs place (Repeat k) old new r there steps (repeat_decides_none old k) (λ f. refl)
+
+pub called_kick : (gs : List Group) (runs : List Run) (place : ℕ) (old new : Group) (r : Result (Unit {0}) Fault) → slice_get gs place ≡ Some old → Steps old Kick r new → CalledAt gs runs place Kick r (slice_set gs place new) runs
+called_kick gs runs place old new r there steps = called_quietly gs runs place Kick old new r there steps refl (λ f. refl)
+
+-- a loss takes no memory
+pub lost_freely : (old new : Group) (k : ℕ) (r : Result (Unit {0}) Fault) → Steps old (Lose k) r new → (refusal_of old (Lose k) ≡ None → IsOk r) → r ≡ Err OutOfMemory → ⊥
+lost_freely old new k (Ok done) h free is = absurd (cc)
+lost_freely old new k (Err (NoMessage place)) h free is = absurd (cc)
+lost_freely old new k (Err Unreachable) h free is = absurd (cc)
+lost_freely old new k (Err Full) h free is = absurd (cc)
+lost_freely old new k (Err Doubled) h free is = absurd (cc)
+lost_freely old new k (Err OutOfMemory) h free is = absurd (let no : false ≡ true = free h.0 in cc)

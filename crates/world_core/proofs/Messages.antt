@@ -18,13 +18,13 @@ use Rattle.map_core.specs.declared.fault.MapFault.{MapFault}
 use Rattle.world_core.specs.Front.{Front, front_step, front_refusal, group_refusal, told_of, requests_of}
 use Rattle.world_core.specs.World.{World, Part, part, group_at, at_group, act, acted, counts, is_drop, accepts, is_accepted, created_by, decided_in, part_refusal, parts_refusal, parts_of, refused_in, refusal_of, world_step}
 use Rattle.world_core.specs.Moves.{IsAt}
-use Rattle.world_core.specs.Refusing.{RefusedOrMemory}
+use Rattle.world_core.specs.Refusing.{RefusedOrMemory, RefusedExactly}
 use Rattle.world_core.specs.declared.audit.Run.{Run}
 use Rattle.world_core.specs.declared.calls.GroupCall.{GroupCall}
 use Rattle.world_core.specs.declared.calls.GroupCall.TheVariants as calls
 use Rattle.world_core.specs.Inside.{world_of, entries_told}
 use Rattle.world_core.specs.Sound.{FitsAt, IsSound, IsKept}
-use Rattle.world_core.specs.Applying.{Applies, CalledAt, StepsOrMemory, event_for, event_of, fault_of_group, runs_from, told_call}
+use Rattle.world_core.specs.Applying.{Applies, CalledAt, LosesExactly, LosesFreely, StepsOrMemory, event_for, event_of, fault_of_group, runs_from, told_call}
 use Rattle.world_core.proofs.Calling.{no_run, set_same}
 use Rattle.world_core.proofs.RunPlaces.{changed_runs}
 use Rattle.world_core.proofs.Runs.{same_begins}
@@ -279,6 +279,34 @@ called_none w id c fault some =
     of_map (calls.Lose place) (Some m) h = refl
     of_map (calls.Repeat place) (Some m) h = refl
     of_map calls.Kick (Some m) h = refl
+
+-- ---- a loss is never refused for want of memory
+
+other_than_memory : (fault : GroupFault) (o : Option Fault) → (OfGroup fault ≡ OutOfMemory) ⊎ (o ≡ Some (OfGroup fault)) → o ≡ Some (OfGroup fault)
+other_than_memory fault o (inl memory) = absurd (cc)
+other_than_memory fault o (inr is) = is
+
+pub lost_exactly : (w : World) (id : GroupId) (c : GroupCall) (done : Result (Unit {0}) GroupFault) → RefusedOrMemory (refusal_of w (event_for id c)) (told_call done) → LosesFreely c done → LosesExactly w (event_for id c) (told_call done)
+lost_exactly w id (calls.Deliver k) done h free = tt
+lost_exactly w id (calls.Repeat k) done h free = tt
+lost_exactly w id calls.Kick done h free = tt
+lost_exactly w id (calls.Lose k) (Ok done) h free = h
+lost_exactly w id (calls.Lose k) (Err group_fault.OutOfMemory) h free = absurd (free refl)
+lost_exactly w id (calls.Lose k) (Err (group_fault.NoMessage place)) h free = other_than_memory (group_fault.NoMessage place) (refusal_of w (Lose id k)) h
+lost_exactly w id (calls.Lose k) (Err group_fault.Unreachable) h free = other_than_memory group_fault.Unreachable (refusal_of w (Lose id k)) h
+lost_exactly w id (calls.Lose k) (Err group_fault.Full) h free = other_than_memory group_fault.Full (refusal_of w (Lose id k)) h
+lost_exactly w id (calls.Lose k) (Err group_fault.Doubled) h free = other_than_memory group_fault.Doubled (refusal_of w (Lose id k)) h
+
+pub lost_nowhere : (w : World) (id : GroupId) (c : GroupCall) (fault : Fault) → group_refusal w.front id ≡ Some fault → LosesExactly w (event_for id c) (Err fault)
+lost_nowhere w id (calls.Deliver k) fault some = tt
+lost_nowhere w id (calls.Repeat k) fault some = tt
+lost_nowhere w id calls.Kick fault some = tt
+lost_nowhere w id (calls.Lose k) fault some = no_group_refusal w id (calls.Lose k) fault some
+
+pub lost_of : (w : World) (e : Event) (r : Result Told Fault) → LosesExactly w e r → (id : GroupId) (k : ℕ) → e ≡ Lose id k → RefusedExactly (refusal_of w e) r
+lost_of w e r h id k is =
+    let now : RefusedExactly (refusal_of w (Lose id k)) r = subst (λ v. LosesExactly w v r) is h in
+    subst (λ v. RefusedExactly (refusal_of w v) r) (sym is) now
 
 -- what applied leaves of what the code keeps
 pub kept_on : (f f' : Front) (gs gs' : List Group) (runs runs' : List Run) (e : Event) (r : Result Told Fault) → IsKept f gs runs → Applies (world_of f gs runs) e r (world_of f' gs' runs') → Each (FitsAt gs') runs' → IsKept f' gs' runs'

@@ -5,7 +5,7 @@ use Rattle.std.specs.List.{filter}
 use Rattle.std.specs.Option.{option_map, option_or}
 use Rattle.std.proofs.lemmas.Bool.Decides.{nat_tests}
 use Rattle.script_text.specs.Lines.{script_lines, is_blank}
-use Rattle.script_text.specs.Text.{line}
+use Rattle.script_text.specs.Text.{line, numeral}
 use Rattle.grant_core.specs.BuiltIn.{built_in}
 use Rattle.map_core.specs.Map.{map_of}
 use Rattle.entry_core.specs.Log.{find, is_in}
@@ -229,7 +229,7 @@ step_alike p m ListUsers s tick = told_alike p m _ _ s tick (ap (λ f. users_tex
 step_alike p m (Tick t) s tick = (refl, ticked p m.world t s, refl)
 step_alike p m Settle s tick =
     let d : IsSettled p m.world = settled p m.world s in
-    (ap (λ n. line (codes "settled " ++ decimal n)) d.counted, d.sim, places_tick (places p.front) (record { plain = p; count = 0 }) ∙ tick)
+    (ap (λ n. line (codes "settled " ++ numeral n)) d.counted, d.sim, places_tick (places p.front) (record { plain = p; count = 0 }) ∙ tick)
 step_alike p m KickAll s tick = tt
 step_alike p m LoseAll s tick = tt
 step_alike p m (AskAnswer id) s tick =

@@ -1,7 +1,9 @@
 -- The lines of a script, one after another.
 use Rattle.std.proofs.Common.{◌≡◌, ◌∙◌, ℕ, ◌+◌, List, [], ◌∷◌, ◌++◌, Bool, true, false, Option, Some, None, Result, Ok, Err, OnOk, IfErr, ◌≤◌, refl, sym, ap, subst, arith, fold, append-nil, append_assoc, if◌then◌else◌}
+use Rattle.std.specs.Prelude.{codes}
 use Rattle.std.specs.Io.KnownBytes.{Appends, Keeps}
 use Rattle.script_text.specs.Streams.{AppendsPart}
+use Rattle.script_text.specs.Text.{line, numeral}
 use Rattle.script_text.specs.declared.fault.ScriptFault.{ScriptFault}
 use Rattle.script_text.specs.declared.fault.ScriptFault.TheVariants as ends
 use Rattle.script_text.proofs.Known.{appends_kept, appends_more}
@@ -12,7 +14,7 @@ use Rattle.world_core.specs.Event as happens
 use Rattle.world_core.specs.World.{World, world_step, refusal_of, is_drop}
 use Rattle.world_core.specs.Command.{Command, Osds, Submit, ListNames, Ready}
 use Rattle.world_core.specs.Text.{refused_text}
-use Rattle.world_core.specs.Script.{Step, Goes, IsBad, IsOther, Ending, Whole, BadAt, Output, Machine, event_told, event_line, after_line, line_step, script_step, onward, behind, outputs, script_output, WroteOf, ask_now, ready_line_text}
+use Rattle.world_core.specs.Script.{Step, Goes, IsBad, IsOther, Ending, Whole, BadAt, Output, Machine, event_told, event_line, after_line, line_step, script_step, onward, behind, outputs, script_output, WroteOf, ask_now, ready_line_text, unrefused, settle_events, settle_line}
 use Rattle.world_core.specs.Steps.{Does, at, GoesTo, LineWrote, IsOfLines}
 
 pub on_ok : {A E : Type 0} {P Q : Type 0} (r : Result A E) → (P → Q) → OnOk r P → OnOk r Q
@@ -131,3 +133,9 @@ list_goes m after session pool namespace a command old new is same does =
 pub ready_goes : (m : Machine) (id : GroupId) (w : World) (command : Command) (old new : List ℕ) → command ≡ Ready id → w ≡ m.world → new ≡ old ++ ready_line_text w id → GoesTo (script_step (Some m) command) old new (Some m)
 ready_goes m id w command old new is same text =
     subst (λ k. GoesTo (script_step (Some m) k) old new (Some m)) (sym is) (text ∙ ap (λ v. old ++ ready_line_text v id) same, refl)
+
+-- ---- settling
+
+pub settles_does : (tick : ℕ) (w after : World) (count : ℕ) (old new : List ℕ) → after ≡ fold world_step w (settle_events w) → count ≡ unrefused w (settle_events w) → new ≡ old ++ line (codes "settled " ++ numeral count)
+    → Does (at tick w) (settle_line (at tick w)) old new (at tick after)
+settles_does tick w after count old new steps counted text = (text ∙ ap (λ n. old ++ line (codes "settled " ++ numeral n)) counted, ap (at tick) steps)

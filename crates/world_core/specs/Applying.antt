@@ -9,7 +9,7 @@ use Rattle.group_core.specs.declared.fault.GroupFault.TheVariants as group_fault
 use Rattle.world_core.specs.Event.{Event, Deliver, Lose, Repeat, Kick, Told, Done, Fault, OutOfMemory, OfGroup}
 use Rattle.world_core.specs.Front.{told_of}
 use Rattle.world_core.specs.World.{World, counts, refusal_of, world_step}
-use Rattle.world_core.specs.Refusing.{RefusedOrMemory}
+use Rattle.world_core.specs.Refusing.{RefusedOrMemory, RefusedExactly}
 use Rattle.world_core.specs.declared.audit.Run.{Run}
 use Rattle.world_core.specs.declared.calls.GroupCall.{GroupCall}
 use Rattle.world_core.specs.declared.calls.GroupCall.TheVariants as calls
@@ -20,6 +20,11 @@ pub record Applies (old : World) (e : Event) (result : Result Told Fault) (new :
   pub tells : IfOk result (λ told. told ≡ told_of old.front e)
   pub refused : RefusedOrMemory (refusal_of old e) result
   pub unchanged : counts e result ≡ false → new ≡ old
+
+-- a loss is refused for the reason that there is, and never for want of memory
+abbrev pub LosesExactly : World → Event → Result Told Fault → Type 0
+LosesExactly w (Lose id place) result = RefusedExactly (refusal_of w (Lose id place)) result
+LosesExactly w e result = Unit {0}
 
 -- ---- calls on one group
 
@@ -67,3 +72,10 @@ pub record CalledAt {T : Type 0} (groups : List Group) (runs : List Run) (place 
   pub steps : StepsOrMemory old e result new
   pub groups_are : groups_then ≡ slice_set groups place new
   pub runs_are : runs_then ≡ runs ++ runs_from place (length old.audit) (length new.audit)
+
+-- a loss is never refused for want of memory
+abbrev pub LosesFreely : {T : Type 0} → GroupCall → Result T GroupFault → Type 0
+LosesFreely (calls.Lose place) result = result ≡ Err group_fault.OutOfMemory → ⊥
+LosesFreely (calls.Deliver place) result = Unit {0}
+LosesFreely (calls.Repeat place) result = Unit {0}
+LosesFreely calls.Kick result = Unit {0}

@@ -5,7 +5,7 @@ use Rattle.std.specs.Prelude.{◌≡◌, ℕ, ◌+◌, ◌*◌, List, [], ◌∷
 use Rattle.std.specs.List.{filter, list_any, find}
 use Rattle.std.specs.Option.{option_map_or}
 use Rattle.std.specs.FinMap.{empty}
-use Rattle.script_text.specs.Text.{line}
+use Rattle.script_text.specs.Text.{line, numeral}
 use Rattle.script_text.specs.declared.fault.ScriptFault.{ScriptFault}
 use Rattle.grant_core.specs.BuiltIn.{built_in}
 use Rattle.map_core.specs.State.{MapState}
@@ -115,7 +115,7 @@ abbrev pub rested : {S : Type 0} → PlainIn S → PlainIn S
 rested p = record p { fresh = []; opened = places p.front }
 
 abbrev pub settled_step : {S : Type 0} → SettledIn S → Step (PlainIn S)
-settled_step c = Goes (line (codes "settled " ++ decimal c.count)) (rested c.plain)
+settled_step c = Goes (line (codes "settled " ++ numeral c.count)) (rested c.plain)
 
 -- ---- events
 

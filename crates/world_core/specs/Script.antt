@@ -7,7 +7,7 @@ use Rattle.std.specs.Option.{option_map, option_or}
 use Rattle.std.specs.Io.KnownBytes.{Appends, Keeps}
 use Rattle.script_text.specs.Lines.{script_lines, is_blank}
 use Rattle.script_text.specs.Streams.{AppendsPart}
-use Rattle.script_text.specs.Text.{line}
+use Rattle.script_text.specs.Text.{line, numeral}
 use Rattle.script_text.specs.declared.fault.ScriptFault.{ScriptFault}
 use Rattle.script_text.specs.declared.fault.ScriptFault.TheVariants as ends
 use Rattle.grant_core.specs.BuiltIn.{built_in}
@@ -211,7 +211,7 @@ abbrev pub event_line : Machine → Event → Line
 event_line m e = event_told m e (refusal_of m.world e)
 
 abbrev pub settle_line : Machine → Line
-settle_line m = does m (line (codes "settled " ++ decimal (unrefused m.world (settle_events m.world)))) (settle_events m.world)
+settle_line m = does m (line (codes "settled " ++ numeral (unrefused m.world (settle_events m.world)))) (settle_events m.world)
 
 abbrev pub ready_in : Option Group → Bool
 ready_in None = false

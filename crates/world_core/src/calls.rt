@@ -1,8 +1,8 @@
 //! Calls on one group, each of which is an event of the world.
 
-ghost use Rattle.std.specs.Prelude.{◌≡◌, ◌<◌, length};
-ghost use Rattle.group_core.specs.Reached.{Steps};
-ghost use Rattle.world_core.specs.Applying.{CalledAt, event_of, told_call};
+ghost use Rattle.std.specs.Prelude.{◌≡◌, ◌<◌, ◌++◌, length};
+ghost use Rattle.group_core.specs.Group.{Deliver};
+ghost use Rattle.world_core.specs.Applying.{CalledAt, LosesFreely, StepsOrMemory, event_of, runs_from, told_call};
 
 use crate::audit::{Run, keep};
 use crate::event::Told;
@@ -18,19 +18,28 @@ pub(crate) enum GroupCall {
     Kick,
 }
 
-/// Carries out a call on a group.
-fn call(group: &mut Group, call: GroupCall) -> Result<(), GroupFault>
-    ensures { Steps group.old (event_of call) result group.new }
+/// Delivers a message of a group, and keeps where the entries stand that this decided. Room for that is taken first.
+fn deliver(
+    group: &mut Group,
+    message: usize,
+    runs: &mut Vec<Run>,
+    place: usize,
+) -> Result<(), GroupFault>
+    ensures steps { StepsOrMemory group.old (Deliver message) result group.new }
+    ensures kept { runs.new.items ≡ runs.old.items ++ runs_from place (length group.old.audit) (length group.new.audit) }
 {
-    match call {
-        GroupCall::Deliver(place) => group.deliver(place),
-        GroupCall::Lose(place) => group.lose(place),
-        GroupCall::Repeat(place) => group.repeat(place),
-        GroupCall::Kick => group.kick(),
+    if runs.reserve(1).is_err() {
+        return Err(GroupFault::OutOfMemory);
     }
+    let from = group.decided_count();
+    let done = group.deliver(message);
+    let upto = group.decided_count();
+    keep(runs, place, from, upto);
+    done
 }
 
-/// Carries out a call on the group at a place, and keeps where the entries stand that it decided. Room for that is taken first.
+/// Carries out a call on the group at a place, and keeps where the entries stand that it decided. Only a delivery decides any,
+/// and only it takes room for that; a loss takes no memory.
 pub(crate) fn call_at(
     groups: &mut Vec<Group>,
     runs: &mut Vec<Run>,
@@ -38,17 +47,16 @@ pub(crate) fn call_at(
     what: GroupCall,
 ) -> Result<(), GroupFault>
     requires { place < length groups.old.items }
-    ensures { CalledAt groups.old.items runs.old.items place (event_of what) result groups.new.items runs.new.items }
+    ensures called { CalledAt groups.old.items runs.old.items place (event_of what) result groups.new.items runs.new.items }
+    ensures lost { LosesFreely what result }
 {
-    if runs.reserve(1).is_err() {
-        return Err(GroupFault::OutOfMemory);
-    }
     let group = &mut groups[place];
-    let from = group.decided_count();
-    let done = call(group, what);
-    let upto = group.decided_count();
-    keep(runs, place, from, upto);
-    done
+    match what {
+        GroupCall::Deliver(message) => deliver(group, message, runs, place),
+        GroupCall::Lose(message) => group.lose(message),
+        GroupCall::Repeat(message) => group.repeat(message),
+        GroupCall::Kick => group.kick(),
+    }
 }
 
 /// What a call on a group tells.

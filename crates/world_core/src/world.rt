@@ -2,6 +2,7 @@
 
 ghost use Rattle.std.specs.Prelude.{◌≡◌, ◌≤◌, ◌++◌, [], ◌∷◌, ℕ, List, true, false, Ok, Some, IfOk, IsOkAnd, IsSomeAnd};
 ghost use Rattle.grant_core.specs.Flat.{Table};
+ghost use Rattle.entry_core.specs.declared.sealed.GroupId.{GroupId};
 ghost use Rattle.group_core.specs.Recovery.{is_ready};
 ghost use Rattle.world_core.specs.Event as events;
 ghost use Rattle.world_core.specs.Front.{told_of, group_refusal};
@@ -74,13 +75,15 @@ impl World {
     ///
     /// It is refused for the first reason that `WorldFault` has for it, in the order of the definition `refusal_of`, or, where
     /// there is none, for want of memory (W7). A refused event leaves the world as it was, but for a delivery to a daemon that
-    /// is down (P2): that has dropped its message, and counts as an event that happened.
+    /// is down (P2): that has dropped its message, and counts as an event that happened. A loss is never refused for want of
+    /// memory.
     pub fn apply(&mut self, event: Event) -> Result<Told, WorldFault>
         ensures holds { (table : Table) (daemons : ℕ) (before : List events.Event) → Holds table daemons before self.old → counts event result ≡ true
             → Holds table daemons (before ++ event ∷ []) self.new }
         ensures steps { counts event result ≡ true → self.new ≡ world_step self.old event }
         ensures tells { IfOk result (λ told. told ≡ told_of self.old.front event) }
         ensures refused { RefusedOrMemory (refusal_of self.old event) result }
+        ensures lost { (group : GroupId) (place : ℕ) → event ≡ events.Lose group place → RefusedExactly (refusal_of self.old event) result }
         ensures unchanged { counts event result ≡ false → self.new ≡ self.old }
     {
         let _front = &self.front;
@@ -163,11 +166,12 @@ impl World {
 impl World {
     ghost use Rattle.std.specs.Prelude.{Err};
     ghost use Rattle.world_core.specs.Event.{Auth, Map, Open, Renew, Close, Submit, ListNames};
-    ghost use Rattle.world_core.specs.Applying.{Applies, event_for};
+    ghost use Rattle.world_core.specs.Applying.{Applies, LosesExactly, event_for};
 
     /// Carries out an event.
     fn carry_out(&mut self, event: Event) -> Result<Told, WorldFault>
-        ensures { Applies self.old event result self.new }
+        ensures applies { Applies self.old event result self.new }
+        ensures lost { LosesExactly self.old event result }
     {
         match event {
             Event::Auth(command) => self.auth(command),
@@ -186,7 +190,8 @@ impl World {
 
     /// A call on one group.
     fn call(&mut self, group: &GroupId, what: GroupCall) -> Result<Told, WorldFault>
-        ensures { Applies self.old (event_for group.now what) result self.new }
+        ensures applies { Applies self.old (event_for group.now what) result self.new }
+        ensures lost { LosesExactly self.old (event_for group.now what) result }
     {
         let place = match place_of(self.front.map(), group) {
             Ok(place) => place,

@@ -1,6 +1,6 @@
 //! Events on every group of a world.
 
-ghost use Rattle.std.specs.Prelude.{◌≡◌, ◌++◌, ◌<◌, All, IfOk, OnOk, None, true, fold, map, if◌then◌else◌};
+ghost use Rattle.std.specs.Prelude.{◌≡◌, ◌+◌, ◌++◌, ◌<◌, All, IfOk, OnOk, None, true, fold, map, if◌then◌else◌};
 ghost use Rattle.std.specs.List.{flat_map};
 ghost use Rattle.map_core.specs.Map.{map_of};
 ghost use Rattle.world_core.specs.Event.{Kick};
@@ -16,6 +16,7 @@ use crate::world::World;
 use cap_text::OutOfMemory;
 use entry_core::{GroupId, TryCopy};
 use map_core::{ClusterMap, Pool};
+use script_text::Count;
 use std::alloc::{AllocError, Global};
 
 /// What is done to a message.
@@ -91,21 +92,22 @@ fn sweep_one(world: &mut World, sweep: Sweep, group: &GroupId) -> Result<bool, O
 }
 
 /// Delivers or loses message 0 of a group of the map until none is left, and counts those that nothing refused.
-fn sweep_group(world: &mut World, sweep: Sweep, group: &GroupId) -> Result<u64, OutOfMemory>
+fn sweep_group(
+    world: &mut World,
+    sweep: Sweep,
+    group: &GroupId,
+    count: &mut Count,
+) -> Result<(), OutOfMemory>
     requires { group_refusal world.old.front group.now ≡ None }
     ensures after { OnOk result (world.new ≡ fold world_step world.old (emptied (event_at sweep) group.now world.old)) }
-    ensures count { IfOk result (λ count. count ≡ unrefused world.old (emptied (event_at sweep) group.now world.old)) }
+    ensures count { OnOk result (count.new ≡ count.old + unrefused world.old (emptied (event_at sweep) group.now world.old)) }
 {
-    let mut count: u64 = 0;
     while has_messages(world, group) {
         if sweep_one(world, sweep, group)? {
-            match count.checked_add(1) {
-                None => return Err(AllocError),
-                Some(more) => count = more,
-            }
+            count.add_one()?;
         }
     }
-    Ok(count)
+    Ok(())
 }
 
 /// Delivers or loses the messages of each group in turn until none is left, and counts those that nothing refused.
@@ -113,18 +115,14 @@ pub(crate) fn sweep_groups(
     alloc: Global,
     world: &mut World,
     sweep: Sweep,
-) -> Result<u64, OutOfMemory>
+) -> Result<Count, OutOfMemory>
     ensures after { OnOk result (world.new ≡ fold world_step world.old (sweep_events sweep world.old)) }
     ensures count { IfOk result (λ count. count ≡ unrefused world.old (sweep_events sweep world.old)) }
 {
     let groups = places(alloc, world.map())?;
-    let mut count: u64 = 0;
+    let mut count = Count::new(alloc);
     for group in &groups {
-        let more = sweep_group(world, sweep, group)?;
-        match count.checked_add(more) {
-            None => return Err(AllocError),
-            Some(sum) => count = sum,
-        }
+        sweep_group(world, sweep, group, &mut count)?;
     }
     Ok(count)
 }

@@ -10,7 +10,7 @@ use crate::event::{Ask, Event};
 use crate::fault::WorldFault;
 use crate::script::command::Command;
 use crate::script::groups::{Sweep, kick_groups, sweep_groups};
-use crate::script::printing::{push_counted, push_refused, push_told};
+use crate::script::printing::{push_counted, push_refused, push_settled, push_told};
 use crate::script::questions::{answer, list_users, listing, locate, ready, show_user};
 use crate::world::World;
 use cap_text::{Name, OutOfMemory};
@@ -113,7 +113,7 @@ impl Machine {
     {
         let _tick = self.tick;
         let count = sweep_groups(alloc, &mut self.world, Sweep::Deliver)?;
-        push_counted(text, "settled ", count)
+        push_settled(text, &count)
     }
 
     /// Loses all messages of each group.

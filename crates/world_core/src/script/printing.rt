@@ -1,7 +1,7 @@
 //! What lines of a script print.
 
 ghost use Rattle.std.specs.Prelude.{◌≡◌, ◌++◌, OnOk, string_bytes, codes, decimal, flat_map, length, option_copied};
-ghost use Rattle.script_text.specs.Text.{line};
+ghost use Rattle.script_text.specs.Text.{line, numeral};
 ghost use Rattle.world_core.specs.Text as spec;
 
 use crate::event::Told;
@@ -11,7 +11,7 @@ use cap_text::{Name, OutOfMemory};
 use entry_core::{Id, Reply};
 use grant_core::Path;
 use object_core::Bytes;
-use script_text::{push_item, push_number, push_quoted};
+use script_text::{Count, push_count, push_item, push_number, push_quoted};
 use std::fmt::Write;
 use verdict_core::Condition;
 
@@ -30,6 +30,15 @@ pub(crate) fn push_counted(text: &mut String, word: &str, number: u64) -> Result
 {
     text.push_str(word)?;
     push_number(text, number)?;
+    text.push_str("\n")
+}
+
+/// Adds how many messages were delivered.
+pub(crate) fn push_settled(text: &mut String, count: &Count) -> Result<(), OutOfMemory>
+    ensures { OnOk result (string_bytes text.new ≡ string_bytes text.old ++ line (codes "settled " ++ numeral count.now)) }
+{
+    text.push_str("settled ")?;
+    push_count(text, count)?;
     text.push_str("\n")
 }
 

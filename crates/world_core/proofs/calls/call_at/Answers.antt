@@ -1,22 +1,44 @@
-use Rattle.std.proofs.Common.{◌∙◌, ◌++◌, length, refl, ap}
+use Rattle.std.proofs.Common.{length, refl}
 use Rattle.std.proofs.lemmas.Option.{slice_get_read}
-use Rattle.world_core.specs.Applying.{event_of, runs_from}
-use Rattle.world_core.proofs.Calling.{called_nothing, steps_or_memory, there_is}
+use Rattle.world_core.proofs.Calling.{called_lose, called_repeat, called_kick, lost_freely}
 use Rattle.world_core.proofs.calls.call_at.Goals as goal
 
-pub returns : goal.returns
-returns c = record {
-  old = c.index_mut-group.result.now;
-  new = c.call-done.new.group;
-  there = slice_get_read c.args.groups.now.items (length c.args.groups.now.items) c.args.place c.index_mut-group.result.now refl c.requires c.index_mut-group.ensures.value;
-  steps = steps_or_memory c.index_mut-group.result.now c.call-done.new.group (event_of c.args.what) c.call-done.result c.call-done.ensures;
-  groups_are = refl;
-  runs_are = c.keep.ensures ∙ ap (λ l. l ++ runs_from c.args.place c.decided_count-from.result c.decided_count-upto.result) c.reserve.ensures.items
-      ∙ ap (λ n. c.args.runs.now.items ++ runs_from c.args.place n c.decided_count-upto.result) c.decided_count-from.ensures
-      ∙ ap (λ n. c.args.runs.now.items ++ runs_from c.args.place (length c.index_mut-group.result.now.audit) n) c.decided_count-upto.ensures;
-}
+pub returns-in-Deliver : goal.returns-in-Deliver
+returns-in-Deliver c =
+    let gs = c.args.groups.now.items in
+    let old = c.index_mut-group.result.now in
+    rw c.in-Deliver.is (record {
+      called = record {
+        old = old;
+        new = c.deliver.new.group;
+        there = slice_get_read gs (length gs) c.args.place old refl c.requires c.index_mut-group.ensures.value;
+        steps = c.deliver.ensures.steps;
+        groups_are = refl;
+        runs_are = c.deliver.ensures.kept;
+      };
+      lost = tt;
+    })
 
-pub returns-then-is_err : goal.returns-then-is_err
-returns-then-is_err c =
-    let t = there_is c.args.groups.now.items c.args.place c.requires in
-    rw c.reserve.ensures.items (called_nothing c.args.groups.now.items c.args.runs.now.items c.args.place (event_of c.args.what) t.0 t.1)
+pub returns-in-Lose : goal.returns-in-Lose
+returns-in-Lose c =
+    let gs = c.args.groups.now.items in
+    let old = c.index_mut-group.result.now in
+    let there = slice_get_read gs (length gs) c.args.place old refl c.requires c.index_mut-group.ensures.value in
+    rw c.in-Lose.is (record {
+      called = called_lose gs c.args.runs.now.items c.args.place c.in-Lose.message old c.lose.new.self c.lose.result there c.lose.ensures.steps;
+      lost = lost_freely old c.lose.new.self c.in-Lose.message c.lose.result c.lose.ensures.steps c.lose.ensures.free;
+    })
+
+pub returns-in-Repeat-clause-called : goal.returns-in-Repeat-clause-called
+returns-in-Repeat-clause-called c =
+    let gs = c.args.groups.now.items in
+    let old = c.index_mut-group.result.now in
+    let there = slice_get_read gs (length gs) c.args.place old refl c.requires c.index_mut-group.ensures.value in
+    rw c.in-Repeat.is (called_repeat gs c.args.runs.now.items c.args.place c.in-Repeat.message old c.repeat.new.self c.repeat.result there c.repeat.ensures)
+
+pub returns-in-Kick-clause-called : goal.returns-in-Kick-clause-called
+returns-in-Kick-clause-called c =
+    let gs = c.args.groups.now.items in
+    let old = c.index_mut-group.result.now in
+    let there = slice_get_read gs (length gs) c.args.place old refl c.requires c.index_mut-group.ensures.value in
+    rw c.in-Kick.is (called_kick gs c.args.runs.now.items c.args.place old c.kick.new.self c.kick.result there c.kick.ensures)
