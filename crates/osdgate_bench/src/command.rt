@@ -7,6 +7,7 @@ use crate::expand::add_expansions;
 use crate::fault::Fault;
 use crate::group::add_groups;
 use crate::parse::add_parses;
+use crate::script::add_scripts;
 use crate::table::Table;
 use crate::vector::add_vectors;
 use crate::verdict::add_verdicts;
@@ -35,6 +36,7 @@ PART is one of
   compare   finding what one ticket allows that another denies, at 1, 16 and 64 grants
   vector    running a vector of operations on an object
   group     a request through a group of three daemons, of 1,000 and of 8,000
+  script    a script's lines: comments, ticks, requests, moves of 2,048 groups, restarts
 ";
 
 /// What is measured.
@@ -46,6 +48,7 @@ enum Part {
     Compare,
     Vector,
     Group,
+    Script,
 }
 
 fn part_of(word: &str) -> Option<Part> {
@@ -56,6 +59,7 @@ fn part_of(word: &str) -> Option<Part> {
         "compare" => Some(Part::Compare),
         "vector" => Some(Part::Vector),
         "group" => Some(Part::Group),
+        "script" => Some(Part::Script),
         _ => None,
     }
 }
@@ -70,6 +74,7 @@ fn table_of<C: Clock>(alloc: Global, clock: &C, part: Part, name: &str) -> Resul
         Part::Compare => add_comparisons(&mut table, name)?,
         Part::Vector => add_vectors(&mut table, name)?,
         Part::Group => add_groups(&mut table, name)?,
+        Part::Script => add_scripts(&mut table, name)?,
     }
     Ok(table.into_text()?)
 }

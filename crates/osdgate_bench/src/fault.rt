@@ -5,6 +5,7 @@ use grant_core::ExpandFault;
 use object_core::NeedsFault;
 use std::alloc::{AllocError, AllocFailed};
 use std::{fmt, io};
+use world_core::ScriptFault;
 
 /// Why a table is not made. No part of it is printed then.
 #[derive(Debug, Drop)]
@@ -19,6 +20,10 @@ pub(crate) enum Fault {
     Expansion(ExpandFault),
     /// A vector that is to be measured is not sealed.
     Needs(NeedsFault),
+    /// A script that is to be measured ends before its last line.
+    Script(ScriptFault),
+    /// A line of a script that is to be measured is refused.
+    Refused,
 }
 
 impl From<AllocError> for Fault {
@@ -57,6 +62,12 @@ impl From<NeedsFault> for Fault {
     }
 }
 
+impl From<ScriptFault> for Fault {
+    fn from(fault: ScriptFault) -> Fault {
+        Fault::Script(fault)
+    }
+}
+
 impl fmt::Display for Fault {
     fn fmt<W: fmt::Write>(&self, f: &mut fmt::Formatter<W>) -> fmt::Result {
         match self {
@@ -65,6 +76,8 @@ impl fmt::Display for Fault {
             Fault::Text(fault) => write!(f, "a text is refused: {fault}"),
             Fault::Expansion(fault) => write!(f, "a list is not expanded: {fault}"),
             Fault::Needs(fault) => write!(f, "a vector is not sealed: {fault}"),
+            Fault::Script(fault) => write!(f, "a script ends early: {fault}"),
+            Fault::Refused => write!(f, "a line of a script is refused"),
         }
     }
 }

@@ -1,5 +1,5 @@
-//! The program `osdgate_bench`: what verdicts, capability texts, expansions, comparisons and vectors of operations
-//! cost, in nanoseconds a call.
+//! The program `osdgate_bench`: what verdicts, capability texts, expansions, comparisons, vectors of operations,
+//! groups and scripts cost, in nanoseconds a call.
 //!
 //! Only this crate reads a clock.
 #![tactic(auto)]
@@ -12,6 +12,8 @@ mod grants;
 mod group;
 mod measure;
 mod parse;
+mod script;
+mod script_lines;
 mod table;
 mod text;
 mod vector;
