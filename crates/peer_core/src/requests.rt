@@ -66,13 +66,19 @@ impl State {
     }
 
     /// Counts a member that has the entry in flight. Once all have it, it is answered, and what waits is taken.
-    pub fn on_appended(&mut self, interval: u64, place: usize, member: u8) -> Result<Items<Sent>, OutOfMemory>
+    pub fn on_appended(
+        &mut self,
+        interval: u64,
+        place: usize,
+        member: u8,
+    ) -> Result<Items<Sent>, OutOfMemory>
         ensures ok { IfOk result (λ sent. rules.on_appended self.old.role self.old interval place member ≡ record { copy = self.new; sent = sent }) }
         ensures err { OnErr result (self.new ≡ self.old) }
     {
         let sent = Items::new(self.log.allocator());
         let holders = match &self.role {
-            Role::Active(Some(holders)) if self.promise == interval && place == self.log.len() => *holders,
+            Role::Active(Some(holders)) if self.promise == interval && place == self.log.len() =>
+                *holders,
             _ => return Ok(sent),
         };
         let holders = self.counted(&holders, member);
