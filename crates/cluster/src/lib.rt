@@ -19,6 +19,8 @@
 mod located;
 mod news;
 mod published;
+#[cfg(test)]
+mod tests;
 
 pub use cap_text::OutOfMemory;
 pub use located::{Located, judge, locate};
