@@ -1,4 +1,10 @@
-//! The world on threads. What is there so far: the published map.
+//! The world on threads. What is there so far: groups and users under turn locks, and the published map.
+//!
+//! # Groups and users
+//!
+//! A [`Cluster`] has a turn lock for each group and one for the users. A [`Pass`] has a seat of each, and goes to one thread.
+//! Each call takes a turn: it finds the state after a list of turns that begins with all that the pass had seen, and adds
+//! one entry, its own. A [`Note`] carries what a pass has seen to another.
 //!
 //! # The published map
 //!
@@ -16,16 +22,27 @@
 //! That a reader finds a place, or that the writer's wait ends, is not promised.
 #![tactic(auto)]
 
+mod begin;
+mod cluster;
+mod groups;
 mod located;
 mod news;
 mod published;
+mod seats;
 #[cfg(test)]
 mod tests;
+mod users;
 
+pub use begin::start;
 pub use cap_text::OutOfMemory;
+pub use cluster::{CloseFault, Cluster, Ended, Note, Pass};
+pub use groups::{
+    AnswerFault, AnswerOf, GroupEntry, GroupEvent, LockedGroup, Submission, Work, Worked,
+};
 pub use located::{Located, judge, locate};
 pub use news::{News, learn, tell};
 pub use published::{
     Knowledge, MapReader, MapWriter, PublishedMap, PublishedRule, SeenMap, publish, publish_first,
     view,
 };
+pub use users::{Change, Open, OpenFault, Renew, UserCommand, UserEntry, UserTable};
