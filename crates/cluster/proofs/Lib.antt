@@ -1,0 +1,5 @@
+pub mod Grows
+pub mod Finding
+pub mod Places
+pub mod Telling
+pub mod Gathering
