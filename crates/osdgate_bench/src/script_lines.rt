@@ -93,7 +93,8 @@ pub(crate) fn requests(
 /// How many pools move.
 const POOLS: u32 = 32;
 
-/// So many times, a daemon that has a copy of every group goes down and comes up.
+/// Pools whose groups settle, each of three members in 11 deliveries. So many times, a daemon that has a copy of every group
+/// goes down and comes up.
 pub(crate) fn moves(alloc: Global, name: &str, pairs: u16) -> Result<Script, OutOfMemory> {
     let mut text = String::from_str(alloc, "osds 3\n")?;
     for number in 0..POOLS {
@@ -103,8 +104,13 @@ pub(crate) fn moves(alloc: Global, name: &str, pairs: u16) -> Result<Script, Out
     for _ in 0..pairs {
         text.push_str("osd down 2\nosd up 2\n")?;
     }
-    let last = POOLS + 1 + 2 * pairs as u32;
-    let ending = format!(in alloc; "epoch {last}\n")?;
+    let ending = if pairs == 0 {
+        let settled = POOLS * 64 * 11;
+        format!(in alloc; "settled {settled}\n")?
+    } else {
+        let last = POOLS + 1 + 2 * pairs as u32;
+        format!(in alloc; "epoch {last}\n")?
+    };
     Ok(Script { text, ending })
 }
 

@@ -93,6 +93,7 @@ fn scripts_end_well(rt: HostRuntime) -> Result<(), Fail> {
     assert!(rt; ends_well);
     assert!(rt; printed(alloc, &requests(alloc, "data", 3, Settling::Once)?)?.1);
     assert!(rt; printed(alloc, &requests(alloc, "data", 101, Settling::Hundreds)?)?.1);
+    assert!(rt; printed(alloc, &moves(alloc, "data", 0)?)?.1);
     assert!(rt; printed(alloc, &moves(alloc, "data", 1)?)?.1);
     let (text, ends_well) = printed(alloc, &restarts(alloc, "data", 2)?)?;
     assert_eq!(rt; text.as_str(), "epoch 1\nepoch 2\nepoch 3\nepoch 4\n");
