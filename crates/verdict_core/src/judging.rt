@@ -5,7 +5,7 @@ ghost use Rattle.std.specs.List.{list_any, list_all};
 ghost use Rattle.verdict_core.specs.Verdict.{is_allowed};
 ghost use Rattle.verdict_core.specs.Verdict as spec;
 
-use crate::matching::{allows, is_usable, is_usable_at_once};
+use crate::matching::{allows, is_usable, is_usable_at_once, is_usable_by_names};
 use crate::request::{ClassCall, Needs, Target};
 use crate::ticket::Ticket;
 use cap_text::AllowGrant;
@@ -35,9 +35,9 @@ fn has_usable_at_length(grants: &[(Path, AllowGrant)], target: &Target<'_>, need
         .any(|entry| is_usable(&entry.1, target, needs))
 }
 
-/// Whether some grant is usable. The walk goes by a few comparisons of words, and where they do not tell of a grant,
-/// another one goes on from it, so that nothing of the grants behind is kept.
-pub(crate) fn has_usable(grants: &[(Path, AllowGrant)], target: &Target<'_>, needs: &Needs) -> bool
+/// The same, by a walk that looks at tags by a few comparisons of words.
+#[inline(never)]
+fn has_usable_by_tags(grants: &[(Path, AllowGrant)], target: &Target<'_>, needs: &Needs) -> bool
     ensures { result ≡ list_any (λ entry. spec.is_usable entry.1 target.now needs.now) grants.now }
 {
     let mut rest = grants;
@@ -46,6 +46,22 @@ pub(crate) fn has_usable(grants: &[(Path, AllowGrant)], target: &Target<'_>, nee
             Some(true) => return true,
             Some(false) => rest = others,
             None => return has_usable_at_length(rest, target, needs),
+        }
+    }
+    false
+}
+
+/// Whether some grant is usable. The walk goes by a few comparisons of words of names, and where they do not tell of a
+/// grant, another one goes on from it, so that nothing of the grants behind is kept.
+pub(crate) fn has_usable(grants: &[(Path, AllowGrant)], target: &Target<'_>, needs: &Needs) -> bool
+    ensures { result ≡ list_any (λ entry. spec.is_usable entry.1 target.now needs.now) grants.now }
+{
+    let mut rest = grants;
+    while let Some((entry, others)) = rest.split_first() {
+        match is_usable_by_names(&entry.1, target, needs) {
+            Some(true) => return true,
+            Some(false) => rest = others,
+            None => return has_usable_by_tags(rest, target, needs),
         }
     }
     false

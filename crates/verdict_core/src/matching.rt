@@ -259,16 +259,11 @@ fn matches_tag_at_once(wanted: &Option<Tag>, tags: &Tags) -> Option<bool>
     matches_pair_at_once(tag, &app.application, pair)
 }
 
-/// Whether a grant is usable, if a few comparisons of words tell: they do where each name that is compared has 2 to 16
-/// bytes, and the pool of a tag has one application with one pair. It calls nothing, so that a walk by it saves few
-/// registers.
+/// Whether a grant agrees with the names of a place, if a few comparisons of words tell: they do where each name that is
+/// compared has 2 to 16 bytes.
 #[inline(always)]
-pub(crate) fn is_usable_at_once(
-    grant: &AllowGrant,
-    target: &Target<'_>,
-    needs: &Needs,
-) -> Option<bool>
-    ensures { ForSome result (λ usable. usable ≡ spec.is_usable grant.now target.now needs.now) }
+fn matches_names_at_once(grant: &AllowGrant, target: &Target<'_>) -> Option<bool>
+    ensures { ForSome result (λ holds. holds ≡ (spec.names grant.now.pool target.now.pool && spec.matches_namespace grant.now.namespace target.now.namespace && spec.matches_prefix grant.now.prefix target.now.object)) }
 {
     let Some(prefix) = matches_prefix_at_once(&grant.prefix, target.object) else {
         return None;
@@ -282,16 +277,51 @@ pub(crate) fn is_usable_at_once(
     if !pool {
         return Some(false);
     }
-    let Some(namespace) = matches_namespace_at_once(&grant.namespace, target.namespace) else {
+    matches_namespace_at_once(&grant.namespace, target.namespace)
+}
+
+/// Whether a grant without a tag is usable, if a few comparisons of words tell. It calls nothing, so that a walk by it
+/// saves few registers.
+#[inline(always)]
+pub(crate) fn is_usable_by_names(
+    grant: &AllowGrant,
+    target: &Target<'_>,
+    needs: &Needs,
+) -> Option<bool>
+    ensures { ForSome result (λ usable. usable ≡ spec.is_usable grant.now target.now needs.now) }
+{
+    if grant.tag.is_some() {
+        return None;
+    }
+    let Some(names) = matches_names_at_once(grant, target) else {
         return None;
     };
-    if !namespace {
+    if !names {
         return Some(false);
     }
+    Some(serves(&grant.access, needs))
+}
+
+/// Whether a grant is usable, if a few comparisons of words tell: they do of a tag, too, where the pool has one
+/// application with one pair.
+#[inline(always)]
+pub(crate) fn is_usable_at_once(
+    grant: &AllowGrant,
+    target: &Target<'_>,
+    needs: &Needs,
+) -> Option<bool>
+    ensures { ForSome result (λ usable. usable ≡ spec.is_usable grant.now target.now needs.now) }
+{
     let Some(tag) = matches_tag_at_once(&grant.tag, target.tags) else {
         return None;
     };
     if !tag {
+        return Some(false);
+    }
+    let Some(names) = matches_names_at_once(grant, target) else {
+        return None;
+    };
+    if !names {
         return Some(false);
     }
     Some(serves(&grant.access, needs))
