@@ -4,8 +4,8 @@ ghost use Rattle.std.specs.Prelude.{◌≡◌, ◌+◌, ◌<◌, ◌++◌, [], �
 ghost use Rattle.group_core.specs.Group.{is_answered, answer_of};
 
 use crate::element_at::at;
-use crate::ids::Ids;
 use entry_core::{Id, Items, OutOfMemory, Reply, TryCopy};
+use indexmap::IndexSet;
 use std::alloc::Global;
 use std::marker::Model;
 
@@ -29,7 +29,7 @@ impl TryCopy for Answer {
 #[derive(Drop)]
 pub(crate) struct Answers {
     all: Vec<Answer>,
-    ids: Ids,
+    ids: IndexSet<Id>,
 }
 
 impl Model for Answers {
@@ -40,7 +40,7 @@ impl Model for Answers {
 
     ghost view = { λ a. a.all.items };
 
-    ghost invariant = { λ a. a.ids ≡ map (λ s. s.id) a.all.items };
+    ghost invariant = { λ a. a.ids.keys ≡ map (λ s. s.id) a.all.items };
 }
 
 impl Answers {
@@ -49,7 +49,7 @@ impl Answers {
     {
         Answers {
             all: Vec::new(alloc),
-            ids: Ids::new(alloc),
+            ids: IndexSet::new(alloc),
         }
     }
 
@@ -58,14 +58,14 @@ impl Answers {
         ensures { result ≡ is_answered self.now id }
     {
         let _all = &self.all;
-        self.ids.place(id).is_some()
+        self.ids.contains(&id)
     }
 
     /// The answer to the request of this id.
     pub fn get(&self, id: Id) -> Option<&Reply>
         ensures { option_copied result ≡ answer_of self.now id }
     {
-        match self.ids.place(id) {
+        match self.ids.get_index_of(&id) {
             Some(place) => match at(self.all.as_slice(), place) {
                 Some(answer) => Some(&answer.reply),
                 None => None,
@@ -81,8 +81,8 @@ impl Answers {
         ensures err { OnErr result (self.new ≡ self.old) }
     {
         self.all.reserve(1)?;
-        self.ids.push(answer.id)?;
-        let _ = self.all.push(answer);
+        self.ids.insert(answer.id)?;
+        self.all.push_reserved(answer);
         Ok(())
     }
 }
@@ -95,7 +95,7 @@ impl TryCopy for Answers {
         }
         Ok(Answers {
             all: all.into_vec(),
-            ids: self.ids.copy()?,
+            ids: self.ids.clone()?,
         })
     }
 }

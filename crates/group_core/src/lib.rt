@@ -8,7 +8,6 @@ mod element_at;
 mod fault;
 mod furthest;
 mod group;
-mod ids;
 mod laws;
 mod moves;
 mod opening;

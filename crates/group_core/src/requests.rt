@@ -1,10 +1,10 @@
 //! The requests that were submitted to a group.
 
-ghost use Rattle.std.specs.Prelude.{◌≡◌, ◌+◌, ◌-◌, ◌<◌, ◌++◌, [], ◌∷◌, false, length, take, OnOk, OnErr};
+ghost use Rattle.std.specs.Prelude.{◌≡◌, ◌-◌, ◌++◌, [], ◌∷◌, false, length, take, OnOk, OnErr};
 ghost use Rattle.group_core.specs.Group.{is_submitted};
 
-use crate::ids::Ids;
 use entry_core::{Id, Items, OutOfMemory, Sealed, TryCopy};
+use indexmap::IndexSet;
 use std::alloc::Global;
 use std::marker::Model;
 
@@ -12,7 +12,7 @@ use std::marker::Model;
 #[derive(Drop)]
 pub(crate) struct Requests {
     all: Vec<Sealed>,
-    ids: Ids,
+    ids: IndexSet<Id>,
 }
 
 impl Model for Requests {
@@ -23,7 +23,7 @@ impl Model for Requests {
 
     ghost view = { λ a. a.all.items };
 
-    ghost invariant = { λ a. a.ids ≡ map (λ s. s.id) a.all.items };
+    ghost invariant = { λ a. a.ids.keys ≡ map (λ s. s.id) a.all.items };
 }
 
 impl Requests {
@@ -32,7 +32,7 @@ impl Requests {
     {
         Requests {
             all: Vec::new(alloc),
-            ids: Ids::new(alloc),
+            ids: IndexSet::new(alloc),
         }
     }
 
@@ -47,7 +47,7 @@ impl Requests {
         ensures { result ≡ is_submitted self.now id }
     {
         let _all = &self.all;
-        self.ids.place(id).is_some()
+        self.ids.contains(&id)
     }
 
     /// Adds a request of a new id.
@@ -57,8 +57,8 @@ impl Requests {
         ensures err { OnErr result (self.new ≡ self.old) }
     {
         self.all.reserve(1)?;
-        self.ids.push(request.id())?;
-        let _ = self.all.push(request);
+        self.ids.insert(request.id())?;
+        self.all.push_reserved(request);
         Ok(())
     }
 
@@ -66,8 +66,9 @@ impl Requests {
     pub fn pop(&mut self)
         ensures { self.new ≡ take (length self.old - 1) self.old }
     {
-        self.ids.pop();
-        let _ = self.all.pop();
+        let count = self.all.len().saturating_sub(1);
+        self.ids.truncate(count);
+        self.all.truncate(count);
     }
 }
 
@@ -79,7 +80,7 @@ impl TryCopy for Requests {
         }
         Ok(Requests {
             all: all.into_vec(),
-            ids: self.ids.copy()?,
+            ids: self.ids.clone()?,
         })
     }
 }

@@ -1,10 +1,11 @@
-use Rattle.std.proofs.Common.{◌≡◌, sym, ◌∙◌, ap, subst, false}
+use Rattle.std.proofs.Common.{◌≡◌, ◌∙◌, ◌∷◌, ◌++◌, [], false, map, sym, ap}
 use Rattle.group_core.specs.Group.{Answer, is_answered}
-use Rattle.group_core.specs.Places.{place_of}
-use Rattle.group_core.proofs.Places.{no_place}
+use Rattle.group_core.proofs.ById.{one_more}
 use Rattle.group_core.proofs.answers.Answers.push.Goals as goal
 
-pub push-requires : goal.push-requires
-push-requires c =
-    let new : is_answered c.self.inside.all.items c.args.answer.id ≡ false = subst (λ l. is_answered l c.args.answer.id ≡ false) (sym c.self.view_is) c.requires in
-    ap (λ l. place_of l c.args.answer.id) c.self.invariant ∙ no_place (λ (a : Answer). a.id) c.self.inside.all.items c.args.answer.id new
+pub invariant_of-self-2 : goal.invariant_of-self-2
+invariant_of-self-2 c =
+    let items = c.self.inside.all.items in
+    let new : is_answered items c.args.answer.id ≡ false = ap (λ l. is_answered l c.args.answer.id) c.self.view_is ∙ c.requires in
+    c.in_ok-insert.ensures.keys ∙ one_more (λ (a : Answer). a.id) c.self.inside.ids.keys items c.args.answer c.self.invariant new
+    ∙ ap (map (λ (a : Answer). a.id)) (sym (c.push_reserved.ensures.items ∙ ap (λ l. l ++ c.args.answer ∷ []) c.reserve.ensures.items))

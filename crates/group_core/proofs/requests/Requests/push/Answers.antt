@@ -1,12 +1,13 @@
-use Rattle.std.proofs.Common.{◌≡◌, sym, ◌∙◌, ap, subst, false}
-use Rattle.std.specs.Prelude.{None}
+use Rattle.std.proofs.Common.{◌≡◌, ◌∙◌, ◌∷◌, ◌++◌, [], false, map, nat_eq, sym, ap}
+use Rattle.indexmap.specs.IndexSet.{insert_key}
 use Rattle.entry_core.specs.Request.{Sealed}
 use Rattle.group_core.specs.Group.{is_submitted}
-use Rattle.group_core.specs.Places.{place_of}
-use Rattle.group_core.proofs.Places.{no_place}
+use Rattle.group_core.proofs.ById.{one_more}
 use Rattle.group_core.proofs.requests.Requests.push.Goals as goal
 
-pub push-requires : goal.push-requires
-push-requires c =
-    let new : is_submitted c.self.inside.all.items c.args.request.id ≡ false = subst (λ l. is_submitted l c.args.request.id ≡ false) (sym c.self.view_is) c.requires in
-    subst (λ v. place_of c.self.inside.ids v ≡ None) (sym c.id.ensures) (ap (λ l. place_of l c.args.request.id) c.self.invariant ∙ no_place (λ (s : Sealed). s.id) c.self.inside.all.items c.args.request.id new)
+pub invariant_of-self-2 : goal.invariant_of-self-2
+invariant_of-self-2 c =
+    let items = c.self.inside.all.items in
+    let new : is_submitted items c.args.request.id ≡ false = ap (λ l. is_submitted l c.args.request.id) c.self.view_is ∙ c.requires in
+    c.in_ok-insert.ensures.keys ∙ ap (λ k. insert_key nat_eq c.self.inside.ids.keys k) c.id.ensures ∙ one_more (λ (s : Sealed). s.id) c.self.inside.ids.keys items c.args.request c.self.invariant new
+    ∙ ap (map (λ (s : Sealed). s.id)) (sym (c.push_reserved.ensures.items ∙ ap (λ l. l ++ c.args.request ∷ []) c.reserve.ensures.items))
