@@ -161,7 +161,7 @@ fn append(entries: &mut Vec<Entry>, index: &mut HashMap<Id, usize>, entry: Entry
         ≡ (if entry.sealed.id == id then Some (length entries.old.items) else lookup (λ n. id == n) index.old.entries) }
 {
     let _ = index.insert(entry.sealed.id(), entries.len());
-    let _ = entries.push(entry);
+    entries.push_reserved(entry);
 }
 
 impl TryCopy for Log {

@@ -27,7 +27,7 @@ pub(crate) fn keep(runs: &mut Vec<Run>, group: usize, from: usize, upto: usize)
     ensures { runs.new.items ≡ runs.old.items ++ runs_from group from upto }
 {
     if from < upto {
-        let _ = runs.push(Run { group, from, upto });
+        runs.push_reserved(Run { group, from, upto });
     }
 }
 
