@@ -8,7 +8,7 @@ use crate::fault::Fault;
 use crate::group::add_groups;
 use crate::parse::add_parses;
 use crate::script::add_scripts;
-use crate::table::Table;
+use crate::table::{Mode, Table};
 use crate::vector::add_vectors;
 use crate::verdict::add_verdicts;
 use std::alloc::Global;
@@ -37,6 +37,7 @@ PART is one of
   vector    running a vector of operations on an object
   group     a request through a group of three daemons, of 1,000 and of 8,000
   script    a script's lines: comments, ticks, requests, moves of 2,048 groups, restarts
+  check     nothing: the work of each row is done once, and its answer printed
 ";
 
 /// What is measured.
@@ -49,6 +50,7 @@ enum Part {
     Vector,
     Group,
     Script,
+    Check,
 }
 
 fn part_of(word: &str) -> Option<Part> {
@@ -60,13 +62,29 @@ fn part_of(word: &str) -> Option<Part> {
         "vector" => Some(Part::Vector),
         "group" => Some(Part::Group),
         "script" => Some(Part::Script),
+        "check" => Some(Part::Check),
         _ => None,
     }
 }
 
+/// Adds the rows of all parts.
+fn add_all<C: Clock>(table: &mut Table<'_, C>, name: &str) -> Result<(), Fault> {
+    add_verdicts(table, name)?;
+    add_parses(table, name)?;
+    add_expansions(table, name)?;
+    add_comparisons(table, name)?;
+    add_vectors(table, name)?;
+    add_groups(table, name)?;
+    add_scripts(table, name)
+}
+
 /// The table of a part.
 fn table_of<C: Clock>(alloc: Global, clock: &C, part: Part, name: &str) -> Result<String, Fault> {
-    let mut table = Table::new(alloc, clock)?;
+    let mode = match part {
+        Part::Check => Mode::Once,
+        _ => Mode::Timed,
+    };
+    let mut table = Table::new(alloc, clock, mode)?;
     match part {
         Part::Verdict => add_verdicts(&mut table, name)?,
         Part::Parse => add_parses(&mut table, name)?,
@@ -75,6 +93,7 @@ fn table_of<C: Clock>(alloc: Global, clock: &C, part: Part, name: &str) -> Resul
         Part::Vector => add_vectors(&mut table, name)?,
         Part::Group => add_groups(&mut table, name)?,
         Part::Script => add_scripts(&mut table, name)?,
+        Part::Check => add_all(&mut table, name)?,
     }
     Ok(table.into_text()?)
 }

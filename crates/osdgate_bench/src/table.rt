@@ -8,29 +8,52 @@ use std::alloc::Global;
 use std::fmt::Write;
 use std::time::Clock;
 
+/// What is done with the work of a row.
+#[derive(Clone, Copy, Debug)]
+pub(crate) enum Mode {
+    /// It is measured.
+    Timed,
+    /// It is done once, and its answer printed. No clock is read.
+    Once,
+}
+
 /// A table that is being made. What was measured stands in its text, and how many calls there were, and how
 /// many of them answered yes, is counted.
 #[derive(Drop)]
 pub(crate) struct Table<'a, C> {
     alloc: Global,
     clock: &'a C,
+    mode: Mode,
     text: String,
     calls: usize,
     yes: usize,
 }
 
+/// The first line of a table.
+fn head(alloc: Global, mode: Mode) -> Result<String, OutOfMemory> {
+    let mut text = String::new(alloc);
+    if let Mode::Once = mode {
+        return Ok(text);
+    }
+    push_name(&mut text, "nanoseconds a call, of 15 runs")?;
+    push_number(&mut text, "least")?;
+    push_number(&mut text, "middle")?;
+    text.push_str("\n")?;
+    Ok(text)
+}
+
 impl<'a, C: Clock> Table<'a, C> {
     /// A table with its head.
-    pub(crate) fn new(alloc: Global, clock: &'a C) -> Result<Table<'a, C>, OutOfMemory> {
-        let mut text = String::new(alloc);
-        push_name(&mut text, "nanoseconds a call, of 15 runs")?;
-        push_number(&mut text, "least")?;
-        push_number(&mut text, "middle")?;
-        text.push_str("\n")?;
+    pub(crate) fn new(
+        alloc: Global,
+        clock: &'a C,
+        mode: Mode,
+    ) -> Result<Table<'a, C>, OutOfMemory> {
         Ok(Table {
             alloc,
             clock,
-            text,
+            mode,
+            text: head(alloc, mode)?,
             calls: 0,
             yes: 0,
         })
@@ -41,8 +64,27 @@ impl<'a, C: Clock> Table<'a, C> {
         self.alloc
     }
 
-    /// Measures a piece of work and adds its line.
+    /// Adds the line of a piece of work.
     pub(crate) fn row<W: Work>(&mut self, name: &str, work: &W) -> Result<(), Fault> {
+        match self.mode {
+            Mode::Timed => self.measured(name, work),
+            Mode::Once => self.tried(name, work),
+        }
+    }
+
+    /// Does a piece of work once and adds its answer.
+    fn tried<W: Work>(&mut self, name: &str, work: &W) -> Result<(), Fault> {
+        let answer = work.once(0)?;
+        self.calls = self.calls.saturating_add(1);
+        self.yes = self.yes.saturating_add(usize::from(answer));
+        push_name(&mut self.text, name)?;
+        push_number(&mut self.text, if answer { "yes" } else { "no" })?;
+        self.text.push_str("\n")?;
+        Ok(())
+    }
+
+    /// Measures a piece of work and adds its times.
+    fn measured<W: Work>(&mut self, name: &str, work: &W) -> Result<(), Fault> {
         let timing = measure(self.clock, work)?;
         self.calls = self.calls.saturating_add(timing.calls);
         self.yes = self.yes.saturating_add(timing.yes);

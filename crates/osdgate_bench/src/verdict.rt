@@ -192,17 +192,29 @@ impl Asked {
             needs: shape.needs(alloc, name, number)?,
         })
     }
+
+    /// The targets of the four places.
+    fn targets(&self) -> Result<Vec<Target<'_>>, OutOfMemory> {
+        let mut targets = Vec::with_capacity(*self.places.allocator(), 4)?;
+        for place in self.places.iter() {
+            targets.push(place.target())?;
+        }
+        Ok(targets)
+    }
 }
 
-/// The verdict.
+/// The verdict. Its targets are made before, as Ceph's strings are.
 #[derive(Drop)]
-struct Judge<'a>(&'a Asked);
+struct Judge<'a> {
+    asked: &'a Asked,
+    targets: &'a [Target<'a>],
+}
 
 impl Work for Judge<'_> {
     fn once(&self, turn: usize) -> Result<bool, OutOfMemory> {
-        match self.0.places.get(turn % 4) {
+        match self.targets.get(turn % 4) {
             None => Ok(false),
-            Some(place) => Ok(judge(&self.0.ticket, &place.target(), &self.0.needs, 0)),
+            Some(target) => Ok(judge(&self.asked.ticket, target, &self.asked.needs, 0)),
         }
     }
 
@@ -213,13 +225,16 @@ impl Work for Judge<'_> {
 
 /// The verdict by the index.
 #[derive(Drop)]
-struct JudgeIndexed<'a>(&'a Asked);
+struct JudgeIndexed<'a> {
+    asked: &'a Asked,
+    targets: &'a [Target<'a>],
+}
 
 impl Work for JudgeIndexed<'_> {
     fn once(&self, turn: usize) -> Result<bool, OutOfMemory> {
-        match self.0.places.get(turn % 4) {
+        match self.targets.get(turn % 4) {
             None => Ok(false),
-            Some(place) => Ok(self.0.indexed.judge(&place.target(), &self.0.needs, 0)),
+            Some(target) => Ok(self.asked.indexed.judge(target, &self.asked.needs, 0)),
         }
     }
 
@@ -312,8 +327,15 @@ impl Rows {
         which: &str,
         asked: &Asked,
     ) -> Result<(), Fault> {
-        self.add(table, "judge", which, &Judge(asked))?;
-        self.add(table, "judge indexed", which, &JudgeIndexed(asked))
+        let targets = asked.targets()?;
+        let targets = targets.as_slice();
+        self.add(table, "judge", which, &Judge { asked, targets })?;
+        self.add(
+            table,
+            "judge indexed",
+            which,
+            &JudgeIndexed { asked, targets },
+        )
     }
 
     /// Adds the rows of requests that the last grant allows.
