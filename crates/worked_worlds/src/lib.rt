@@ -10,6 +10,10 @@ mod events;
 #[cfg(test)]
 mod failover;
 #[cfg(test)]
+mod group_refusals;
+#[cfg(test)]
+mod limits;
+#[cfg(test)]
 mod names;
 #[cfg(test)]
 mod refusals;

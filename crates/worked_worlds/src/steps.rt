@@ -18,6 +18,8 @@ use world_core::{World, WorldFault};
 pub(super) enum Step {
     // An event, and what it tells.
     Event(Does, Tells),
+    // An event that happens so many times, and is refused none of them.
+    Times(u32, Does),
     // Message 0 of a group is delivered, or lost where its daemon is down, until none is left: how many were delivered.
     Settle(u32, u32),
     // Every message of a group is lost.
@@ -26,6 +28,8 @@ pub(super) enum Step {
     Wire(u32, usize),
     // Whether a group is ready.
     Ready(u32, bool),
+    // What is told of a group of this pool: how many messages are on their way, and whether it is ready.
+    Question(&'static str, u32, Result<usize, &'static str>, &'static str),
     // The map's epoch.
     At(Epoch),
     // The ids of the audit, in order.
@@ -34,7 +38,7 @@ pub(super) enum Step {
     Decided(u32, u32, Says),
 }
 
-use Step::{At, Audit, Decided, LoseAll, Ready, Settle, Wire};
+use Step::{At, Audit, Decided, LoseAll, Question, Ready, Settle, Times, Wire};
 
 // What an event tells.
 pub(super) fn apply(alloc: Global, world: &mut World, does: Does) -> Result<Tells, Fail> {
@@ -42,8 +46,18 @@ pub(super) fn apply(alloc: Global, world: &mut World, does: Does) -> Result<Tell
     Ok(answered(world.apply(event)))
 }
 
+// How many times in a row an event is accepted, up to this count.
+fn accepted(alloc: Global, world: &mut World, does: Does, count: u32) -> Result<u32, Fail> {
+    for gone in 0..count {
+        if apply(alloc, world, does)?.is_refused() {
+            return Ok(gone);
+        }
+    }
+    Ok(count)
+}
+
 // How many messages of a group are on their way, or the number of the refusal.
-pub(super) fn wire_length(
+fn wire_length(
     alloc: Global,
     world: &World,
     pool: &str,
@@ -113,18 +127,24 @@ fn has_decided(world: &World, id: Id, says: Says) -> Result<bool, Fail> {
 }
 
 // Whether a group is ready, or the number of the refusal.
-pub(super) fn readiness(
-    alloc: Global,
-    world: &World,
-    pool: &str,
-    place: u32,
-) -> Result<&'static str, Fail> {
+fn readiness(alloc: Global, world: &World, pool: &str, place: u32) -> Result<&'static str, Fail> {
     let id = group(alloc, pool, place)?;
     Ok(match world.ready(&id) {
         Ok(true) => "yes",
         Ok(false) => "no",
         Err(fault) => number(fault),
     })
+}
+
+// How many messages of a group are on their way and whether it is ready, or the refusal of either.
+fn questions(
+    alloc: Global,
+    world: &World,
+    pool: &str,
+    place: u32,
+) -> Result<(Result<usize, &'static str>, &'static str), Fail> {
+    let sent = wire_length(alloc, world, pool, place)?;
+    Ok((sent, readiness(alloc, world, pool, place)?))
 }
 
 // Whether a world looks as a step says.
@@ -134,6 +154,9 @@ fn sees(alloc: Global, world: &World, step: Step) -> Result<bool, Fail> {
         Ready(group, is_ready) => {
             let wanted = if is_ready { "yes" } else { "no" };
             Ok(readiness(alloc, world, "data", group)? == wanted)
+        }
+        Question(pool, group, sent, is_ready) => {
+            Ok(questions(alloc, world, pool, group)? == (sent, is_ready))
         }
         At(epoch) => Ok(world.map().epoch() == epoch),
         Audit(ids) => has_audit(world, ids),
@@ -146,6 +169,7 @@ fn sees(alloc: Global, world: &World, step: Step) -> Result<bool, Fail> {
 fn happens(alloc: Global, world: &mut World, step: Step) -> Result<bool, Fail> {
     match step {
         Step::Event(does, wanted) => Ok(apply(alloc, world, does)? == wanted),
+        Times(count, does) => Ok(accepted(alloc, world, does, count)? == count),
         Settle(group, count) => Ok(settle(alloc, world, group)? == Some(count)),
         LoseAll(group) => lose_all(alloc, world, group),
         _ => Ok(true),

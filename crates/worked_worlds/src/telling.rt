@@ -18,6 +18,14 @@ pub(super) enum Tells {
     Request(u32, u32),
     List(u32, u32, u32),
     Refused(&'static str),
+    // P1, and the message's number.
+    NoMessage(usize),
+}
+
+impl Tells {
+    pub(super) fn is_refused(self) -> bool {
+        matches!(self, Tells::Refused(_) | Tells::NoMessage(_))
+    }
 }
 
 fn of_users(fault: AuthFault) -> &'static str {
@@ -113,6 +121,7 @@ fn told_by(told: Told) -> Tells {
 pub(super) fn answered(told: Result<Told, WorldFault>) -> Tells {
     match told {
         Ok(told) => told_by(told),
+        Err(WorldFault::Group(GroupFault::NoMessage(place))) => Tells::NoMessage(place),
         Err(fault) => Tells::Refused(number(fault)),
     }
 }
