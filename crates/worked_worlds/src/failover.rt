@@ -94,15 +94,39 @@ fn a_list_of_events(rt: HostRuntime) -> Result<(), Fail> {
     Ok(())
 }
 
+// The list with some of its events changed, and the place and the number of its first refusal.
+const CHANGES: [(&[(usize, Does)], usize, &str); 3] = [
+    (&[(9, DELIVER)], 9, "P2"),
+    (&[(9, DELIVER), (8, Renew(2, None))], 8, "W1"),
+    (
+        &[(8, Renew(2, None)), (0, Create("data", 65, 3, 2))],
+        0,
+        "M7",
+    ),
+];
+
+// What a list is refused, of which some events are changed.
+fn refused_with(
+    alloc: Global,
+    changes: &[(usize, Does)],
+) -> Result<Option<(usize, &'static str)>, Fail> {
+    let mut events = EVENTS;
+    for (place, does) in changes {
+        if let Some(event) = events.get_mut(*place) {
+            *event = *does;
+        }
+    }
+    refused(alloc, &events)
+}
+
 #[test]
 fn a_list_stops_at_the_first_refusal(rt: HostRuntime) -> Result<(), Fail> {
-    let mut events = EVENTS;
-    events[9] = DELIVER;
-    assert_eq!(&rt; refused(rt.alloc(), &events)?, Some((9, "P2")));
-    events[8] = Renew(2, None);
-    assert_eq!(&rt; refused(rt.alloc(), &events)?, Some((8, "W1")));
-    events[0] = Create("data", 65, 3, 2);
-    assert_eq!(&rt; refused(rt.alloc(), &events)?, Some((0, "M7")));
+    for (changes, place, number) in &CHANGES {
+        assert_eq!(&rt;
+            refused_with(rt.alloc(), *changes)?,
+            Some((*place, *number))
+        );
+    }
     assert_eq!(&rt; refused(rt.alloc(), &[])?, None);
     Ok(())
 }

@@ -78,12 +78,22 @@ fn stat_all(
     Ok(all.len())
 }
 
+// How many steps of the beginning and how many stats go as they say, and what lists tell of a namespace of 64 letters, and
+// of 65.
+fn told(alloc: Global, world: &mut World) -> Result<(usize, usize, Tells, Tells), Fail> {
+    let gone = run_on(alloc, world, &BEGUN)?;
+    let stats = stat_all(alloc, world, &LENGTHS)?;
+    let longest = list(alloc, world, 64)?;
+    Ok((gone, stats, longest, list(alloc, world, 65)?))
+}
+
 #[test]
 fn names_have_their_lengths(rt: HostRuntime) -> Result<(), Fail> {
     let mut world = begun(rt.alloc(), 3)?;
-    assert_eq!(&rt; run_on(rt.alloc(), &mut world, &BEGUN)?, 3);
-    assert_eq!(&rt; stat_all(rt.alloc(), &mut world, &LENGTHS)?, 7);
-    assert_eq!(&rt; list(rt.alloc(), &mut world, 64)?, Tells::List(1, 5, 1));
-    assert_eq!(&rt; list(rt.alloc(), &mut world, 65)?, Tells::Refused("W3"));
+    let (gone, stats, longest, longer) = told(rt.alloc(), &mut world)?;
+    drop(world);
+    assert_eq!(&rt; (gone, stats), (3, 7));
+    assert_eq!(&rt; longest, Tells::List(1, 5, 1));
+    assert_eq!(&rt; longer, Tells::Refused("W3"));
     Ok(())
 }

@@ -57,11 +57,20 @@ fn are_refused(alloc: Global, world: &mut World, all: &[Refusal]) -> Result<usiz
 }
 
 // How many steps of the beginning go as they say, how many of these are refused so, and how many looks are as before.
+fn refused_on(
+    alloc: Global,
+    world: &mut World,
+    all: &[Refusal],
+) -> Result<(usize, usize, usize), Fail> {
+    let gone = run_on(alloc, world, &BEGUN)?;
+    let refused = are_refused(alloc, world, all)?;
+    Ok((gone, refused, run_on(alloc, world, &SEEN)?))
+}
+
+// The same, of a new world of three daemons.
 fn refuses(alloc: Global, all: &[Refusal]) -> Result<(usize, usize, usize), Fail> {
     let mut world = begun(alloc, 3)?;
-    let gone = run_on(alloc, &mut world, &BEGUN)?;
-    let refused = are_refused(alloc, &mut world, all)?;
-    Ok((gone, refused, run_on(alloc, &mut world, &SEEN)?))
+    refused_on(alloc, &mut world, all)
 }
 
 const BLANK: Place = ("data", "", "a b");

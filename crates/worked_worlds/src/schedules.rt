@@ -129,20 +129,30 @@ const SEEN: [Step; 5] = [
 
 // Two requests, the second once the first was settled. So many messages of the first are delivered in order, and then
 // one goes wrong. It says how many looks at the end are as they must be.
+fn go_on_wrong(
+    alloc: Global,
+    world: &mut World,
+    delivered: usize,
+    wrong: Wrong,
+) -> Result<usize, Fail> {
+    run_on(alloc, world, &BEGUN)?;
+    apply(alloc, world, APPEND_A)?;
+    for _ in 0..delivered {
+        apply(alloc, world, Deliver("data", 0, 0))?;
+    }
+    go_wrong(alloc, world, wrong)?;
+    settle(alloc, world, 0)?;
+    apply(alloc, world, KICK)?;
+    settle(alloc, world, 0)?;
+    apply(alloc, world, READ)?;
+    settle(alloc, world, 0)?;
+    run_on(alloc, world, &SEEN)
+}
+
+// The same, of a new world of three daemons.
 fn run_wrong(alloc: Global, delivered: usize, wrong: Wrong) -> Result<usize, Fail> {
     let mut world = begun(alloc, 3)?;
-    run_on(alloc, &mut world, &BEGUN)?;
-    apply(alloc, &mut world, APPEND_A)?;
-    for _ in 0..delivered {
-        apply(alloc, &mut world, Deliver("data", 0, 0))?;
-    }
-    go_wrong(alloc, &mut world, wrong)?;
-    settle(alloc, &mut world, 0)?;
-    apply(alloc, &mut world, KICK)?;
-    settle(alloc, &mut world, 0)?;
-    apply(alloc, &mut world, READ)?;
-    settle(alloc, &mut world, 0)?;
-    run_on(alloc, &mut world, &SEEN)
+    go_on_wrong(alloc, &mut world, delivered, wrong)
 }
 
 #[test]

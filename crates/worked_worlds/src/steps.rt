@@ -196,7 +196,18 @@ pub(super) fn begun(alloc: Global, daemons: u8) -> Result<World, Fail>
     Ok(World::new(alloc, table, daemons).map_err(|_| "no world")?)
 }
 
-// A world of so many daemons that takes the first steps, and then the second ones, and how many of either go as they say.
+// How many of the first steps, and then of the second ones, go as they say.
+fn run_both(
+    alloc: Global,
+    world: &mut World,
+    first: &[Step],
+    second: &[Step],
+) -> Result<(usize, usize), Fail> {
+    let gone = run_on(alloc, world, first)?;
+    Ok((gone, run_on(alloc, world, second)?))
+}
+
+// The same, of a new world of so many daemons.
 pub(super) fn run_from(
     alloc: Global,
     daemons: u8,
@@ -207,6 +218,5 @@ pub(super) fn run_from(
     requires few { daemons ≤ 16 }
 {
     let mut world = begun(alloc, daemons)?;
-    let gone = run_on(alloc, &mut world, first)?;
-    Ok((gone, run_on(alloc, &mut world, second)?))
+    run_both(alloc, &mut world, first, second)
 }
