@@ -10,7 +10,8 @@ use Rattle.indexmap.proofs.MapLemmas.{Found-position, Missing-position}
 use Rattle.group_core.specs.Types.{EntryReply}
 use Rattle.group_core.specs.Group.{Answer, answer_of}
 
-same_turned : (a b : ℕ) → (a == b) ≡ (b == a)
+-- equality of numbers, turned round
+pub same_turned : (a b : ℕ) → (a == b) ≡ (b == a)
 same_turned a b = go (a == b) refl
   where
     go : (t : Bool) → (a == b) ≡ t → t ≡ (b == a)

@@ -22,6 +22,9 @@ mod verdict;
 use command::run_command;
 use std::process::ExitCode;
 
+#[cfg(test)]
+mod tests;
+
 fn main(rt: HostRuntime) -> ExitCode {
     let alloc = rt.alloc();
     let words: Vec<String> = match std::env::args(&rt) {

@@ -1,25 +1,15 @@
 -- Requests and lists by their ids.
 use Prim.Native.Nat.{zero, suc}
-use Rattle.std.proofs.Common.{◌≡◌, ◌∙◌, ℕ, ◌==◌, Bool, true, false, cond, List, [], ◌∷◌, ◌++◌, Option, Some, None, take, refl, sym, ap, eqb-true, eq-eqb}
+use Rattle.std.proofs.Common.{◌≡◌, ◌∙◌, ℕ, ◌==◌, Bool, true, false, cond, List, [], ◌∷◌, ◌++◌, Option, Some, None, take, refl, sym, ap, eqb-true}
 use Rattle.std.specs.Option.{option_map}
 use Rattle.std.specs.List.{find}
 use Rattle.std.specs.Map.{lookup}
 use Rattle.std.proofs.lemmas.List.{map-append}
 use Rattle.entry_core.specs.Request.{Sealed}
 use Rattle.group_core.specs.Group.{submitted}
+use Rattle.group_core.proofs.ById.{same_turned}
 use Rattle.world_core.specs.Front.{Pieced}
 use Rattle.world_core.specs.Submitting.{requests_in, AreKeyed, lists_in}
-
-same_turned : (a b : ℕ) → (a == b) ≡ (b == a)
-same_turned a b = go (a == b) refl
-  where
-    go : (t : Bool) → (a == b) ≡ t → t ≡ (b == a)
-    go true e = sym (eq-eqb b a (sym (eqb-true a b e)))
-    go false e = other (b == a) refl
-      where
-        other : (u : Bool) → (b == a) ≡ u → false ≡ u
-        other true f = sym e ∙ eq-eqb a b (sym (eqb-true b a f))
-        other false f = refl
 
 -- ---- requests
 
