@@ -19,7 +19,7 @@ use place_core::group_of;
 use std::alloc::{AllocError, Global};
 use std::marker::Model;
 use std::sync::Arc;
-use verdict_core::{Calls, IndexedTicket, Needs, Report};
+use verdict_core::{Calls, Needs, Report, SharedTicket};
 
 /// Which placement group: its pool, and its number there, from 0 on.
 #[derive(Debug, Drop)]
@@ -67,7 +67,7 @@ impl Sealed {
     pub fn vector(
         alloc: Global,
         id: Id,
-        ticket: IndexedTicket,
+        ticket: SharedTicket,
         tick: u64,
         view: PoolView,
         group: u32,
@@ -105,7 +105,7 @@ impl Sealed {
     pub fn listing(
         alloc: Global,
         id: Id,
-        ticket: IndexedTicket,
+        ticket: SharedTicket,
         tick: u64,
         view: PoolView,
         group: u32,
@@ -194,6 +194,7 @@ impl Sealed {
         let parts: &Parts = &self.parts;
         parts
             .ticket
+            .as_ticket()
             .judge(&target_of(parts), &parts.needs, parts.tick)
     }
 
@@ -205,6 +206,7 @@ impl Sealed {
         let parts: &Parts = &self.parts;
         parts
             .ticket
+            .as_ticket()
             .report(alloc, &target_of(parts), &parts.needs, parts.tick)
     }
 

@@ -7,7 +7,7 @@ use crate::id::Id;
 use crate::object_name::ObjectName;
 use map_core::PoolView;
 use object_core::Op;
-use verdict_core::{IndexedTicket, Needs, Target};
+use verdict_core::{Needs, SharedTicket, Target};
 
 /// What is asked.
 #[derive(Drop)]
@@ -22,7 +22,7 @@ pub(crate) enum Task {
 #[derive(Drop)]
 pub(crate) struct Parts {
     pub(crate) id: Id,
-    pub(crate) ticket: IndexedTicket,
+    pub(crate) ticket: SharedTicket,
     pub(crate) tick: u64,
     pub(crate) view: PoolView,
     pub(crate) group: u32,

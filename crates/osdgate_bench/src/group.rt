@@ -3,7 +3,7 @@
 ghost use Rattle.std.specs.Prelude.{◌≡◌, IfOk};
 
 use crate::fault::Fault;
-use crate::grants::{indexed, ticket_of};
+use crate::grants::ticket_of;
 use crate::measure::Work;
 use crate::table::Table;
 use cap_text::{Name, OutOfMemory, Tags};
@@ -14,7 +14,7 @@ use object_core::{Bytes, Op};
 use place_core::{ActingSet, DaemonSet};
 use std::alloc::Global;
 use std::time::Clock;
-use verdict_core::IndexedTicket;
+use verdict_core::SharedTicket;
 
 /// Requests that a new group takes and answers.
 #[derive(Drop)]
@@ -78,8 +78,8 @@ fn write_full(alloc: Global, contents: &str) -> Result<Vec<Op>, OutOfMemory> {
 }
 
 /// A ticket of the one grant `allow *`.
-fn all(alloc: Global) -> Result<IndexedTicket, Fault> {
-    Ok(indexed(ticket_of(alloc, "allow *")?)?)
+fn all(alloc: Global) -> Result<SharedTicket, Fault> {
+    Ok(SharedTicket::of(ticket_of(alloc, "allow *")?)?)
 }
 
 /// The plain namespace, and one of 64 objects.
@@ -89,20 +89,21 @@ fn address(alloc: Global, name: &str, number: u32) -> Result<(Name, Name), OutOf
 }
 
 /// A request to replace the contents of one of 64 objects by a name.
-fn request(alloc: Global, number: u32, name: &str) -> Result<Sealed, Fault> {
+fn request(alloc: Global, number: u32, name: &str, ticket: &SharedTicket) -> Result<Sealed, Fault> {
     let id = Id::new(1, number);
     let view = view_of(alloc, name)?;
     let (namespace, object) = address(alloc, name, number)?;
     let ops = write_full(alloc, name)?;
-    let ticket = all(alloc)?;
+    let ticket = ticket.copy()?;
     let sealed = Sealed::vector(alloc, id, ticket, 0, view, 0, namespace, object, ops)?;
     Ok(sealed)
 }
 
 fn through_a_group(alloc: Global, count: u32, name: &str) -> Result<Settling, Fault> {
+    let ticket = all(alloc)?;
     let mut requests = Vec::with_capacity(alloc, count as usize)?;
     for number in 0..count {
-        requests.push(request(alloc, number, name)?)?;
+        requests.push(request(alloc, number, name, &ticket)?)?;
     }
     Ok(Settling {
         alloc,

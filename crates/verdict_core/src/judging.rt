@@ -35,9 +35,10 @@ fn has_usable_at_length(grants: &[(Path, AllowGrant)], target: &Target<'_>, need
         .any(|entry| is_usable(&entry.1, target, needs))
 }
 
-/// The same, by a walk that looks at tags by a few comparisons of words.
+/// The same, by a walk that looks at names and tags by a few comparisons of words. Where they do not tell of a grant, another
+/// walk goes on from it, so that nothing of the grants behind is kept.
 #[inline(never)]
-fn has_usable_by_tags(grants: &[(Path, AllowGrant)], target: &Target<'_>, needs: &Needs) -> bool
+fn has_usable_at_once(grants: &[(Path, AllowGrant)], target: &Target<'_>, needs: &Needs) -> bool
     ensures { result ≡ list_any (λ entry. spec.is_usable entry.1 target.now needs.now) grants.now }
 {
     let mut rest = grants;
@@ -51,20 +52,20 @@ fn has_usable_by_tags(grants: &[(Path, AllowGrant)], target: &Target<'_>, needs:
     false
 }
 
-/// Whether some grant is usable. The walk goes by a few comparisons of words of names, and where they do not tell of a
-/// grant, another one goes on from it, so that nothing of the grants behind is kept.
-pub(crate) fn has_usable(grants: &[(Path, AllowGrant)], target: &Target<'_>, needs: &Needs) -> bool
+/// Whether some grant is usable. Many tickets have one grant, so the first one is looked at before a walk begins, if it has no
+/// tag.
+#[inline(always)]
+fn has_usable(grants: &[(Path, AllowGrant)], target: &Target<'_>, needs: &Needs) -> bool
     ensures { result ≡ list_any (λ entry. spec.is_usable entry.1 target.now needs.now) grants.now }
 {
-    let mut rest = grants;
-    while let Some((entry, others)) = rest.split_first() {
-        match is_usable_by_names(&entry.1, target, needs) {
-            Some(true) => return true,
-            Some(false) => rest = others,
-            None => return has_usable_by_tags(rest, target, needs),
-        }
+    let Some((entry, others)) = grants.split_first() else {
+        return false;
+    };
+    match is_usable_by_names(&entry.1, target, needs) {
+        Some(true) => true,
+        Some(false) => !others.is_empty() && has_usable_at_once(others, target, needs),
+        None => has_usable_at_once(grants, target, needs),
     }
-    false
 }
 
 /// Whether each call is covered. It is a call of its own, since most requests have no calls.

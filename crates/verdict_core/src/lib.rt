@@ -11,6 +11,7 @@ mod matching;
 mod places;
 mod reporting;
 mod request;
+mod shared;
 mod texts;
 mod ticket;
 
@@ -18,4 +19,5 @@ pub use indexed::IndexedTicket;
 pub use judging::{grants_allow, judge};
 pub use reporting::report;
 pub use request::{Calls, ClassCall, Condition, Needs, Target};
+pub use shared::SharedTicket;
 pub use ticket::{Report, Ticket};

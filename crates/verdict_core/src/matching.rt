@@ -7,7 +7,7 @@ ghost use Rattle.std.specs.Str.{bytes_eq};
 ghost use Rattle.verdict_core.specs.Verdict as spec;
 
 use crate::request::{ClassCall, Condition, Needs, Target};
-use crate::texts::{begins_with, begins_with_at_once, is_text, is_text_at_once};
+use crate::texts::{begins_with, begins_with_at_once, is_name_at_once, is_text, is_text_at_once};
 use cap_text::{Access, AllowGrant, AppTags, Name, NsMatch, Pairs, Part, Tag, Tags};
 
 /// No name, or this one.
@@ -162,22 +162,36 @@ pub(crate) fn is_usable(grant: &AllowGrant, target: &Target<'_>, needs: &Needs) 
     matches(grant, target) && serves(&grant.access, needs)
 }
 
-/// The same in a call of its own, for walks on which few grants come so far.
+/// The same in a call of its own, for walks on which few grants come so far. Most grants of a class are for all places.
 #[inline(never)]
 fn is_usable_in_turn(grant: &AllowGrant, target: &Target<'_>, needs: &Needs) -> bool
     ensures { result ≡ spec.is_usable grant.now target.now needs.now }
 {
-    is_usable(grant, target, needs)
+    let is_here = match grant {
+        AllowGrant {
+            pool: None,
+            namespace: None,
+            prefix: None,
+            tag: None,
+            ..
+        } => true,
+        _ => matches(grant, target),
+    };
+    is_here && serves(&grant.access, needs)
 }
 
-/// `names`, if two comparisons of words tell.
+/// `names`, if two comparisons of words tell, or before them the last byte, where it is asked for.
 #[inline(always)]
-fn names_at_once(wanted: &Option<Name>, name: &str) -> Option<bool>
+fn names_at_once<const BY_END: bool>(wanted: &Option<Name>, name: &str) -> Option<bool>
     ensures { ForSome result (λ holds. holds ≡ spec.names wanted.now name.now) }
 {
-    match wanted {
-        None => Some(true),
-        Some(wanted) => is_text_at_once(wanted, name),
+    let Some(wanted) = wanted else {
+        return Some(true);
+    };
+    if BY_END {
+        is_name_at_once(wanted, name)
+    } else {
+        is_text_at_once(wanted, name)
     }
 }
 
@@ -260,9 +274,12 @@ fn matches_tag_at_once(wanted: &Option<Tag>, tags: &Tags) -> Option<bool>
 }
 
 /// Whether a grant agrees with the names of a place, if a few comparisons of words tell: they do where each name that is
-/// compared has 2 to 16 bytes.
+/// compared has 2 to 16 bytes. A walk asks for the last byte of the pool first, in which most names differ.
 #[inline(always)]
-fn matches_names_at_once(grant: &AllowGrant, target: &Target<'_>) -> Option<bool>
+fn matches_names_at_once<const BY_END: bool>(
+    grant: &AllowGrant,
+    target: &Target<'_>,
+) -> Option<bool>
     ensures { ForSome result (λ holds. holds ≡ (spec.names grant.now.pool target.now.pool && spec.matches_namespace grant.now.namespace target.now.namespace && spec.matches_prefix grant.now.prefix target.now.object)) }
 {
     let Some(prefix) = matches_prefix_at_once(&grant.prefix, target.object) else {
@@ -271,7 +288,7 @@ fn matches_names_at_once(grant: &AllowGrant, target: &Target<'_>) -> Option<bool
     if !prefix {
         return Some(false);
     }
-    let Some(pool) = names_at_once(&grant.pool, target.pool) else {
+    let Some(pool) = names_at_once::<BY_END>(&grant.pool, target.pool) else {
         return None;
     };
     if !pool {
@@ -293,7 +310,7 @@ pub(crate) fn is_usable_by_names(
     if grant.tag.is_some() {
         return None;
     }
-    let Some(names) = matches_names_at_once(grant, target) else {
+    let Some(names) = matches_names_at_once::<false>(grant, target) else {
         return None;
     };
     if !names {
@@ -318,7 +335,7 @@ pub(crate) fn is_usable_at_once(
     if !tag {
         return Some(false);
     }
-    let Some(names) = matches_names_at_once(grant, target) else {
+    let Some(names) = matches_names_at_once::<true>(grant, target) else {
         return None;
     };
     if !names {

@@ -6,7 +6,7 @@ ghost use Rattle.verdict_core.specs.Places.{AreChained, NoneBefore, chains_of};
 ghost use Rattle.verdict_core.specs.Places as spec;
 ghost use Rattle.verdict_core.specs.Verdict.{grants_allow, is_covered};
 
-use crate::judging::has_usable;
+use crate::judging;
 use crate::matching::{allows, is_usable};
 use crate::request::{ClassCall, Needs, Target};
 use cap_text::{Access, AllowGrant, Name, OutOfMemory};
@@ -193,7 +193,7 @@ impl Places {
         if needs.reads || needs.writes {
             self.some_gives(grants, target, needs, None)
         } else {
-            has_usable(grants, target, needs)
+            judging::grants_allow(grants, target, needs)
         }
     }
 

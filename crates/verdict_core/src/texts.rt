@@ -1,6 +1,6 @@
 //! Whether texts are the same, in few instructions.
 
-ghost use Rattle.std.specs.Prelude.{◌≡◌, ◌*◌, ◌≤◌, nat_eq, length};
+ghost use Rattle.std.specs.Prelude.{◌≡◌, ◌*◌, ◌≤◌, nat_eq, length, true, false};
 ghost use Rattle.std.specs.List.{starts_with};
 ghost use Rattle.std.specs.Option.{ForSome};
 ghost use Rattle.std.specs.Str.{bytes_eq};
@@ -91,6 +91,27 @@ pub(crate) fn is_text_at_once(name: &Name, text: &str) -> Option<bool>
     ensures { ForSome result (λ same. same ≡ bytes_eq name.now text.now) }
 {
     are_same_at_once(name.as_str().as_bytes(), text.as_bytes())
+}
+
+/// Whether two texts differ in their length or in their last byte, as most names do that differ.
+#[inline(always)]
+fn end_differently(left: &[u8], right: &[u8]) -> bool
+    ensures { result ≡ true → bytes_eq left.now right.now ≡ false }
+{
+    let length = left.len();
+    length != right.len() || (length > 0 && left[length - 1] != right[length - 1])
+}
+
+/// Whether a name is this text, if its end or two comparisons of words tell.
+#[inline(always)]
+pub(crate) fn is_name_at_once(name: &Name, text: &str) -> Option<bool>
+    ensures { ForSome result (λ same. same ≡ bytes_eq name.now text.now) }
+{
+    let (name, text) = (name.as_str().as_bytes(), text.as_bytes());
+    if end_differently(name, text) {
+        return Some(false);
+    }
+    are_same_at_once(name, text)
 }
 
 /// Whether a text begins with a prefix.

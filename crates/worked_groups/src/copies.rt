@@ -6,7 +6,7 @@ use place_core::ActingSet;
 use std::alloc::Global;
 use std::process::Abort;
 use std::test::Fail;
-use verdict_core::{IndexedTicket, Ticket};
+use verdict_core::{SharedTicket, Ticket};
 
 // What a message says, in short: a log is given by the numbers of its requests.
 #[derive(Clone, Copy)]
@@ -47,7 +47,7 @@ fn request(alloc: Global, number: u32) -> Result<Sealed, OutOfMemory> {
         min_size: 2,
         tags: Tags::from_vec(Vec::new(alloc)),
     };
-    let ticket = IndexedTicket::of(Ticket::empty(alloc, None)).map_err(|refused| refused.1)?;
+    let ticket = SharedTicket::of(Ticket::empty(alloc, None))?;
     let namespace = Name::new(alloc, "")?;
     Sealed::listing(alloc, Id::new(1, number), ticket, 0, view, 0, namespace)
 }

@@ -12,7 +12,7 @@ use object_core::{Bytes, NeedsFault, Op};
 use std::alloc::Global;
 use std::process::Abort;
 use std::test::Fail;
-use verdict_core::{Condition, IndexedTicket, Ticket};
+use verdict_core::{Condition, SharedTicket, Ticket};
 
 /// When each request is submitted.
 const TICK: u64 = 9;
@@ -34,7 +34,7 @@ fn ticket_until(
     write: bool,
     class: bool,
     until: Option<u64>,
-) -> Result<IndexedTicket, Fail> {
+) -> Result<SharedTicket, Fail> {
     let mut text = String::from_str(alloc, "allow ")?;
     text.push_str(if read { "r" } else { "" })?;
     text.push_str(if write { "w" } else { "" })?;
@@ -44,11 +44,11 @@ fn ticket_until(
         |_| "a list that is not expanded",
     )?;
     let ticket = Ticket::of(alloc, &tree, until)?;
-    Ok(IndexedTicket::of(ticket).map_err(|_| "no room for an index")?)
+    Ok(SharedTicket::of(ticket)?)
 }
 
 /// The same for ever.
-fn ticket(alloc: Global, read: bool, write: bool, class: bool) -> Result<IndexedTicket, Fail> {
+fn ticket(alloc: Global, read: bool, write: bool, class: bool) -> Result<SharedTicket, Fail> {
     ticket_until(alloc, read, write, class, None)
 }
 
@@ -93,7 +93,7 @@ fn call(alloc: Global, class: &str, method: &str, input: &str) -> Result<Op, Out
 fn one(
     alloc: Global,
     number: u32,
-    ticket: IndexedTicket,
+    ticket: SharedTicket,
     object: &str,
     op: Op,
 ) -> Result<Sealed, Fail> {
@@ -106,7 +106,7 @@ fn one(
     Ok(Sealed::vector(alloc, id, ticket, TICK, view, 0, namespace, object, ops)?)
 }
 
-fn listing(alloc: Global, number: u32, group: u32, all: IndexedTicket) -> Result<Sealed, Fail> {
+fn listing(alloc: Global, number: u32, group: u32, all: SharedTicket) -> Result<Sealed, Fail> {
     let namespace = Name::new(alloc, "")?;
     Ok(Sealed::listing(
         alloc,

@@ -19,7 +19,7 @@ use map_core::PoolView;
 use place_core::group_of;
 use std::alloc::Global;
 
-/// The request of a vector. Its ticket is a copy of the session's, so the cost is linear in the ticket's grants.
+/// The request of a vector, which shares the session's ticket.
 ///
 /// It is refused as its operations are, by N1 to N3, or for want of memory.
 pub(crate) fn seal_vector(
@@ -45,7 +45,7 @@ pub(crate) fn seal_vector(
     Ok(request)
 }
 
-// The piece of a list for one group. Its ticket and its view are copies.
+// The piece of a list for one group. It shares the session's ticket, and its view is a copy.
 fn seal_piece(
     alloc: Global,
     ask: &Ask,

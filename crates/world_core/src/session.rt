@@ -12,13 +12,13 @@ use entry_core::{Id, OutOfMemory};
 use map_core::Epoch;
 use std::alloc::Global;
 use std::marker::Model;
-use verdict_core::IndexedTicket;
+use verdict_core::SharedTicket;
 
 /// Who asks, with the ticket of the last opening or renewal. Its requests count from 1.
 #[derive(Drop)]
 pub(crate) struct Session {
     pub(crate) entity: Name,
-    pub(crate) ticket: IndexedTicket,
+    pub(crate) ticket: SharedTicket,
     /// The last epoch that was used, 0 at first.
     pub(crate) epoch: Epoch,
     /// The last tick that was used, 0 at first.
@@ -37,7 +37,7 @@ pub(crate) struct Pieced {
 
 impl Session {
     /// A new session.
-    pub fn new(entity: Name, ticket: IndexedTicket) -> Session
+    pub fn new(entity: Name, ticket: SharedTicket) -> Session
         ensures { result ≡ opened entity ticket }
     {
         Session {
@@ -113,7 +113,7 @@ impl Sessions {
     }
 
     /// Gives the open session of a number another ticket, or W1.
-    pub fn renew(&mut self, number: u32, ticket: IndexedTicket) -> Result<(), WorldFault>
+    pub fn renew(&mut self, number: u32, ticket: SharedTicket) -> Result<(), WorldFault>
         ensures ok { OnOk result (self.new ≡ session_at self.old number (λ s. record s { ticket = ticket })) }
         ensures refused { RefusedExactly (error_of (session_of self.old number)) result }
         ensures err { OnErr result (self.new ≡ self.old) }

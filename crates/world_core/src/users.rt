@@ -13,7 +13,7 @@ use crate::event::{AuthCommand, Told};
 use crate::fault::WorldFault;
 use auth_db::{AuthDb, Caps, Creation};
 use cap_text::Name;
-use verdict_core::IndexedTicket;
+use verdict_core::SharedTicket;
 
 /// Carries out a command on the users.
 pub(crate) fn change_users(users: &mut AuthDb, command: AuthCommand) -> Result<Told, WorldFault>
@@ -91,12 +91,12 @@ pub(crate) fn ticket_for(
     users: &AuthDb,
     entity: &Name,
     until: Option<u64>,
-) -> Result<IndexedTicket, WorldFault>
+) -> Result<SharedTicket, WorldFault>
     ensures ticket { IfOk result (λ ticket. ticket ≡ spec.ticket_for users.now entity.now until) }
     ensures refused { RefusedOrMemory (option_map OfUsers (known_refusal users.now.users entity.now)) result }
 {
     let ticket = users.ticket(entity.as_str(), until)?;
-    match IndexedTicket::of(ticket) {
+    match SharedTicket::of(ticket) {
         Ok(ticket) => Ok(ticket),
         Err(_) => Err(WorldFault::OutOfMemory),
     }

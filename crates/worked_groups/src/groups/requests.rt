@@ -8,7 +8,7 @@ use grant_core::{ProfileTable, expand};
 use map_core::PoolView;
 use object_core::{Bytes, NeedsFault, Op};
 use std::alloc::{AllocError, Global};
-use verdict_core::{IndexedTicket, Ticket};
+use verdict_core::{SharedTicket, Ticket};
 
 // What is asked of the object `x`: one operation, or an append of `a` and a read in one vector.
 #[derive(Clone, Copy)]
@@ -29,7 +29,7 @@ pub(super) enum May {
     All,
 }
 
-fn ticket(alloc: Global, may: May) -> Result<IndexedTicket, OutOfMemory> {
+fn ticket(alloc: Global, may: May) -> Result<SharedTicket, OutOfMemory> {
     let text = match may {
         May::Read => "allow r",
         May::Write => "allow w",
@@ -41,7 +41,7 @@ fn ticket(alloc: Global, may: May) -> Result<IndexedTicket, OutOfMemory> {
     let Ok(tree) = expand(alloc, &ProfileTable::builtin(alloc)?, &list) else {
         return Err(AllocError);
     };
-    IndexedTicket::of(Ticket::of(alloc, &tree, None)?).map_err(|refused| refused.1)
+    SharedTicket::of(Ticket::of(alloc, &tree, None)?)
 }
 
 fn call(alloc: Global, method: &str, input: &str) -> Result<Op, OutOfMemory> {

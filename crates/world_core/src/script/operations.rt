@@ -147,11 +147,11 @@ fn op(alloc: Global, words: &mut Words<'_>) -> Result<Option<Op>, OutOfMemory>
     }
 }
 
-/// Operations with a plus between them, up to the end of the line.
+/// Operations with a plus between them, up to the end of the line. Most lines have one, so there is room for one.
 pub(crate) fn ops(alloc: Global, words: &mut Words<'_>) -> Result<Option<Ops>, OutOfMemory>
     ensures { IfOk result (Takes spec.ops words.old words.new) }
 {
-    let mut ops = Vec::new(alloc);
+    let mut ops = Vec::with_capacity(alloc, 1)?;
     while !words.is_empty() {
         match op(alloc, words)? {
             None => return Ok(None),

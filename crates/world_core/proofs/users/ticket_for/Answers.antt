@@ -13,5 +13,5 @@ returns-in_err-ticket-clause-refused c =
 
 pub returns-in-Ok-clause-ticket : goal.returns-in-Ok-clause-ticket
 returns-in-Ok-clause-ticket c =
-    c.in-Ok.ensures.made ∙ ticket_is c.args.users.now c.as_str.result.now c.args.until c.in_ok-ticket.ticket c.in_ok-ticket.ensures.ticket
+    c.in-Ok.ensures ∙ ticket_is c.args.users.now c.as_str.result.now c.args.until c.in_ok-ticket.ticket c.in_ok-ticket.ensures.ticket
     ∙ ap (λ n. ticket_for c.args.users.now n c.args.until) c.as_str.ensures

@@ -6,7 +6,7 @@ use Rattle.world_core.proofs.ScriptWords.{IsReadTo, read_none, nothing_read, at_
 use Rattle.world_core.proofs.script.operations.ops.Goals as goal
 
 pub loop-alloc-init : goal.loop-alloc-init
-loop-alloc-init c = subst (IsReadTo c.args.words.now c.args.words.now) (sym c.new-ops.ensures.items) (read_none c.args.words.now)
+loop-alloc-init c = subst (IsReadTo c.args.words.now c.args.words.now) (sym c.in_ok-ops.ensures.items) (read_none c.args.words.now)
 
 pub returns-in-None : goal.returns-in-None
 returns-in-None c = nothing_read c.args.words.now c.loop-alloc.words c.loop-alloc.ops.items c.loop-alloc.invariant (rw c.in-None.is at c.in_ok-op.ensures.takes)

@@ -1,7 +1,7 @@
 use Rattle.std.proofs.Common.{◌≡◌, length}
 use Rattle.std.specs.List.{list_any}
 use Rattle.verdict_core.specs.Verdict as spec
-use Rattle.verdict_core.proofs.judging.has_usable.Given as goal
+use Rattle.verdict_core.proofs.judging.has_usable_at_once.Given as goal
 
 -- none of the grants so far is usable
 abbrev pub invariant-loop-entry : goal.invariant-loop-entry
