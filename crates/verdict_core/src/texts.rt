@@ -54,11 +54,11 @@ fn are_same_at_once(left: &[u8], right: &[u8]) -> Option<bool>
     if length != right.len() {
         return Some(false);
     }
-    if 8 <= length && length <= 16 {
-        return Some(are_same_at_both_ends::<8>(left, right));
-    }
-    if 4 <= length && length < 8 {
+    if 4 <= length && length <= 8 {
         return Some(are_same_at_both_ends::<4>(left, right));
+    }
+    if 8 < length && length <= 16 {
+        return Some(are_same_at_both_ends::<8>(left, right));
     }
     if 2 <= length && length < 4 {
         return Some(are_same_at_both_ends::<2>(left, right));
