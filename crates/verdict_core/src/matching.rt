@@ -136,7 +136,7 @@ fn serves(access: &Access, needs: &Needs) -> bool
 {
     match access {
         Access::All => true,
-        Access::Flags(flags) => (!needs.reads || flags.read) && (!needs.writes || flags.write),
+        Access::Flags(flags) => (!needs.reads | flags.read) & (!needs.writes | flags.write),
         Access::Class { .. } => !needs.reads && !needs.writes,
     }
 }
