@@ -31,7 +31,6 @@ pub mod FrontSteps
 pub mod Sounds
 pub mod Calling
 pub mod RunPlaces
-pub mod Parts
 pub mod Messages
 pub mod GroupsOf
 pub mod Sweeps

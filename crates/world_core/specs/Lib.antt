@@ -32,4 +32,3 @@ pub mod Applying
 pub mod Sweeping
 pub mod Steps
 pub mod Joining
-pub mod Parts

@@ -41,5 +41,4 @@ pub use ops::Ops;
 pub use running::run;
 pub use script::run_script;
 pub use script_text::ScriptFault;
-pub use session::Session;
-pub use world::{World, WorldParts};
+pub use world::World;

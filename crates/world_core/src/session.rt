@@ -16,17 +16,16 @@ use verdict_core::SharedTicket;
 
 /// Who asks, with the ticket of the last opening or renewal. Its requests count from 1.
 #[derive(Drop)]
-pub struct Session {
-    /// The user's name.
-    pub entity: Name,
-    pub ticket: SharedTicket,
+pub(crate) struct Session {
+    pub(crate) entity: Name,
+    pub(crate) ticket: SharedTicket,
     /// The last epoch that was used, 0 at first.
-    pub epoch: Epoch,
+    pub(crate) epoch: Epoch,
     /// The last tick that was used, 0 at first.
-    pub tick: u64,
+    pub(crate) tick: u64,
     /// The number of its next request.
-    pub next: u32,
-    pub is_closed: bool,
+    pub(crate) next: u32,
+    pub(crate) is_closed: bool,
 }
 
 /// The requests of one list: consecutive numbers.
@@ -75,13 +74,6 @@ impl Sessions {
         Sessions {
             all: Vec::new(alloc),
         }
-    }
-
-    /// These sessions. It takes no memory.
-    pub fn from_vec(all: Vec<Session>) -> Sessions
-        ensures { result ≡ all.items }
-    {
-        Sessions { all }
     }
 
     /// How many there are, closed ones counted.
