@@ -51,11 +51,6 @@ abbrev pub again : List ℕ → Caps → Caps → Result Creation AuthFault
 again name stored caps =
     if is_user_name name then (if has_no_text caps || are_same_caps caps stored then Ok There else Err CapsDiffer) else Err BadName
 
--- refused exactly where this refusal holds
-abbrev pub RefusedExactly : {T : Type 0} → Option AuthFault → Result T AuthFault → Type 0
-RefusedExactly refusal (Ok x) = refusal ≡ None
-RefusedExactly refusal (Err fault) = refusal ≡ Some fault
-
 -- ---- what an osd text is refused by
 
 -- its first fault, or why its list is not expanded; want of memory may come in place of either

@@ -12,16 +12,16 @@ use Rattle.cap_text.specs.declared.fault.FaultKind.{FaultKind}
 use Rattle.cap_text.specs.declared.fault.FaultKind.TheVariants.{UnknownWord, BadAccess, BadMatch, BadWord, NetworkClause}
 use Rattle.cap_text.specs.declared.keyword.Keyword.{Keyword}
 use Rattle.cap_text.specs.declared.keyword.Keyword.TheVariants as kw
-use Rattle.cap_text.specs.declared.place.ClauseSet.{ClauseSet}
+use Rattle.cap_text.specs.declared.stage.ClauseSet.{ClauseSet}
 use Rattle.cap_text.specs.Draft.{Head, Draft}
 use Rattle.cap_text.specs.Draft as heads
-use Rattle.cap_text.specs.Place.{Place, State}
-use Rattle.cap_text.specs.Place as places
+use Rattle.cap_text.specs.Stage.{Stage, State}
+use Rattle.cap_text.specs.Stage as stages
 use Rattle.cap_text.specs.Words.{keyword_of}
 use Rattle.cap_text.specs.Grammar.{begins_clause}
-use Rattle.cap_text.specs.Machine.{after_namespace, with_access, after_access, accessed, wants_access, access_word, where_open, where_due, clause_word, clauses, class_read_word, letters_word, method_word, value_of, mapped, filled, namespace_step, part_at, tag_place, start_word, step, grant_with, close, after_grant, in_grant, advance, ended, finish_at, finish}
+use Rattle.cap_text.specs.Machine.{after_namespace, with_access, after_access, accessed, wants_access, access_word, where_open, where_due, clause_word, clauses, class_read_word, letters_word, method_word, value_of, mapped, filled, namespace_step, part_at, tag_stage, start_word, step, grant_with, close, after_grant, in_grant, advance, ended, finish_at, finish}
 use Rattle.cap_text.specs.Faults.{Next, AtEnd, AToken, MayFollow, AnyWordMayFollow, IsBadWord, keyword_at, IsKind}
-use Rattle.cap_text.proofs.Forth.{at_place, run}
+use Rattle.cap_text.proofs.Forth.{at_stage, run}
 use Rattle.cap_text.proofs.Runs.{whole, origin, may, may_not}
 
 abbrev by_due : Bool → FaultKind
@@ -44,30 +44,30 @@ abbrev pub is_empty_quote : Next → Bool
 is_empty_quote (AToken (Quoted [])) = true
 is_empty_quote n = false
 
--- the fault at a place, by the keyword that stands there and whether an empty quoted text does
-abbrev pub fault_at : Place → Keyword → Bool → FaultKind
-fault_at places.Start k b = UnknownWord
-fault_at places.Separator k b = UnknownWord
-fault_at (places.Clauses may d) k b = clause_fault (wants_access d.head) k
-fault_at (places.Letters f may d) k b = clause_fault false k
-fault_at (places.ClassRead f may d) k b = clause_fault false k
-fault_at (places.Method c may d) k b = method_fault b k
-fault_at (places.NamespaceWord w may d) k b = clause_fault (wants_access d.head) k
-fault_at (places.KeyEquals a x d) k b = BadMatch
+-- the fault at a stage, by the keyword that stands there and whether an empty quoted text does
+abbrev pub fault_at : Stage → Keyword → Bool → FaultKind
+fault_at stages.Start k b = UnknownWord
+fault_at stages.Separator k b = UnknownWord
+fault_at (stages.Clauses may d) k b = clause_fault (wants_access d.head) k
+fault_at (stages.Letters f may d) k b = clause_fault false k
+fault_at (stages.ClassRead f may d) k b = clause_fault false k
+fault_at (stages.Method c may d) k b = method_fault b k
+fault_at (stages.NamespaceWord w may d) k b = clause_fault (wants_access d.head) k
+fault_at (stages.KeyEquals a x d) k b = BadMatch
 fault_at p k b = BadWord
 
-abbrev pub fault_by : Place → Next → FaultKind
+abbrev pub fault_by : Stage → Next → FaultKind
 fault_by p n = fault_at p (keyword_at n) (is_empty_quote n)
 
 -- ---- what a step answers
 
-abbrev bad : FaultKind → Result Place FaultKind
+abbrev bad : FaultKind → Result Stage FaultKind
 bad k = Err k
 
 err_is : (j k : FaultKind) → bad j ≡ bad k → k ≡ j
 err_is j k e = cc
 
-ok_not : {A : Type 0} → (p : Place) (k : FaultKind) → Ok p ≡ bad k → A
+ok_not : {A : Type 0} → (p : Stage) (k : FaultKind) → Ok p ≡ bad k → A
 ok_not p k e = absurd cc
 
 start_fault : (x : Keyword) (k : FaultKind) → start_word x ≡ bad k → k ≡ UnknownWord
@@ -75,11 +75,11 @@ start_fault kw.Allow k e = ok_not _ k e
 start_fault kw.Profile k e = ok_not _ k e
 start_fault x k e = err_is _ k e
 
-open_fault : (b : Bool) (p : Place) (k : FaultKind) → where_open b p ≡ bad k → k ≡ BadMatch
+open_fault : (b : Bool) (p : Stage) (k : FaultKind) → where_open b p ≡ bad k → k ≡ BadMatch
 open_fault true p k e = ok_not p k e
 open_fault false p k e = err_is _ k e
 
-due_fault : (b : Bool) (r : Result Place FaultKind) (k : FaultKind) → (r ≡ bad k → k ≡ BadAccess) → where_due b r ≡ bad k → k ≡ by_due b
+due_fault : (b : Bool) (r : Result Stage FaultKind) (k : FaultKind) → (r ≡ bad k → k ≡ BadAccess) → where_due b r ≡ bad k → k ≡ by_due b
 due_fault true r k f e = f e
 due_fault false r k f e = err_is _ k e
 
@@ -120,13 +120,13 @@ clauses_fault may d (Word w) k e = c_fault may d (keyword_of w) k e
 clauses_fault may d (Star b) k e = due_fault (wants_access d.head) _ k (λ x. ok_not _ k x) e
 clauses_fault may d t k e = due_fault (wants_access d.head) (Err BadAccess) k (λ x. err_is _ k x) e
 
-part_fault : (f : Part → Place) (t : Token) (k : FaultKind) → mapped f (part_at t) ≡ bad k → k ≡ BadWord
+part_fault : (f : Part → Stage) (t : Token) (k : FaultKind) → mapped f (part_at t) ≡ bad k → k ≡ BadWord
 part_fault f (Star b) k e = ok_not _ k e
 part_fault f (Word w) k e = ok_not _ k e
 part_fault f (Quoted (b ∷ q)) k e = ok_not _ k e
 part_fault f t k e = err_is _ k e
 
-value_fault : (f : List ℕ → Place) (t : Token) (k : FaultKind) → mapped f (value_of t) ≡ bad k → k ≡ BadWord
+value_fault : (f : List ℕ → Stage) (t : Token) (k : FaultKind) → mapped f (value_of t) ≡ bad k → k ≡ BadWord
 value_fault f (Word w) k e = ok_not _ k e
 value_fault f (Quoted (b ∷ q)) k e = ok_not _ k e
 value_fault f t k e = err_is _ k e
@@ -137,32 +137,32 @@ namespace_fault may d (Quoted q) k e = ok_not _ k e
 namespace_fault may d (Star b) k e = ok_not _ k e
 namespace_fault may d t k e = err_is _ k e
 
-step_fault : (p : Place) (t : Token) (k : FaultKind) → step p t ≡ bad k → k ≡ fault_by p (AToken t)
+step_fault : (p : Stage) (t : Token) (k : FaultKind) → step p t ≡ bad k → k ≡ fault_by p (AToken t)
 unfolding step
-step_fault places.Start (Word w) k e = start_fault (keyword_of w) k e
-step_fault places.Start t k e = err_is _ k e
-step_fault places.Separator (Word w) k e = start_fault (keyword_of w) k e
-step_fault places.Separator t k e = err_is _ k e
-step_fault (places.Clauses may d) t k e = clauses_fault may d t k e
-step_fault (places.Letters f may d) (Word w) k e = letters_fault f may d (keyword_of w) k e
-step_fault (places.Letters f may d) t k e = err_is _ k e
-step_fault (places.ClassRead f may d) (Word w) k e = class_read_fault f may d (keyword_of w) k e
-step_fault (places.ClassRead f may d) t k e = err_is _ k e
-step_fault (places.Method c may d) (Word w) k e = method_word_fault c may d w (keyword_of w) k e
-step_fault (places.Method c may d) (Quoted (b ∷ q)) k e = ok_not _ k e
-step_fault (places.Method c may d) t k e = err_is _ k e
-step_fault (places.Assigned s may d) Equals k e = ok_not _ k e
-step_fault (places.Assigned s may d) t k e = value_fault (filled s may d) t k e
-step_fault (places.Value s may d) t k e = value_fault (filled s may d) t k e
-step_fault (places.Namespace may d) Equals k e = ok_not _ k e
-step_fault (places.Namespace may d) t k e = namespace_fault may d t k e
-step_fault (places.NamespaceEquals may d) t k e = namespace_fault may d t k e
-step_fault (places.NamespaceWord w may d) (Star true) k e = ok_not _ k e
-step_fault (places.NamespaceWord w may d) t k e = clauses_fault (after_namespace may) (record d { namespace = Some (Exact w) }) t k e
-step_fault (places.Key a d) t k e = part_fault (λ x. places.KeyEquals a x d) t k e
-step_fault (places.KeyEquals a x d) Equals k e = ok_not _ k e
-step_fault (places.KeyEquals a x d) t k e = err_is _ k e
-step_fault (places.KeyValue a x d) t k e = part_fault (tag_place a x d) t k e
+step_fault stages.Start (Word w) k e = start_fault (keyword_of w) k e
+step_fault stages.Start t k e = err_is _ k e
+step_fault stages.Separator (Word w) k e = start_fault (keyword_of w) k e
+step_fault stages.Separator t k e = err_is _ k e
+step_fault (stages.Clauses may d) t k e = clauses_fault may d t k e
+step_fault (stages.Letters f may d) (Word w) k e = letters_fault f may d (keyword_of w) k e
+step_fault (stages.Letters f may d) t k e = err_is _ k e
+step_fault (stages.ClassRead f may d) (Word w) k e = class_read_fault f may d (keyword_of w) k e
+step_fault (stages.ClassRead f may d) t k e = err_is _ k e
+step_fault (stages.Method c may d) (Word w) k e = method_word_fault c may d w (keyword_of w) k e
+step_fault (stages.Method c may d) (Quoted (b ∷ q)) k e = ok_not _ k e
+step_fault (stages.Method c may d) t k e = err_is _ k e
+step_fault (stages.Assigned s may d) Equals k e = ok_not _ k e
+step_fault (stages.Assigned s may d) t k e = value_fault (filled s may d) t k e
+step_fault (stages.Value s may d) t k e = value_fault (filled s may d) t k e
+step_fault (stages.Namespace may d) Equals k e = ok_not _ k e
+step_fault (stages.Namespace may d) t k e = namespace_fault may d t k e
+step_fault (stages.NamespaceEquals may d) t k e = namespace_fault may d t k e
+step_fault (stages.NamespaceWord w may d) (Star true) k e = ok_not _ k e
+step_fault (stages.NamespaceWord w may d) t k e = clauses_fault (after_namespace may) (record d { namespace = Some (Exact w) }) t k e
+step_fault (stages.Key a d) t k e = part_fault (λ x. stages.KeyEquals a x d) t k e
+step_fault (stages.KeyEquals a x d) Equals k e = ok_not _ k e
+step_fault (stages.KeyEquals a x d) t k e = err_is _ k e
+step_fault (stages.KeyValue a x d) t k e = part_fault (tag_stage a x d) t k e
 
 abbrev unmade : FaultKind → Result Grant FaultKind
 unmade k = Err k
@@ -172,52 +172,52 @@ grant_fault (heads.Allow None) d k e = cc
 grant_fault (heads.Allow (Some a)) d k e = absurd cc
 grant_fault (heads.Profile n) d k e = absurd cc
 
-close_fault : (p : Place) (k : FaultKind) → close p ≡ unmade k → k ≡ fault_at p kw.Other false
-close_fault (places.Clauses may d) k e = grant_fault d.head d k e
-close_fault (places.Letters f may d) k e = grant_fault (heads.Allow (Some (accesses.Flags f))) d k e
-close_fault (places.ClassRead f may d) k e = grant_fault (heads.Allow (Some (accesses.Flags f))) d k e
-close_fault (places.Method c may d) k e = grant_fault (heads.Allow (Some (accesses.Class c None))) d k e
-close_fault (places.NamespaceWord w may d) k e = grant_fault d.head (record d { namespace = Some (Exact w) }) k e
+close_fault : (p : Stage) (k : FaultKind) → close p ≡ unmade k → k ≡ fault_at p kw.Other false
+close_fault (stages.Clauses may d) k e = grant_fault d.head d k e
+close_fault (stages.Letters f may d) k e = grant_fault (heads.Allow (Some (accesses.Flags f))) d k e
+close_fault (stages.ClassRead f may d) k e = grant_fault (heads.Allow (Some (accesses.Flags f))) d k e
+close_fault (stages.Method c may d) k e = grant_fault (heads.Allow (Some (accesses.Class c None))) d k e
+close_fault (stages.NamespaceWord w may d) k e = grant_fault d.head (record d { namespace = Some (Exact w) }) k e
 close_fault p k e = cc
 
 abbrev lost : FaultKind → Result State FaultKind
 lost k = Err k
 
-separator_fault : (done : List Grant) (p : Place) (r : Result Grant FaultKind) (k : FaultKind) → close p ≡ r → after_grant done r ≡ lost k → k ≡ fault_at p kw.Other false
+separator_fault : (done : List Grant) (p : Stage) (r : Result Grant FaultKind) (k : FaultKind) → close p ≡ r → after_grant done r ≡ lost k → k ≡ fault_at p kw.Other false
 separator_fault done p (Ok g) k c e = absurd cc
 separator_fault done p (Err j) k c e = let same : k ≡ j = (let x : lost j ≡ lost k = e in cc) in same ∙ close_fault p j c
 
-inner_fault : (done : List Grant) (p : Place) (t : Token) (r : Result Place FaultKind) (k : FaultKind) → step p t ≡ r → in_grant done r ≡ lost k → k ≡ fault_by p (AToken t)
+inner_fault : (done : List Grant) (p : Stage) (t : Token) (r : Result Stage FaultKind) (k : FaultKind) → step p t ≡ r → in_grant done r ≡ lost k → k ≡ fault_by p (AToken t)
 inner_fault done p t (Ok q) k c e = absurd cc
 inner_fault done p t (Err j) k c e = let same : k ≡ j = (let x : lost j ≡ lost k = e in cc) in same ∙ step_fault p t j c
 
-pub advance_fault : (u : State) (t : Token) (k : FaultKind) → advance u t ≡ Err k → k ≡ fault_by u.place (AToken t)
-advance_fault u Comma k e = separator_fault u.done u.place (close u.place) k refl e
-advance_fault u Semicolon k e = separator_fault u.done u.place (close u.place) k refl e
-advance_fault u Equals k e = inner_fault u.done u.place Equals (step u.place Equals) k refl e
-advance_fault u (Star b) k e = inner_fault u.done u.place (Star b) (step u.place (Star b)) k refl e
-advance_fault u (Word w) k e = inner_fault u.done u.place (Word w) (step u.place (Word w)) k refl e
-advance_fault u (Quoted q) k e = inner_fault u.done u.place (Quoted q) (step u.place (Quoted q)) k refl e
+pub advance_fault : (u : State) (t : Token) (k : FaultKind) → advance u t ≡ Err k → k ≡ fault_by u.stage (AToken t)
+advance_fault u Comma k e = separator_fault u.done u.stage (close u.stage) k refl e
+advance_fault u Semicolon k e = separator_fault u.done u.stage (close u.stage) k refl e
+advance_fault u Equals k e = inner_fault u.done u.stage Equals (step u.stage Equals) k refl e
+advance_fault u (Star b) k e = inner_fault u.done u.stage (Star b) (step u.stage (Star b)) k refl e
+advance_fault u (Word w) k e = inner_fault u.done u.stage (Word w) (step u.stage (Word w)) k refl e
+advance_fault u (Quoted q) k e = inner_fault u.done u.stage (Quoted q) (step u.stage (Quoted q)) k refl e
 
 abbrev unended : FaultKind → Result (List Grant) FaultKind
 unended k = Err k
 
-ended_fault : (done : List Grant) (p : Place) (r : Result Grant FaultKind) (k : FaultKind) → close p ≡ r → ended done r ≡ unended k → k ≡ fault_at p kw.Other false
+ended_fault : (done : List Grant) (p : Stage) (r : Result Grant FaultKind) (k : FaultKind) → close p ≡ r → ended done r ≡ unended k → k ≡ fault_at p kw.Other false
 ended_fault done p (Ok g) k c e = absurd cc
 ended_fault done p (Err j) k c e = let same : k ≡ j = (let x : unended j ≡ unended k = e in cc) in same ∙ close_fault p j c
 
-finish_fault_at : (p : Place) (done : List Grant) (k : FaultKind) → finish_at p done ≡ unended k → k ≡ fault_at p kw.Other false
-finish_fault_at places.Start done k e = absurd (let x : Ok done ≡ unended k = e in cc)
-finish_fault_at places.Separator done k e = cc
-finish_fault_at (places.Clauses may d) done k e = ended_fault done (places.Clauses may d) _ k refl e
-finish_fault_at (places.Letters f may d) done k e = ended_fault done (places.Letters f may d) _ k refl e
-finish_fault_at (places.ClassRead f may d) done k e = ended_fault done (places.ClassRead f may d) _ k refl e
-finish_fault_at (places.Method c may d) done k e = ended_fault done (places.Method c may d) _ k refl e
-finish_fault_at (places.NamespaceWord w may d) done k e = ended_fault done (places.NamespaceWord w may d) _ k refl e
+finish_fault_at : (p : Stage) (done : List Grant) (k : FaultKind) → finish_at p done ≡ unended k → k ≡ fault_at p kw.Other false
+finish_fault_at stages.Start done k e = absurd (let x : Ok done ≡ unended k = e in cc)
+finish_fault_at stages.Separator done k e = cc
+finish_fault_at (stages.Clauses may d) done k e = ended_fault done (stages.Clauses may d) _ k refl e
+finish_fault_at (stages.Letters f may d) done k e = ended_fault done (stages.Letters f may d) _ k refl e
+finish_fault_at (stages.ClassRead f may d) done k e = ended_fault done (stages.ClassRead f may d) _ k refl e
+finish_fault_at (stages.Method c may d) done k e = ended_fault done (stages.Method c may d) _ k refl e
+finish_fault_at (stages.NamespaceWord w may d) done k e = ended_fault done (stages.NamespaceWord w may d) _ k refl e
 finish_fault_at p done k e = cc
 
-pub finish_fault : (u : State) (k : FaultKind) → finish u ≡ Err k → k ≡ fault_by u.place AtEnd
-finish_fault u k e = finish_fault_at u.place u.done k e
+pub finish_fault : (u : State) (k : FaultKind) → finish u ≡ Err k → k ≡ fault_by u.stage AtEnd
+finish_fault u k e = finish_fault_at u.stage u.done k e
 
 -- ---- what the definition says of it
 
@@ -329,7 +329,7 @@ module _ (p : List Token) (n : Next) (ws : Words p n) where
     other = λ none q c a. clause_other false (keyword_at n) c;
   }
 
-  -- a method's place takes both words
+  -- a method's stage takes both words
   taken_kind : (IsBadWord p n → ⊥) → MayFollow p (Word (codes "allow")) → MayFollow p (Word (codes "all")) → (MayFollow p Equals → ⊥) → IsKind p n (clause_fault false (keyword_at n))
   taken_kind bad allow all equals = record {
     word = λ b. absurd (bad b);
@@ -341,12 +341,12 @@ module _ (p : List Token) (n : Next) (ws : Words p n) where
     other = λ none q c a. clause_other false (keyword_at n) c;
   }
 
-  module _ (done : List Grant) (q : Place) (e : run origin p ≡ whole (at_place done q)) where
-    no : (k : FaultKind) (t : Token) → advance (at_place done q) t ≡ Err k → MayFollow p t → ⊥
-    no k t f h = may_not p (at_place done q) t k e f h
+  module _ (done : List Grant) (q : Stage) (e : run origin p ≡ whole (at_stage done q)) where
+    no : (k : FaultKind) (t : Token) → advance (at_stage done q) t ≡ Err k → MayFollow p t → ⊥
+    no k t f h = may_not p (at_stage done q) t k e f h
 
-    yes_to : (u : Place) (t : Token) → advance (at_place done q) t ≡ whole (at_place done u) → MayFollow p t
-    yes_to u t f = may p (at_place done q) (at_place done u) t e f
+    yes_to : (u : Stage) (t : Token) → advance (at_stage done q) t ≡ whole (at_stage done u) → MayFollow p t
+    yes_to u t f = may p (at_stage done q) (at_stage done u) t e f
 
     clauses_kind : (may : ClauseSet) (d : Draft) → ((w : List ℕ) → step q (Word w) ≡ clauses may d (Word w)) → step q (Quoted (codes "a")) ≡ clauses may d (Quoted (codes "a")) → step q Equals ≡ clauses may d Equals → (b : Bool) → wants_access d.head ≡ b → IsKind p n (clause_fault b (keyword_at n))
     clauses_kind may d hw hq he true due =
@@ -362,31 +362,31 @@ module _ (p : List Token) (n : Next) (ws : Words p n) where
         (no UnknownWord (Word (codes "all")) (ap (in_grant done) (hw (codes "all") ∙ ap (λ b. where_due b (Ok (accessed may d accesses.All))) due)))
         (no UnknownWord Equals (ap (in_grant done) (he ∙ ap (λ b. where_due b (bad BadAccess)) due)))
 
-  pub kind_of : (done : List Grant) (q : Place) → run origin p ≡ whole (at_place done q) → IsKind p n (fault_by q n)
+  pub kind_of : (done : List Grant) (q : Stage) → run origin p ≡ whole (at_stage done q) → IsKind p n (fault_by q n)
   unfolding step
-  kind_of done places.Start e =
-      grant_kind (no_bad (λ any. no done places.Start e UnknownWord (Word []) refl (any [])) (no done places.Start e UnknownWord (Quoted (codes "a")) refl)) (yes_to done places.Start e _ (Word (codes "allow")) refl) (no done places.Start e UnknownWord (Word (codes "all")) refl) (no done places.Start e UnknownWord Equals refl)
-  kind_of done places.Separator e =
-      grant_kind (no_bad (λ any. no done places.Separator e UnknownWord (Word []) refl (any [])) (no done places.Separator e UnknownWord (Quoted (codes "a")) refl)) (yes_to done places.Separator e _ (Word (codes "allow")) refl) (no done places.Separator e UnknownWord (Word (codes "all")) refl) (no done places.Separator e UnknownWord Equals refl)
-  kind_of done (places.Clauses may d) e = clauses_kind done (places.Clauses may d) e may d (λ w. refl) refl refl (wants_access d.head) refl
-  kind_of done (places.NamespaceWord w may d) e = clauses_kind done (places.NamespaceWord w may d) e (after_namespace may) (record d { namespace = Some (Exact w) }) (λ v. refl) refl refl (wants_access d.head) refl
-  kind_of done (places.Letters f may d) e =
-      let q = places.Letters f may d in
+  kind_of done stages.Start e =
+      grant_kind (no_bad (λ any. no done stages.Start e UnknownWord (Word []) refl (any [])) (no done stages.Start e UnknownWord (Quoted (codes "a")) refl)) (yes_to done stages.Start e _ (Word (codes "allow")) refl) (no done stages.Start e UnknownWord (Word (codes "all")) refl) (no done stages.Start e UnknownWord Equals refl)
+  kind_of done stages.Separator e =
+      grant_kind (no_bad (λ any. no done stages.Separator e UnknownWord (Word []) refl (any [])) (no done stages.Separator e UnknownWord (Quoted (codes "a")) refl)) (yes_to done stages.Separator e _ (Word (codes "allow")) refl) (no done stages.Separator e UnknownWord (Word (codes "all")) refl) (no done stages.Separator e UnknownWord Equals refl)
+  kind_of done (stages.Clauses may d) e = clauses_kind done (stages.Clauses may d) e may d (λ w. refl) refl refl (wants_access d.head) refl
+  kind_of done (stages.NamespaceWord w may d) e = clauses_kind done (stages.NamespaceWord w may d) e (after_namespace may) (record d { namespace = Some (Exact w) }) (λ v. refl) refl refl (wants_access d.head) refl
+  kind_of done (stages.Letters f may d) e =
+      let q = stages.Letters f may d in
       clause_kind (no_bad (λ any. no done q e UnknownWord (Word []) refl (any [])) (no done q e UnknownWord (Quoted (codes "a")) refl)) (no done q e UnknownWord (Word (codes "allow")) refl) (no done q e UnknownWord (Word (codes "all")) refl) (no done q e UnknownWord Equals refl)
-  kind_of done (places.ClassRead f may d) e =
-      let q = places.ClassRead f may d in
+  kind_of done (stages.ClassRead f may d) e =
+      let q = stages.ClassRead f may d in
       clause_kind (no_bad (λ any. no done q e UnknownWord (Word []) refl (any [])) (no done q e UnknownWord (Quoted (codes "a")) refl)) (no done q e UnknownWord (Word (codes "allow")) refl) (no done q e UnknownWord (Word (codes "all")) refl) (no done q e UnknownWord Equals refl)
-  kind_of done (places.Method c may d) e = cases (is_empty_quote n) refl where
+  kind_of done (stages.Method c may d) e = cases (is_empty_quote n) refl where
     cases : (b : Bool) → is_empty_quote n ≡ b → IsKind p n (method_fault b (keyword_at n))
-    cases true x = bad_kind (ws.by_quote x (yes_to done (places.Method c may d) e _ (Quoted (codes "a")) refl))
+    cases true x = bad_kind (ws.by_quote x (yes_to done (stages.Method c may d) e _ (Quoted (codes "a")) refl))
     cases false x =
-        taken_kind (λ b. elim (ws.from b) [ inl h ↦ no done (places.Method c may d) e NetworkClause (Word (codes "network")) refl (h.1 (codes "network")) | inr h ↦ set (sym h.0 ∙ x) ]) (yes_to done (places.Method c may d) e _ (Word (codes "allow")) refl) (yes_to done (places.Method c may d) e _ (Word (codes "all")) refl) (no done (places.Method c may d) e UnknownWord Equals refl)
-  kind_of done (places.KeyEquals a k d) e =
-      let q = places.KeyEquals a k d in
+        taken_kind (λ b. elim (ws.from b) [ inl h ↦ no done (stages.Method c may d) e NetworkClause (Word (codes "network")) refl (h.1 (codes "network")) | inr h ↦ set (sym h.0 ∙ x) ]) (yes_to done (stages.Method c may d) e _ (Word (codes "allow")) refl) (yes_to done (stages.Method c may d) e _ (Word (codes "all")) refl) (no done (stages.Method c may d) e UnknownWord Equals refl)
+  kind_of done (stages.KeyEquals a k d) e =
+      let q = stages.KeyEquals a k d in
       equals_kind (no_bad (λ any. no done q e BadMatch (Word []) refl (any [])) (no done q e BadMatch (Quoted (codes "a")) refl)) (yes_to done q e _ Equals refl) (λ w. no done q e BadMatch (Word w) refl)
-  kind_of done (places.Assigned s may d) e = value_kind (λ w. yes_to done (places.Assigned s may d) e _ (Word w) refl) (yes_to done (places.Assigned s may d) e _ (Quoted (codes "a")) refl)
-  kind_of done (places.Value s may d) e = value_kind (λ w. yes_to done (places.Value s may d) e _ (Word w) refl) (yes_to done (places.Value s may d) e _ (Quoted (codes "a")) refl)
-  kind_of done (places.Namespace may d) e = value_kind (λ w. yes_to done (places.Namespace may d) e _ (Word w) refl) (yes_to done (places.Namespace may d) e _ (Quoted (codes "a")) refl)
-  kind_of done (places.NamespaceEquals may d) e = value_kind (λ w. yes_to done (places.NamespaceEquals may d) e _ (Word w) refl) (yes_to done (places.NamespaceEquals may d) e _ (Quoted (codes "a")) refl)
-  kind_of done (places.Key a d) e = value_kind (λ w. yes_to done (places.Key a d) e _ (Word w) refl) (yes_to done (places.Key a d) e _ (Quoted (codes "a")) refl)
-  kind_of done (places.KeyValue a k d) e = value_kind (λ w. yes_to done (places.KeyValue a k d) e _ (Word w) refl) (yes_to done (places.KeyValue a k d) e _ (Quoted (codes "a")) refl)
+  kind_of done (stages.Assigned s may d) e = value_kind (λ w. yes_to done (stages.Assigned s may d) e _ (Word w) refl) (yes_to done (stages.Assigned s may d) e _ (Quoted (codes "a")) refl)
+  kind_of done (stages.Value s may d) e = value_kind (λ w. yes_to done (stages.Value s may d) e _ (Word w) refl) (yes_to done (stages.Value s may d) e _ (Quoted (codes "a")) refl)
+  kind_of done (stages.Namespace may d) e = value_kind (λ w. yes_to done (stages.Namespace may d) e _ (Word w) refl) (yes_to done (stages.Namespace may d) e _ (Quoted (codes "a")) refl)
+  kind_of done (stages.NamespaceEquals may d) e = value_kind (λ w. yes_to done (stages.NamespaceEquals may d) e _ (Word w) refl) (yes_to done (stages.NamespaceEquals may d) e _ (Quoted (codes "a")) refl)
+  kind_of done (stages.Key a d) e = value_kind (λ w. yes_to done (stages.Key a d) e _ (Word w) refl) (yes_to done (stages.Key a d) e _ (Quoted (codes "a")) refl)
+  kind_of done (stages.KeyValue a k d) e = value_kind (λ w. yes_to done (stages.KeyValue a k d) e _ (Word w) refl) (yes_to done (stages.KeyValue a k d) e _ (Quoted (codes "a")) refl)

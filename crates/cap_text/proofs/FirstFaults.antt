@@ -10,12 +10,12 @@ use Rattle.cap_text.specs.Machine.{advance, finish, placed}
 use Rattle.cap_text.specs.declared.token.Token.{Token}
 use Rattle.cap_text.specs.declared.token.Token.TheVariants.{Comma, Semicolon, Equals, Star, Word, Quoted}
 use Rattle.cap_text.specs.declared.keyword.Keyword.TheVariants as kw
-use Rattle.cap_text.specs.Place.{State}
+use Rattle.cap_text.specs.Stage.{State}
 use Rattle.cap_text.specs.declared.fault.CapFault.{CapFault}
 use Rattle.cap_text.specs.declared.fault.FaultKind.{FaultKind}
 use Rattle.cap_text.specs.declared.fault.FaultKind.TheVariants.{TooLong, TooManyGrants, UnknownWord, BadAccess, BadMatch, BadWord, NetworkClause, OutOfMemory}
 use Rattle.cap_text.specs.declared.grant.Grant.{Grant}
-use Rattle.cap_text.specs.Faults.{Next, AtEnd, NoToken, AToken, StandsNext, keyword_at, IsClauseWord, MayFollow, Blocks, IsBadWord, IsGrantPlace, IsAccessPlace, IsEqualsPlace, IsKind, AreFull, IsThere, IsPastLimit, IsFaultWithin}
+use Rattle.cap_text.specs.Faults.{Next, AtEnd, NoToken, AToken, StandsNext, keyword_at, IsClauseWord, MayFollow, Blocks, IsBadWord, IsGrantDue, IsAccessDue, IsEqualsDue, IsKind, AreFull, IsThere, IsPastLimit, IsFaultWithin}
 use Rattle.cap_text.specs.ReadText.{quoted_at, token_at, Read, carried, with_token, read_from, read_text, TellsTheFirstFault}
 use Rattle.cap_text.proofs.Spans.{span_unique, span_front}
 use Rattle.std.proofs.lemmas.Bool.{lt-ltb}
@@ -69,26 +69,26 @@ kinds_same j k h = go (number j == number k) refl
     go true e = let same : number j ≡ number k = (unsigned_Decides (number j) (number k)).0 e in sym (numbered_back j) ∙ ap numbered same ∙ numbered_back k
     go false e = absurd (h (λ s. let bad : true ≡ false = sym ((unsigned_Decides (number j) (number k)).1 (ap number s)) ∙ e in cc))
 
--- a place has one kind, since each of its tests holds or fails
+-- a position has one kind, since each of its tests holds or fails
 kind_once : (p : List Token) (n : Next) (j k : FaultKind) → IsKind p n j → IsKind p n k → j ≡ k
 kind_once p n j k J K = kinds_same j k (λ differ.
     let word : IsBadWord p n → ⊥ = λ h. differ (J.word h ∙ sym (K.word h)) in
-    let grant : IsGrantPlace p → ⊥ = λ h. differ (J.grant word h ∙ sym (K.grant word h)) in
-    let equals : IsEqualsPlace p → ⊥ = λ h. differ (J.equals word h ∙ sym (K.equals word h)) in
+    let grant : IsGrantDue p → ⊥ = λ h. differ (J.grant word h ∙ sym (K.grant word h)) in
+    let equals : IsEqualsDue p → ⊥ = λ h. differ (J.equals word h ∙ sym (K.equals word h)) in
     let network : keyword_at n ≡ kw.Network → ⊥ = λ h. differ (J.network word grant equals h ∙ sym (K.network word grant equals h)) in
     let clause : IsClauseWord n → ⊥ = λ h. differ (J.clause word grant equals network h ∙ sym (K.clause word grant equals network h)) in
-    let access : IsAccessPlace p → ⊥ = λ h. differ (J.access word equals clause h ∙ sym (K.access word equals clause h)) in
+    let access : IsAccessDue p → ⊥ = λ h. differ (J.access word equals clause h ∙ sym (K.access word equals clause h)) in
     differ (J.other word equals clause access ∙ sym (K.other word equals clause access)))
 
--- want of memory is no place's kind
+-- want of memory is no position kind
 never_memory : (p : List Token) (n : Next) → IsKind p n OutOfMemory → ⊥
 never_memory p n J =
     let word : IsBadWord p n → ⊥ = λ h. let e : OutOfMemory ≡ BadWord = J.word h in cc in
-    let grant : IsGrantPlace p → ⊥ = λ h. let e : OutOfMemory ≡ UnknownWord = J.grant word h in cc in
-    let equals : IsEqualsPlace p → ⊥ = λ h. let e : OutOfMemory ≡ BadMatch = J.equals word h in cc in
+    let grant : IsGrantDue p → ⊥ = λ h. let e : OutOfMemory ≡ UnknownWord = J.grant word h in cc in
+    let equals : IsEqualsDue p → ⊥ = λ h. let e : OutOfMemory ≡ BadMatch = J.equals word h in cc in
     let network : keyword_at n ≡ kw.Network → ⊥ = λ h. let e : OutOfMemory ≡ NetworkClause = J.network word grant equals h in cc in
     let clause : IsClauseWord n → ⊥ = λ h. let e : OutOfMemory ≡ BadMatch = J.clause word grant equals network h in cc in
-    let access : IsAccessPlace p → ⊥ = λ h. let e : OutOfMemory ≡ BadAccess = J.access word equals clause h in cc in
+    let access : IsAccessDue p → ⊥ = λ h. let e : OutOfMemory ≡ BadAccess = J.access word equals clause h in cc in
     let e : OutOfMemory ≡ UnknownWord = J.other word equals clause access in
     cc
 
@@ -102,17 +102,17 @@ placed_is BadWord at h = refl
 placed_is NetworkClause at h = refl
 placed_is OutOfMemory at h = absurd (h refl)
 
--- a fault of a place's kind
+-- a fault of a position kind
 pub placed_kind : (p : List Token) (n : Next) (k : FaultKind) (at : ℕ) → IsKind p n k → placed k at ≡ record { kind = k; at = at }
 placed_kind p n k at J =
     let M : FaultKind → Type 0 = λ x. IsKind p n x in
     placed_is k at (λ e. never_memory p n (subst M e J))
 
--- what is told of a kind that the place has, at the fault's place
+-- what is told of a kind that the position has, at the fault's position
 told : (p : List Token) (n : Next) (k : FaultKind) (at : ℕ) (fault : CapFault) → IsKind p n k → IsKind p n fault.kind → at ≡ fault.at → placed k at ≡ fault
-told p n k at fault J K place =
+told p n k at fault J K position =
     let same : k ≡ fault.kind = kind_once p n k fault.kind J K in
-    placed_kind p n k at J ∙ (λ i. record { kind = same i; at = place i })
+    placed_kind p n k at J ∙ (λ i. record { kind = same i; at = position i })
 
 -- ---- where no token stands
 
@@ -196,7 +196,7 @@ there_some behind mid rest AtEnd skips stands there e = there
 there_some behind mid rest NoToken skips stands there e = stands.0 (skips_all mid rest skips e)
 there_some behind mid rest (AToken t) skips stands there e = one_not_spaces behind mid t stands.0 stands.1 (skips_all mid rest skips e)
 
--- the same place in the text
+-- the same position in the text
 starts_there : (behind : Bool) (mid rest : List ℕ) (t : Token) (after : List ℕ) → SkipsSpaces mid rest → (one : ReadsOne behind mid t after) → one.1 ≡ rest
 starts_there behind mid rest t after skips one = (span_unique is_space one.0 one.1 skips.0 rest one.2 (starts t one.1 after one.4).0 skips.1 skips.3 (sym one.3 ∙ skips.2)).1
 
@@ -213,46 +213,46 @@ front_of (y ∷ q) (x ∷ p) r c t e =
     (f.0, (λ i. head i ∷ f.1 i))
 
 full_first : (ts : List Token) → AreFull ts → NotPastBefore ts
-full_first ts (q, c, gs, parts, sep, list, len) p t r s split at full place =
+full_first ts (q, c, gs, parts, sep, list, len) p t r s split at full position =
     let f = front_of q p r c t (sym parts ∙ split) in
     let L : List Token → Type 0 = λ x. Grants GrantPhrase x gs in
-    too_many p f.0 s gs at full place (omega (arith, len)) (subst L f.1 list)
+    too_many p f.0 s gs at full position (omega (arith, len)) (subst L f.1 list)
 
 within_first : (ts : List Token) (n : Next) → (IsPastLimit ts n → ⊥) → NotPastBefore ts
-within_first ts n within p t r s split at full_here place = within (p, t ∷ r, split, full p s at full_here place, tt)
+within_first ts n within p t r s split at full_here position = within (p, t ∷ r, split, full p s at full_here position, tt)
 
 -- ---- the first fault
 
--- the kinds that the code tells are those of their places
+-- the kinds that the code tells are those of their positions
 pub kind_end : (p : List Token) (u : State) (k : FaultKind) → run origin p ≡ whole u → finish u ≡ Err k → IsKind p AtEnd k
 kind_end p u k is e =
     let K : FaultKind → Type 0 = λ x. IsKind p AtEnd x in
-    subst K (sym (finish_fault u k e)) (kind_of p AtEnd (words_end p) u.done u.place is)
+    subst K (sym (finish_fault u k e)) (kind_of p AtEnd (words_end p) u.done u.stage is)
 
 pub kind_token : (p : List Token) (t : Token) (u : State) (k : FaultKind) → run origin p ≡ whole u → advance u t ≡ Err k → IsKind p (AToken t) k
 kind_token p t u k is e =
     let K : FaultKind → Type 0 = λ x. IsKind p (AToken t) x in
-    subst K (sym (advance_fault u t k e)) (kind_of p (AToken t) (words_at p t) u.done u.place is)
+    subst K (sym (advance_fault u t k e)) (kind_of p (AToken t) (words_at p t) u.done u.stage is)
 
 told_end : (p : List Token) (u : State) (at : ℕ) (fault : CapFault) → run origin p ≡ whole u → ((gs : List Grant) → Grants GrantPhrase p gs → ⊥) → IsKind p AtEnd fault.kind → at ≡ fault.at
     → carried at (finish u) (λ grants. Ok grants) ≡ Err fault
-told_end p u at fault is none kind place = go (finish u) refl
+told_end p u at fault is none kind position = go (finish u) refl
   where
     go : (r : Result (List Grant) FaultKind) → finish u ≡ r → carried at r (λ grants. Ok grants) ≡ Err fault
     go (Ok gs) e = absurd (none gs (sound p u gs is e))
-    go (Err k) e = ap Err (told p AtEnd k at fault (kind_end p u k is e) kind place)
+    go (Err k) e = ap Err (told p AtEnd k at fault (kind_end p u k is e) kind position)
 
 told_token : (p : List Token) (t : Token) (u : State) (at : ℕ) (fault : CapFault) (next : State → Read) → run origin p ≡ whole u → (MayFollow p t → ⊥) → IsKind p (AToken t) fault.kind → at ≡ fault.at
     → carried at (advance u t) next ≡ Err fault
-told_token p t u at fault next is blocks kind place = go (advance u t) refl
+told_token p t u at fault next is blocks kind position = go (advance u t) refl
   where
     go : (r : Result State FaultKind) → advance u t ≡ r → carried at r next ≡ Err fault
     go (Ok v) e = absurd (blocks (may p u v t is e))
-    go (Err k) e = ap Err (told p (AToken t) k at fault (kind_token p t u k is e) kind place)
+    go (Err k) e = ap Err (told p (AToken t) k at fault (kind_token p t u k is e) kind position)
 
-module _ (text : List ℕ) (fault : CapFault) (p : List Token) (next : Next) (mid rest : List ℕ) (skips : SkipsSpaces mid rest) (place : fault.at + length rest ≡ length text) (u : State) (is : run origin p ≡ whole u) where
+module _ (text : List ℕ) (fault : CapFault) (p : List Token) (next : Next) (mid rest : List ℕ) (skips : SkipsSpaces mid rest) (position : fault.at + length rest ≡ length text) (u : State) (is : run origin p ≡ whole u) where
   at_fault : length text - length rest ≡ fault.at
-  at_fault = omega (arith, place)
+  at_fault = omega (arith, position)
 
   limit_told : (fuel : ℕ) → length mid < fuel → StandsNext (ends_in_word false p) mid rest next → IsThere next → fault.kind ≡ TooManyGrants → length u.done ≡ 64 → read_from fuel (length text) u (ends_in_word false p) mid ≡ Err fault
   limit_told zero enough stands there kind full_here = absurd (omega arith)
@@ -273,16 +273,16 @@ module _ (text : List ℕ) (fault : CapFault) (p : List Token) (next : Next) (mi
       ∙ told_token p t u (length text - length stands.1.1) fault (λ v. read_from n (length text) v (is_word t) stands.0) is blocks kind (ap (λ r. length text - length r) (starts_there (ends_in_word false p) mid rest t stands.0 skips stands.1) ∙ at_fault)
 
 within_told : (text : List ℕ) (fault : CapFault) → length text ≤ 4096 → IsFaultWithin text fault → read_text text ≡ Err fault
-within_told text fault short (p, next, rest, (mid, reads, skips, stands), place, (ts, gs, list), inl (full_p, there, kind)) =
+within_told text fault short (p, next, rest, (mid, reads, skips, stands), position, (ts, gs, list), inl (full_p, there, kind)) =
     let to = led p ts gs list in
     let c = comes_on (length text + 1) (length text) false text [] p mid origin to.0 (omega arith) reads (inl (omega arith)) refl to.1 (full_first p full_p) in
     let full_here : length to.0.done ≡ 64 = elim c.room [ inl few ↦ absurd (not_past p to.0 next to.1 few (p, [], sym (append-nil p), full_p, there)) | inr h ↦ h.0 ] in
-    reads_from_start text short ∙ c.goes ∙ limit_told text fault p next mid rest skips place to.0 to.1 c.fuel c.enough stands there kind full_here
-within_told text fault short (p, next, rest, (mid, reads, skips, stands), place, (ts, gs, list), inr (within, blocks, kind)) =
+    reads_from_start text short ∙ c.goes ∙ limit_told text fault p next mid rest skips position to.0 to.1 c.fuel c.enough stands there kind full_here
+within_told text fault short (p, next, rest, (mid, reads, skips, stands), position, (ts, gs, list), inr (within, blocks, kind)) =
     let to = led p ts gs list in
     let c = comes_on (length text + 1) (length text) false text [] p mid origin to.0 (omega arith) reads (inl (omega arith)) refl to.1 (within_first p next within) in
     let few : IsThere next → length to.0.done < 64 = λ there. elim c.room [ inl few ↦ few | inr h ↦ absurd (within (p, [], sym (append-nil p), full p to.0 to.1 h.0 h.1, there)) ] in
-    reads_from_start text short ∙ c.goes ∙ blocked_told text fault p next mid rest skips place to.0 to.1 c.fuel c.enough next stands blocks kind few
+    reads_from_start text short ∙ c.goes ∙ blocked_told text fault p next mid rest skips position to.0 to.1 c.fuel c.enough next stands blocks kind few
 
 pub too_long : (text : List ℕ) → 4096 < length text → read_text text ≡ Err (placed TooLong 0)
 unfolding read_text

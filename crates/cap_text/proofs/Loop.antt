@@ -6,8 +6,8 @@ use Rattle.cap_text.specs.declared.token.Token.{Token}
 use Rattle.cap_text.specs.declared.grant.Grant.{Grant}
 use Rattle.cap_text.specs.declared.fault.FaultKind.{FaultKind}
 use Rattle.cap_text.specs.declared.fault.FaultKind.TheVariants.{TooLong, TooManyGrants, UnknownWord, BadAccess, BadMatch, BadWord, NetworkClause, OutOfMemory}
-use Rattle.cap_text.specs.Place.{State}
-use Rattle.cap_text.specs.Place as places
+use Rattle.cap_text.specs.Stage.{State}
+use Rattle.cap_text.specs.Stage as stages
 use Rattle.cap_text.specs.Reads.{is_word, ReadsOne, Reads, ends_in_word, IsText, IsUnreadable}
 use Rattle.cap_text.specs.Grammar.{GrantPhrase, Grants, Spells}
 use Rattle.cap_text.specs.Faults.{Next, AtEnd, NoToken, AToken, StandsNext, IsThere, IsKind, IsFaultWithin, IsFirstFault, OrMemory}
@@ -57,19 +57,19 @@ module _ (text rest : List ℕ) (behind : Bool) (state : State) (p : List Token)
       may_not p state t k h.runs s (r.0, gs, subst Q r.1 list)
 
   pub first_at : (t : Token) (after start : List ℕ) (at : ℕ) (k : FaultKind) → (length state.done ≡ 64 → ⊥) → SkipsSpaces rest start → at + length start ≡ length text → ReadsOne behind rest t after → advance state t ≡ Err k → IsFaultWithin text (record { kind = k; at = at })
-  first_at t after start at k ne skips place one s =
+  first_at t after start at k ne skips position one s =
       let P : Bool → Type 0 = λ b. ReadsOne b rest t after in
       let K : FaultKind → Type 0 = λ x. IsKind p (AToken t) x in (
         p,
         AToken t,
         start,
         (rest, h.reads, skips, (after, subst P h.ends one)),
-        place,
+        position,
         viable p state h.runs,
         inr (
           not_past p state (AToken t) h.runs (few ne),
           may_not p state t k h.runs s,
-          subst K (sym (advance_fault state t k s)) (kind_of p (AToken t) (words_at p t) state.done state.place h.runs),
+          subst K (sym (advance_fault state t k s)) (kind_of p (AToken t) (words_at p t) state.done state.stage h.runs),
         ),
       )
 
@@ -79,13 +79,13 @@ module _ (text rest : List ℕ) (behind : Bool) (state : State) (p : List Token)
   no_list_unread bad gs (short, many, (ts, is_text, list)) = let P : Bool → Type 0 = λ b. IsUnreadable b rest in unreadable_none text p rest ts h.reads (subst P h.ends bad) is_text
 
   pub first_unread : (start : List ℕ) (at : ℕ) → (length state.done ≡ 64 → ⊥) → SkipsSpaces rest start → at + length start ≡ length text → IsUnreadable behind rest → IsFaultWithin text (record { kind = BadWord; at = at })
-  first_unread start at ne skips place bad =
+  first_unread start at ne skips position bad =
       let P : Bool → Type 0 = λ b. IsUnreadable b rest in (
         p,
         NoToken,
         start,
         (rest, h.reads, skips, subst P h.ends bad),
-        place,
+        position,
         viable p state h.runs,
         inr (
           not_past p state NoToken h.runs (few ne),
@@ -104,7 +104,7 @@ module _ (text rest : List ℕ) (behind : Bool) (state : State) (p : List Token)
 
   -- ---- the limit of grants
 
-  at_separator : length state.done ≡ 64 → state.place ≡ places.Separator
+  at_separator : length state.done ≡ 64 → state.stage ≡ stages.Separator
   at_separator len = elim h.room [ inl x ↦ absurd (omega (arith, len, x)) | inr x ↦ x.1 ]
 
   pub no_list_past : length state.done ≡ 64 → (gs : List Grant) → Spells text gs → ⊥
@@ -114,18 +114,18 @@ module _ (text rest : List ℕ) (behind : Bool) (state : State) (p : List Token)
       too_many p on.0 state gs h.runs len (at_separator len) many (subst Q on.1 list)
 
   past : (start : List ℕ) (at : ℕ) (n : Next) → length state.done ≡ 64 → SkipsSpaces rest start → at + length start ≡ length text → IsThere n → StandsNext (ends_in_word false p) rest start n → IsFaultWithin text (record { kind = TooManyGrants; at = at })
-  past start at n len skips place there stands = (p, n, start, (rest, h.reads, skips, stands), place, viable p state h.runs, inl (full p state h.runs len (at_separator len), there, refl))
+  past start at n len skips position there stands = (p, n, start, (rest, h.reads, skips, stands), position, viable p state h.runs, inl (full p state h.runs len (at_separator len), there, refl))
 
   pub past_token : (t : Token) (after start : List ℕ) (at : ℕ) → length state.done ≡ 64 → SkipsSpaces rest start → at + length start ≡ length text → ReadsOne behind rest t after → IsFaultWithin text (record { kind = TooManyGrants; at = at })
-  past_token t after start at len skips place one = let P : Bool → Type 0 = λ b. ReadsOne b rest t after in past start at (AToken t) len skips place tt (after, subst P h.ends one)
+  past_token t after start at len skips position one = let P : Bool → Type 0 = λ b. ReadsOne b rest t after in past start at (AToken t) len skips position tt (after, subst P h.ends one)
 
   pub past_unread : (start : List ℕ) (at : ℕ) → length state.done ≡ 64 → SkipsSpaces rest start → at + length start ≡ length text → IsUnreadable behind rest → IsFaultWithin text (record { kind = TooManyGrants; at = at })
-  past_unread start at len skips place bad = let P : Bool → Type 0 = λ b. IsUnreadable b rest in past start at NoToken len skips place tt (subst P h.ends bad)
+  past_unread start at len skips position bad = let P : Bool → Type 0 = λ b. IsUnreadable b rest in past start at NoToken len skips position tt (subst P h.ends bad)
 
   pub past_found : {X : Type 0} → (r : Option X) (token : X → Token) (after : X → List ℕ) → MatchOption r ((t : Token) (a : List ℕ) → ReadsOne behind rest t a → ⊥) (λ x. ReadsOne behind rest (token x) (after x))
       → (start : List ℕ) (at : ℕ) → length state.done ≡ 64 → SkipsSpaces rest start → start ≢ [] → at + length start ≡ length text → IsFaultWithin text (record { kind = TooManyGrants; at = at })
-  past_found None token after found start at len skips some place = past_unread start at len skips place (skips_some rest start skips some, found)
-  past_found (Some x) token after found start at len skips some place = past_token (token x) (after x) start at len skips place found
+  past_found None token after found start at len skips some position = past_unread start at len skips position (skips_some rest start skips some, found)
+  past_found (Some x) token after found start at len skips some position = past_token (token x) (after x) start at len skips position found
 
   -- ---- the end of the text
 
@@ -136,18 +136,18 @@ module _ (text rest : List ℕ) (behind : Bool) (state : State) (p : List Token)
       no_end p state k h.runs f gs (subst Q same list)
 
   pub first_end : (start : List ℕ) (at : ℕ) (k : FaultKind) → SkipsSpaces rest start → start ≡ [] → at + length start ≡ length text → finish state ≡ Err k → IsFaultWithin text (record { kind = k; at = at })
-  first_end start at k skips empty place f =
+  first_end start at k skips empty position f =
       let K : FaultKind → Type 0 = λ x. IsKind p AtEnd x in (
         p,
         AtEnd,
         start,
         (rest, h.reads, skips, empty),
-        place,
+        position,
         viable p state h.runs,
         inr (
           not_past_end p state h.runs h.room,
           no_end p state k h.runs f,
-          subst K (sym (finish_fault state k f)) (kind_of p AtEnd (words_end p) state.done state.place h.runs),
+          subst K (sym (finish_fault state k f)) (kind_of p AtEnd (words_end p) state.done state.stage h.runs),
         ),
       )
 

@@ -12,7 +12,7 @@ use Rattle.cap_text.specs.declared.grant.Grant.{Grant}
 use Rattle.cap_text.specs.declared.grant.Grant.TheVariants.{Allow, Profile}
 use Rattle.cap_text.specs.Reads.{is_word, IsText}
 use Rattle.cap_text.specs.Grammar.{MatchPhrase, GrantPhrase, Followed, Grants, CanBeSpelled, Spells}
-use Rattle.cap_text.specs.Spellable.{is_value, none_or, is_access, is_namespace, is_tag, is_place, is_alone, is_allow, is_spellable}
+use Rattle.cap_text.specs.Spellable.{is_value, none_or, is_access, is_namespace, is_tag, is_scope, is_alone, is_allow, is_spellable}
 use Rattle.cap_text.specs.Printed.{printed_value, printed_access, printed_pool, printed_namespaces, printed_prefix, printed_tag, printed_grant, printed}
 use Rattle.cap_text.proofs.SpelledValues.{and_both, is_written}
 use Rattle.cap_text.proofs.PrintedMarks.{Mark, text_of, tokens_of, Free, marks_read, spaced_free}
@@ -23,7 +23,7 @@ abbrev match_text : AllowGrant → List ℕ
 match_text g = printed_pool g.pool ++ (printed_namespaces g.namespace ++ (printed_prefix g.prefix ++ printed_tag g.tag))
 
 abbrev is_match : AllowGrant → Bool
-is_match g = is_place g.pool g.namespace && (none_or is_value g.prefix && (none_or is_tag g.tag && is_alone g g.tag))
+is_match g = is_scope g.pool g.namespace && (none_or is_value g.prefix && (none_or is_tag g.tag && is_alone g g.tag))
 
 none_of : {A : Type 0} (o : Option A) → is_none o ≡ true → o ≡ None
 none_of None h = refl
@@ -32,12 +32,12 @@ none_of (Some x) h = absurd (let f : false ≡ true = h in cc)
 -- a grant without a tag
 plain_prints : (g : AllowGrant) (ms : List Mark) → g.tag ≡ None → is_match g ≡ true → Free ms → Prints (λ ts rest. MatchPhrase ts g rest) (match_text g) ms
 plain_prints g ms none h free =
-    let parts = and_both (is_place g.pool g.namespace) _ h in
-    let place = and_both (none_or is_value g.pool) (none_or is_namespace g.namespace) parts.0 in
+    let parts = and_both (is_scope g.pool g.namespace) _ h in
+    let scope = and_both (none_or is_value g.pool) (none_or is_namespace g.namespace) parts.0 in
     let rest = and_both (none_or is_value g.prefix) _ parts.1 in
     let prefix = prefix_prints g.prefix ms rest.0 free in
-    let namespace = namespaces_print g.namespace prefix.marks place.1 prefix.free in
-    let pool = pool_prints g.pool namespace.marks place.0 namespace.free in
+    let namespace = namespaces_print g.namespace prefix.marks scope.1 prefix.free in
+    let pool = pool_prints g.pool namespace.marks scope.0 namespace.free in
     let same = pool.same ∙ ap (λ x. printed_pool g.pool ++ x) (namespace.same ∙ ap (λ x. printed_namespaces g.namespace ++ x) prefix.same) in
     let ends : printed_prefix g.prefix ++ printed_tag g.tag ≡ printed_prefix g.prefix = ap (λ t. printed_prefix g.prefix ++ printed_tag t) none ∙ append-nil (printed_prefix g.prefix) in
     let P : List ℕ → Type 0 = λ x. text_of pool.marks ≡ (printed_pool g.pool ++ (printed_namespaces g.namespace ++ x)) ++ text_of ms in
@@ -53,8 +53,8 @@ plain_prints g ms none h free =
 -- a grant with a tag
 tagged_prints : (g : AllowGrant) (tag : Tag) (ms : List Mark) → g.tag ≡ Some tag → is_match g ≡ true → Free ms → Prints (λ ts rest. MatchPhrase ts g rest) (match_text g) ms
 tagged_prints g tag ms is h free =
-    let parts = and_both (is_place g.pool g.namespace) _ h in
-    let place = and_both (none_or is_value g.pool) (none_or is_namespace g.namespace) parts.0 in
+    let parts = and_both (is_scope g.pool g.namespace) _ h in
+    let scope = and_both (none_or is_value g.pool) (none_or is_namespace g.namespace) parts.0 in
     let rest = and_both (none_or is_value g.prefix) _ parts.1 in
     let tagged : (is_tag tag && (is_none g.pool && is_none g.prefix)) ≡ true = sym (ap (λ t. none_or is_tag t && is_alone g t) is) ∙ rest.1 in
     let both = and_both (is_tag tag) (is_none g.pool && is_none g.prefix) tagged in
@@ -62,7 +62,7 @@ tagged_prints g tag ms is h free =
     let no_pool = none_of g.pool alone.0 in
     let no_prefix = none_of g.prefix alone.1 in
     let clause = tag_prints tag ms both.0 free in
-    let namespace = namespaces_print g.namespace clause.marks place.1 clause.free in
+    let namespace = namespaces_print g.namespace clause.marks scope.1 clause.free in
     let same : text_of namespace.marks ≡ (printed_namespaces g.namespace ++ printed_tag (Some tag)) ++ text_of ms = namespace.same ∙ ap (λ x. printed_namespaces g.namespace ++ x) clause.same ∙ sym (append_assoc (printed_namespaces g.namespace) (printed_tag (Some tag)) (text_of ms)) in
     let whole : match_text g ≡ printed_namespaces g.namespace ++ printed_tag (Some tag) =
     ap (λ x. printed_pool x ++ (printed_namespaces g.namespace ++ (printed_prefix g.prefix ++ printed_tag g.tag))) no_pool ∙ ap (λ x. printed_namespaces g.namespace ++ (printed_prefix x ++ printed_tag g.tag)) no_prefix ∙ ap (λ x. printed_namespaces g.namespace ++ printed_tag x) is in
@@ -92,24 +92,24 @@ record PrintsGrant (g : Grant) (ms : List Mark) : Type 0 where
 allow_prints : (g : AllowGrant) (ms : List Mark) → is_allow g ≡ true → Free ms → PrintsGrant (Allow g) ms
 allow_prints g ms h free =
     let both = and_both (is_access g.access) (is_match g) h in
-    let place = match_prints g ms both.1 free in
-    let access = access_prints g.access place.marks both.0 place.free in
-    let text : text_of access.marks ≡ (32 ∷ (printed_access g.access ++ match_text g)) ++ text_of ms = access.same ∙ ap (λ x. 32 ∷ (printed_access g.access ++ x)) place.same ∙ sym (append_assoc (32 ∷ printed_access g.access) (match_text g) (text_of ms)) in
+    let scope = match_prints g ms both.1 free in
+    let access = access_prints g.access scope.marks both.0 scope.free in
+    let text : text_of access.marks ≡ (32 ∷ (printed_access g.access ++ match_text g)) ++ text_of ms = access.same ∙ ap (λ x. 32 ∷ (printed_access g.access ++ x)) scope.same ∙ sym (append_assoc (32 ∷ printed_access g.access) (match_text g) (text_of ms)) in
     record {
       word = codes "allow";
       marks = access.marks;
       same = ap (λ x. codes "allow" ++ x) text;
-      phrase = (tokens_of access.marks, tokens_of place.marks, refl, inl (access.phrase, place.phrase));
+      phrase = (tokens_of access.marks, tokens_of scope.marks, refl, inl (access.phrase, scope.phrase));
       written = refl;
       free = access.free;
     }
 
 profile_prints : (used : ProfileUse) (ms : List Mark) → is_spellable (Profile used) ≡ true → Free ms → PrintsGrant (Profile used) ms
 profile_prints used ms h free =
-    let both = and_both (is_value used.name) (is_place used.pool used.namespace) h in
-    let place = and_both (none_or is_value used.pool) (none_or is_namespace used.namespace) both.1 in
-    let namespace = namespaces_print used.namespace ms place.1 free in
-    let pool = pool_prints used.pool namespace.marks place.0 namespace.free in
+    let both = and_both (is_value used.name) (is_scope used.pool used.namespace) h in
+    let scope = and_both (none_or is_value used.pool) (none_or is_namespace used.namespace) both.1 in
+    let namespace = namespaces_print used.namespace ms scope.1 free in
+    let pool = pool_prints used.pool namespace.marks scope.0 namespace.free in
     let name = value_written used.name both.0 in
     let text = ap (λ x. x ++ text_of pool.marks) name.bytes ∙ ap (λ x. printed_value used.name ++ x) (pool.same ∙ ap (λ x. printed_pool used.pool ++ x) namespace.same) ∙ regroup (printed_value used.name) (printed_pool used.pool) (printed_namespaces used.namespace) (text_of ms) in
     record {

@@ -10,7 +10,7 @@ use Rattle.cap_text.specs.Reads.{is_word, ReadsOne}
 use Rattle.cap_text.specs.Grammar.{Spells}
 use Rattle.cap_text.specs.Machine.{advance, finish, placed}
 use Rattle.cap_text.specs.declared.token.Token.{Token}
-use Rattle.cap_text.specs.Place.{State}
+use Rattle.cap_text.specs.Stage.{State}
 use Rattle.cap_text.specs.declared.fault.FaultKind.{FaultKind}
 use Rattle.cap_text.specs.declared.fault.FaultKind.TheVariants.{TooManyGrants}
 use Rattle.cap_text.specs.declared.grant.Grant.{Grant}
@@ -48,30 +48,30 @@ looks behind rest start skipped = go (token_at (behind && is_empty skipped.0) st
         (skipped.0, start, skipped.1, skipped.2, is.0, is.1)
 
 module _ (text rest : List ℕ) (behind : Bool) (s : State) (p : List Token) (h : HasRead text rest behind s p) (short : length text ≤ 4096) where
-  -- a fault of a place's kind is told as it is
+  -- a fault of a position kind is told as it is
   answer_told : (k : FaultKind) (at : ℕ) → placed k at ≡ record { kind = k; at = at } → IsFaultWithin text (record { kind = k; at = at }) → IsAnswer text (Err (placed k at))
   answer_told k at is within = let A : Read → Type 0 = λ r. IsAnswer text r in subst A (ap Err (sym is)) (inr (short, within))
 
   answer_end : (start : List ℕ) (at : ℕ) → SkipsSpaces rest start → start ≡ [] → at + length start ≡ length text → IsAnswer text (carried at (finish s) (λ grants. Ok grants))
-  answer_end start at skipped none place = go (finish s) refl
+  answer_end start at skipped none position = go (finish s) refl
     where
       go : (r : Result (List Grant) FaultKind) → finish s ≡ r → IsAnswer text (carried at r (λ grants. Ok grants))
       go (Ok gs) e = spelled text rest behind s p h gs short (skips_all rest start skipped none) e
-      go (Err k) e = answer_told k at (placed_kind p AtEnd k at (kind_end p s k h.runs e)) (first_end text rest behind s p h start at k skipped none place e)
+      go (Err k) e = answer_told k at (placed_kind p AtEnd k at (kind_end p s k h.runs e)) (first_end text rest behind s p h start at k skipped none position e)
 
   answer_token : (start : List ℕ) (at : ℕ) (t : Token) (after : List ℕ) (next : State → Read) → (length s.done ≡ 64 → ⊥) → SkipsSpaces rest start → at + length start ≡ length text → ReadsOne behind rest t after
       → ((v : State) → advance s t ≡ Ok v → IsAnswer text (next v)) → IsAnswer text (carried at (advance s t) next)
-  answer_token start at t after next few skipped place one on = go (advance s t) refl
+  answer_token start at t after next few skipped position one on = go (advance s t) refl
     where
       go : (r : Result State FaultKind) → advance s t ≡ r → IsAnswer text (carried at r next)
       go (Ok v) e = on v e
-      go (Err k) e = answer_told k at (placed_kind p (AToken t) k at (kind_token p t s k h.runs e)) (first_at text rest behind s p h t after start at k few skipped place one e)
+      go (Err k) e = answer_told k at (placed_kind p (AToken t) k at (kind_token p t s k h.runs e)) (first_at text rest behind s p h t after start at k few skipped position one e)
 
   -- what stands behind the spaces
   answer_start : (start : List ℕ) (at : ℕ) (says : Bool) (next : State → Bool → List ℕ → Read) → SkipsSpaces rest start → at + length start ≡ length text → IsLook behind rest (token_at says start)
       → ((t : Token) (after : List ℕ) (v : State) → (length s.done ≡ 64 → ⊥) → ReadsOne behind rest t after → advance s t ≡ Ok v → IsAnswer text (next v (is_word t) after)) → IsAnswer text (read_at at s says start next)
-  answer_start [] at says next skipped place look on = answer_end [] at skipped refl place
-  answer_start (b ∷ bs) at says next skipped place look on = go (length s.done == 64) (token_at says (b ∷ bs)) refl look
+  answer_start [] at says next skipped position look on = answer_end [] at skipped refl position
+  answer_start (b ∷ bs) at says next skipped position look on = go (length s.done == 64) (token_at says (b ∷ bs)) refl look
     where
       some : (b ∷ bs) ≢ []
       some e = cc
@@ -80,19 +80,19 @@ module _ (text rest : List ℕ) (behind : Bool) (s : State) (p : List Token) (h 
       few e is = let bad : true ≡ false = sym ((unsigned_Decides (length s.done) 64).1 is) ∙ e in cc
 
       go : (full : Bool) (r : Option (Token × List ℕ)) → (length s.done == 64) ≡ full → IsLook behind rest r → IsAnswer text (if full then Err (placed TooManyGrants at) else with_token at s r next)
-      go true r counts found = inr (short, past_found text rest behind s p h r (λ f. f.0) (λ f. f.1) found (b ∷ bs) at ((unsigned_Decides (length s.done) 64).0 counts) skipped some place)
-      go false None counts found = inr (short, first_unread text rest behind s p h (b ∷ bs) at (few counts) skipped place (skips_some rest (b ∷ bs) skipped some, found))
-      go false (Some f) counts found = answer_token (b ∷ bs) at f.0 f.1 (λ v. next v (is_word f.0) f.1) (few counts) skipped place found (λ v e. on f.0 f.1 v (few counts) found e)
+      go true r counts found = inr (short, past_found text rest behind s p h r (λ f. f.0) (λ f. f.1) found (b ∷ bs) at ((unsigned_Decides (length s.done) 64).0 counts) skipped some position)
+      go false None counts found = inr (short, first_unread text rest behind s p h (b ∷ bs) at (few counts) skipped position (skips_some rest (b ∷ bs) skipped some, found))
+      go false (Some f) counts found = answer_token (b ∷ bs) at f.0 f.1 (λ v. next v (is_word f.0) f.1) (few counts) skipped position found (λ v e. on f.0 f.1 v (few counts) found e)
 
 answers : (n : ℕ) (text rest : List ℕ) (behind : Bool) (s : State) (p : List Token) → HasRead text rest behind s p → length text ≤ 4096 → length rest ≤ length text → length rest < n → IsAnswer text (read_from n (length text) s behind rest)
 answers zero text rest behind s p h short within enough = absurd (omega arith)
 answers (suc n) text rest behind s p h short within enough =
     let start : List ℕ = drop (prefix_len is_space rest) rest in
     let skipped : SkipsSpaces rest start = skips rest (prefix_len is_space rest) start refl refl in
-    let place : (length text - length start) + length start ≡ length text = omega (arith, length-drop (prefix_len is_space rest) rest) in
+    let position : (length text - length start) + length start ≡ length text = omega (arith, length-drop (prefix_len is_space rest) rest) in
     let A : Read → Type 0 = λ r. IsAnswer text r in
     subst A (sym (at_rest n (length text) behind rest start s skipped))
-    (answer_start text rest behind s p h short start (length text - length start) (behind && is_empty skipped.0) (read_from n (length text)) skipped place (looks behind rest start skipped)
+    (answer_start text rest behind s p h short start (length text - length start) (behind && is_empty skipped.0) (read_from n (length text)) skipped position (looks behind rest start skipped)
     (λ t after v few one e.
     let shorter : length after < length rest = one_shorter behind rest t after one in
     answers n text after (is_word t) v (p ++ t ∷ []) (goes_on text rest behind s p h t after v few one e) short (omega arith) (omega arith)))

@@ -11,7 +11,7 @@ use Rattle.cap_text.specs.Grammar.{Grants, GrantPhrase}
 use Rattle.cap_text.specs.Machine.{advance, finish, placed}
 use Rattle.cap_text.specs.declared.token.Token.{Token}
 use Rattle.cap_text.specs.declared.token.Token.TheVariants.{Comma, Semicolon, Equals, Star, Word, Quoted}
-use Rattle.cap_text.specs.Place.{State}
+use Rattle.cap_text.specs.Stage.{State}
 use Rattle.cap_text.specs.declared.fault.FaultKind.{FaultKind}
 use Rattle.cap_text.specs.declared.fault.FaultKind.TheVariants.{TooLong, TooManyGrants}
 use Rattle.cap_text.specs.declared.grant.Grant.{Grant}
@@ -19,7 +19,7 @@ use Rattle.cap_text.proofs.Spans.{prefix_len-span, take-span, drop-span}
 use Rattle.cap_text.proofs.Reading.{leads, one_shorter}
 use Rattle.cap_text.proofs.Forth.{◌then◌, run, complete}
 use Rattle.cap_text.proofs.Runs.{whole, all_of, origin, Room, advance_room, then_is, run-append, run_on, given_on, too_many}
-use Rattle.cap_text.specs.Place as places
+use Rattle.cap_text.specs.Stage as stages
 use Rattle.cap_text.specs.ReadText.{quoted_at, token_at, Read, carried, with_token, read_at, read_from, read_text, ReadsTheGrammar}
 
 -- ---- tokens
@@ -151,7 +151,7 @@ at_end n total behind text s blank = at_rest n total behind text [] s (text, bla
 
 -- 64 grants and a separator are not all that stands before the last of these tokens
 abbrev pub NotPastBefore : List Token → Type 0
-NotPastBefore ts = (p : List Token) (t : Token) (q : List Token) (s : State) → ts ≡ p ++ t ∷ q → run origin p ≡ whole s → length s.done ≡ 64 → s.place ≡ places.Separator → ⊥
+NotPastBefore ts = (p : List Token) (t : Token) (q : List Token) (s : State) → ts ≡ p ++ t ∷ q → run origin p ≡ whole s → length s.done ≡ 64 → s.stage ≡ stages.Separator → ⊥
 
 -- where reading comes to behind some tokens
 pub record Comes (r : Read) (total : ℕ) (u : State) (behind : Bool) (rest : List ℕ) : Type 0 where
@@ -217,6 +217,6 @@ pub reads_the_grammar : ReadsTheGrammar
 reads_the_grammar text grants (short, small, (ts, (spaces, blank, reads), list)) =
     let L : List Token → Type 0 = λ x. Grants GrantPhrase x grants in
     let to = led ts [] grants (subst L (sym (append-nil ts)) list) in
-    let before : NotPastBefore ts = λ p t q s parts at full place. too_many p (t ∷ q) s grants at full place small (subst L parts list) in
+    let before : NotPastBefore ts = λ p t q s parts at full position. too_many p (t ∷ q) s grants at full position small (subst L parts list) in
     let c = comes_on (length text + 1) (length text) false text [] ts spaces origin to.0 (omega arith) reads (inl (omega arith)) refl to.1 before in
     reads_from_start text short ∙ c.goes ∙ spelled_end c.fuel (length text) (ends_in_word false ts) spaces to.0 grants c.enough blank (given_on ts [] to.0 grants to.1 (subst L (sym (append-nil ts)) list))

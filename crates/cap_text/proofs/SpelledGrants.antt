@@ -15,7 +15,7 @@ use Rattle.cap_text.specs.declared.grant.Grant.TheVariants.{Allow, Profile}
 use Rattle.cap_text.specs.Bytes.{is_word_byte, is_empty}
 use Rattle.cap_text.specs.Reads.{IsText}
 use Rattle.cap_text.specs.Grammar.{Phrase, Optional, Assigned, Behind, Value, before_star, matched, namespace_of, Namespace, part_of, TagPart, PoolClause, NamespaceClause, PrefixClause, TagClause, Method, where_set, AccessPhrase, MatchPhrase, GrantPhrase, Separated, Followed, Grants, CanBeSpelled}
-use Rattle.cap_text.specs.Spellable.{can_be_quoted, is_value, none_or, is_access, ends_in_star, is_namespace, is_part, is_tag, is_alone, is_place, is_spellable}
+use Rattle.cap_text.specs.Spellable.{can_be_quoted, is_value, none_or, is_access, ends_in_star, is_namespace, is_part, is_tag, is_alone, is_scope, is_spellable}
 use Rattle.cap_text.proofs.SpelledValues.{and_both, both_and, AllWritten, is_written, reads_written, word_can_be_quoted, word_is_value, quoted_is_value, star_cases, word_ends_in_no_star, front_can_be_quoted}
 
 -- the tokens that such a part begins can be written, so the part passes the test, and the tokens behind it can be written
@@ -122,7 +122,7 @@ access_keeps ts (Flags f) rest w (x, k, l, e, some, reads, writes) = (
 -- ---- where a grant holds, and whole grants
 
 abbrev is_match : AllowGrant → Bool
-is_match g = is_place g.pool g.namespace && (none_or is_value g.prefix && (none_or is_tag g.tag && is_alone g g.tag))
+is_match g = is_scope g.pool g.namespace && (none_or is_value g.prefix && (none_or is_tag g.tag && is_alone g g.tag))
 
 match_keeps : Keeps MatchPhrase is_match
 match_keeps ts g rest w (inl (none, (a, b, pool, namespace, prefix))) =
@@ -130,7 +130,7 @@ match_keeps ts g rest w (inl (none, (a, b, pool, namespace, prefix))) =
     let y = namespaces_keep a g.namespace b x.1 namespace in
     let z = prefix_keeps b g.prefix rest y.1 prefix in
     let alone : (none_or is_tag g.tag && is_alone g g.tag) ≡ true = ap (λ t. none_or is_tag t && is_alone g t) none in
-    (both_and (is_place g.pool g.namespace) _ (both_and (none_or is_value g.pool) (none_or is_namespace g.namespace) x.0 y.0) (both_and (none_or is_value g.prefix) _ z.0 alone), z.1)
+    (both_and (is_scope g.pool g.namespace) _ (both_and (none_or is_value g.pool) (none_or is_namespace g.namespace) x.0 y.0) (both_and (none_or is_value g.prefix) _ z.0 alone), z.1)
 match_keeps ts g rest w (inr (no_pool, no_prefix, (tag, a, is, namespace, clause))) =
     let y = namespaces_keep ts g.namespace a w namespace in
     let z = tag_keeps a tag rest y.1 clause in
@@ -138,22 +138,22 @@ match_keeps ts g rest w (inr (no_pool, no_prefix, (tag, a, is, namespace, clause
     let prefix : none_or is_value g.prefix ≡ true = ap (none_or is_value) no_prefix in
     let apart : (is_none g.pool && is_none g.prefix) ≡ true = both_and (is_none g.pool) (is_none g.prefix) (ap is_none no_pool) (ap is_none no_prefix) in
     let alone : (none_or is_tag g.tag && is_alone g g.tag) ≡ true = ap (λ t. none_or is_tag t && is_alone g t) is ∙ both_and (is_tag tag) (is_none g.pool && is_none g.prefix) z.0 apart in
-    (both_and (is_place g.pool g.namespace) _ (both_and (none_or is_value g.pool) (none_or is_namespace g.namespace) pool y.0) (both_and (none_or is_value g.prefix) _ prefix alone), z.1)
+    (both_and (is_scope g.pool g.namespace) _ (both_and (none_or is_value g.pool) (none_or is_namespace g.namespace) pool y.0) (both_and (none_or is_value g.prefix) _ prefix alone), z.1)
 
 pub grant_keeps : Keeps GrantPhrase is_spellable
-grant_keeps ts (Allow g) rest w (a, b, e, inl (access, place)) =
+grant_keeps ts (Allow g) rest w (a, b, e, inl (access, scope)) =
     let x = access_keeps a g.access b (along ts (Word (codes "allow") ∷ a) e w).1 access in
-    let y = match_keeps b g rest x.1 place in
+    let y = match_keeps b g rest x.1 scope in
     (both_and (is_access g.access) (is_match g) x.0 y.0, y.1)
-grant_keeps ts (Allow g) rest w (a, b, e, inr (place, access)) =
-    let x = match_keeps a g b (along ts (Word (codes "allow") ∷ a) e w).1 place in
+grant_keeps ts (Allow g) rest w (a, b, e, inr (scope, access)) =
+    let x = match_keeps a g b (along ts (Word (codes "allow") ∷ a) e w).1 scope in
     let y = access_keeps b g.access rest x.1 access in
     (both_and (is_access g.access) (is_match g) y.0 x.0, y.1)
 grant_keeps ts (Profile used) rest w (a, b, c, e, name, pool, namespace) =
     let x = keeps_assigned Value is_value value_keeps a used.name b (along ts (Word (codes "profile") ∷ a) e w).1 name in
     let y = pool_keeps b used.pool c x.1 pool in
     let z = namespaces_keep c used.namespace rest y.1 namespace in
-    (both_and (is_value used.name) (is_place used.pool used.namespace) x.0 (both_and (none_or is_value used.pool) (none_or is_namespace used.namespace) y.0 z.0), z.1)
+    (both_and (is_value used.name) (is_scope used.pool used.namespace) x.0 (both_and (none_or is_value used.pool) (none_or is_namespace used.namespace) y.0 z.0), z.1)
 
 behind_separator : (ts rest : List Token) → Separated ts rest → AllWritten ts → AllWritten rest
 behind_separator ts rest (inl e) w = (along ts (Comma ∷ rest) e w).1

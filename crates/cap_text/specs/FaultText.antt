@@ -16,6 +16,6 @@ kind_text BadWord = codes "C6 BadWord"
 kind_text NetworkClause = codes "C7 NetworkClause"
 kind_text OutOfMemory = codes "C8 OutOfMemory"
 
--- these, and the place of the fault
+-- these, and the position of the fault
 abbrev pub fault_text : CapFault → List ℕ
 fault_text fault = kind_text fault.kind ++ (codes " at " ++ decimal fault.at)

@@ -14,7 +14,7 @@ use Rattle.cap_text.specs.Reads.{ReadsOne, Reads, ends_in_word, IsUnreadable}
 use Rattle.cap_text.specs.Words.{keyword_of}
 use Rattle.cap_text.specs.Grammar.{begins_clause, GrantPhrase, Grants}
 
--- ---- places
+-- ---- stages
 
 -- what stands where a fault is sought: the text's end, what begins no token, or a token
 pub data Next : Type 0 where
@@ -66,27 +66,27 @@ IsBadWord p AtEnd = AnyWordMayFollow p
 IsBadWord p (AToken (Quoted [])) = MayFollow p (Quoted (codes "a"))
 IsBadWord p (AToken t) = AnyWordMayFollow p
 
--- a grant must begin. A method's place takes both words.
-abbrev pub IsGrantPlace : List Token → Type 0
-IsGrantPlace p = MayFollow p (Word (codes "allow")) × (MayFollow p (Word (codes "all")) → ⊥)
+-- a grant must begin. A method's stage takes both words.
+abbrev pub IsGrantDue : List Token → Type 0
+IsGrantDue p = MayFollow p (Word (codes "allow")) × (MayFollow p (Word (codes "all")) → ⊥)
 
 -- an access must stand
-abbrev pub IsAccessPlace : List Token → Type 0
-IsAccessPlace p = MayFollow p (Word (codes "all")) × (MayFollow p (Word (codes "allow")) → ⊥)
+abbrev pub IsAccessDue : List Token → Type 0
+IsAccessDue p = MayFollow p (Word (codes "all")) × (MayFollow p (Word (codes "allow")) → ⊥)
 
 -- the = of a tag must stand
-abbrev pub IsEqualsPlace : List Token → Type 0
-IsEqualsPlace p = MayFollow p Equals × ((w : List ℕ) → MayFollow p (Word w) → ⊥)
+abbrev pub IsEqualsDue : List Token → Type 0
+IsEqualsDue p = MayFollow p Equals × ((w : List ℕ) → MayFollow p (Word w) → ⊥)
 
 -- the first of these that applies
 pub record IsKind (p : List Token) (n : Next) (kind : FaultKind) : Type 0 where
   pub word : IsBadWord p n → kind ≡ BadWord
-  pub grant : (IsBadWord p n → ⊥) → IsGrantPlace p → kind ≡ UnknownWord
-  pub equals : (IsBadWord p n → ⊥) → IsEqualsPlace p → kind ≡ BadMatch
-  pub network : (IsBadWord p n → ⊥) → (IsGrantPlace p → ⊥) → (IsEqualsPlace p → ⊥) → keyword_at n ≡ kw.Network → kind ≡ NetworkClause
-  pub clause : (IsBadWord p n → ⊥) → (IsGrantPlace p → ⊥) → (IsEqualsPlace p → ⊥) → keyword_at n ≢ kw.Network → IsClauseWord n → kind ≡ BadMatch
-  pub access : (IsBadWord p n → ⊥) → (IsEqualsPlace p → ⊥) → (IsClauseWord n → ⊥) → IsAccessPlace p → kind ≡ BadAccess
-  pub other : (IsBadWord p n → ⊥) → (IsEqualsPlace p → ⊥) → (IsClauseWord n → ⊥) → (IsAccessPlace p → ⊥) → kind ≡ UnknownWord
+  pub grant : (IsBadWord p n → ⊥) → IsGrantDue p → kind ≡ UnknownWord
+  pub equals : (IsBadWord p n → ⊥) → IsEqualsDue p → kind ≡ BadMatch
+  pub network : (IsBadWord p n → ⊥) → (IsGrantDue p → ⊥) → (IsEqualsDue p → ⊥) → keyword_at n ≡ kw.Network → kind ≡ NetworkClause
+  pub clause : (IsBadWord p n → ⊥) → (IsGrantDue p → ⊥) → (IsEqualsDue p → ⊥) → keyword_at n ≢ kw.Network → IsClauseWord n → kind ≡ BadMatch
+  pub access : (IsBadWord p n → ⊥) → (IsEqualsDue p → ⊥) → (IsClauseWord n → ⊥) → IsAccessDue p → kind ≡ BadAccess
+  pub other : (IsBadWord p n → ⊥) → (IsEqualsDue p → ⊥) → (IsClauseWord n → ⊥) → (IsAccessDue p → ⊥) → kind ≡ UnknownWord
 
 -- ---- the limit of grants
 
@@ -115,7 +115,7 @@ IsPastLimit p n = (q r : List Token) × (p ≡ q ++ r) × AreFull q × GoesOn r 
 
 -- ---- the first fault
 
--- What stands before the place may begin a list, and there the limit of grants is passed, or what stands there goes on with no list.
+-- What stands before the stage may begin a list, and there the limit of grants is passed, or what stands there goes on with no list.
 abbrev pub IsFaultWithin : List ℕ → CapFault → Type 0
 IsFaultWithin text fault =
     (p : List Token) × (next : Next) × (rest : List ℕ) × Finds text p next rest × (fault.at + length rest ≡ length text) × IsViable p

@@ -17,6 +17,6 @@ abbrev pub leaving : {A B : Type 0} → Result A FaultKind → B → Result B Fa
 leaving (Ok u) x = Ok x
 leaving (Err k) x = Err k
 
--- what the code leaves in a place is this, unless memory ran out
+-- what the code leaves in a stage is this, unless memory ran out
 abbrev pub GivesIn : {A B : Type 0} → Result A FaultKind → B → Result B FaultKind → Type 0
 GivesIn r x e = Gives (leaving r x) e

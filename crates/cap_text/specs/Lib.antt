@@ -7,7 +7,7 @@ pub mod Faults
 pub mod Spellable
 pub mod Printed
 pub mod Draft
-pub mod Place
+pub mod Stage
 pub mod Machine
 pub mod FaultText
 pub mod Sheet

@@ -8,8 +8,8 @@ use Rattle.cap_text.specs.Reads.{is_word}
 use Rattle.cap_text.specs.Machine.{advance, finish, placed}
 use Rattle.cap_text.specs.declared.token.Token.{Token}
 use Rattle.cap_text.specs.declared.token.Token.TheVariants.{Comma, Semicolon, Equals, Star, Word, Quoted}
-use Rattle.cap_text.specs.Place as places
-use Rattle.cap_text.specs.Place.{State}
+use Rattle.cap_text.specs.Stage as stages
+use Rattle.cap_text.specs.Stage.{State}
 use Rattle.cap_text.specs.declared.fault.CapFault.{CapFault}
 use Rattle.cap_text.specs.declared.fault.FaultKind.{FaultKind}
 use Rattle.cap_text.specs.declared.fault.FaultKind.TheVariants.{TooLong, TooManyGrants, BadWord, OutOfMemory}
@@ -43,7 +43,7 @@ token_at behind (b ∷ bs) =
 abbrev pub Read : Type 0
 Read = Result (List Grant) CapFault
 
--- what a machine's answer at a place comes to
+-- what a machine's answer at a stage comes to
 abbrev pub carried : {A : Type 0} → ℕ → Result A FaultKind → (A → Read) → Read
 carried at (Ok x) next = next x
 carried at (Err kind) next = Err (placed kind at)
@@ -52,7 +52,7 @@ abbrev pub with_token : ℕ → State → Option (Token × List ℕ) → (State 
 with_token at s None next = Err (placed BadWord at)
 with_token at s (Some found) next = carried at (advance s found.0) (λ t. next t (is_word found.0) found.1)
 
--- what stands at a place behind spaces: the end, one grant too many, or a token
+-- what stands at a stage behind spaces: the end, one grant too many, or a token
 abbrev pub read_at : ℕ → State → Bool → List ℕ → (State → Bool → List ℕ → Read) → Read
 read_at at s behind rest next =
     if is_empty rest then carried at (finish s) (λ grants. Ok grants)
@@ -70,7 +70,7 @@ read_from (suc n) whole s behind text =
 unfoldable pub read_text : List ℕ → Read
 read_text text =
     if nat_lt 4096 (length text) then Err (placed TooLong 0)
-    else read_from (length text + 1) (length text) (record { done = []; place = places.Start }) false text
+    else read_from (length text + 1) (length text) (record { done = []; stage = stages.Start }) false text
 
 -- ---- the laws
 

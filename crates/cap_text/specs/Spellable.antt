@@ -62,17 +62,17 @@ is_alone g None = true
 is_alone g (Some tag) = is_none g.pool && is_none g.prefix
 
 -- the pool and the namespaces of a grant
-abbrev pub is_place : Option (List ℕ) → Option NsMatch → Bool
-is_place pool namespace = none_or is_value pool && none_or is_namespace namespace
+abbrev pub is_scope : Option (List ℕ) → Option NsMatch → Bool
+is_scope pool namespace = none_or is_value pool && none_or is_namespace namespace
 
 -- each part passes its test, and a tag stands alone
 abbrev pub is_allow : AllowGrant → Bool
-is_allow g = is_access g.access && (is_place g.pool g.namespace && (none_or is_value g.prefix && (none_or is_tag g.tag && is_alone g g.tag)))
+is_allow g = is_access g.access && (is_scope g.pool g.namespace && (none_or is_value g.prefix && (none_or is_tag g.tag && is_alone g g.tag)))
 
 -- the grammar can spell the grant
 abbrev pub is_spellable : Grant → Bool
 is_spellable (Allow g) = is_allow g
-is_spellable (Profile used) = is_value used.name && is_place used.pool used.namespace
+is_spellable (Profile used) = is_value used.name && is_scope used.pool used.namespace
 
 -- Whatever a text spells passes the test.
 abbrev pub SpelledIsSpellable : Type 0

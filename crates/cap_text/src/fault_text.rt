@@ -22,7 +22,7 @@ fn kind_text(kind: FaultKind) -> &'static str
     }
 }
 
-/// Its number, its name and its place, as `C7 NetworkClause at 9`.
+/// Its number, its name and its position, as `C7 NetworkClause at 9`.
 impl fmt::Display for CapFault {
     ghost output = { λ fault. Some (fault_text fault) };
 

@@ -4,15 +4,15 @@ ghost use Rattle.std.specs.Prelude.{◌≡◌};
 ghost use Rattle.cap_text.specs.Grammar.{namespace_of, part_of};
 ghost use Rattle.cap_text.specs.declared.grant.Access.TheVariants as accesses;
 ghost use Rattle.cap_text.specs.Gives.{Gives, GivesIn, GivesTo};
-ghost use Rattle.cap_text.specs.Sheet.{GivesAt, place_at};
-ghost use Rattle.cap_text.specs.Machine.{after_access, accessed, clause_word, access_word, clauses, letters_step, class_read_word, class_read_step, method_step, value_of, value_step, filled, namespace_place, namespace_step, namespace_word_step, part_at, key_step, key_value_step, start_step, step, close, ended};
+ghost use Rattle.cap_text.specs.Sheet.{GivesAt, stage_at};
+ghost use Rattle.cap_text.specs.Machine.{after_access, accessed, clause_word, access_word, clauses, letters_step, class_read_word, class_read_step, method_step, value_of, value_step, filled, namespace_stage, namespace_step, namespace_word_step, part_at, key_step, key_value_step, start_step, step, close, ended};
 
 use crate::draft::Sheet;
 use crate::fault::FaultKind;
 use crate::grant::{Access, Flags, NsMatch, Part, Tag};
 use crate::keyword::{Keyword, keyword_of};
 use crate::name::Name;
-use crate::place::{ClauseSet, Next, Slot};
+use crate::stage::{ClauseSet, Next, Slot};
 use crate::state::Grants;
 use crate::token::Token;
 use std::alloc::Global;
@@ -46,7 +46,7 @@ fn after_access(may: ClauseSet) -> ClauseSet
 }
 
 fn accessed(may: ClauseSet, sheet: &mut Sheet, access: Access) -> Next
-    ensures { place_at result sheet.new ≡ accessed may sheet.old.draft access }
+    ensures { stage_at result sheet.new ≡ accessed may sheet.old.draft access }
 {
     sheet.set_access(access);
     Next::Clauses(after_access(may))
@@ -250,7 +250,7 @@ fn value(alloc: Global, token: &Token<'_>) -> Result<Name, FaultKind>
 
 /// Writes a value into the sheet, and answers what may come behind it.
 fn filled(slot: Slot, may: ClauseSet, sheet: &mut Sheet, value: Name) -> Next
-    ensures { place_at result sheet.new ≡ filled slot may sheet.old.draft value }
+    ensures { stage_at result sheet.new ≡ filled slot may sheet.old.draft value }
 {
     match slot {
         Slot::Profile => {
@@ -306,7 +306,7 @@ fn namespace_of(alloc: Global, text: &str) -> Result<NsMatch, FaultKind>
 }
 
 fn in_namespace(may: ClauseSet, sheet: &mut Sheet, namespace: NsMatch) -> Next
-    ensures { place_at result sheet.new ≡ namespace_place may sheet.old.draft namespace }
+    ensures { stage_at result sheet.new ≡ namespace_stage may sheet.old.draft namespace }
 {
     sheet.set_namespace(namespace);
     Next::Clauses(ClauseSet {
@@ -428,7 +428,7 @@ fn start(sheet: &mut Sheet, token: &Token<'_>) -> Result<Next, FaultKind>
 
 /// What may come behind a token that is no separator.
 ///
-/// What it calls is never inlined: it would set all their places to zero at each token.
+/// What it calls is never inlined: it would set all their slots to zero at each token.
 #[tactic(auto, unfolding(crate::specs::Machine::step))]
 pub(crate) fn step(
     alloc: Global,
@@ -436,7 +436,7 @@ pub(crate) fn step(
     sheet: &mut Sheet,
     token: &Token<'_>,
 ) -> Result<Next, FaultKind>
-    ensures { GivesAt result sheet.new (step (place_at next sheet.old) token.now) }
+    ensures { GivesAt result sheet.new (step (stage_at next sheet.old) token.now) }
 {
     match next {
         Next::Start | Next::Separator => start(sheet, token),
@@ -473,7 +473,7 @@ pub(crate) fn close(
     sheet: &mut Sheet,
     done: &mut Grants,
 ) -> Result<(), FaultKind>
-    ensures { GivesIn result done.new (ended done.old (close (place_at next sheet.old))) }
+    ensures { GivesIn result done.new (ended done.old (close (stage_at next sheet.old))) }
 {
     match next {
         Next::Clauses(_) => sheet.end_in(done),

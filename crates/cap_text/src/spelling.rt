@@ -88,8 +88,8 @@ fn is_tag(tag: &Tag) -> bool
     is_value(&tag.application) && is_part(&tag.key) && is_part(&tag.value)
 }
 
-fn is_place(pool: &Option<Name>, namespace: &Option<NsMatch>) -> bool
-    ensures { result ≡ spec.is_place pool.now namespace.now }
+fn is_scope(pool: &Option<Name>, namespace: &Option<NsMatch>) -> bool
+    ensures { result ≡ spec.is_scope pool.now namespace.now }
 {
     none_or_value(pool)
         && match namespace {
@@ -112,7 +112,7 @@ fn is_allow(grant: &AllowGrant) -> bool
     ensures { result ≡ spec.is_allow grant.now }
 {
     is_access(&grant.access)
-        && is_place(&grant.pool, &grant.namespace)
+        && is_scope(&grant.pool, &grant.namespace)
         && none_or_value(&grant.prefix)
         && has_own_tag(grant)
 }
@@ -123,7 +123,7 @@ pub fn is_spellable(grant: &Grant) -> bool
 {
     match grant {
         Grant::Allow(allow) => is_allow(allow),
-        Grant::Profile(used) => is_value(&used.name) && is_place(&used.pool, &used.namespace),
+        Grant::Profile(used) => is_value(&used.name) && is_scope(&used.pool, &used.namespace),
     }
 }
 

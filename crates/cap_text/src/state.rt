@@ -9,7 +9,7 @@ use crate::draft::Sheet;
 use crate::fault::{FaultKind, OutOfMemory};
 use crate::grant::Grant;
 use crate::machine::{close, step};
-use crate::place::Next;
+use crate::stage::Next;
 use crate::token::Token;
 use std::alloc::Global;
 use std::marker::Model;
@@ -69,7 +69,7 @@ pub struct Reading {
 }
 
 impl Model for Reading {
-    ghost use Rattle.cap_text.specs.Place.{State};
+    ghost use Rattle.cap_text.specs.Stage.{State};
     ghost use Rattle.cap_text.specs.Sheet.{state_of};
 
     ghost Value = { State };

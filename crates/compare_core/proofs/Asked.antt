@@ -7,7 +7,7 @@ use Rattle.std.specs.Option.{option_to_list}
 use Rattle.std.specs.List.{list_any, All, Contains}
 use Rattle.std.proofs.lemmas.Bool.{false≢true}
 use Rattle.cap_text.specs.declared.grant.AllowGrant.{AllowGrant}
-use Rattle.verdict_core.specs.Place.{Place}
+use Rattle.verdict_core.specs.Target.{Target}
 use Rattle.verdict_core.specs.Verdict.{matches, grants_allow}
 use Rattle.verdict_core.specs.declared.request.Needs.{Needs}
 use Rattle.verdict_core.specs.declared.request.ClassCall.{ClassCall}
@@ -121,30 +121,30 @@ denies false h = refl
 pub all_slice_get : {X : Type 0} (P : X → Type 0) (xs : List X) (i : ℕ) (x : X) → All P xs → slice_get xs i ≡ Some x → P x
 all_slice_get P xs i x all at = subst P (sym (unwrap_or-slice_get xs i x) ∙ ap (λ o. unwrap_or o x) at) (all i x (slice_get_within xs i x at))
 
--- Where no question shows it at the grant's best place, the grant widens nothing.
-pub nothing_gained : (old : List (List ℕ × AllowGrant)) (entry : List ℕ × AllowGrant) (place : Place) (asked : List Needs) → AreEnough asked → IsBest matches entry.1 old place
-    → list_any (shows old (entry ∷ []) place) asked ≡ false → ¬ Widens old (entry ∷ [])
-nothing_gained old entry place asked enough best none gained =
-    by_grant (one_grant_shows old (entry ∷ []) gained.0.place gained.0.needs gained.1.1 gained.1.2)
+-- Where no question shows it at the grant's best target, the grant widens nothing.
+pub nothing_gained : (old : List (List ℕ × AllowGrant)) (entry : List ℕ × AllowGrant) (target : Target) (asked : List Needs) → AreEnough asked → IsBest matches entry.1 old target
+    → list_any (shows old (entry ∷ []) target) asked ≡ false → ¬ Widens old (entry ∷ [])
+nothing_gained old entry target asked enough best none gained =
+    by_grant (one_grant_shows old (entry ∷ []) gained.0.target gained.0.needs gained.1.1 gained.1.2)
   where
     only : (i : ℕ) {e : List ℕ × AllowGrant} → slice_get (entry ∷ []) i ≡ Some e → e ≡ entry
     only zero at = sym (some_same at)
     only (suc i) at = absurd (cc)
 
-    at_best : (needs : Needs) → grants_allow (entry ∷ []) gained.0.place needs ≡ true → grants_allow old gained.0.place needs ≡ false → shows old (entry ∷ []) place needs ≡ true
+    at_best : (needs : Needs) → grants_allow (entry ∷ []) gained.0.target needs ≡ true → grants_allow old gained.0.target needs ≡ false → shows old (entry ∷ []) target needs ≡ true
     at_best needs allowed denied =
         both _ _
-        (alone_there entry gained.0.place place needs best.0 allowed)
-        (denies (grants_allow old place needs) (fails _ (λ h. false≢true (sym denied ∙ allowed_there old place gained.0.place needs (λ i e at k. best.1 i e at k gained.0.place (matched_alone entry gained.0.place needs allowed)) h))))
+        (alone_there entry gained.0.target target needs best.0 allowed)
+        (denies (grants_allow old target needs) (fails _ (λ h. false≢true (sym denied ∙ allowed_there old target gained.0.target needs (λ i e at k. best.1 i e at k gained.0.target (matched_alone entry gained.0.target needs allowed)) h))))
 
     registered : (call : Option ClassCall) → ((one : ClassCall) → call ≡ Some one → (i : ℕ) × (slice_get gained.0.needs.calls i ≡ Some one)) → (one : ClassCall) → call ≡ Some one → IsRegistered one
     registered call small one is = let found = small one is in all_slice_get IsRegistered gained.0.needs.calls found.0 one gained.1.0 found.1
 
-    silent : (needs : Needs) → Contains asked needs → shows old (entry ∷ []) place needs ≡ false
-    silent needs found = none_at (shows old (entry ∷ []) place) asked found.0 needs none (slice_get_read asked (length asked) found.0 needs refl found.1 (sym found.2))
+    silent : (needs : Needs) → Contains asked needs → shows old (entry ∷ []) target needs ≡ false
+    silent needs found = none_at (shows old (entry ∷ []) target) asked found.0 needs none (slice_get_read asked (length asked) found.0 needs refl found.1 (sym found.2))
 
-    by_grant : Shown old (entry ∷ []) gained.0.place gained.0.needs → ⊥
+    by_grant : Shown old (entry ∷ []) gained.0.target gained.0.needs → ⊥
     by_grant shown =
         let same : shown.entry ≡ entry = only shown.index shown.at in
-        let here : shows old (entry ∷ []) place (calling gained.0.needs (option_to_list shown.call)) ≡ true = at_best _ (ap (λ e. grants_allow (e ∷ []) gained.0.place (calling gained.0.needs (option_to_list shown.call))) (sym same) ∙ shown.allowed) shown.denied in
+        let here : shows old (entry ∷ []) target (calling gained.0.needs (option_to_list shown.call)) ≡ true = at_best _ (ap (λ e. grants_allow (e ∷ []) gained.0.target (calling gained.0.needs (option_to_list shown.call))) (sym same) ∙ shown.allowed) shown.denied in
         false≢true (sym (silent _ (enough.whole gained.0.needs.reads gained.0.needs.writes shown.call (registered shown.call shown.small))) ∙ here)

@@ -7,7 +7,7 @@ use Rattle.std.proofs.lemmas.List.{take_all}
 use Rattle.std.proofs.lemmas.List.Elements.{All-contains}
 use Rattle.std.proofs.lemmas.Option.{slice_get-get_or}
 use Rattle.cap_text.specs.declared.grant.AllowGrant.{AllowGrant}
-use Rattle.verdict_core.specs.Place.{Place}
+use Rattle.verdict_core.specs.Target.{Target}
 use Rattle.verdict_core.specs.Verdict.{matches, is_usable, is_covered, covers, grants_allow}
 use Rattle.verdict_core.specs.declared.request.Needs.{Needs}
 use Rattle.verdict_core.specs.declared.request.ClassCall.{ClassCall}
@@ -65,11 +65,11 @@ example_from old (g ∷ new) (e ∷ es) h k example at =
     by (inr silent) j q first rest = later (rest silent.1)
 
 -- what one grant allows, each ticket that has it allows
-allowed_among : (grants : Grants) (i : ℕ) (entry : List ℕ × AllowGrant) (place : Place) (needs : Needs) → slice_get grants i ≡ Some entry → grants_allow (entry ∷ []) place needs ≡ true → grants_allow grants place needs ≡ true
-allowed_among grants i entry place needs at h =
+allowed_among : (grants : Grants) (i : ℕ) (entry : List ℕ × AllowGrant) (target : Target) (needs : Needs) → slice_get grants i ≡ Some entry → grants_allow (entry ∷ []) target needs ≡ true → grants_allow grants target needs ≡ true
+allowed_among grants i entry target needs at h =
     both _ _
-    (among (λ e. is_usable e.1 place needs) (both_left _ _ h))
-    (all_also (is_covered (entry ∷ []) place needs) (is_covered grants place needs) needs.calls (λ call. among (λ e. is_usable e.1 place needs && covers e.1.access call)) (both_right (list_any (λ e. is_usable e.1 place needs) (entry ∷ [])) _ h))
+    (among (λ e. is_usable e.1 target needs) (both_left _ _ h))
+    (all_also (is_covered (entry ∷ []) target needs) (is_covered grants target needs) needs.calls (λ call. among (λ e. is_usable e.1 target needs && covers e.1.access call)) (both_right (list_any (λ e. is_usable e.1 target needs) (entry ∷ [])) _ h))
   where
     alone : (b : Bool) → (b || false) ≡ true → b ≡ true
     alone true k = refl
@@ -82,7 +82,7 @@ gained_at : (old new : Grants) (examples : List Example) → Answers old new exa
 gained_at old new examples h k example at =
     let found = example_from old new examples h k example at in
     let shown = found.1.1.1.1 in
-    (shown.0, allowed_among new found.0 found.1.0 example.place example.needs found.1.1.0 shown.1, shown.2)
+    (shown.0, allowed_among new found.0 found.1.0 example.target example.needs found.1.1.0 shown.1, shown.2)
 
 -- each example is gained by the whole ticket
 pub all_gained : (old new : Grants) (examples : List Example) → Answers old new examples → All (λ example. IsGained old new (request_of example)) examples
@@ -104,12 +104,12 @@ asked_one needs (Some one) asked small zero d l = let found = small one refl in 
 asked_one needs (Some one) asked small (suc k) d l = absurd (omega arith)
 
 pub nothing_widens : (old new : Grants) → Answers old new [] → ¬ Widens old new
-nothing_widens old new h gained = by (one_grant_shows old new gained.0.place gained.0.needs gained.1.1 gained.1.2)
+nothing_widens old new h gained = by (one_grant_shows old new gained.0.target gained.0.needs gained.1.1 gained.1.2)
   where
-    by : Shown old new gained.0.place gained.0.needs → ⊥
+    by : Shown old new gained.0.target gained.0.needs → ⊥
     by shown =
         silent_at old new h shown.index shown.entry shown.at (
-          record { place = gained.0.place; needs = calling gained.0.needs (option_to_list shown.call) },
+          record { target = gained.0.target; needs = calling gained.0.needs (option_to_list shown.call) },
           (asked_one gained.0.needs shown.call gained.1.0 shown.small, shown.allowed, shown.denied),
         )
 
@@ -118,21 +118,21 @@ pub no_examples : (old new : Grants) (examples : List Example) → Answers old n
 no_examples old new [] h none = refl
 no_examples old new (e ∷ es) h none = absurd (none (request_of e, gained_at old new (e ∷ es) h 0 e refl))
 
--- what the questions at a grant's best place say of it
+-- what the questions at a grant's best target say of it
 
-pub silent_grant : (old new : Grants) (entry : List ℕ × AllowGrant) (place : Place) (asked : List Needs) (found : Option Needs) → new ≡ entry ∷ [] → AreEnough asked → IsBest matches entry.1 old place
-    → IsShownBy old new place asked found → found ≡ None → ¬ Widens old (entry ∷ [])
-silent_grant old new entry place asked None is enough best h none =
-    nothing_gained old entry place asked enough best (ap (λ alone. list_any (shows old alone place) asked) (sym is) ∙ h)
-silent_grant old new entry place asked (Some needs) is enough best h none = absurd (cc)
+pub silent_grant : (old new : Grants) (entry : List ℕ × AllowGrant) (target : Target) (asked : List Needs) (found : Option Needs) → new ≡ entry ∷ [] → AreEnough asked → IsBest matches entry.1 old target
+    → IsShownBy old new target asked found → found ≡ None → ¬ Widens old (entry ∷ [])
+silent_grant old new entry target asked None is enough best h none =
+    nothing_gained old entry target asked enough best (ap (λ alone. list_any (shows old alone target) asked) (sym is) ∙ h)
+silent_grant old new entry target asked (Some needs) is enough best h none = absurd (cc)
 
-pub shown_grant : (old new : Grants) (entry : List ℕ × AllowGrant) (path : List ℕ) (place : Place) (asked : List Needs) (found : Option Needs) (needs : Needs) → new ≡ entry ∷ [] → path ≡ entry.0
-    → AreEnough asked → IsShownBy old new place asked found → found ≡ Some needs → IsExampleOf old entry (record { path = path; place = place; needs = needs })
-shown_grant old new entry path place asked None needs is same enough h some = absurd (cc)
-shown_grant old new entry path place asked (Some m) needs is same enough h some =
+pub shown_grant : (old new : Grants) (entry : List ℕ × AllowGrant) (path : List ℕ) (target : Target) (asked : List Needs) (found : Option Needs) (needs : Needs) → new ≡ entry ∷ [] → path ≡ entry.0
+    → AreEnough asked → IsShownBy old new target asked found → found ≡ Some needs → IsExampleOf old entry (record { path = path; target = target; needs = needs })
+shown_grant old new entry path target asked None needs is same enough h some = absurd (cc)
+shown_grant old new entry path target asked (Some m) needs is same enough h some =
     let equal : m ≡ needs = cc in
-    let shown : shows old (entry ∷ []) place needs ≡ true = (λ i. shows old (sym is i) place (sym equal i)) ∙ h.1 in
-    (same, (subst IsAsked equal (All-contains IsAsked asked m enough.asked h.0), both_left _ _ shown, negated (grants_allow old place needs) (both_right (grants_allow (entry ∷ []) place needs) _ shown)))
+    let shown : shows old (entry ∷ []) target needs ≡ true = (λ i. shows old (sym is i) target (sym equal i)) ∙ h.1 in
+    (same, (subst IsAsked equal (All-contains IsAsked asked m enough.asked h.0), both_left _ _ shown, negated (grants_allow old target needs) (both_right (grants_allow (entry ∷ []) target needs) _ shown)))
 
 pub append_nil : (l : List Example) → l ++ [] ≡ l
 append_nil [] = refl

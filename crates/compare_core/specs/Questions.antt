@@ -1,9 +1,9 @@
 -- Refinement: only contracts inside the crate use it.
--- The needs that are tried at a place: at most one call.
+-- The needs that are tried at a target: at most one call.
 use Rattle.std.specs.Prelude.{◌≡◌, List, [], ◌∷◌, ◌++◌, map, Bool, true, false, not, ◌&&◌, Option, None, Some, option_to_list, ℕ}
 use Rattle.std.specs.List.{list_any, All, Contains}
 use Rattle.cap_text.specs.declared.grant.AllowGrant.{AllowGrant}
-use Rattle.verdict_core.specs.Place.{Place}
+use Rattle.verdict_core.specs.Target.{Target}
 use Rattle.verdict_core.specs.Verdict.{grants_allow}
 use Rattle.verdict_core.specs.declared.request.Needs.{Needs}
 use Rattle.verdict_core.specs.declared.request.ClassCall.{ClassCall}
@@ -27,11 +27,11 @@ pub record AreEnough (questions : List Needs) : Type 0 where
   pub asked : All IsAsked questions
   pub whole : (reads writes : Bool) (call : Option ClassCall) → ((one : ClassCall) → call ≡ Some one → IsRegistered one) → Contains questions (asks reads writes (option_to_list call))
 
--- new allows the needs at the place, and old denies them
-abbrev pub shows : List (List ℕ × AllowGrant) → List (List ℕ × AllowGrant) → Place → Needs → Bool
-shows old new place needs = grants_allow new place needs && not (grants_allow old place needs)
+-- new allows the needs at the target, and old denies them
+abbrev pub shows : List (List ℕ × AllowGrant) → List (List ℕ × AllowGrant) → Target → Needs → Bool
+shows old new target needs = grants_allow new target needs && not (grants_allow old target needs)
 
--- none of the needs shows that new allows more at the place, or these do
-abbrev pub IsShownBy : List (List ℕ × AllowGrant) → List (List ℕ × AllowGrant) → Place → List Needs → Option Needs → Type 0
-IsShownBy old new place questions None = list_any (shows old new place) questions ≡ false
-IsShownBy old new place questions (Some needs) = Contains questions needs × (shows old new place needs ≡ true)
+-- none of the needs shows that new allows more at the target, or these do
+abbrev pub IsShownBy : List (List ℕ × AllowGrant) → List (List ℕ × AllowGrant) → Target → List Needs → Option Needs → Type 0
+IsShownBy old new target questions None = list_any (shows old new target) questions ≡ false
+IsShownBy old new target questions (Some needs) = Contains questions needs × (shows old new target needs ≡ true)

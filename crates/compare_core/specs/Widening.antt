@@ -3,14 +3,14 @@
 use Rattle.std.specs.Prelude.{◌≡◌, ℕ, List, [], ◌∷◌, true, false, ◌⊎◌}
 use Rattle.std.specs.List.{All}
 use Rattle.cap_text.specs.declared.grant.AllowGrant.{AllowGrant}
-use Rattle.verdict_core.specs.Place.{Place}
+use Rattle.verdict_core.specs.Target.{Target}
 use Rattle.verdict_core.specs.Verdict.{grants_allow}
 use Rattle.verdict_core.specs.declared.request.Needs.{Needs}
 use Rattle.object_core.specs.Needs.{IsRegistered}
 use Rattle.compare_core.specs.declared.comparing.Example.{Example}
 
 pub record Request : Type 0 where
-  pub place : Place
+  pub target : Target
   pub needs : Needs
 
 -- needs that a request may have: all its calls are of the registry's methods
@@ -19,14 +19,14 @@ IsAsked needs = All IsRegistered needs.calls
 
 -- a request that may be asked, which new allows and old denies
 abbrev pub IsGained : List (List ℕ × AllowGrant) → List (List ℕ × AllowGrant) → Request → Type 0
-IsGained old new request = IsAsked request.needs × (grants_allow new request.place request.needs ≡ true) × (grants_allow old request.place request.needs ≡ false)
+IsGained old new request = IsAsked request.needs × (grants_allow new request.target request.needs ≡ true) × (grants_allow old request.target request.needs ≡ false)
 
--- some request, of all places and all needs that may be asked, is gained
+-- some request, of all targets and all needs that may be asked, is gained
 abbrev pub Widens : List (List ℕ × AllowGrant) → List (List ℕ × AllowGrant) → Type 0
 Widens old new = (request : Request) × IsGained old new request
 
 abbrev pub request_of : Example → Request
-request_of example = record { place = example.place; needs = example.needs }
+request_of example = record { target = example.target; needs = example.needs }
 
 -- the example has the grant's path, and is gained by this grant alone
 abbrev pub IsExampleOf : List (List ℕ × AllowGrant) → List ℕ × AllowGrant → Example → Type 0

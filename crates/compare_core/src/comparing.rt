@@ -5,8 +5,8 @@ ghost use Rattle.std.specs.List.{All};
 ghost use Rattle.compare_core.specs.Questions.{AreEnough};
 ghost use Rattle.compare_core.specs.Widening.{Answers, IsExampleOf, IsGained, Widens, request_of};
 
-use crate::best::best_place;
-use crate::place::Place;
+use crate::best::best_target;
+use crate::owned_target::OwnedTarget;
 use crate::question::{questions, shown_needs};
 use cap_text::{AllowGrant, OutOfMemory};
 use grant_core::Path;
@@ -18,7 +18,7 @@ use verdict_core::{Needs, Ticket};
 pub struct Example {
     /// The grant's path.
     pub path: Path,
-    pub place: Place,
+    pub target: OwnedTarget,
     pub needs: Needs,
 }
 
@@ -49,13 +49,13 @@ fn example_of(
         (¬ Widens old.now.grants ((path.now, grant.now) ∷ []))
         (λ example. IsExampleOf old.now.grants (path.now, grant.now) example)) }
 {
-    let place = best_place(alloc, grant, old)?;
+    let target = best_target(alloc, grant, old)?;
     let new = alone(alloc, path, grant)?;
-    match shown_needs(questions, old, new.as_slice(), &place)? {
+    match shown_needs(questions, old, new.as_slice(), &target)? {
         None => Ok(None),
         Some(needs) => Ok(Some(Example {
             path: path.copy()?,
-            place,
+            target,
             needs,
         })),
     }
@@ -64,7 +64,7 @@ fn example_of(
 /// For each grant of `new`, in order, that by itself allows some request which `old` denies, its path and one such
 /// request. Where there is none, `new` allows nothing that `old` denies.
 ///
-/// The requests are those of all places and of all needs whose calls are methods of the class registry. When a ticket
+/// The requests are those of all targets and of all needs whose calls are methods of the class registry. When a ticket
 /// ends is not looked at. It has at most 256 grants, so that letters are left for names that `old` does not speak of.
 pub fn widening(alloc: Global, old: &Ticket, new: &Ticket) -> Result<Vec<Example>, OutOfMemory>
     ensures answers { IfOk result (λ examples. Answers old.now.grants new.now.grants examples.items) }

@@ -1,11 +1,11 @@
-//! The needs that are tried at a place.
+//! The needs that are tried at a target.
 
 ghost use Rattle.std.specs.Prelude.{◌≡◌, ◌++◌, map, IfOk, OnOk};
 ghost use Rattle.compare_core.specs.Questions as spec;
 ghost use Rattle.compare_core.specs.Questions.{AreEnough, IsShownBy};
 
-use crate::place::Place;
-use cap_text::{AllowGrant, OutOfMemory};
+use crate::owned_target::OwnedTarget;
+use cap_text::{AllowGrant, OutOfMemory, TryCopy};
 use grant_core::Path;
 use object_core::registry;
 use std::alloc::Global;
@@ -75,11 +75,12 @@ pub(crate) fn questions(alloc: Global) -> Result<Vec<Needs>, OutOfMemory>
     needs_with(alloc, registry(alloc)?.as_slice())
 }
 
-/// Whether the new grants allow the needs at a place where the old one denies them.
-fn shows(old: &Ticket, new: &[(Path, AllowGrant)], place: &Place, needs: &Needs) -> bool
-    ensures { result ≡ spec.shows old.now.grants new.now place.now needs.now }
+/// Whether the new grants allow the needs at a target where the old one denies them.
+fn shows(old: &Ticket, new: &[(Path, AllowGrant)], target: &OwnedTarget, needs: &Needs) -> bool
+    ensures { result ≡ spec.shows old.now.grants new.now target.now needs.now }
 {
-    grants_allow(new, &place.target(), needs) && !grants_allow(old.grants(), &place.target(), needs)
+    grants_allow(new, &target.as_target(), needs)
+        && !grants_allow(old.grants(), &target.as_target(), needs)
 }
 
 /// Equal needs.
@@ -93,17 +94,17 @@ fn copy_needs(needs: &Needs) -> Result<Needs, OutOfMemory>
     })
 }
 
-/// The first of the needs that the new grants allow at a place where the old ticket denies them.
+/// The first of the needs that the new grants allow at a target where the old ticket denies them.
 pub(crate) fn shown_needs(
     questions: &[Needs],
     old: &Ticket,
     new: &[(Path, AllowGrant)],
-    place: &Place,
+    target: &OwnedTarget,
 ) -> Result<Option<Needs>, OutOfMemory>
-    ensures { IfOk result (λ found. IsShownBy old.now.grants new.now place.now questions.now found) }
+    ensures { IfOk result (λ found. IsShownBy old.now.grants new.now target.now questions.now found) }
 {
     for needs in questions {
-        if shows(old, new, place, needs) {
+        if shows(old, new, target, needs) {
             return Ok(Some(copy_needs(needs)?));
         }
     }

@@ -7,7 +7,7 @@ use Rattle.verdict_core.specs.Verdict.{report_of}
 use Rattle.object_core.specs.Content.{Content}
 use Rattle.object_core.specs.Effect.{Run, effect, left_by}
 use Rattle.object_core.specs.declared.op.Op.{Op}
-use Rattle.entry_core.specs.Request.{Sealed, Work, Vector, Listing, place_of, needs_for}
+use Rattle.entry_core.specs.Request.{Sealed, Work, Vector, Listing, target_of, needs_for}
 use Rattle.entry_core.specs.Store.{Store, ObjectName, name_cmp, with_object}
 use Rattle.entry_core.specs.Names.{name_cmp_total, is_same-ties, same_from_is_same}
 use Rattle.entry_core.specs.Deciding.{store_of, step, stepped, answered, ran, performed, answer_on, is_allowed_sealed, name_of}
@@ -36,7 +36,7 @@ judged false store s report h = (h, λ e. refl)
 
 pub verdict_is_sealed : VerdictIsSealed
 unfolding answer_on
-verdict_is_sealed log s = judged (is_allowed_sealed s) (store_of log) s (Denied (report_of s.ticket (place_of s) (needs_for s.work) s.tick)) refl
+verdict_is_sealed log s = judged (is_allowed_sealed s) (store_of log) s (Denied (report_of s.ticket (target_of s) (needs_for s.work) s.tick)) refl
 
 refused_step : (store : Store) (s : Sealed) (w : Work) (r : Reply) → is_done r ≡ false → stepped store s w r ≡ store
 refused_step store s (Vector object ops) (Denied report) h = refl
@@ -81,7 +81,7 @@ judged_step false store s report h = refused_step store s s.work report h
 
 answer_step : (store : Store) (s : Sealed) → stepped store s s.work (answer_on store s).reply ≡ changed store (name_of s) (answer_on store s).change
 unfolding answer_on
-answer_step store s = judged_step (is_allowed_sealed s) store s (Denied (report_of s.ticket (place_of s) (needs_for s.work) s.tick)) refl
+answer_step store s = judged_step (is_allowed_sealed s) store s (Denied (report_of s.ticket (target_of s) (needs_for s.work) s.tick)) refl
 
 pub decision_tells_the_store : DecisionTellsTheStore
 decision_tells_the_store log s = store_push log (decide log s) ∙ answer_step (store_of log) s

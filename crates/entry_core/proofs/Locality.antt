@@ -7,7 +7,7 @@ use Rattle.std.specs.FinMap.{get, keys, entries, entries_sorted, get-entries}
 use Rattle.std.specs.FinMap.Entries.{find, where_key, is_sorted-where_key, find-where_key, same_entries}
 use Rattle.std.specs.Cmp.{unsigned_Decides}
 use Rattle.std.proofs.lemmas.Slice.Eq.{bytes_eq-Decides}
-use Rattle.place_core.specs.Place.{group_of}
+use Rattle.place_core.specs.Placement.{group_of}
 use Rattle.object_core.specs.Content.{Content}
 use Rattle.object_core.specs.Effect.{effect}
 use Rattle.entry_core.specs.Request.{Sealed, Work, Vector, Listing, object_of}

@@ -5,11 +5,11 @@ use Rattle.std.specs.List.{filter}
 use Rattle.std.specs.Str.{bytes_eq}
 use Rattle.std.specs.FinMap.{empty, get, keys}
 use Rattle.verdict_core.specs.Verdict.{is_allowed, report_of}
-use Rattle.place_core.specs.Place.{group_of}
+use Rattle.place_core.specs.Placement.{group_of}
 use Rattle.object_core.specs.Effect.{Run, effect, left_by}
 use Rattle.object_core.specs.declared.outcome.Change.{Change}
 use Rattle.object_core.specs.declared.outcome.Change.TheVariants.{Kept, Became}
-use Rattle.entry_core.specs.Request.{Sealed, Work, Vector, Listing, place_of, needs_for, object_of}
+use Rattle.entry_core.specs.Request.{Sealed, Work, Vector, Listing, target_of, needs_for, object_of}
 use Rattle.entry_core.specs.Store.{Store, ObjectName, with_object}
 use Rattle.entry_core.specs.declared.reply.Reply.{Reply}
 use Rattle.entry_core.specs.declared.reply.Reply.TheVariants.{Denied, Done, Failed, Names}
@@ -52,13 +52,13 @@ performed store s Listing = answered (Names (names_in store s))
 
 -- whether its ticket allows a request at the tick of its submission: no object is looked at
 abbrev pub is_allowed_sealed : Sealed → Bool
-is_allowed_sealed s = is_allowed s.ticket (place_of s) (needs_for s.work) s.tick
+is_allowed_sealed s = is_allowed s.ticket (target_of s) (needs_for s.work) s.tick
 
 -- a denied request performs nothing
 unfoldable pub answer_on : Store → Sealed → Answer
 answer_on store s =
     if is_allowed_sealed s then performed store s s.work
-    else answered (Denied (report_of s.ticket (place_of s) (needs_for s.work) s.tick))
+    else answered (Denied (report_of s.ticket (target_of s) (needs_for s.work) s.tick))
 
 -- the request with its answer
 abbrev pub with_answer : Sealed → Answer → Decision

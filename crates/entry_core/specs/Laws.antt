@@ -6,7 +6,7 @@ use Rattle.std.specs.FinMap.{get}
 use Rattle.verdict_core.specs.Verdict.{report_of}
 use Rattle.object_core.specs.declared.outcome.Change.{Change}
 use Rattle.object_core.specs.declared.outcome.Change.TheVariants.{Kept, Became}
-use Rattle.entry_core.specs.Request.{Sealed, place_of, needs_for}
+use Rattle.entry_core.specs.Request.{Sealed, target_of, needs_for}
 use Rattle.entry_core.specs.Store.{Store, ObjectName, bytes_cmp, with_object}
 use Rattle.entry_core.specs.Deciding.{store_of, is_allowed_sealed, name_of, names_in}
 use Rattle.entry_core.specs.Log.{decision, decide, find, Legal}
@@ -26,9 +26,9 @@ is_done (Done outputs) = true
 is_done (Failed place number) = false
 is_done (Names names) = false
 
--- on every log a request is denied just where its own ticket, place, needs and tick are not allowed, and by their report
+-- on every log a request is denied just where its own ticket, target, needs and tick are not allowed, and by their report
 abbrev pub VerdictIsSealed : Type 0
-VerdictIsSealed = (log : List Entry) (s : Sealed) → (is_denied (decide log s).reply ≡ not (is_allowed_sealed s)) × (is_allowed_sealed s ≡ false → (decide log s).reply ≡ Denied (report_of s.ticket (place_of s) (needs_for s.work) s.tick))
+VerdictIsSealed = (log : List Entry) (s : Sealed) → (is_denied (decide log s).reply ≡ not (is_allowed_sealed s)) × (is_allowed_sealed s ≡ false → (decide log s).reply ≡ Denied (report_of s.ticket (target_of s) (needs_for s.work) s.tick))
 
 -- an entry that was denied, that failed or that lists names leaves all objects as they were
 abbrev pub RefusalsLeaveTheStore : Type 0

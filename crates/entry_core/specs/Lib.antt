@@ -1,4 +1,5 @@
 pub mod Deciding
+pub mod IdHash
 pub mod Inside
 pub mod Laws
 pub mod Locality

@@ -3,7 +3,7 @@
 -- An object is of the group that its name hashes to, with the number of groups that its pool has.
 use Rattle.std.specs.Prelude.{◌≡◌, ℕ, List}
 use Rattle.std.specs.FinMap.{get}
-use Rattle.place_core.specs.Place.{group_of}
+use Rattle.place_core.specs.Placement.{group_of}
 use Rattle.entry_core.specs.Request.{Sealed, Work, Vector, Listing}
 use Rattle.entry_core.specs.Store.{Store, ObjectName}
 use Rattle.entry_core.specs.Deciding.{decision_on}

@@ -1,7 +1,7 @@
 -- Statement: contracts of public calls use it.
 -- Requests, with all that they are decided by. Source: this project's profile, after the object operations of RADOS.
 use Rattle.std.specs.Prelude.{◌≡◌, ℕ, List, [], true, false, None}
-use Rattle.verdict_core.specs.Place.{Place}
+use Rattle.verdict_core.specs.Target.{Target}
 use Rattle.verdict_core.specs.Ticket.{Ticket}
 use Rattle.verdict_core.specs.declared.request.Needs.{Needs}
 use Rattle.map_core.specs.declared.pool.PoolView.{PoolView}
@@ -28,8 +28,8 @@ object_of (Vector object ops) = object
 object_of Listing = []
 
 -- what the verdict looks at: where it goes, and what it needs. A listing reads
-abbrev pub place_of : Sealed → Place
-place_of s = record { pool = s.view.pool; tags = s.view.tags; namespace = s.namespace; object = object_of s.work }
+abbrev pub target_of : Sealed → Target
+target_of s = record { pool = s.view.pool; tags = s.view.tags; namespace = s.namespace; object = object_of s.work }
 
 abbrev pub needs_for : Work → Needs
 needs_for (Vector object ops) = needs_of ops

@@ -1,7 +1,7 @@
 -- Refinement: only contracts inside the crate use it.
 -- What the parts of a sealed request stand for.
 use Rattle.std.specs.Prelude.{◌≡◌, ℕ, ◌≤◌, List, [], Option, Some, None}
-use Rattle.verdict_core.specs.Place.{Place}
+use Rattle.verdict_core.specs.Target.{Target}
 use Rattle.object_core.specs.declared.op.Op.{Op}
 use Rattle.entry_core.specs.Request.{Sealed, Work, Vector, Listing, needs_for, IsSound}
 use Rattle.entry_core.specs.declared.sealed_parts.Parts.{Parts}
@@ -28,8 +28,8 @@ pub record IsSealed (p : Parts) : Type 0 where
   pub needs : p.needs ≡ needs_for (work_in p.name.name p.task)
   pub sound : IsSound (work_in p.name.name p.task)
 
-abbrev pub place_in : Parts → Place
-place_in p = record { pool = p.view.pool; tags = p.view.tags; namespace = p.name.namespace; object = p.name.name }
+abbrev pub target_in : Parts → Target
+target_in p = record { pool = p.view.pool; tags = p.view.tags; namespace = p.name.namespace; object = p.name.name }
 
 abbrev pub ops_in : Task → Option (List Op)
 ops_in (task.Vector ops) = Some ops.items

@@ -2,8 +2,8 @@
 
 ghost use Rattle.std.specs.Prelude.{◌≡◌, IfOk};
 
-use crate::items::TryCopy;
 use crate::log::Log;
+use cap_text::TryCopy;
 use std::alloc::AllocError;
 use std::marker::Model;
 

@@ -10,11 +10,10 @@ ghost use Rattle.entry_core.specs.Deciding.{answered, decision_on, name_of, ran,
 
 use crate::decided::{Decided, ObjectChange};
 use crate::entry::Entry;
-use crate::items::TryCopy;
 use crate::objects::Objects;
 use crate::reply::Reply;
 use crate::sealed::Sealed;
-use cap_text::OutOfMemory;
+use cap_text::{OutOfMemory, TryCopy};
 use object_core::{Change, Object, Op, Outcome, run_vector};
 use std::alloc::Global;
 use std::sync::Arc;

@@ -1,8 +1,8 @@
 //! What stands in a log.
 
-use crate::items::TryCopy;
 use crate::reply::Reply;
 use crate::sealed::Sealed;
+use cap_text::TryCopy;
 use std::alloc::AllocError;
 
 /// A request and the reply that was decided.

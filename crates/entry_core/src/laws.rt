@@ -3,7 +3,7 @@
 ghost use Rattle.entry_core.specs.Laws.{VerdictIsSealed, RefusalsLeaveTheStore, OthersAreLeft, FindTells, DecisionTellsTheStore, ListingsAreSorted};
 ghost use Rattle.entry_core.specs.Locality.{SealedDecideAlike};
 
-/// On every log a request is denied just where its own ticket, place, needs and tick are not allowed, and with their report.
+/// On every log a request is denied just where its own ticket, target, needs and tick are not allowed, and with their report.
 pub fn verdict_is_sealed()
     ensures { VerdictIsSealed }
 {}

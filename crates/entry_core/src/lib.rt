@@ -9,7 +9,7 @@ mod decided;
 mod deciding;
 mod entry;
 mod id;
-mod items;
+mod id_hasher;
 mod laws;
 mod log;
 mod object_name;
@@ -20,11 +20,11 @@ mod sealed_parts;
 mod texts;
 
 pub use boxed_log::BoxedLog;
-pub use cap_text::OutOfMemory;
+pub use cap_text::{Items, OutOfMemory, TryCopy};
 pub use decided::Decided;
 pub use entry::Entry;
 pub use id::Id;
-pub use items::{Items, TryCopy};
+pub use id_hasher::{IdHash, IdHasher};
 pub use laws::{
     decision_tells_the_store, find_tells, groups_decide_apart, listings_are_sorted,
     others_are_left, refusals_leave_the_store, verdict_is_sealed,

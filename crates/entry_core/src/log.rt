@@ -10,10 +10,11 @@ use crate::decided::Decided;
 use crate::deciding::decide;
 use crate::entry::Entry;
 use crate::id::Id;
-use crate::items::TryCopy;
+use crate::id_hasher::IdHash;
 use crate::objects::Objects;
 use crate::reply::Reply;
 use crate::sealed::Sealed;
+use cap_text::TryCopy;
 use std::alloc::{AllocError, Global};
 use std::collections::HashMap;
 use std::marker::Model;
@@ -24,7 +25,7 @@ use std::marker::Model;
 #[derive(Drop)]
 pub struct Log {
     entries: Vec<Entry>,
-    index: HashMap<Id, usize>,
+    index: HashMap<Id, usize, IdHash>,
     objects: Objects,
 }
 
@@ -48,7 +49,7 @@ impl Log {
     {
         Log {
             entries: Vec::new(alloc),
-            index: HashMap::new(alloc),
+            index: HashMap::with_hasher(alloc, IdHash::new()),
             objects: Objects::new(alloc),
         }
     }
@@ -153,7 +154,7 @@ fn copy_entries(alloc: Global, entries: &[Entry]) -> Result<Vec<Entry>, AllocErr
 }
 
 /// Adds an entry behind the others. There is room for it.
-fn append(entries: &mut Vec<Entry>, index: &mut HashMap<Id, usize>, entry: Entry)
+fn append(entries: &mut Vec<Entry>, index: &mut HashMap<Id, usize, IdHash>, entry: Entry)
     requires entries { vec_len entries.old < vec_capacity entries.old }
     requires index { 0 < spare index.old }
     ensures entries { entries.new.items ≡ entries.old.items ++ entry ∷ [] }

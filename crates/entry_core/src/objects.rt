@@ -9,11 +9,10 @@ ghost use Rattle.entry_core.specs.Laws.{changed};
 ghost use Rattle.entry_core.specs.Stored.{change_of};
 
 use crate::decided::ObjectChange;
-use crate::items::Items;
 use crate::object_name::ObjectName;
 use crate::sealed::Sealed;
 use crate::texts::Texts;
-use cap_text::{Name, OutOfMemory};
+use cap_text::{Items, Name, OutOfMemory};
 use object_core::Object;
 use std::alloc::{AllocError, Global};
 use std::collections::HashMap;

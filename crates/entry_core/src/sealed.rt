@@ -5,14 +5,13 @@ ghost use Rattle.verdict_core.specs.Verdict.{report_of};
 ghost use Rattle.cap_text.specs.Refused.{RefusedFirst};
 ghost use Rattle.object_core.specs.Needs.{needs_fault};
 ghost use Rattle.entry_core.specs.Deciding.{is_allowed_sealed, is_listed, name_of};
-ghost use Rattle.entry_core.specs.Request.{Vector, Listing, place_of, needs_for};
+ghost use Rattle.entry_core.specs.Request.{Vector, Listing, target_of, needs_for};
 ghost use Rattle.entry_core.specs.Sealing as sealing;
 
 use crate::id::Id;
-use crate::items::TryCopy;
 use crate::object_name::ObjectName;
 use crate::sealed_parts::{Parts, Task, ops_of, target_of};
-use cap_text::{Name, OutOfMemory};
+use cap_text::{Name, OutOfMemory, TryCopy};
 use map_core::PoolView;
 use object_core::{NeedsFault, Op, needs_of};
 use place_core::group_of;
@@ -201,7 +200,7 @@ impl Sealed {
     /// Why it is not allowed.
     pub(crate) fn report(&self, alloc: Global) -> Result<Report, OutOfMemory>
         requires { is_allowed_sealed self.now ≡ false }
-        ensures { IfOk result (λ r. r ≡ report_of self.now.ticket (place_of self.now) (needs_for self.now.work) self.now.tick) }
+        ensures { IfOk result (λ r. r ≡ report_of self.now.ticket (target_of self.now) (needs_for self.now.work) self.now.tick) }
     {
         let parts: &Parts = &self.parts;
         parts

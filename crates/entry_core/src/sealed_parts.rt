@@ -1,7 +1,7 @@
 //! The parts of a sealed request.
 
 ghost use Rattle.std.specs.Prelude.{◌≡◌, option_copied};
-ghost use Rattle.entry_core.specs.Sealing.{ops_in, place_in};
+ghost use Rattle.entry_core.specs.Sealing.{ops_in, target_in};
 
 use crate::id::Id;
 use crate::object_name::ObjectName;
@@ -33,7 +33,7 @@ pub(crate) struct Parts {
 
 /// Where a request goes, as a verdict looks at it.
 pub(crate) fn target_of(parts: &Parts) -> Target<'_>
-    ensures { result ≡ place_in parts.now }
+    ensures { result ≡ target_in parts.now }
 {
     Target {
         pool: parts.view.pool.as_str(),

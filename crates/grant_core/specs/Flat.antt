@@ -13,7 +13,7 @@ use Rattle.cap_text.specs.declared.grant.ProfileUse.{ProfileUse}
 abbrev pub Table : Type 0
 Table = List (List ℕ × List Grant)
 
--- the grants that are left, each with its path: the places from 1 that lead to it
+-- the grants that are left, each with its path: the numbers from 1 that lead to it
 abbrev pub Flat : Type 0
 Flat = List (List ℕ × AllowGrant)
 
@@ -30,15 +30,15 @@ abbrev pub filled : ProfileUse → Grant → Grant
 filled used (Allow g) = Allow (filled_allow used g)
 filled used (Profile inner) = Profile (filled_use used inner)
 
--- a grant under the place of the use before it
+-- a grant under the number of the use before it
 abbrev pub under : ℕ → List ℕ × AllowGrant → List ℕ × AllowGrant
-under place entry = (place ∷ entry.0, entry.1)
+under number entry = (number ∷ entry.0, entry.1)
 
--- a list's grants from a place on: an allow at its own place, those of a use under the use's place
+-- a list's grants from a number on: an allow at its own number, those of a use under the use's number
 abbrev pub numbered : (ProfileUse → Flat) → ℕ → List Grant → Flat
-numbered parts place [] = []
-numbered parts place (Allow g ∷ gs) = (place ∷ [], g) ∷ numbered parts (place + 1) gs
-numbered parts place (Profile used ∷ gs) = map (under place) (parts used) ++ numbered parts (place + 1) gs
+numbered parts number [] = []
+numbered parts number (Allow g ∷ gs) = (number ∷ [], g) ∷ numbered parts (number + 1) gs
+numbered parts number (Profile used ∷ gs) = map (under number) (parts used) ++ numbered parts (number + 1) gs
 
 -- What a use comes to: the filled body of its profile. The profiles stand newest first, so those that a body may name are the rest of the list.
 abbrev pub parts_of : Table → ProfileUse → Flat

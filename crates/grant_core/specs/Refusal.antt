@@ -16,18 +16,18 @@ has_profile table name = list_any (λ profile. bytes_eq name profile.0) table
 
 -- a use of a profile that is not in the table
 abbrev pub list_fault : Table → ℕ → Grant → Option ExpandFault
-list_fault table place (Allow g) = None
-list_fault table place (Profile used) = if has_profile table used.name then None else Some (UnknownProfile place)
+list_fault table number (Allow g) = None
+list_fault table number (Profile used) = if has_profile table used.name then None else Some (UnknownProfile number)
 
 -- in a body also an allow with a tag
 abbrev pub body_fault : Table → ℕ → Grant → Option ExpandFault
-body_fault table place (Allow g) = if is_some g.tag then Some (TagInProfile place) else None
-body_fault table place (Profile used) = list_fault table place (Profile used)
+body_fault table number (Allow g) = if is_some g.tag then Some (TagInProfile number) else None
+body_fault table number (Profile used) = list_fault table number (Profile used)
 
 -- the fault of the first grant that has one
 abbrev pub first_fault : (ℕ → Grant → Option ExpandFault) → ℕ → List Grant → Option ExpandFault
-first_fault fault place [] = None
-first_fault fault place (g ∷ gs) = option_or (fault place g) (first_fault fault (place + 1) gs)
+first_fault fault number [] = None
+first_fault fault number (g ∷ gs) = option_or (fault number g) (first_fault fault (number + 1) gs)
 
 -- more than 256 grants are left
 abbrev pub too_large : Table → List Grant → Option ExpandFault

@@ -68,14 +68,14 @@ fn grow(
 {
     let mut branches = Branches::End;
     for i in (0..grants.len()).rev() {
-        let place = i + 1;
+        let number = i + 1;
         branches = match &grants[i] {
             Grant::Allow(allow) => {
                 let filled = filled_allow(used, allow)?;
-                Branches::Leaf(place, filled, Box::new(alloc, branches)?)
+                Branches::Leaf(number, filled, Box::new(alloc, branches)?)
             }
             Grant::Profile(inner) => {
-                grow_use(alloc, profiles, before, place, used, inner, branches)?
+                grow_use(alloc, profiles, before, number, used, inner, branches)?
             }
         };
     }
@@ -88,7 +88,7 @@ fn grow_use(
     alloc: Global,
     profiles: &IndexMap<String, Profile>,
     before: usize,
-    place: usize,
+    number: usize,
     used: &ProfileUse,
     inner: &ProfileUse,
     rest: Branches,
@@ -96,7 +96,7 @@ fn grow_use(
     requires sized { IsSized profiles.now.entries }
     requires within { before ≤ length profiles.now.entries }
     ensures { IfOk result (λ branches. flat_branches branches
-        ≡ map (under place) (parts_before profiles.now.entries before (filled_use used.now inner.now)) ++ flat_branches rest) }
+        ≡ map (under number) (parts_before profiles.now.entries before (filled_use used.now inner.now)) ++ flat_branches rest) }
 {
     let Some((earlier, profile)) = find_before(profiles, &inner.name, before) else {
         return Ok(rest);
@@ -106,5 +106,5 @@ fn grow_use(
     }
     let inner = filled_use(used, inner)?;
     let branches = grow(alloc, profiles, earlier, &inner, profile.body.grants())?;
-    Ok(Branches::Use(place, Box::new(alloc, branches)?, Box::new(alloc, rest)?))
+    Ok(Branches::Use(number, Box::new(alloc, branches)?, Box::new(alloc, rest)?))
 }

@@ -10,11 +10,11 @@ use std::fmt;
 /// Why a profile is not added to a table, or a list is not expanded. Either leaves all values as they were.
 #[derive(Clone, Copy, Debug, PartialEq, Eq)]
 pub enum ExpandFault {
-    /// The grant at this place, counted from 1, uses a profile that is not in the table.
+    /// The grant of this number, counted from 1, uses a profile that is not in the table.
     UnknownProfile(usize),
     /// The table has a profile of this name.
     DuplicateProfile,
-    /// The grant at this place of a profile's body, counted from 1, has a tag.
+    /// The grant of this number in a profile's body, counted from 1, has a tag.
     TagInProfile(usize),
     /// The table has 32 profiles.
     TooManyProfiles,
@@ -45,9 +45,9 @@ impl fmt::Display for ExpandFault {
 
     fn fmt<W: fmt::Write>(&self, f: &mut fmt::Formatter<W>) -> fmt::Result {
         match self {
-            ExpandFault::UnknownProfile(place) => write!(f, "G1 UnknownProfile {place}"),
+            ExpandFault::UnknownProfile(number) => write!(f, "G1 UnknownProfile {number}"),
             ExpandFault::DuplicateProfile => write!(f, "G2 DuplicateProfile"),
-            ExpandFault::TagInProfile(place) => write!(f, "G3 TagInProfile {place}"),
+            ExpandFault::TagInProfile(number) => write!(f, "G3 TagInProfile {number}"),
             ExpandFault::TooManyProfiles => write!(f, "G4 TooManyProfiles"),
             ExpandFault::TooLarge => write!(f, "G5 TooLarge"),
             ExpandFault::OutOfMemory => write!(f, "G6 OutOfMemory"),

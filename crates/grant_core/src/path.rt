@@ -8,13 +8,13 @@ use std::alloc::Global;
 use std::fmt;
 use std::marker::Model;
 
-/// Where a grant comes from, which contracts see as the list of places, each counted from 1.
+/// Where a grant comes from, which contracts see as the list of numbers, each counted from 1.
 ///
-/// The first place is that of a grant in the list that was expanded, and each further one is a place in the body of the
+/// The first number is that of a grant in the list that was expanded, and each further one is a number in the body of the
 /// profile that is used there. It prints as decimals with dots between them, such as `2.1`.
 #[derive(Debug, Drop)]
 pub struct Path {
-    places: Vec<usize>,
+    numbers: Vec<usize>,
 }
 
 impl Model for Path {
@@ -22,24 +22,24 @@ impl Model for Path {
 
     ghost Value = { List ℕ };
 
-    ghost view = { λ p. p.places.items };
+    ghost view = { λ p. p.numbers.items };
 }
 
 impl Path {
-    /// The path of these places.
-    pub fn of(alloc: Global, places: &[usize]) -> Result<Path, OutOfMemory>
-        ensures { IfOk result (λ path. path ≡ places.now) }
+    /// The path of these numbers.
+    pub fn of(alloc: Global, numbers: &[usize]) -> Result<Path, OutOfMemory>
+        ensures { IfOk result (λ path. path ≡ numbers.now) }
     {
         Ok(Path {
-            places: Vec::from_slice(alloc, places)?,
+            numbers: Vec::from_slice(alloc, numbers)?,
         })
     }
 
-    /// The places, the outermost first.
+    /// The numbers, the outermost first.
     pub fn as_slice(&self) -> &[usize]
         ensures { result.now ≡ self.now }
     {
-        self.places.as_slice()
+        self.numbers.as_slice()
     }
 
     /// An equal path.
@@ -47,7 +47,7 @@ impl Path {
         ensures { IfOk result (λ path. path ≡ self.now) }
     {
         Ok(Path {
-            places: self.places.clone()?,
+            numbers: self.numbers.clone()?,
         })
     }
 }
@@ -58,8 +58,8 @@ impl fmt::Display for Path {
     fn fmt<W: fmt::Write>(&self, f: &mut fmt::Formatter<W>) -> fmt::Result {
         if let Some((first, others)) = self.as_slice().split_first() {
             write!(f, "{first}")?;
-            for place in others {
-                write!(f, ".{place}")?;
+            for number in others {
+                write!(f, ".{number}")?;
             }
         }
         Ok(())

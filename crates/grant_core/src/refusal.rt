@@ -11,33 +11,33 @@ use crate::table::{Profile, has_profile, size_of};
 use cap_text::Grant;
 use indexmap::IndexMap;
 
-// The fault of the grant at a place of a list.
+// The fault of the grant of a number in a list.
 fn list_fault(
     profiles: &IndexMap<String, Profile>,
-    place: usize,
+    number: usize,
     grant: &Grant,
 ) -> Option<ExpandFault>
-    ensures { result ≡ spec.list_fault (table_of profiles.now.entries) place grant.now }
+    ensures { result ≡ spec.list_fault (table_of profiles.now.entries) number grant.now }
 {
     match grant {
         Grant::Profile(used) if !has_profile(profiles, used.name.as_str()) => {
-            Some(ExpandFault::UnknownProfile(place))
+            Some(ExpandFault::UnknownProfile(number))
         }
         _ => None,
     }
 }
 
-// The fault of the grant at a place of a body.
+// The fault of the grant of a number in a body.
 fn body_fault(
     profiles: &IndexMap<String, Profile>,
-    place: usize,
+    number: usize,
     grant: &Grant,
 ) -> Option<ExpandFault>
-    ensures { result ≡ spec.body_fault (table_of profiles.now.entries) place grant.now }
+    ensures { result ≡ spec.body_fault (table_of profiles.now.entries) number grant.now }
 {
     match grant {
-        Grant::Allow(allow) if allow.tag.is_some() => Some(ExpandFault::TagInProfile(place)),
-        _ => list_fault(profiles, place, grant),
+        Grant::Allow(allow) if allow.tag.is_some() => Some(ExpandFault::TagInProfile(number)),
+        _ => list_fault(profiles, number, grant),
     }
 }
 

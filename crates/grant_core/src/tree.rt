@@ -8,14 +8,14 @@ use cap_text::{AllowGrant, OutOfMemory};
 use std::alloc::Global;
 use std::marker::Model;
 
-/// The grants of a list or of a profile's use, from one place on.
+/// The grants of a list or of a profile's use, from one number on.
 #[derive(Debug, Drop)]
 pub(crate) enum Branches {
     /// No more grants.
     End,
-    /// The allow at a place, and the grants behind it.
+    /// The allow of a number, and the grants behind it.
     Leaf(usize, AllowGrant, Box<Branches>),
-    /// What the use at a place comes to, and the grants behind it.
+    /// What the use of a number comes to, and the grants behind it.
     Use(usize, Box<Branches>, Box<Branches>),
 }
 
@@ -59,7 +59,7 @@ impl GrantTree {
     }
 }
 
-// Adds the grants of the branches, whose paths begin with the places above.
+// Adds the grants of the branches, whose paths begin with the numbers above.
 fn flatten(
     alloc: Global,
     branches: &Branches,
@@ -72,16 +72,16 @@ fn flatten(
 {
     match branches {
         Branches::End => Ok(()),
-        Branches::Leaf(place, grant, rest) => {
-            above.push(*place)?;
+        Branches::Leaf(number, grant, rest) => {
+            above.push(*number)?;
             let path = Path::of(alloc, above.as_slice())?;
             grants.push((path, grant.copy()?))?;
             above.pop();
             flatten(alloc, rest, above, grants)?;
             Ok(())
         }
-        Branches::Use(place, inner, rest) => {
-            above.push(*place)?;
+        Branches::Use(number, inner, rest) => {
+            above.push(*number)?;
             flatten(alloc, inner, above, grants)?;
             above.pop();
             flatten(alloc, rest, above, grants)?;

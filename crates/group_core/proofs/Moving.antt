@@ -2,7 +2,7 @@
 use Rattle.std.proofs.Common.{ℕ, ◌≡◌, Bool, true, false, not, ◌==◌, ◌&&◌, List, [], ◌∷◌, ◌++◌, map, take, refl, sym, ◌∙◌, ap, subst, append_assoc, if◌then◌else◌}
 use Rattle.std.specs.Prelude.{Option, Some, None}
 use Rattle.entry_core.specs.Log.{is_in}
-use Rattle.place_core.specs.Place.{numbers_of}
+use Rattle.place_core.specs.Placement.{numbers_of}
 use Rattle.peer_core.specs.Steps.{restarted}
 use Rattle.group_core.specs.declared.opening.Opening.{Opening}
 use Rattle.group_core.specs.declared.opening.GroupMove.TheVariants.{NewInterval as Moves, Restart as Restarts}

@@ -1,7 +1,7 @@
 -- Refinement: only contracts inside the crate use it.
 -- What the fields of a group stand for.
 use Rattle.std.specs.Prelude.{take}
-use Rattle.place_core.specs.Place.{numbers_of}
+use Rattle.place_core.specs.Placement.{numbers_of}
 use Rattle.group_core.specs.declared.state.GroupState.{GroupState}
 use Rattle.group_core.specs.Furthest.{furthest}
 use Rattle.group_core.specs.Group.{Group}

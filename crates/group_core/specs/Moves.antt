@@ -2,7 +2,7 @@
 -- Moves of a group, and what is made before one.
 use Rattle.std.specs.Prelude.{ℕ, ◌≡◌, ◌≤◌, ◌<◌, List, [], ◌∷◌, ◌++◌, length, Option, Some, None, if◌then◌else◌, vec_len}
 use Rattle.entry_core.specs.Log.{is_in}
-use Rattle.place_core.specs.Place.{numbers_of}
+use Rattle.place_core.specs.Placement.{numbers_of}
 use Rattle.group_core.specs.declared.opening.Opening.{Opening}
 use Rattle.group_core.specs.declared.opening.GroupMove.{GroupMove}
 use Rattle.group_core.specs.declared.opening.GroupMove.TheVariants.{NewInterval as Moves, Restart as Restarts}

@@ -4,7 +4,7 @@ ghost use Rattle.std.specs.Prelude.{◌≡◌, ◌+◌, ◌<◌, ◌++◌, [], �
 ghost use Rattle.group_core.specs.Group.{is_answered, answer_of};
 
 use crate::element_at::at;
-use entry_core::{Id, Items, OutOfMemory, Reply, TryCopy};
+use entry_core::{Id, IdHash, Items, OutOfMemory, Reply, TryCopy};
 use indexmap::IndexSet;
 use std::alloc::Global;
 use std::marker::Model;
@@ -29,7 +29,7 @@ impl TryCopy for Answer {
 #[derive(Drop)]
 pub(crate) struct Answers {
     all: Vec<Answer>,
-    ids: IndexSet<Id>,
+    ids: IndexSet<Id, IdHash>,
 }
 
 impl Model for Answers {
@@ -49,7 +49,7 @@ impl Answers {
     {
         Answers {
             all: Vec::new(alloc),
-            ids: IndexSet::new(alloc),
+            ids: IndexSet::with_hasher(alloc, IdHash::new()),
         }
     }
 

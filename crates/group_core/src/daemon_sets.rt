@@ -2,7 +2,7 @@
 
 ghost use Rattle.std.specs.Prelude.{◌≡◌};
 ghost use Rattle.entry_core.specs.Log.{is_in};
-ghost use Rattle.place_core.specs.Place.{numbers_of};
+ghost use Rattle.place_core.specs.Placement.{numbers_of};
 ghost use Rattle.group_core.specs.Group.{last_set, same_set};
 
 use peer_core::IntervalSets;

@@ -5,7 +5,7 @@ ghost use Rattle.peer_core.specs.Steps.{blank, restarted};
 ghost use Rattle.peer_core.specs.ActingSets.{daemons};
 ghost use Rattle.peer_core.specs.Copy.{copy_step};
 ghost use Rattle.entry_core.specs.Log.{is_in};
-ghost use Rattle.place_core.specs.Place.{numbers_of};
+ghost use Rattle.place_core.specs.Placement.{numbers_of};
 ghost use Rattle.group_core.specs.Types as types;
 ghost use Rattle.group_core.specs.Group.{is_submitted, answers_after, announced, resent};
 ghost use Rattle.group_core.specs.Reached.{unsent};

@@ -3,7 +3,7 @@
 ghost use Rattle.std.specs.Prelude.{◌≡◌, ◌-◌, ◌++◌, [], ◌∷◌, false, length, take, OnOk, OnErr};
 ghost use Rattle.group_core.specs.Group.{is_submitted};
 
-use entry_core::{Id, Items, OutOfMemory, Sealed, TryCopy};
+use entry_core::{Id, IdHash, Items, OutOfMemory, Sealed, TryCopy};
 use indexmap::IndexSet;
 use std::alloc::Global;
 use std::marker::Model;
@@ -12,7 +12,7 @@ use std::marker::Model;
 #[derive(Drop)]
 pub(crate) struct Requests {
     all: Vec<Sealed>,
-    ids: IndexSet<Id>,
+    ids: IndexSet<Id, IdHash>,
 }
 
 impl Model for Requests {
@@ -32,7 +32,7 @@ impl Requests {
     {
         Requests {
             all: Vec::new(alloc),
-            ids: IndexSet::new(alloc),
+            ids: IndexSet::with_hasher(alloc, IdHash::new()),
         }
     }
 

@@ -5,7 +5,7 @@ use Rattle.std.proofs.lemmas.List.Elements.{All-same}
 use Rattle.std.proofs.lemmas.Result.{IfOk-weaker}
 use Rattle.std.proofs.lemmas.Bool.{false≢true}
 use Rattle.std.specs.Option.{option_map, IfSome}
-use Rattle.place_core.specs.Place.{acting_of, numbers_of}
+use Rattle.place_core.specs.Placement.{acting_of, numbers_of}
 use Rattle.map_core.specs.State.{MapState, History}
 use Rattle.map_core.specs.Map.{after, initial, map_after, map_of, epoch_of, pools_after, up_after, pool_in, view_of, view_at, is_named}
 use Rattle.cap_text.specs.Refused.{RefusedFirst}

@@ -7,7 +7,7 @@ use Rattle.std.proofs.lemmas.Bool.{false≢true}
 use Rattle.std.proofs.lemmas.Bool.Decides.{nat_tests}
 use Rattle.std.proofs.lemmas.List.{length-set}
 use Rattle.std.proofs.lemmas.List.Elements.{filter_passes, All-contains}
-use Rattle.place_core.specs.Place.{IsActing, acting_of, numbers_of}
+use Rattle.place_core.specs.Placement.{IsActing, acting_of, numbers_of}
 use Rattle.place_core.proofs.Counted.{acting_is, acting_set_is}
 use Rattle.map_core.specs.State.{MapState, History}
 use Rattle.map_core.specs.Map.{after, initial, map_of, epoch_of}

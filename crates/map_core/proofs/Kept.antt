@@ -9,7 +9,7 @@ use Rattle.std.proofs.lemmas.Slice.Eq.{bytes_eq-Decides}
 use Rattle.std.proofs.lemmas.List.{append-nil, take-append-drop}
 use Rattle.std.proofs.lemmas.List.Sums.{fold-append}
 use Rattle.std.proofs.lemmas.List.Quantifiers.{all_pairs_push}
-use Rattle.place_core.specs.Place.{acting_of, numbers_of}
+use Rattle.place_core.specs.Placement.{acting_of, numbers_of}
 use Rattle.map_core.specs.State.{MapState, History}
 use Rattle.map_core.specs.Map.{change_first, is_named, tagged, created, pools_after, after, initial, map_after, map_of, pool_in, view_of, view_at}
 use Rattle.map_core.specs.Refusal.{refusal, tests, in_limits, is_last}

@@ -1,7 +1,7 @@
 -- Statement: contracts of public calls use it.
 -- What every acting set of a map is.
 use Rattle.std.specs.Prelude.{◌≡◌, ℕ, ◌<◌, List, Some, All}
-use Rattle.place_core.specs.Place.{IsActing, IsActingSet, numbers_of}
+use Rattle.place_core.specs.Placement.{IsActing, IsActingSet, numbers_of}
 use Rattle.map_core.specs.State.{MapState}
 use Rattle.map_core.specs.Intervals.{size_in}
 

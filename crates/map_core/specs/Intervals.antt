@@ -4,7 +4,7 @@ use Rattle.std.specs.Prelude.{ℕ, List, [], ◌∷◌, ◌++◌, Bool, true, fa
 use Rattle.std.specs.Option.{option_map, option_to_list}
 use Rattle.std.specs.List.{list_any}
 use Rattle.std.specs.Str.{bytes_eq}
-use Rattle.place_core.specs.Place.{acting_of, numbers_of}
+use Rattle.place_core.specs.Placement.{acting_of, numbers_of}
 use Rattle.map_core.specs.State.{MapState, History}
 use Rattle.map_core.specs.Map.{after, initial, pool_in}
 use Rattle.map_core.specs.declared.pool.Pool.{Pool}

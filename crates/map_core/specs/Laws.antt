@@ -2,7 +2,7 @@
 -- Laws of the map, over histories whose commands were accepted.
 use Rattle.std.specs.Prelude.{◌≡◌, ◌≢◌, ℕ, ◌<◌, ◌≤◌, List, [], ◌∷◌, ◌++◌, Bool, true, false, Option, None, Some, length, map, All, AllPairs}
 use Rattle.std.specs.Option.{option_to_list}
-use Rattle.place_core.specs.Place.{numbers_of}
+use Rattle.place_core.specs.Placement.{numbers_of}
 use Rattle.map_core.specs.State.{MapState, History}
 use Rattle.map_core.specs.Map.{after, map_of, pool_in, view_at}
 use Rattle.map_core.specs.Limits.{IsAccepted}

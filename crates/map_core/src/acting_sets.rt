@@ -1,7 +1,7 @@
 //! Acting sets by the sizes of pools.
 
 ghost use Rattle.std.specs.Prelude.{◌≡◌, ◌≤◌, All, IfSome};
-ghost use Rattle.place_core.specs.Place.{acting_of, numbers_of};
+ghost use Rattle.place_core.specs.Placement.{acting_of, numbers_of};
 ghost use Rattle.map_core.specs.Map.{pools_after};
 ghost use Rattle.map_core.specs.Intervals as spec;
 ghost use Rattle.map_core.specs.Limits.{IsPool};

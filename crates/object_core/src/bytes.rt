@@ -3,7 +3,7 @@
 ghost use Rattle.std.specs.Prelude.{◌≡◌, ◌+◌, ◌≤◌, ◌++◌, [], IfOk, OnOk, length, take, drop};
 ghost use Rattle.object_core.specs.Bytes.{part_of, resized, overwritten};
 
-use cap_text::OutOfMemory;
+use cap_text::{OutOfMemory, TryCopy};
 use std::alloc::Global;
 use std::marker::Model;
 
@@ -60,13 +60,6 @@ impl Bytes {
         ensures { result.now ≡ self.now }
     {
         self.bytes.as_slice()
-    }
-
-    /// Equal bytes.
-    pub fn copy(&self) -> Result<Bytes, OutOfMemory>
-        ensures { IfOk result (λ copy. copy ≡ self.now) }
-    {
-        Bytes::from_slice(*self.bytes.allocator(), self.as_slice())
     }
 
     /// How many there are.
@@ -128,4 +121,10 @@ fn lay(bytes: &mut [u8], offset: usize, more: &[u8])
 {
     let end = offset + more.len();
     bytes[offset..end].copy_from_slice(more);
+}
+
+impl TryCopy for Bytes {
+    fn copy(&self) -> Result<Bytes, OutOfMemory> {
+        Bytes::from_slice(*self.bytes.allocator(), self.as_slice())
+    }
 }

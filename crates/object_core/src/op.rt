@@ -1,9 +1,7 @@
 //! Operations on an object.
 
-ghost use Rattle.std.specs.Prelude.{◌≡◌, IfOk};
-
 use crate::bytes::Bytes;
-use cap_text::{Name, OutOfMemory};
+use cap_text::{Name, OutOfMemory, TryCopy};
 
 /// An operation on an object. Places, lengths and sizes are in bytes.
 #[derive(Debug, Drop)]
@@ -49,11 +47,8 @@ pub enum Op {
     },
 }
 
-impl Op {
-    /// An equal operation.
-    pub fn copy(&self) -> Result<Op, OutOfMemory>
-        ensures { IfOk result (λ op. op ≡ self.now) }
-    {
+impl TryCopy for Op {
+    fn copy(&self) -> Result<Op, OutOfMemory> {
         match self {
             Op::Read { offset, length } => Ok(Op::Read {
                 offset: *offset,

@@ -8,23 +8,12 @@ ghost use Rattle.object_core.specs.ToldEffects.{after, told};
 use crate::attributes::Attributes;
 use crate::bytes::Bytes;
 use crate::object::Object;
-use cap_text::OutOfMemory;
+use cap_text::{Items, OutOfMemory, TryCopy};
 use std::alloc::Global;
 use std::marker::Model;
 
 /// What operations gave, in their order, which contracts see as the list of them.
-#[derive(Debug, Drop)]
-pub struct Outputs {
-    outputs: Vec<Bytes>,
-}
-
-impl Model for Outputs {
-    ghost use Rattle.std.specs.Prelude.{List, ℕ};
-
-    ghost Value = { List (List ℕ) };
-
-    ghost view = { λ o. o.outputs.items };
-}
+pub type Outputs = Items<Bytes>;
 
 /// What becomes of the object that a vector is given.
 #[derive(Debug, Drop)]
@@ -43,41 +32,6 @@ pub enum Outcome {
     /// The first operation that failed, counted from 1, and its error number: 2 ENOENT, 17 EEXIST, 22 EINVAL,
     /// 27 EFBIG, 34 ERANGE, 61 ENODATA or 95 EOPNOTSUPP. The object stays as it was.
     Failed { place: usize, number: u32 },
-}
-
-impl Outputs {
-    /// These outputs. It takes no memory.
-    pub fn from_vec(outputs: Vec<Bytes>) -> Outputs
-        ensures { result ≡ outputs.items }
-    {
-        Outputs { outputs }
-    }
-
-    /// The outputs, in a vector. It takes no memory.
-    pub fn into_vec(self) -> Vec<Bytes>
-        ensures { result.items ≡ self }
-    {
-        let Outputs { outputs } = self;
-        outputs
-    }
-
-    /// The outputs in order.
-    pub fn as_slice(&self) -> &[Bytes]
-        ensures { result.now ≡ self.now }
-    {
-        self.outputs.as_slice()
-    }
-
-    /// Equal outputs.
-    pub fn copy(&self) -> Result<Outputs, OutOfMemory>
-        ensures { IfOk result (λ outputs. outputs ≡ self.now) }
-    {
-        let mut outputs = Vec::with_capacity(*self.outputs.allocator(), self.outputs.len())?;
-        for output in self.as_slice() {
-            outputs.push(output.copy()?)?;
-        }
-        Ok(Outputs { outputs })
-    }
 }
 
 impl Change {

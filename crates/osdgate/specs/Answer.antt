@@ -11,7 +11,7 @@ use Rattle.grant_core.specs.Flat.{Flat, flat}
 use Rattle.grant_core.specs.Refusal.{expand_refusal}
 use Rattle.grant_core.specs.declared.fault.ExpandFault.{ExpandFault}
 use Rattle.verdict_core.specs.declared.request.Needs.{Needs}
-use Rattle.verdict_core.specs.Place.{Place}
+use Rattle.verdict_core.specs.Target.{Target}
 use Rattle.verdict_core.specs.Ticket.{Ticket}
 use Rattle.verdict_core.specs.Verdict.{is_allowed, report_of}
 use Rattle.object_core.specs.Needs.{needs_of, needs_fault}
@@ -25,7 +25,7 @@ use Rattle.osdgate.specs.declared.verdict.VerdictFault.TheVariants.{Caps, Profil
 
 -- what a verdict is asked of, beside the capability text
 pub record Asked : Type 0 where
-  pub place : Place
+  pub target : Target
   pub reads : Bool
   pub writes : Bool
   pub calls : List Op
@@ -44,13 +44,13 @@ calls_fault [] = None
 calls_fault (op ∷ ops) = needs_fault (op ∷ ops)
 
 -- allowed, or denied with the report
-abbrev pub judged : Ticket → Place → Needs → ℕ → Verdict
-judged ticket place needs tick = if is_allowed ticket place needs tick then Allowed else Denied (report_of ticket place needs tick)
+abbrev pub judged : Ticket → Target → Needs → ℕ → Verdict
+judged ticket target needs tick = if is_allowed ticket target needs tick then Allowed else Denied (report_of ticket target needs tick)
 
 -- the verdict, where the calls are not refused
 abbrev pub needed : Option NeedsFault → Ticket → Asked → Result Verdict VerdictFault
 needed (Some fault) ticket asked = Err (Calls fault)
-needed None ticket asked = Ok (judged ticket asked.place (asked_needs asked) asked.tick)
+needed None ticket asked = Ok (judged ticket asked.target (asked_needs asked) asked.tick)
 
 -- the same, where the list is expanded
 abbrev pub expanded : Option ExpandFault → List Grant → Asked → Result Verdict VerdictFault

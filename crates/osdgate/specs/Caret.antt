@@ -1,5 +1,5 @@
 -- Statement: contracts of public calls use it.
--- How the place of a fault is shown under its text (this project's profile). Every line ends with byte 10.
+-- How the position of a fault is shown under its text (this project's profile). Every line ends with byte 10.
 use Rattle.std.specs.Prelude.{ℕ, ◌+◌, ◌/◌, ◌%◌, ◌&&◌, List, [], ◌∷◌, ◌++◌, codes, length, take, replicate, flat_map, nat_le, nat_lt, if◌then◌else◌}
 
 -- 0 to 9 and a to f
@@ -15,7 +15,7 @@ shown_byte b =
 abbrev pub shown : List ℕ → List ℕ
 shown text = flat_map shown_byte text
 
--- the text, and a caret below the byte at this place, or behind the text where none stands there
+-- the text, and a caret below the byte at this position, or behind the text where none stands there
 abbrev pub pointed_text : List ℕ → ℕ → List ℕ
-pointed_text text place =
-    shown text ++ (codes "\n" ++ (replicate (length (shown (take place text))) 32 ++ codes "^\n"))
+pointed_text text position =
+    shown text ++ (codes "\n" ++ (replicate (length (shown (take position text))) 32 ++ codes "^\n"))

@@ -1,5 +1,5 @@
 -- Statement: contracts of public calls use it.
--- What `explain` prints of a capability text, and how a fault's place is shown (this project's profile). Every line ends with byte 10.
+-- What `explain` prints of a capability text, and how a fault's position is shown (this project's profile). Every line ends with byte 10.
 use Rattle.std.specs.Prelude.{ℕ, ◌≡◌, ◌≢◌, ◌⊎◌, Bool, true, List, ◌++◌, Option, Some, None, is_some, codes, flat_map}
 use Rattle.cap_text.specs.FaultText as cap
 use Rattle.cap_text.specs.Faults.{IsFirstFault}

@@ -7,7 +7,7 @@ use Rattle.cap_text.specs.declared.tags.AppTags.{AppTags}
 use Rattle.grant_core.specs.Text.{printed_path}
 use Rattle.verdict_core.specs.declared.request.Needs.{Needs}
 use Rattle.verdict_core.specs.declared.request.ClassCall.{ClassCall}
-use Rattle.verdict_core.specs.Place.{Place}
+use Rattle.verdict_core.specs.Target.{Target}
 use Rattle.compare_core.specs.declared.comparing.Example.{Example}
 
 -- inside single quotes each byte stands for itself; a single quote ends them, stands behind a backslash, and begins them again
@@ -35,9 +35,9 @@ namespace_words (b ∷ bs) = codes " --namespace " ++ shell_word (b ∷ bs)
 abbrev pub call_words : ClassCall → List ℕ
 call_words call = codes " " ++ (shell_word call.class ++ (codes "." ++ shell_word call.method))
 
-abbrev pub place_words : Place → List ℕ
-place_words place =
-    codes "--pool " ++ (shell_word place.pool ++ (namespace_words place.namespace ++ (codes " --object " ++ (shell_word place.object ++ flat_map tag_words place.tags))))
+abbrev pub target_words : Target → List ℕ
+target_words target =
+    codes "--pool " ++ (shell_word target.pool ++ (namespace_words target.namespace ++ (codes " --object " ++ (shell_word target.object ++ flat_map tag_words target.tags))))
 
 abbrev pub flag_words : Bool → List ℕ → List ℕ
 flag_words set word = if set then word else []
@@ -48,4 +48,4 @@ needs_words needs = flag_words needs.reads (codes " --read") ++ (flag_words need
 -- a sign, the grant's path, and the request
 abbrev pub example_line : List ℕ → Example → List ℕ
 example_line sign example =
-    sign ++ (printed_path example.path ++ (codes " " ++ (place_words example.place ++ (needs_words example.needs ++ codes "\n"))))
+    sign ++ (printed_path example.path ++ (codes " " ++ (target_words example.target ++ (needs_words example.needs ++ codes "\n"))))

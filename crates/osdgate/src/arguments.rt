@@ -75,7 +75,7 @@ fn verdict_command<'a>(alloc: Global) -> Result<Command<'a>, AllocError> {
         .arg(calls)
 }
 
-/// The arguments of a request: an object's place, its reads and writes, and its calls.
+/// The arguments of a request: its target, its reads and writes, and its calls.
 fn with_request<'a>(alloc: Global, command: Command<'a>) -> Result<Command<'a>, AllocError> {
     let calls = Arg::new(alloc, "calls")
         .action(ArgAction::Append)

@@ -101,12 +101,12 @@ fn push_blanks(line: &mut Vec<u8>, count: usize) -> Result<(), OutOfMemory>
     line.extend_from_slice(blanks.as_slice())
 }
 
-/// A text as it is shown, and below it a caret under the byte at this place, or behind the text where no
+/// A text as it is shown, and below it a caret under the byte at this position, or behind the text where no
 /// byte stands there. Both lines end with a line feed.
-pub fn pointed_text(alloc: Global, text: &str, place: usize) -> Result<Vec<u8>, OutOfMemory>
-    ensures { IfOk result (λ lines. lines.items ≡ pointed_text text.now place) }
+pub fn pointed_text(alloc: Global, text: &str, position: usize) -> Result<Vec<u8>, OutOfMemory>
+    ensures { IfOk result (λ lines. lines.items ≡ pointed_text text.now position) }
 {
-    let (before, behind) = cut(text.as_bytes(), place);
+    let (before, behind) = cut(text.as_bytes(), position);
     let mut lines = Vec::new(alloc);
     push_shown(&mut lines, before)?;
     let columns = lines.len();
@@ -117,12 +117,12 @@ pub fn pointed_text(alloc: Global, text: &str, place: usize) -> Result<Vec<u8>, 
     Ok(lines)
 }
 
-/// What stands before a place, and the rest.
-fn cut(bytes: &[u8], place: usize) -> (&[u8], &[u8])
-    ensures before { result.0.now ≡ take place bytes.now }
+/// What stands before a position, and the rest.
+fn cut(bytes: &[u8], position: usize) -> (&[u8], &[u8])
+    ensures before { result.0.now ≡ take position bytes.now }
     ensures whole { bytes.now ≡ result.0.now ++ result.1.now }
 {
-    bytes.split_at(place.min(bytes.len()))
+    bytes.split_at(position.min(bytes.len()))
 }
 
 /// Shows on `err` where the first fault of a capability text stands: the text, and a caret under the fault's

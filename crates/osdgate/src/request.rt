@@ -2,10 +2,10 @@
 
 ghost use Rattle.std.specs.Prelude.{◌≡◌, ◌++◌, string_bytes, OnOk};
 ghost use Rattle.std.specs.List.{flat_map};
-ghost use Rattle.osdgate.specs.Request.{call_words, example_line, needs_words, flag_words, namespace_words, pair_words, place_words, quoted, quoted_byte, shell_word, tag_words};
+ghost use Rattle.osdgate.specs.Request.{call_words, example_line, needs_words, flag_words, namespace_words, pair_words, target_words, quoted, quoted_byte, shell_word, tag_words};
 
 use cap_text::{AppTags, Name, OutOfMemory, are_word_bytes};
-use compare_core::{Example, Place};
+use compare_core::{Example, OwnedTarget};
 use std::fmt::Write;
 use verdict_core::{ClassCall, Needs};
 
@@ -94,15 +94,15 @@ fn push_namespace(line: &mut String, namespace: &Name) -> Result<(), OutOfMemory
     push_option(line, " --namespace ", namespace)
 }
 
-fn push_place(line: &mut String, place: &Place) -> Result<(), OutOfMemory>
-    ensures { OnOk result (string_bytes line.new ≡ string_bytes line.old ++ place_words place.now) }
+fn push_target(line: &mut String, target: &OwnedTarget) -> Result<(), OutOfMemory>
+    ensures { OnOk result (string_bytes line.new ≡ string_bytes line.old ++ target_words target.now) }
 {
     line.push_str("--pool ")?;
-    push_word(line, &place.pool)?;
-    push_namespace(line, &place.namespace)?;
+    push_word(line, &target.pool)?;
+    push_namespace(line, &target.namespace)?;
     line.push_str(" --object ")?;
-    push_word(line, &place.object)?;
-    push_tags(line, place.tags.as_slice())
+    push_word(line, &target.object)?;
+    push_tags(line, target.tags.as_slice())
 }
 
 fn push_call(line: &mut String, call: &ClassCall) -> Result<(), OutOfMemory>
@@ -149,7 +149,7 @@ pub(crate) fn push_example(
     let path = &example.path;
     write!(line, "{path}")?;
     line.push_str(" ")?;
-    push_place(line, &example.place)?;
+    push_target(line, &example.target)?;
     push_needs(line, &example.needs)?;
     line.push_str("\n")
 }

@@ -114,7 +114,7 @@ fn answer_ticket(
     times: Times,
 ) -> Result<Answer, OutOfMemory>
     ensures { IfOk result (λ answer. answer ≡ needed (calls_fault calls.now) ticket.now
-        (record { place = target.now; reads = reads; writes = writes; calls = calls.now; until = times.until; tick = times.tick })) }
+        (record { target = target.now; reads = reads; writes = writes; calls = calls.now; until = times.until; tick = times.tick })) }
 {
     match needs_of_calls(alloc, calls) {
         Ok(needs) => {
@@ -141,7 +141,7 @@ fn answer_list(
     times: Times,
 ) -> Result<Answer, OutOfMemory>
     ensures { IfOk result (λ answer. answer ≡ answer_of list.now
-        (record { place = target.now; reads = reads; writes = writes; calls = calls.now; until = times.until; tick = times.tick })) }
+        (record { target = target.now; reads = reads; writes = writes; calls = calls.now; until = times.until; tick = times.tick })) }
 {
     let table = ProfileTable::builtin(alloc)?;
     match expand(alloc, &table, list) {
@@ -167,7 +167,7 @@ pub fn answer(
     times: Times,
 ) -> Result<Answer, OutOfMemory>
     ensures { IfOk result (λ answer. IsAnswer caps.now
-        (record { place = target.now; reads = reads; writes = writes; calls = calls.now; until = times.until; tick = times.tick }) answer) }
+        (record { target = target.now; reads = reads; writes = writes; calls = calls.now; until = times.until; tick = times.tick }) answer) }
 {
     match parse(alloc, caps) {
         Ok(list) => answer_list(alloc, &list, target, reads, writes, calls, times),
@@ -202,7 +202,7 @@ pub fn verdict_text(
     times: Times,
 ) -> Result<String, OutOfMemory>
     ensures { IfOk result (λ text. IsVerdictText caps.now
-        (record { place = target.now; reads = reads; writes = writes; calls = calls.now; until = times.until; tick = times.tick }) (string_bytes text)) }
+        (record { target = target.now; reads = reads; writes = writes; calls = calls.now; until = times.until; tick = times.tick }) (string_bytes text)) }
 {
     let answer = answer(alloc, caps, target, reads, writes, calls, times)?;
     text_of(alloc, &answer)

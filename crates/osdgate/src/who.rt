@@ -101,7 +101,7 @@ fn told_text(
     all: bool,
 ) -> Result<String, OutOfMemory>
     ensures { IfOk result (λ text. AreTold all
-        (record { place = target.now; reads = reads; writes = writes; calls = calls.now; until = None; tick = 0 })
+        (record { target = target.now; reads = reads; writes = writes; calls = calls.now; until = None; tick = 0 })
         entities.now (string_bytes text)) }
 {
     let mut text = String::new(alloc);
@@ -131,7 +131,7 @@ fn asked_text(
     all: bool,
 ) -> Result<Printed, OutOfMemory>
     ensures { IfOk result (λ printed. AreTold all
-        (record { place = target.now; reads = reads; writes = writes; calls = calls.now; until = None; tick = 0 })
+        (record { target = target.now; reads = reads; writes = writes; calls = calls.now; until = None; tick = 0 })
         entities.now (string_bytes printed.text) × (printed.fails ≡ false)) }
 {
     Ok(Printed {
@@ -165,7 +165,7 @@ pub(crate) fn who_text(
     all: bool,
 ) -> Result<Printed, OutOfMemory>
     ensures { IfOk result (λ printed. IsWho entities.now
-        (record { place = target.now; reads = reads; writes = writes; calls = calls.now; until = None; tick = 0 })
+        (record { target = target.now; reads = reads; writes = writes; calls = calls.now; until = None; tick = 0 })
         all (string_bytes printed.text) printed.fails) }
 {
     match needs_of_calls(alloc, calls) {

@@ -18,7 +18,7 @@ const NOBODY: usize = 99;
 #[derive(Clone, Copy, Debug)]
 enum Shape {
     Pool,
-    Place,
+    Prefix,
     Tag,
     Call,
 }
@@ -28,7 +28,7 @@ impl Shape {
     fn name(self) -> &'static str {
         match self {
             Shape::Pool => "pool",
-            Shape::Place => "pool, namespace, prefix",
+            Shape::Prefix => "pool, namespace, prefix",
             Shape::Tag => "tag",
             Shape::Call => "class call",
         }
@@ -38,7 +38,7 @@ impl Shape {
     fn grant(self, alloc: Global, name: &str, number: usize) -> Result<String, OutOfMemory> {
         match self {
             Shape::Pool => format!(in alloc; "allow rw pool={name}{number}"),
-            Shape::Place => {
+            Shape::Prefix => {
                 format!(in alloc;
                     "allow rw pool={name} namespace=spaces object_prefix image.{number}."
                 )
@@ -111,29 +111,29 @@ fn tags_of(alloc: Global, value: String) -> Result<Tags, OutOfMemory> {
 
 /// Where a request goes.
 #[derive(Drop)]
-struct Place {
+struct OwnedTarget {
     pool: String,
     tags: Tags,
     object: String,
 }
 
-impl Place {
-    /// A place that the grant with a number is for, one of several.
+impl OwnedTarget {
+    /// A target that the grant with a number is for, one of several.
     fn new(
         alloc: Global,
         shape: Shape,
         name: &str,
         number: usize,
         object: usize,
-    ) -> Result<Place, OutOfMemory> {
-        Ok(Place {
+    ) -> Result<OwnedTarget, OutOfMemory> {
+        Ok(OwnedTarget {
             pool: shape.pool(alloc, name, number)?,
             tags: tags_of(alloc, format!(in alloc; "{name}{number}")?)?,
             object: format!(in alloc; "image.{number}.{object}")?,
         })
     }
 
-    fn target(&self) -> Target<'_> {
+    fn as_target(&self) -> Target<'_> {
         Target {
             pool: self.pool.as_str(),
             tags: &self.tags,
@@ -143,18 +143,18 @@ impl Place {
     }
 }
 
-/// Four places that the grant with a number is for, which differ in the object.
-fn places(
+/// Four targets that the grant with a number is for, which differ in the object.
+fn owned_targets(
     alloc: Global,
     shape: Shape,
     name: &str,
     number: usize,
-) -> Result<Vec<Place>, OutOfMemory> {
-    let mut places = Vec::with_capacity(alloc, 4)?;
+) -> Result<Vec<OwnedTarget>, OutOfMemory> {
+    let mut targets = Vec::with_capacity(alloc, 4)?;
     for object in 0..4 {
-        places.push(Place::new(alloc, shape, name, number, object)?)?;
+        targets.push(OwnedTarget::new(alloc, shape, name, number, object)?)?;
     }
-    Ok(places)
+    Ok(targets)
 }
 
 /// A ticket, and requests of it that all have one verdict, four objects in turn.
@@ -162,7 +162,7 @@ fn places(
 struct Asked {
     ticket: Ticket,
     indexed: IndexedTicket,
-    places: Vec<Place>,
+    owned: Vec<OwnedTarget>,
     needs: Needs,
 }
 
@@ -188,16 +188,16 @@ impl Asked {
         Ok(Asked {
             indexed: indexed(ticket.copy()?)?,
             ticket,
-            places: places(alloc, shape, name, number)?,
+            owned: owned_targets(alloc, shape, name, number)?,
             needs: shape.needs(alloc, name, number)?,
         })
     }
 
-    /// The targets of the four places.
+    /// The four targets, for verdicts.
     fn targets(&self) -> Result<Vec<Target<'_>>, OutOfMemory> {
-        let mut targets = Vec::with_capacity(*self.places.allocator(), 4)?;
-        for place in self.places.iter() {
-            targets.push(place.target())?;
+        let mut targets = Vec::with_capacity(*self.owned.allocator(), 4)?;
+        for target in self.owned.iter() {
+            targets.push(target.as_target())?;
         }
         Ok(targets)
     }
@@ -277,15 +277,15 @@ struct JudgeAndReport<'a>(&'a Asked);
 
 impl Work for JudgeAndReport<'_> {
     fn once(&self, turn: usize) -> Result<bool, OutOfMemory> {
-        let Some(place) = self.0.places.get(turn % 4) else {
+        let Some(target) = self.0.owned.get(turn % 4) else {
             return Ok(false);
         };
-        let target = place.target();
+        let target = target.as_target();
         if judge(&self.0.ticket, &target, &self.0.needs, 0) {
             return Ok(true);
         }
         let lines = report(
-            *self.0.places.allocator(),
+            *self.0.owned.allocator(),
             &self.0.ticket,
             &target,
             &self.0.needs,
@@ -373,7 +373,7 @@ impl Rows {
 
 /// Adds the rows of verdicts, over names that begin with a given one.
 pub(crate) fn add_verdicts<C: Clock>(table: &mut Table<'_, C>, name: &str) -> Result<(), Fault> {
-    for shape in [Shape::Pool, Shape::Place, Shape::Tag, Shape::Call] {
+    for shape in [Shape::Pool, Shape::Prefix, Shape::Tag, Shape::Call] {
         for grants in [1, 4, 16, 64] {
             let rows = Rows { shape, grants };
             rows.add_allowed(table, name)?;

@@ -3,7 +3,7 @@
 ghost use Rattle.std.specs.Prelude.{◌≡◌, ◌+◌, ◌<◌, ◌==◌, ◌++◌, [], ◌∷◌, length, drop, OnOk, OnErr, slice_index_or};
 ghost use Rattle.std.specs.List.{list_any};
 
-use entry_core::{Id, OutOfMemory, Sealed, TryCopy};
+use entry_core::{Id, IdHash, OutOfMemory, Sealed, TryCopy};
 use std::alloc::Global;
 use std::collections::{HashSet, VecDeque};
 use std::marker::Model;
@@ -15,7 +15,7 @@ use std::marker::Model;
 pub struct Queue {
     requests: VecDeque<Sealed>,
     // the ids that wait, and some that waited
-    seen: HashSet<Id>,
+    seen: HashSet<Id, IdHash>,
 }
 
 impl Model for Queue {
@@ -38,7 +38,7 @@ impl Queue {
     {
         Queue {
             requests: VecDeque::new(alloc),
-            seen: HashSet::new(alloc),
+            seen: HashSet::with_hasher(alloc, IdHash::new()),
         }
     }
 

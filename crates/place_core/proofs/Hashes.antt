@@ -3,7 +3,7 @@ use Rattle.std.proofs.Common.{◌≡◌, ℕ, ◌*◌, ◌^◌, ◌<◌, List, [
 use Rattle.std.proofs.Math.Nat.{mod-lt}
 use Rattle.std.specs.Fmt.{decimal}
 use Rattle.std.proofs.lemmas.List.Sums.{fold-append}
-use Rattle.place_core.specs.Place.{rank_of, fnv_step}
+use Rattle.place_core.specs.Placement.{rank_of, fnv_step}
 
 pub rank_by_steps : (pool : List ℕ) (group daemon a b c d : ℕ) → a ≡ fold fnv_step 2166136261 pool → b ≡ fnv_step a 46 → c ≡ fold fnv_step b (decimal group) → d ≡ fnv_step c 46 → fold fnv_step d (decimal daemon) ≡ rank_of pool group daemon
 unfolding rank_of

@@ -1,7 +1,7 @@
 -- Statement: contracts of public calls use it.
 -- Laws of placement, over sets of daemons as contracts see them: 16 flags.
 use Rattle.std.specs.Prelude.{◌≡◌, ◌≢◌, ℕ, ◌<◌, ◌≤◌, List, Bool, length, All, AllPairs}
-use Rattle.place_core.specs.Place.{IsActing, IsActingSet, acting_of, numbers_of}
+use Rattle.place_core.specs.Placement.{IsActing, IsActingSet, acting_of, numbers_of}
 
 -- the acting set by counting is the one by the condition on pairs
 abbrev pub ActingIsTheRanking : Type 0

@@ -1,4 +1,4 @@
-pub mod Place
+pub mod Placement
 pub mod Ranking
 pub mod Distinct
 pub mod Inside

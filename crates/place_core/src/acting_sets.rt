@@ -4,7 +4,7 @@ ghost use Rattle.std.specs.Prelude.{◌≡◌, ◌≤◌, ◌<◌, ◌≢◌, �
 ghost use Rattle.std.specs.List.{list_any};
 ghost use Rattle.std.specs.Str.{bytes_eq};
 ghost use Rattle.place_core.specs.Distinct.{is_distinct};
-ghost use Rattle.place_core.specs.Place.{IsActing, acting_of, numbers_of};
+ghost use Rattle.place_core.specs.Placement.{IsActing, acting_of, numbers_of};
 
 use crate::daemons::DaemonSet;
 use crate::ranking::ranked;

@@ -2,7 +2,7 @@
 
 ghost use Rattle.std.specs.Prelude.{◌≡◌, ◌≤◌, ◌<◌, ◌==◌, length, slice_index_or, slice_set, take, false, All, AllPairs, ◌≢◌, IfOk, map, nat_lt};
 ghost use Rattle.std.specs.List.{range_with_len, list_any};
-ghost use Rattle.place_core.specs.Place.{numbers_of};
+ghost use Rattle.place_core.specs.Placement.{numbers_of};
 
 use std::alloc::{AllocError, Global};
 use std::marker::Model;

@@ -4,8 +4,8 @@
 
 ghost use Rattle.std.specs.Prelude.{◌≡◌, ◌≤◌, ◌<◌, ℕ, fold, length, slice_index};
 ghost use Rattle.std.specs.Fmt.{decimal};
-ghost use Rattle.place_core.specs.Place as spec;
-ghost use Rattle.place_core.specs.Place.{fnv, fnv_step, rank_of};
+ghost use Rattle.place_core.specs.Placement as spec;
+ghost use Rattle.place_core.specs.Placement.{fnv, fnv_step, rank_of};
 
 const START: u32 = 2166136261;
 

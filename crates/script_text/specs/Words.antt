@@ -13,11 +13,11 @@ abbrev pub is_printable : ℕ → Bool
 is_printable b = nat_le 32 b && nat_le b 126
 
 -- where a line is being read: between words, in a bare word, behind this quote, or behind a closed quote
-pub data Place : Type 0 where
-  Between : Place
-  Bare : Place
-  Quoted : ℕ → Place
-  Behind : Place
+pub data Stage : Type 0 where
+  Between : Stage
+  Bare : Stage
+  Quoted : ℕ → Stage
+  Behind : Stage
 
 -- a byte at the front of the first word
 abbrev pub onto_word : ℕ → List (List ℕ) → List (List ℕ)
@@ -25,7 +25,7 @@ onto_word b [] = (b ∷ []) ∷ []
 onto_word b (word ∷ words) = (b ∷ word) ∷ words
 
 -- the words from here on. In a bare word and behind a quote the first of them is the rest of that word.
-abbrev pub words_from : Place → List ℕ → Option (List (List ℕ))
+abbrev pub words_from : Stage → List ℕ → Option (List (List ℕ))
 words_from Between [] = Some []
 words_from Between (b ∷ bs) =
     if b == 32 then words_from Between bs

@@ -10,8 +10,8 @@ use Rattle.cap_text.specs.declared.grant.Access.{Access}
 use Rattle.cap_text.specs.declared.grant.Access.TheVariants.{All, Flags, Class}
 use Rattle.verdict_core.specs.declared.request.Needs.{Needs}
 use Rattle.verdict_core.specs.declared.request.ClassCall.{ClassCall}
-use Rattle.verdict_core.specs.Place.{Place}
-use Rattle.verdict_core.specs.Places.{AreChained, NoneBefore, chain_of, chain_by, chains_of, pool_chain, bucket, gives}
+use Rattle.verdict_core.specs.Target.{Target}
+use Rattle.verdict_core.specs.Chains.{AreChained, NoneBefore, chain_of, chain_by, chains_of, pool_chain, bucket, gives}
 use Rattle.verdict_core.specs.Verdict.{names, matches_namespace, matches_tag, matches_prefix, matches, can_read, can_write, is_usable, covers, is_covered}
 
 -- ---- places and their chains
@@ -37,19 +37,19 @@ same_entry grants i j a b e x y = cc
 -- ---- a walk
 
 -- before the first place of a chain nothing is of the chain
-pub none_first : (grants : List (List ℕ × AllowGrant)) (first next : List ℕ) (chain start : ℕ) (place : Place) (needs : Needs) (call : Option ClassCall) → chain < 257 → AreChained 0 (chains_of grants) first next
-    → start ≡ get_or first chain 0 → NoneBefore start grants chain place needs call
-none_first grants first next chain start place needs call small c is i entry before at same =
+pub none_first : (grants : List (List ℕ × AllowGrant)) (first next : List ℕ) (chain start : ℕ) (target : Target) (needs : Needs) (call : Option ClassCall) → chain < 257 → AreChained 0 (chains_of grants) first next
+    → start ≡ get_or first chain 0 → NoneBefore start grants chain target needs call
+none_first grants first next chain start target needs call small c is i entry before at same =
     let here = chain_at grants i entry at in
     absurd (c.first_is chain i small (omega arith) (omega arith) (omega (arith, here.0, length-chains_of grants)) (here.1 ∙ same))
 
 -- so it is between a place and the next one
-pub none_next : (grants : List (List ℕ × AllowGrant)) (first next : List ℕ) (chain k later : ℕ) (entry : List ℕ × AllowGrant) (place : Place) (needs : Needs) (call : Option ClassCall) → AreChained 0 (chains_of grants) first next
-    → slice_get grants k ≡ Some entry → get_or (chains_of grants) k 0 ≡ chain → gives entry.1 place needs call ≡ false → later ≡ get_or next k 0
-    → NoneBefore k grants chain place needs call → NoneBefore later grants chain place needs call
-none_next grants first next chain k later entry place needs call c at_k same_k fails is none i found before at same =
+pub none_next : (grants : List (List ℕ × AllowGrant)) (first next : List ℕ) (chain k later : ℕ) (entry : List ℕ × AllowGrant) (target : Target) (needs : Needs) (call : Option ClassCall) → AreChained 0 (chains_of grants) first next
+    → slice_get grants k ≡ Some entry → get_or (chains_of grants) k 0 ≡ chain → gives entry.1 target needs call ≡ false → later ≡ get_or next k 0
+    → NoneBefore k grants chain target needs call → NoneBefore later grants chain target needs call
+none_next grants first next chain k later entry target needs call c at_k same_k fails is none i found before at same =
     elim (cases_order i k) [
-      | inl e ↦ ap (λ (x : List ℕ × AllowGrant). gives x.1 place needs call) (same_entry grants i k found entry e at at_k) ∙ fails
+      | inl e ↦ ap (λ (x : List ℕ × AllowGrant). gives x.1 target needs call) (same_entry grants i k found entry e at at_k) ∙ fails
       | inr o ↦ elim o [
         | inl lower ↦ none i found lower at same
         | inr higher ↦
@@ -95,21 +95,21 @@ by_access (Class class method) pool name reads writes None (inl some) named r w 
 by_access (Class class method) pool name reads writes None (inr some) named r w covered = absurd (false≢true some)
 by_access (Class class method) pool name reads writes (Some call) asked named r w covered = inr (inr (ap (λ c. 128 + bucket c) (is_same class call.class (and_parts _ _ covered).0)))
 
-usable_and_covered : (g : AllowGrant) (place : Place) (needs : Needs) (call : Option ClassCall) → gives g place needs call ≡ true → (is_usable g place needs ≡ true) × IsCovered call g.access
-usable_and_covered g place needs None h = (h, tt)
-usable_and_covered g place needs (Some call) h = and_parts (is_usable g place needs) (covers g.access call) h
+usable_and_covered : (g : AllowGrant) (target : Target) (needs : Needs) (call : Option ClassCall) → gives g target needs call ≡ true → (is_usable g target needs ≡ true) × IsCovered call g.access
+usable_and_covered g target needs None h = (h, tt)
+usable_and_covered g target needs (Some call) h = and_parts (is_usable g target needs) (covers g.access call) h
 
 -- a grant that gives what is asked is in a chain that is walked
-giver_chain : (g : AllowGrant) (place : Place) (needs : Needs) (call : Option ClassCall) → ((needs.reads || needs.writes ≡ true) ⊎ IsSome call) → gives g place needs call ≡ true
-    → (chain_of g ≡ bucket place.pool) ⊎ ((chain_of g ≡ 256) ⊎ IsOfClass call (chain_of g))
-giver_chain g place needs call asked h =
-    let both = usable_and_covered g place needs call h in
-    let writes = and_parts (matches g place && (not needs.reads || can_read g.access)) (not needs.writes || can_write g.access) both.0 in
-    let reads = and_parts (matches g place) (not needs.reads || can_read g.access) writes.0 in
-    let prefix = and_parts (names g.pool place.pool && matches_namespace g.namespace place.namespace && matches_tag g.tag place.tags) (matches_prefix g.prefix place.object) reads.0 in
-    let tag = and_parts (names g.pool place.pool && matches_namespace g.namespace place.namespace) (matches_tag g.tag place.tags) prefix.0 in
-    let named = and_parts (names g.pool place.pool) (matches_namespace g.namespace place.namespace) tag.0 in
-    by_access g.access g.pool place.pool needs.reads needs.writes call asked named.0 reads.1 writes.1 both.1
+giver_chain : (g : AllowGrant) (target : Target) (needs : Needs) (call : Option ClassCall) → ((needs.reads || needs.writes ≡ true) ⊎ IsSome call) → gives g target needs call ≡ true
+    → (chain_of g ≡ bucket target.pool) ⊎ ((chain_of g ≡ 256) ⊎ IsOfClass call (chain_of g))
+giver_chain g target needs call asked h =
+    let both = usable_and_covered g target needs call h in
+    let writes = and_parts (matches g target && (not needs.reads || can_read g.access)) (not needs.writes || can_write g.access) both.0 in
+    let reads = and_parts (matches g target) (not needs.reads || can_read g.access) writes.0 in
+    let prefix = and_parts (names g.pool target.pool && matches_namespace g.namespace target.namespace && matches_tag g.tag target.tags) (matches_prefix g.prefix target.object) reads.0 in
+    let tag = and_parts (names g.pool target.pool && matches_namespace g.namespace target.namespace) (matches_tag g.tag target.tags) prefix.0 in
+    let named = and_parts (names g.pool target.pool) (matches_namespace g.namespace target.namespace) tag.0 in
+    by_access g.access g.pool target.pool needs.reads needs.writes call asked named.0 reads.1 writes.1 both.1
 
 -- ---- the walks together
 
@@ -118,38 +118,38 @@ none_passes p [] h = refl
 none_passes p (e ∷ es) h = rw (h 0 e refl) (none_passes p es (λ i x at. h (suc i) x at))
 
 -- nothing of the call's class gives what is asked
-abbrev pub NoneOfClass : List (List ℕ × AllowGrant) → Place → Needs → Option ClassCall → Type 0
-NoneOfClass grants place needs None = Unit {0}
-NoneOfClass grants place needs (Some call) = NoneBefore (length grants) grants (128 + bucket call.class) place needs (Some call)
+abbrev pub NoneOfClass : List (List ℕ × AllowGrant) → Target → Needs → Option ClassCall → Type 0
+NoneOfClass grants target needs None = Unit {0}
+NoneOfClass grants target needs (Some call) = NoneBefore (length grants) grants (128 + bucket call.class) target needs (Some call)
 
-of_class : (grants : List (List ℕ × AllowGrant)) (place : Place) (needs : Needs) (call : Option ClassCall) → NoneOfClass grants place needs call
-    → (i : ℕ) (e : List ℕ × AllowGrant) → slice_get grants i ≡ Some e → IsOfClass call (chain_of e.1) → gives e.1 place needs call ≡ false
-of_class grants place needs None none i e at is = absurd is
-of_class grants place needs (Some call) none i e at is = none i e (chain_at grants i e at).0 at is
+of_class : (grants : List (List ℕ × AllowGrant)) (target : Target) (needs : Needs) (call : Option ClassCall) → NoneOfClass grants target needs call
+    → (i : ℕ) (e : List ℕ × AllowGrant) → slice_get grants i ≡ Some e → IsOfClass call (chain_of e.1) → gives e.1 target needs call ≡ false
+of_class grants target needs None none i e at is = absurd is
+of_class grants target needs (Some call) none i e at is = none i e (chain_at grants i e at).0 at is
 
 -- where no walk finds a grant, there is none
-pub none_gives : (grants : List (List ℕ × AllowGrant)) (place : Place) (needs : Needs) (call : Option ClassCall) → ((needs.reads || needs.writes ≡ true) ⊎ IsSome call)
-    → NoneBefore (length grants) grants (bucket place.pool) place needs call → NoneBefore (length grants) grants 256 place needs call → NoneOfClass grants place needs call
-    → false ≡ list_any (λ entry. gives entry.1 place needs call) grants
-none_gives grants place needs call asked pool unnamed class =
-    sym (none_passes (λ entry. gives entry.1 place needs call) grants (λ i e at. false_from_ne_true (gives e.1 place needs call) (λ yes.
-    false≢true (sym (fails i e at (giver_chain e.1 place needs call asked yes)) ∙ yes))))
+pub none_gives : (grants : List (List ℕ × AllowGrant)) (target : Target) (needs : Needs) (call : Option ClassCall) → ((needs.reads || needs.writes ≡ true) ⊎ IsSome call)
+    → NoneBefore (length grants) grants (bucket target.pool) target needs call → NoneBefore (length grants) grants 256 target needs call → NoneOfClass grants target needs call
+    → false ≡ list_any (λ entry. gives entry.1 target needs call) grants
+none_gives grants target needs call asked pool unnamed class =
+    sym (none_passes (λ entry. gives entry.1 target needs call) grants (λ i e at. false_from_ne_true (gives e.1 target needs call) (λ yes.
+    false≢true (sym (fails i e at (giver_chain e.1 target needs call asked yes)) ∙ yes))))
   where
-    fails : (i : ℕ) (e : List ℕ × AllowGrant) → slice_get grants i ≡ Some e → (chain_of e.1 ≡ bucket place.pool) ⊎ ((chain_of e.1 ≡ 256) ⊎ IsOfClass call (chain_of e.1)) → gives e.1 place needs call ≡ false
+    fails : (i : ℕ) (e : List ℕ × AllowGrant) → slice_get grants i ≡ Some e → (chain_of e.1 ≡ bucket target.pool) ⊎ ((chain_of e.1 ≡ 256) ⊎ IsOfClass call (chain_of e.1)) → gives e.1 target needs call ≡ false
     fails i e at (inl is) = pool i e (chain_at grants i e at).0 at is
     fails i e at (inr (inl is)) = unnamed i e (chain_at grants i e at).0 at is
-    fails i e at (inr (inr is)) = of_class grants place needs call class i e at is
+    fails i e at (inr (inr is)) = of_class grants target needs call class i e at is
 
-pub none_of_class : (grants : List (List ℕ × AllowGrant)) (place : Place) (needs : Needs) (call : Option ClassCall) → call ≡ None → NoneOfClass grants place needs call
-none_of_class grants place needs None is = tt
-none_of_class grants place needs (Some call) is = absurd (cc)
+pub none_of_class : (grants : List (List ℕ × AllowGrant)) (target : Target) (needs : Needs) (call : Option ClassCall) → call ≡ None → NoneOfClass grants target needs call
+none_of_class grants target needs None is = tt
+none_of_class grants target needs (Some call) is = absurd (cc)
 
-pub none_of_this_class : (grants : List (List ℕ × AllowGrant)) (place : Place) (needs : Needs) (call : Option ClassCall) (asked : ClassCall) (chain : ℕ) → call ≡ Some asked → chain ≡ 128 + bucket asked.class
-    → NoneBefore (length grants) grants chain place needs call → NoneOfClass grants place needs call
-none_of_this_class grants place needs None asked chain is at none = absurd (cc)
-none_of_this_class grants place needs (Some call) asked chain is at none =
+pub none_of_this_class : (grants : List (List ℕ × AllowGrant)) (target : Target) (needs : Needs) (call : Option ClassCall) (asked : ClassCall) (chain : ℕ) → call ≡ Some asked → chain ≡ 128 + bucket asked.class
+    → NoneBefore (length grants) grants chain target needs call → NoneOfClass grants target needs call
+none_of_this_class grants target needs None asked chain is at none = absurd (cc)
+none_of_this_class grants target needs (Some call) asked chain is at none =
     let same : asked ≡ call = cc in
-    subst (λ k. NoneBefore (length grants) grants k place needs (Some call)) (at ∙ ap (λ (c : ClassCall). 128 + bucket c.class) same) none
+    subst (λ k. NoneBefore (length grants) grants k target needs (Some call)) (at ∙ ap (λ (c : ClassCall). 128 + bucket c.class) same) none
 
 -- an answer that is right where it is yes and where it is no
 pub either_way : (r all : Bool) → (r ≡ true → all ≡ true) → (r ≡ false → false ≡ all) → r ≡ all
@@ -158,23 +158,23 @@ either_way false all holds fails = fails refl
 
 -- ---- a verdict by the calls alone
 
-usable_where_covered : (grants : List (List ℕ × AllowGrant)) (place : Place) (needs : Needs) (call : ClassCall) → is_covered grants place needs call ≡ true → list_any (λ entry. is_usable entry.1 place needs) grants ≡ true
-usable_where_covered [] place needs call h = h
-usable_where_covered (e ∷ es) place needs call h = first (is_usable e.1 place needs) (covers e.1.access call) (is_covered es place needs call) (list_any (λ entry. is_usable entry.1 place needs) es) h (usable_where_covered es place needs call)
+usable_where_covered : (grants : List (List ℕ × AllowGrant)) (target : Target) (needs : Needs) (call : ClassCall) → is_covered grants target needs call ≡ true → list_any (λ entry. is_usable entry.1 target needs) grants ≡ true
+usable_where_covered [] target needs call h = h
+usable_where_covered (e ∷ es) target needs call h = first (is_usable e.1 target needs) (covers e.1.access call) (is_covered es target needs call) (list_any (λ entry. is_usable entry.1 target needs) es) h (usable_where_covered es target needs call)
   where
     first : (u c rest all : Bool) → ((u && c) || rest) ≡ true → (rest ≡ true → all ≡ true) → (u || all) ≡ true
     first true c rest all h later = refl
     first false c rest all h later = later h
 
-by_first : (grants : List (List ℕ × AllowGrant)) (place : Place) (needs : Needs) (call : ClassCall) (calls : List ClassCall) → (b : Bool) → list_all (is_covered grants place needs) (call ∷ calls) ≡ b
-    → list_all (is_covered grants place needs) (call ∷ calls) ≡ (list_any (λ entry. is_usable entry.1 place needs) grants && list_all (is_covered grants place needs) (call ∷ calls))
-by_first grants place needs call calls true all =
-    let covered : is_covered grants place needs call ≡ true = (and_parts (is_covered grants place needs call) (list_all (is_covered grants place needs) calls) all).0 in
-    rw (usable_where_covered grants place needs call covered) refl
-by_first grants place needs call calls false all = all ∙ sym (and_right (list_any (λ entry. is_usable entry.1 place needs) grants) (list_all (is_covered grants place needs) (call ∷ calls)) all)
+by_first : (grants : List (List ℕ × AllowGrant)) (target : Target) (needs : Needs) (call : ClassCall) (calls : List ClassCall) → (b : Bool) → list_all (is_covered grants target needs) (call ∷ calls) ≡ b
+    → list_all (is_covered grants target needs) (call ∷ calls) ≡ (list_any (λ entry. is_usable entry.1 target needs) grants && list_all (is_covered grants target needs) (call ∷ calls))
+by_first grants target needs call calls true all =
+    let covered : is_covered grants target needs call ≡ true = (and_parts (is_covered grants target needs call) (list_all (is_covered grants target needs) calls) all).0 in
+    rw (usable_where_covered grants target needs call covered) refl
+by_first grants target needs call calls false all = all ∙ sym (and_right (list_any (λ entry. is_usable entry.1 target needs) grants) (list_all (is_covered grants target needs) (call ∷ calls)) all)
 
 -- where there are calls, they decide
-pub by_calls : (grants : List (List ℕ × AllowGrant)) (place : Place) (needs : Needs) (asked : List ClassCall) → (asked ≡ [] → ⊥)
-    → list_all (is_covered grants place needs) asked ≡ (list_any (λ entry. is_usable entry.1 place needs) grants && list_all (is_covered grants place needs) asked)
-by_calls grants place needs [] some = absurd (some refl)
-by_calls grants place needs (call ∷ calls) some = by_first grants place needs call calls (list_all (is_covered grants place needs) (call ∷ calls)) refl
+pub by_calls : (grants : List (List ℕ × AllowGrant)) (target : Target) (needs : Needs) (asked : List ClassCall) → (asked ≡ [] → ⊥)
+    → list_all (is_covered grants target needs) asked ≡ (list_any (λ entry. is_usable entry.1 target needs) grants && list_all (is_covered grants target needs) asked)
+by_calls grants target needs [] some = absurd (some refl)
+by_calls grants target needs (call ∷ calls) some = by_first grants target needs call calls (list_all (is_covered grants target needs) (call ∷ calls)) refl

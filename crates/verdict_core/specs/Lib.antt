@@ -1,5 +1,5 @@
-pub mod Place
+pub mod Target
 pub mod Ticket
 pub mod Verdict
 pub mod Text
-pub mod Places
+pub mod Chains

@@ -19,7 +19,7 @@ use Rattle.verdict_core.specs.declared.request.Needs.{Needs}
 use Rattle.verdict_core.specs.declared.request.ClassCall.{ClassCall}
 use Rattle.verdict_core.specs.declared.request.Condition.{Condition}
 use Rattle.verdict_core.specs.declared.request.Condition.TheVariants as why
-use Rattle.verdict_core.specs.Place.{Place}
+use Rattle.verdict_core.specs.Target.{Target}
 use Rattle.verdict_core.specs.Ticket.{Ticket}
 
 -- no name, or this one
@@ -56,9 +56,9 @@ matches_prefix None object = true
 matches_prefix (Some prefix) [] = false
 matches_prefix (Some prefix) (b ∷ bs) = starts_with nat_eq (b ∷ bs) prefix
 
--- whether a grant speaks of a place
-abbrev pub matches : AllowGrant → Place → Bool
-matches g place = names g.pool place.pool && matches_namespace g.namespace place.namespace && matches_tag g.tag place.tags && matches_prefix g.prefix place.object
+-- whether a grant speaks of a target
+abbrev pub matches : AllowGrant → Target → Bool
+matches g target = names g.pool target.pool && matches_namespace g.namespace target.namespace && matches_tag g.tag target.tags && matches_prefix g.prefix target.object
 
 abbrev pub can_read : Access → Bool
 can_read All = true
@@ -70,9 +70,9 @@ can_write All = true
 can_write (Flags flags) = flags.write
 can_write (Class class method) = false
 
--- whether a grant speaks of the place, and reads and writes as far as the request does
-abbrev pub is_usable : AllowGrant → Place → Needs → Bool
-is_usable g place needs = matches g place && (not needs.reads || can_read g.access) && (not needs.writes || can_write g.access)
+-- whether a grant speaks of the target, and reads and writes as far as the request does
+abbrev pub is_usable : AllowGrant → Target → Needs → Bool
+is_usable g target needs = matches g target && (not needs.reads || can_read g.access) && (not needs.writes || can_write g.access)
 
 -- Whether an access covers a call. Flags cover only classes on the default list.
 abbrev pub covers : Access → ClassCall → Bool
@@ -81,12 +81,12 @@ covers (Class class method) call = bytes_eq class call.class && names method cal
 covers (Flags flags) call = call.listed && (not call.class_reads || flags.class_read) && (not call.class_writes || flags.class_write)
 
 -- whether some usable grant covers a call
-abbrev pub is_covered : List (List ℕ × AllowGrant) → Place → Needs → ClassCall → Bool
-is_covered grants place needs call = list_any (λ entry. is_usable entry.1 place needs && covers entry.1.access call) grants
+abbrev pub is_covered : List (List ℕ × AllowGrant) → Target → Needs → ClassCall → Bool
+is_covered grants target needs call = list_any (λ entry. is_usable entry.1 target needs && covers entry.1.access call) grants
 
 -- what a list of grants allows: some grant is usable, and each call is covered by some usable grant
-abbrev pub grants_allow : List (List ℕ × AllowGrant) → Place → Needs → Bool
-grants_allow grants place needs = list_any (λ entry. is_usable entry.1 place needs) grants && list_all (is_covered grants place needs) needs.calls
+abbrev pub grants_allow : List (List ℕ × AllowGrant) → Target → Needs → Bool
+grants_allow grants target needs = list_any (λ entry. is_usable entry.1 target needs) grants && list_all (is_covered grants target needs) needs.calls
 
 -- whether a ticket with this end is expired: it ends, and the tick is not before that
 abbrev pub is_expired : Option ℕ → ℕ → Bool
@@ -94,8 +94,8 @@ is_expired None tick = false
 is_expired (Some until) tick = nat_le until tick
 
 -- the ticket is not expired, and its grants allow the request
-abbrev pub is_allowed : Ticket → Place → Needs → ℕ → Bool
-is_allowed ticket place needs tick = not (is_expired ticket.until tick) && grants_allow ticket.grants place needs
+abbrev pub is_allowed : Ticket → Target → Needs → ℕ → Bool
+is_allowed ticket target needs tick = not (is_expired ticket.until tick) && grants_allow ticket.grants target needs
 
 -- the first call that an access does not cover, by its number
 abbrev pub uncovered_from : ℕ → Access → List ClassCall → Option Condition
@@ -107,24 +107,24 @@ abbrev pub unless : Bool → Condition → Option Condition → Option Condition
 unless holds condition later = if holds then later else Some condition
 
 -- the first condition of a grant that a request fails
-abbrev pub grant_failure : AllowGrant → Place → Needs → Option Condition
-grant_failure g place needs =
-    unless (names g.pool place.pool) why.Pool
-    (unless (matches_namespace g.namespace place.namespace) why.Namespace
-    (unless (matches_tag g.tag place.tags) why.Tag
-    (unless (matches_prefix g.prefix place.object) why.Prefix
+abbrev pub grant_failure : AllowGrant → Target → Needs → Option Condition
+grant_failure g target needs =
+    unless (names g.pool target.pool) why.Pool
+    (unless (matches_namespace g.namespace target.namespace) why.Namespace
+    (unless (matches_tag g.tag target.tags) why.Tag
+    (unless (matches_prefix g.prefix target.object) why.Prefix
     (unless (not needs.reads || can_read g.access) why.Read
     (unless (not needs.writes || can_write g.access) why.Write
     (uncovered_from 1 g.access needs.calls))))))
 
 -- the same of a grant of a ticket, which may be expired
-abbrev pub first_failure : Bool → AllowGrant → Place → Needs → Option Condition
-first_failure expired g place needs = unless (not expired) why.Expired (grant_failure g place needs)
+abbrev pub first_failure : Bool → AllowGrant → Target → Needs → Option Condition
+first_failure expired g target needs = unless (not expired) why.Expired (grant_failure g target needs)
 
 -- a grant's path with the first condition that the request fails
-abbrev pub line_of : Bool → Place → Needs → List ℕ × AllowGrant → Option (List ℕ × Condition)
-line_of expired place needs entry = option_map (λ condition. (entry.0, condition)) (first_failure expired entry.1 place needs)
+abbrev pub line_of : Bool → Target → Needs → List ℕ × AllowGrant → Option (List ℕ × Condition)
+line_of expired target needs entry = option_map (λ condition. (entry.0, condition)) (first_failure expired entry.1 target needs)
 
 -- each grant's path with the first condition that the request fails
-abbrev pub report_of : Ticket → Place → Needs → ℕ → List (List ℕ × Condition)
-report_of ticket place needs tick = filter_map (line_of (is_expired ticket.until tick) place needs) ticket.grants
+abbrev pub report_of : Ticket → Target → Needs → ℕ → List (List ℕ × Condition)
+report_of ticket target needs tick = filter_map (line_of (is_expired ticket.until tick) target needs) ticket.grants

@@ -5,7 +5,7 @@ ghost use Rattle.std.specs.List.{list_any, list_all};
 ghost use Rattle.verdict_core.specs.Verdict.{is_allowed};
 ghost use Rattle.verdict_core.specs.Verdict as spec;
 
-use crate::matching::{allows, is_usable, is_usable_at_once, is_usable_by_names};
+use crate::matching::{FIRST, allows, is_usable, is_usable_at_once, is_usable_by_names};
 use crate::request::{ClassCall, Needs, Target};
 use crate::ticket::Ticket;
 use cap_text::AllowGrant;
@@ -38,7 +38,11 @@ fn has_usable_at_length(grants: &[(Path, AllowGrant)], target: &Target<'_>, need
 /// The same, by a walk that looks at names and tags by a few comparisons of words. Where they do not tell of a grant, another
 /// walk goes on from it, so that nothing of the grants behind is kept.
 #[inline(never)]
-fn has_usable_at_once(grants: &[(Path, AllowGrant)], target: &Target<'_>, needs: &Needs) -> bool
+pub(crate) fn has_usable_at_once(
+    grants: &[(Path, AllowGrant)],
+    target: &Target<'_>,
+    needs: &Needs,
+) -> bool
     ensures { result ≡ list_any (λ entry. spec.is_usable entry.1 target.now needs.now) grants.now }
 {
     let mut rest = grants;
@@ -61,7 +65,7 @@ fn has_usable(grants: &[(Path, AllowGrant)], target: &Target<'_>, needs: &Needs)
     let Some((entry, others)) = grants.split_first() else {
         return false;
     };
-    match is_usable_by_names(&entry.1, target, needs) {
+    match is_usable_by_names::<FIRST>(&entry.1, target, needs) {
         Some(true) => true,
         Some(false) => !others.is_empty() && has_usable_at_once(others, target, needs),
         None => has_usable_at_once(grants, target, needs),

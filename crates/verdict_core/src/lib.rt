@@ -5,10 +5,10 @@
 //! by grants which do so, is how Ceph's daemons decide. Reports are this project's profile.
 #![tactic(auto)]
 
+mod chains;
 mod indexed;
 mod judging;
 mod matching;
-mod places;
 mod reporting;
 mod request;
 mod shared;

@@ -141,7 +141,7 @@ fn serves(access: &Access, needs: &Needs) -> bool
     }
 }
 
-/// Whether a grant speaks of the place. The order of its parts says nothing here, and the object's name, in which
+/// Whether a grant speaks of the target. The order of its parts says nothing here, and the object's name, in which
 /// requests differ most, is looked at first.
 #[inline(always)]
 pub(crate) fn matches(grant: &AllowGrant, target: &Target<'_>) -> bool
@@ -153,7 +153,7 @@ pub(crate) fn matches(grant: &AllowGrant, target: &Target<'_>) -> bool
         && matches_tag(&grant.tag, target.tags)
 }
 
-/// Whether a grant speaks of the place, and reads and writes as far as the request does. It is inlined into the walks
+/// Whether a grant speaks of the target, and reads and writes as far as the request does. It is inlined into the walks
 /// over grants, most of which one test rules out.
 #[inline(always)]
 pub(crate) fn is_usable(grant: &AllowGrant, target: &Target<'_>, needs: &Needs) -> bool
@@ -162,7 +162,7 @@ pub(crate) fn is_usable(grant: &AllowGrant, target: &Target<'_>, needs: &Needs) 
     matches(grant, target) && serves(&grant.access, needs)
 }
 
-/// The same in a call of its own, for walks on which few grants come so far. Most grants of a class are for all places.
+/// The same in a call of its own, for walks on which few grants come so far. Most grants of a class are for all targets.
 #[inline(never)]
 fn is_usable_in_turn(grant: &AllowGrant, target: &Target<'_>, needs: &Needs) -> bool
     ensures { result ≡ spec.is_usable grant.now target.now needs.now }
@@ -180,15 +180,25 @@ fn is_usable_in_turn(grant: &AllowGrant, target: &Target<'_>, needs: &Needs) -> 
     is_here && serves(&grant.access, needs)
 }
 
+/// The grants that a question by a few words is asked of. Each kind has a copy of the question, so that each is inlined where
+/// it is asked. Of these, the first grant of a ticket.
+pub(crate) const FIRST: u8 = 0;
+
+/// The first grant of a ticket with chains.
+pub(crate) const FIRST_OF_INDEXED: u8 = 1;
+
+/// The grants of a walk: of these the last byte of the pool is asked for first, in which most names differ.
+pub(crate) const OTHERS: u8 = 2;
+
 /// `names`, if two comparisons of words tell, or before them the last byte, where it is asked for.
 #[inline(always)]
-fn names_at_once<const BY_END: bool>(wanted: &Option<Name>, name: &str) -> Option<bool>
+fn names_at_once<const GRANTS: u8>(wanted: &Option<Name>, name: &str) -> Option<bool>
     ensures { ForSome result (λ holds. holds ≡ spec.names wanted.now name.now) }
 {
     let Some(wanted) = wanted else {
         return Some(true);
     };
-    if BY_END {
+    if GRANTS == OTHERS {
         is_name_at_once(wanted, name)
     } else {
         is_text_at_once(wanted, name)
@@ -273,13 +283,10 @@ fn matches_tag_at_once(wanted: &Option<Tag>, tags: &Tags) -> Option<bool>
     matches_pair_at_once(tag, &app.application, pair)
 }
 
-/// Whether a grant agrees with the names of a place, if a few comparisons of words tell: they do where each name that is
-/// compared has 2 to 16 bytes. A walk asks for the last byte of the pool first, in which most names differ.
+/// Whether a grant agrees with the names of a target, if a few comparisons of words tell: they do where each name that is
+/// compared has 2 to 16 bytes.
 #[inline(always)]
-fn matches_names_at_once<const BY_END: bool>(
-    grant: &AllowGrant,
-    target: &Target<'_>,
-) -> Option<bool>
+fn matches_names_at_once<const GRANTS: u8>(grant: &AllowGrant, target: &Target<'_>) -> Option<bool>
     ensures { ForSome result (λ holds. holds ≡ (spec.names grant.now.pool target.now.pool && spec.matches_namespace grant.now.namespace target.now.namespace && spec.matches_prefix grant.now.prefix target.now.object)) }
 {
     let Some(prefix) = matches_prefix_at_once(&grant.prefix, target.object) else {
@@ -288,7 +295,7 @@ fn matches_names_at_once<const BY_END: bool>(
     if !prefix {
         return Some(false);
     }
-    let Some(pool) = names_at_once::<BY_END>(&grant.pool, target.pool) else {
+    let Some(pool) = names_at_once::<GRANTS>(&grant.pool, target.pool) else {
         return None;
     };
     if !pool {
@@ -300,7 +307,7 @@ fn matches_names_at_once<const BY_END: bool>(
 /// Whether a grant without a tag is usable, if a few comparisons of words tell. It calls nothing, so that a walk by it
 /// saves few registers.
 #[inline(always)]
-pub(crate) fn is_usable_by_names(
+pub(crate) fn is_usable_by_names<const GRANTS: u8>(
     grant: &AllowGrant,
     target: &Target<'_>,
     needs: &Needs,
@@ -310,7 +317,7 @@ pub(crate) fn is_usable_by_names(
     if grant.tag.is_some() {
         return None;
     }
-    let Some(names) = matches_names_at_once::<false>(grant, target) else {
+    let Some(names) = matches_names_at_once::<GRANTS>(grant, target) else {
         return None;
     };
     if !names {
@@ -335,7 +342,7 @@ pub(crate) fn is_usable_at_once(
     if !tag {
         return Some(false);
     }
-    let Some(names) = matches_names_at_once::<true>(grant, target) else {
+    let Some(names) = matches_names_at_once::<OTHERS>(grant, target) else {
         return None;
     };
     if !names {

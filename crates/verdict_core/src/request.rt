@@ -1,9 +1,9 @@
 //! What a request asks for, and where.
 
-ghost use Rattle.std.specs.Prelude.{◌≡◌, IfOk, Some};
+ghost use Rattle.std.specs.Prelude.{Some};
 ghost use Rattle.verdict_core.specs.Text.{condition_text};
 
-use cap_text::{Name, OutOfMemory, Tags};
+use cap_text::{Items, Name, OutOfMemory, Tags, TryCopy};
 use std::fmt;
 use std::marker::Model;
 
@@ -19,9 +19,9 @@ pub struct Target<'a> {
 }
 
 impl<'a> Model for Target<'a> {
-    ghost use Rattle.verdict_core.specs.Place.{Place};
+    ghost use Rattle.verdict_core.specs.Target as seen;
 
-    ghost Value = { Place };
+    ghost Value = { seen.Target };
 
     ghost view = { λ t. record { pool = t.pool.now; tags = t.tags.now; namespace = t.namespace.now; object = t.object.now } };
 }
@@ -46,19 +46,7 @@ pub struct Needs {
 }
 
 /// Calls in order, which contracts see as the list of them.
-#[derive(Debug, Drop)]
-pub struct Calls {
-    calls: Vec<ClassCall>,
-}
-
-impl Model for Calls {
-    ghost use Rattle.std.specs.Prelude.{List};
-    ghost use Rattle.verdict_core.specs.declared.request.ClassCall.{ClassCall};
-
-    ghost Value = { List ClassCall };
-
-    ghost view = { λ c. c.calls.items };
-}
+pub type Calls = Items<ClassCall>;
 
 /// A condition of a grant that a request may fail, in the order in which they are looked at.
 ///
@@ -94,38 +82,8 @@ impl fmt::Display for Condition {
     }
 }
 
-impl Calls {
-    /// These calls. It takes no memory.
-    pub fn from_vec(calls: Vec<ClassCall>) -> Calls
-        ensures { result ≡ calls.items }
-    {
-        Calls { calls }
-    }
-
-    /// The calls in order.
-    pub fn as_slice(&self) -> &[ClassCall]
-        ensures { result.now ≡ self.now }
-    {
-        self.calls.as_slice()
-    }
-
-    /// An equal list.
-    pub fn copy(&self) -> Result<Calls, OutOfMemory>
-        ensures { IfOk result (λ calls. calls ≡ self.now) }
-    {
-        let mut calls = Vec::with_capacity(*self.calls.allocator(), self.calls.len())?;
-        for call in self.as_slice() {
-            calls.push(call.copy()?)?;
-        }
-        Ok(Calls { calls })
-    }
-}
-
-impl ClassCall {
-    /// An equal call.
-    pub fn copy(&self) -> Result<ClassCall, OutOfMemory>
-        ensures { IfOk result (λ call. call ≡ self.now) }
-    {
+impl TryCopy for ClassCall {
+    fn copy(&self) -> Result<ClassCall, OutOfMemory> {
         Ok(ClassCall {
             class: self.class.copy()?,
             method: self.method.copy()?,

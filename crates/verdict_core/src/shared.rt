@@ -26,7 +26,7 @@ impl Model for SharedTicket {
 }
 
 impl SharedTicket {
-    /// The ticket with the places of its grants, to be shared. Where a growth is refused, the ticket is dropped.
+    /// The ticket with the chains of its grants, to be shared. Where a growth is refused, the ticket is dropped.
     pub fn of(ticket: Ticket) -> Result<SharedTicket, OutOfMemory>
         ensures { IfOk result (λ shared. shared ≡ ticket) }
     {

@@ -1,7 +1,7 @@
 //! Random pairs of texts, compared with all requests over small alphabets.
 
 use crate::comparisons::ticket;
-use cap_text::{AllowGrant, AppTags, Name, Pairs, Tags};
+use cap_text::{AllowGrant, AppTags, Name, Pairs, Tags, TryCopy};
 use compare_core::widening;
 use grant_core::Path;
 use object_core::registry;
@@ -44,8 +44,8 @@ const TAGS: &[&str] = &[
     " tag q k=w",
 ];
 
-/// The names of places: those of the texts, what goes on from them, and names that no text has.
-const PLACE_NAMES: &[&str] = &["a", "b", "", "ab", "az", "z"];
+/// The names of targets: those of the texts, what goes on from them, and names that no text has.
+const TARGET_NAMES: &[&str] = &["a", "b", "", "ab", "az", "z"];
 
 /// The next of a fixed row of numbers takes one of the words.
 fn pick(row: &mut u64, words: &[&'static str]) -> &'static str {
@@ -143,9 +143,9 @@ fn shows_at(
 
 /// Whether some request over the alphabets is allowed by the new grants and denied by the old one.
 fn gains(old: &Ticket, new: &[(Path, AllowGrant)], tags: &[Tags], needs: &[Needs]) -> bool {
-    for pool in PLACE_NAMES {
-        for namespace in PLACE_NAMES {
-            for object in PLACE_NAMES {
+    for pool in TARGET_NAMES {
+        for namespace in TARGET_NAMES {
+            for object in TARGET_NAMES {
                 for tags in tags {
                     let target = Target {
                         pool,

@@ -5,7 +5,7 @@ ghost use Rattle.std.specs.Prelude.{◌≤◌};
 use super::events::Does::{
     AddUser, Create, Deliver, Kick, List, Lose, Open, Renew, SetCaps, Submit,
 };
-use super::events::{Place, Work, X};
+use super::events::{Target, Work, X};
 use super::failover::TOLD;
 use super::replies::{Says, is};
 use super::schedules::{KICKED, ONE_DOWN};
@@ -186,17 +186,17 @@ fn a_reply_is_lost(rt: HostRuntime) -> Result<(), Fail> {
     Ok(())
 }
 
-const A: Place = ("data", "", "a");
+const A: Target = ("data", "", "a");
 
-const B: Place = ("data", "", "b");
+const B: Target = ("data", "", "b");
 
-const C: Place = ("data", "", "c");
+const C: Target = ("data", "", "c");
 
-const D: Place = ("data", "", "d");
+const D: Target = ("data", "", "d");
 
-const E: Place = ("data", "", "e");
+const E: Target = ("data", "", "e");
 
-const F: Place = ("data", "", "f");
+const F: Target = ("data", "", "f");
 
 const WRITE: Work = Work::Append("a");
 

@@ -25,10 +25,10 @@ pub(super) enum Work {
 pub(super) type Asker = (u32, Epoch, u64);
 
 // A pool, a namespace, and an object of them.
-pub(super) type Place = (&'static str, &'static str, &'static str);
+pub(super) type Target = (&'static str, &'static str, &'static str);
 
 // The object `x` of the pool `data`, in the namespace without a name.
-pub(super) const X: Place = ("data", "", "x");
+pub(super) const X: Target = ("data", "", "x");
 
 // What happens to a world. Texts are those of osd.
 #[derive(Clone, Copy)]
@@ -47,7 +47,7 @@ pub(super) enum Does {
     Open(&'static str, Option<u64>),
     Renew(u32, Option<u64>),
     Close(u32),
-    Submit(Asker, Place, Work),
+    Submit(Asker, Target, Work),
     List(Asker, &'static str, &'static str),
     Deliver(&'static str, u32, usize),
     Lose(&'static str, u32, usize),

@@ -4,7 +4,7 @@ use super::events::Does::{
     AddUser, Close, Create, DeleteUser, Down, Enable, List, MakeUser, Open, Renew, Restart,
     SetCaps, Submit, Up,
 };
-use super::events::{Does, Place, Work, X};
+use super::events::{Does, Target, Work, X};
 use super::replies::Says;
 use super::steps::Step::{At, Audit, Decided, Event, Settle, Wire};
 use super::steps::{Step, apply, begun, run_on};
@@ -73,15 +73,15 @@ fn refuses(alloc: Global, all: &[Refusal]) -> Result<(usize, usize, usize), Fail
     refused_on(alloc, &mut world, all)
 }
 
-const BLANK: Place = ("data", "", "a b");
+const BLANK: Target = ("data", "", "a b");
 
-const NO_OBJECT: Place = ("data", "", "");
+const NO_OBJECT: Target = ("data", "", "");
 
-const NO_POOL: Place = ("nope", "", "");
+const NO_POOL: Target = ("nope", "", "");
 
-const BAD_POOL: Place = ("da ta", "", "x");
+const BAD_POOL: Target = ("da ta", "", "x");
 
-const BAD_NAMESPACE: Place = ("data", "a b", "x");
+const BAD_NAMESPACE: Target = ("data", "a b", "x");
 
 // Submissions, each with all the later faults besides its own.
 const SUBMISSIONS: [Refusal; 21] = [

@@ -7,7 +7,7 @@ use Rattle.std.specs.Str.{bytes_eq}
 use Rattle.std.proofs.lemmas.Bool.Decides.{nat_tests}
 use Rattle.std.proofs.lemmas.List.Elements.{filter-append}
 use Rattle.grant_core.specs.Flat.{Table}
-use Rattle.place_core.specs.Place.{IsActingSet, acting_of, numbers_of}
+use Rattle.place_core.specs.Placement.{IsActingSet, acting_of, numbers_of}
 use Rattle.map_core.specs.State.{MapState, History}
 use Rattle.map_core.specs.Map.{is_named, created, after, initial, map_of, epoch_of, pool_in}
 use Rattle.map_core.specs.Refusal.{refusal}

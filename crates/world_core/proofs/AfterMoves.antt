@@ -5,7 +5,7 @@ use Rattle.std.specs.List.{flat_map, range_with_len, find}
 use Rattle.std.specs.Option.{option_map}
 use Rattle.std.proofs.lemmas.List.{map-append}
 use Rattle.std.proofs.lemmas.Grind.{flat_map-append}
-use Rattle.place_core.specs.Place.{acting_of, numbers_of}
+use Rattle.place_core.specs.Placement.{acting_of, numbers_of}
 use Rattle.map_core.specs.State.{MapState, History}
 use Rattle.map_core.specs.Map.{change_first, is_named, tagged, created, after, map_of, epoch_of, pool_in}
 use Rattle.map_core.specs.Refusal.{refusal}

@@ -3,7 +3,7 @@ use Prim.Native.Nat.{zero, suc}
 use Rattle.std.proofs.Common.{◌≡◌, ◌∙◌, ℕ, ◌+◌, ◌*◌, ◌%◌, ◌<◌, ◌≤◌, ◌||◌, ◌&&◌, List, [], ◌∷◌, ◌++◌, Bool, true, false, cond, not, Option, Some, None, Result, Ok, Err, map, length, refl, sym, ap, subst, arith, append-nil, length-append, mod-lt}
 use Rattle.std.specs.Prelude.{nat_lt}
 use Rattle.std.specs.List.{range_with_len, filter}
-use Rattle.place_core.specs.Place.{fnv}
+use Rattle.place_core.specs.Placement.{fnv}
 use Rattle.entry_core.specs.declared.sealed.GroupId.{GroupId}
 use Rattle.world_core.specs.Groups.{is_for}
 use Rattle.world_core.proofs.Places.{AtMostOne, filter_map_is, one_mapped, one_number}

@@ -11,9 +11,9 @@ use Rattle.std.specs.Cmp.Lexicographic.{nat_list_cmp_total}
 use Rattle.std.specs.BTreeSet.{insert_key}
 use Rattle.std.specs.FinMap.{keys, entries, entries_sorted, slice_cmp-IsAntisymmetric, nat_cmp-IsAntisymmetric}
 use Rattle.std.specs.FinMap.Entries.{find, put, by_order, below_all, is_sorted, where_key, is_sorted-put, is_sorted-where_key, find-put, same_entries}
-use Rattle.place_core.specs.Place.{fnv, group_of}
+use Rattle.place_core.specs.Placement.{fnv, group_of}
 use Rattle.object_core.specs.Content.{Content}
-use Rattle.entry_core.specs.Request.{Sealed, Listing, place_of, needs_for}
+use Rattle.entry_core.specs.Request.{Sealed, Listing, target_of, needs_for}
 use Rattle.entry_core.specs.Store.{Store, ObjectName, name_cmp, bytes_cmp}
 use Rattle.entry_core.specs.Deciding.{names_in, answered, performed, answer_on, is_allowed_sealed, store_of}
 use Rattle.entry_core.specs.Log.{decide}
@@ -284,7 +284,7 @@ pieces_are_the_namespace pool namespace groups pieces stores objects some are sa
 
 pub reply_names : (log : List Entry) (s : Sealed) → s.work ≡ Listing → is_allowed_sealed s ≡ true → (decide log s).reply ≡ Names (names_in (store_of log) s)
 unfolding answer_on
-reply_names log s is allowed = ap (λ b. (if b then performed (store_of log) s s.work else answered (Denied (report_of s.ticket (place_of s) (needs_for s.work) s.tick))).reply) allowed ∙ ap (λ w. (performed (store_of log) s w).reply) is
+reply_names log s is allowed = ap (λ b. (if b then performed (store_of log) s s.work else answered (Denied (report_of s.ticket (target_of s) (needs_for s.work) s.tick))).reply) allowed ∙ ap (λ w. (performed (store_of log) s w).reply) is
 
 pub same_replies : (f g : ℕ → Reply) (groups : ℕ) → ((i : ℕ) → i < groups → f i ≡ g i) → (k n : ℕ) → k + n ≤ groups → map f (range_with_len k n) ≡ map g (range_with_len k n)
 same_replies f g groups same k zero most = refl

@@ -6,7 +6,7 @@ use Rattle.std.specs.Ordering.{eq_by_cmp}
 use Rattle.std.specs.Cmp.{unsigned_Decides}
 use Rattle.std.proofs.lemmas.List.Elements.{filter-append}
 use Rattle.std.proofs.lemmas.Slice.Eq.{bytes_eq-Decides}
-use Rattle.place_core.specs.Place.{group_of}
+use Rattle.place_core.specs.Placement.{group_of}
 use Rattle.object_core.specs.declared.outcome.Change.{Change}
 use Rattle.object_core.specs.declared.outcome.Change.TheVariants.{Kept, Became}
 use Rattle.entry_core.specs.Request.{Sealed, Work, Vector, Listing, object_of}

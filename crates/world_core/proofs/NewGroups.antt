@@ -15,7 +15,7 @@ use Rattle.map_core.proofs.Current.{daemons_stay}
 use Rattle.entry_core.specs.declared.sealed.GroupId.{GroupId}
 use Rattle.group_core.specs.Group.{start}
 use Rattle.world_core.specs.World.{begun_group, members_of}
-use Rattle.place_core.specs.Place.{numbers_of}
+use Rattle.place_core.specs.Placement.{numbers_of}
 use Rattle.world_core.proofs.Places.{numbered}
 
 range_push : (a n : ℕ) → range_with_len a (suc n) ≡ range_with_len a n ++ (a + n) ∷ []

@@ -15,7 +15,7 @@ use Rattle.map_core.specs.declared.command.MapCommand.{MapCommand}
 use Rattle.map_core.specs.declared.command.MapCommand.TheVariants.{PoolCreate, AppEnable, AppSet, AppRm, OsdUp, OsdDown, OsdRestart}
 use Rattle.map_core.proofs.Current.{after_push}
 use Rattle.map_core.proofs.OnePool.{pool_after_step}
-use Rattle.place_core.specs.Place.{numbers_of}
+use Rattle.place_core.specs.Placement.{numbers_of}
 use Rattle.entry_core.specs.Deciding.{store_of}
 use Rattle.entry_core.specs.Locality.{group_for}
 use Rattle.entry_core.specs.Log.{is_in}

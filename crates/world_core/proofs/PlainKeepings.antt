@@ -11,7 +11,7 @@ use Rattle.object_core.specs.Effect.{effect}
 use Rattle.object_core.specs.declared.outcome.Change.{Change}
 use Rattle.object_core.specs.declared.outcome.Change.TheVariants.{Kept, Became}
 use Rattle.verdict_core.specs.Verdict.{report_of}
-use Rattle.entry_core.specs.Request.{Sealed, Work, Vector, Listing, place_of, needs_for}
+use Rattle.entry_core.specs.Request.{Sealed, Work, Vector, Listing, target_of, needs_for}
 use Rattle.entry_core.specs.Store.{Store, ObjectName, name_cmp}
 use Rattle.entry_core.specs.Names.{name_cmp_total, same_names, is_same-ties, is_same_equiv}
 use Rattle.entry_core.specs.Deciding.{name_of, ran, answered, names_in, performed, answer_on, decision_on, is_allowed_sealed}
@@ -67,7 +67,7 @@ if_alike false x y z h = refl
 
 answered_alike : (store : Store) (s : Sealed) → answer_on store s ≡ answer_in (entries store) s
 unfolding answer_on
-answered_alike store s = if_alike (is_allowed_sealed s) _ _ (answered (Denied (report_of s.ticket (place_of s) (needs_for s.work) s.tick))) (performed_alike store s s.work)
+answered_alike store s = if_alike (is_allowed_sealed s) _ _ (answered (Denied (report_of s.ticket (target_of s) (needs_for s.work) s.tick))) (performed_alike store s s.work)
 
 -- ---- how objects are kept, changed
 

@@ -15,7 +15,7 @@ use Rattle.map_core.specs.Laws.{HasPool}
 use Rattle.map_core.proofs.Current.{after_push}
 use Rattle.map_core.proofs.Kept.{pools_stay}
 use Rattle.map_core.proofs.Daemons.{set_sized}
-use Rattle.place_core.specs.Place.{acting_of, numbers_of}
+use Rattle.place_core.specs.Placement.{acting_of, numbers_of}
 use Rattle.entry_core.specs.Deciding.{store_of}
 use Rattle.entry_core.specs.Request.{Sealed}
 use Rattle.entry_core.specs.declared.sealed.GroupId.{GroupId}

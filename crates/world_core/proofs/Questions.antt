@@ -6,7 +6,7 @@ use Rattle.map_core.specs.Map.{map_of, epoch_of, view_at}
 use Rattle.map_core.specs.Intervals.{set_of}
 use Rattle.map_core.specs.Refusal.{view_refusal}
 use Rattle.map_core.specs.declared.pool.PoolView.{PoolView}
-use Rattle.place_core.specs.Place.{group_of}
+use Rattle.place_core.specs.Placement.{group_of}
 use Rattle.entry_core.specs.Request.{Sealed}
 use Rattle.group_core.specs.Group.{submitted, is_submitted}
 use Rattle.world_core.specs.Event.{Fault, NoRequest, BadObjectName, OfMap}

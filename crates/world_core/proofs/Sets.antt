@@ -4,7 +4,7 @@ use Rattle.std.specs.List.{Contains}
 use Rattle.std.specs.Cmp.{unsigned_Decides}
 use Rattle.std.proofs.lemmas.List.{length-set}
 use Rattle.std.proofs.lemmas.List.Elements.{All-head, All-tail, All-contains}
-use Rattle.place_core.specs.Place.{IsActingSet, numbers_of}
+use Rattle.place_core.specs.Placement.{IsActingSet, numbers_of}
 use Rattle.place_core.proofs.Distinct.{distinct-from_pairs}
 use Rattle.place_core.proofs.Numbers.{numbers_below}
 use Rattle.map_core.specs.State.{MapState, History}

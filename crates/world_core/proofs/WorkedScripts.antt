@@ -4,7 +4,7 @@ use Rattle.std.specs.Fmt.{digits}
 use Rattle.map_core.specs.Map.{pool_in, view_at}
 use Rattle.map_core.specs.Intervals.{size_in, set_of}
 use Rattle.map_core.specs.Refusal.{is_word, tags_in, pairs_in, has_app, has_key, in_limits, refusal, groups_in}
-use Rattle.place_core.specs.Place.{rank_of, is_before, acting_of, numbers_of}
+use Rattle.place_core.specs.Placement.{rank_of, is_before, acting_of, numbers_of}
 use Rattle.cap_text.specs.Machine.{step}
 use Rattle.cap_text.specs.ReadText.{read_text}
 use Rattle.world_core.specs.Front.{requests_of}

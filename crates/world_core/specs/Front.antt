@@ -15,7 +15,7 @@ use Rattle.map_core.specs.State.{History}
 use Rattle.map_core.specs.Map.{map_of, epoch_of, view_at}
 use Rattle.map_core.specs.Refusal as map_tests
 use Rattle.map_core.specs.declared.pool.PoolView.{PoolView}
-use Rattle.place_core.specs.Place.{group_of}
+use Rattle.place_core.specs.Placement.{group_of}
 use Rattle.object_core.specs.Needs.{needs_fault}
 use Rattle.object_core.specs.declared.op.Op.{Op}
 use Rattle.entry_core.specs.Request.{Sealed, Work, Vector, Listing}

@@ -4,7 +4,7 @@ use Rattle.std.specs.Prelude.{◌≡◌, ℕ, ◌+◌, ◌<◌, ◌≤◌, ◌==
 use Rattle.std.specs.List.{flat_map, range_with_len}
 use Rattle.grant_core.specs.Flat.{Table}
 use Rattle.verdict_core.specs.Verdict.{report_of}
-use Rattle.entry_core.specs.Request.{Sealed, Listing, place_of, needs_for}
+use Rattle.entry_core.specs.Request.{Sealed, Listing, target_of, needs_for}
 use Rattle.entry_core.specs.Deciding.{store_of, is_allowed_sealed, names_in as names_decided}
 use Rattle.entry_core.specs.Log.{is_in, ids}
 use Rattle.entry_core.specs.declared.entry.Entry.{Entry}
@@ -53,7 +53,7 @@ names_at audit s id = names_decided (store_of (before_of id audit)) s
 
 -- what a request is told that its ticket does not allow
 abbrev pub denial : Sealed → Reply
-denial s = Denied (report_of s.ticket (place_of s) (needs_for s.work) s.tick)
+denial s = Denied (report_of s.ticket (target_of s) (needs_for s.work) s.tick)
 
 abbrev pub IsComplete : World → Pieced → Type 0
 IsComplete w p = (i : ℕ) → i < p.count → is_some (answer_at w (p.first + i)) ≡ true

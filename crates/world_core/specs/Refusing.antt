@@ -12,11 +12,6 @@ abbrev pub RefusedOrMemory : {T : Type 0} → Option Fault → Result T Fault �
 RefusedOrMemory refusal (Ok x) = refusal ≡ None
 RefusedOrMemory refusal (Err fault) = (fault ≡ OutOfMemory) ⊎ (refusal ≡ Some fault)
 
--- accepted only where nothing refuses it, and refused by what does
-abbrev pub RefusedExactly : {T : Type 0} → Option Fault → Result T Fault → Type 0
-RefusedExactly refusal (Ok x) = refusal ≡ None
-RefusedExactly refusal (Err fault) = refusal ≡ Some fault
-
 -- a fault of the map, where want of memory is the world's own
 abbrev pub fault_of_map : MapFault → Fault
 fault_of_map map_fault.OutOfMemory = OutOfMemory

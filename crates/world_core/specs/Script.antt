@@ -16,7 +16,7 @@ use Rattle.auth_db.specs.Refusals.{known_refusal}
 use Rattle.map_core.specs.Map.{map_of, epoch_of, view_at}
 use Rattle.map_core.specs.Refusal as map_tests
 use Rattle.map_core.specs.declared.pool.PoolView.{PoolView}
-use Rattle.place_core.specs.Place.{group_of}
+use Rattle.place_core.specs.Placement.{group_of}
 use Rattle.entry_core.specs.Request.{Sealed}
 use Rattle.entry_core.specs.declared.reply.Reply.{Reply}
 use Rattle.entry_core.specs.declared.sealed.GroupId.{GroupId}

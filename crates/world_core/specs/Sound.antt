@@ -2,7 +2,7 @@
 -- What holds of every world of the program: facts of its front, of its groups and of its runs, and of no history of events.
 use Rattle.std.specs.Prelude.{◌≡◌, ℕ, ◌<◌, ◌≤◌, List, Some, length, map, slice_get}
 use Rattle.std.specs.List.{filter, flat_map}
-use Rattle.place_core.specs.Place.{numbers_of}
+use Rattle.place_core.specs.Placement.{numbers_of}
 use Rattle.map_core.specs.State.{History}
 use Rattle.map_core.specs.Map.{map_of}
 use Rattle.map_core.specs.Limits.{IsAccepted}

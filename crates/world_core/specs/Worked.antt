@@ -9,7 +9,7 @@ use Rattle.object_core.specs.Effect.{effect}
 use Rattle.object_core.specs.declared.outcome.Change.{Change}
 use Rattle.object_core.specs.declared.outcome.Change.TheVariants.{Kept, Became}
 use Rattle.verdict_core.specs.Verdict.{report_of}
-use Rattle.entry_core.specs.Request.{Sealed, Work, Vector, Listing, place_of, needs_for}
+use Rattle.entry_core.specs.Request.{Sealed, Work, Vector, Listing, target_of, needs_for}
 use Rattle.entry_core.specs.Store.{ObjectName, name_cmp}
 use Rattle.entry_core.specs.Deciding.{Answer, name_of, ran, answered, is_listed, is_allowed_sealed}
 use Rattle.entry_core.specs.declared.reply.Reply.{Reply}
@@ -37,7 +37,7 @@ performed_in os s (Vector object ops) = ran (effect (object_in os (name_of s)) o
 performed_in os s Listing = answered (Names (map (λ n. n.name) (filter (is_listed s) (map (λ o. o.0) os))))
 
 abbrev pub answer_in : Objects → Sealed → Answer
-answer_in os s = if is_allowed_sealed s then performed_in os s s.work else answered (Denied (report_of s.ticket (place_of s) (needs_for s.work) s.tick))
+answer_in os s = if is_allowed_sealed s then performed_in os s s.work else answered (Denied (report_of s.ticket (target_of s) (needs_for s.work) s.tick))
 
 abbrev pub left_by : Objects → Sealed → Answer → Reply × Objects
 left_by os s a = (a.reply, left_in os (name_of s) a.change)

@@ -4,7 +4,7 @@ use Rattle.std.specs.Prelude.{ℕ, List, [], ◌∷◌, ◌++◌, Bool, true, fa
 use Rattle.std.specs.List.{flat_map, range_with_len}
 use Rattle.std.specs.Option.{option_map, option_or}
 use Rattle.grant_core.specs.Flat.{Table}
-use Rattle.place_core.specs.Place.{numbers_of}
+use Rattle.place_core.specs.Placement.{numbers_of}
 use Rattle.map_core.specs.State.{MapState}
 use Rattle.map_core.specs.Map.{map_of, after}
 use Rattle.map_core.specs.Intervals.{set_of}

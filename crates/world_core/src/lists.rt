@@ -4,7 +4,7 @@ ghost use Rattle.std.specs.Prelude.{◌≡◌, ◌++◌, ◌-◌, ◌==◌, [], 
 ghost use Rattle.std.specs.List.{find};
 
 use crate::session::Pieced;
-use entry_core::{Id, OutOfMemory};
+use entry_core::{Id, IdHash, OutOfMemory};
 use indexmap::IndexMap;
 use std::alloc::Global;
 use std::marker::Model;
@@ -12,7 +12,7 @@ use std::marker::Model;
 /// Lists in order, each found by the id of its first piece.
 #[derive(Drop)]
 pub(crate) struct Lists {
-    counts: IndexMap<Id, u32>,
+    counts: IndexMap<Id, u32, IdHash>,
 }
 
 impl Model for Lists {
@@ -31,7 +31,7 @@ impl Lists {
         ensures { result ≡ [] }
     {
         Lists {
-            counts: IndexMap::new(alloc),
+            counts: IndexMap::with_hasher(alloc, IdHash::new()),
         }
     }
 

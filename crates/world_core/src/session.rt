@@ -3,7 +3,7 @@
 ghost use Rattle.std.specs.Prelude.{◌≡◌, ◌<◌, ◌≤◌, ◌+◌, ◌++◌, ℕ, [], ◌∷◌, Ok, true, OnOk, OnErr, IfOk, length};
 ghost use Rattle.world_core.specs.Front.{asks_more, error_of, opened, session_at, session_of};
 ghost use Rattle.world_core.specs.Front as spec;
-ghost use Rattle.world_core.specs.Refusing.{RefusedExactly};
+ghost use Rattle.cap_text.specs.Refused.{RefusedExactly};
 
 use crate::event::Ask;
 use crate::fault::WorldFault;

@@ -4,7 +4,7 @@ ghost use Rattle.std.specs.Prelude.{◌≡◌, ◌++◌, [], ◌∷◌, None, On
 ghost use Rattle.group_core.specs.Group.{submitted};
 ghost use Rattle.world_core.specs.Submitting.{AreNew};
 
-use entry_core::{Id, OutOfMemory, Sealed, TryCopy};
+use entry_core::{Id, IdHash, OutOfMemory, Sealed, TryCopy};
 use indexmap::IndexMap;
 use std::alloc::Global;
 use std::marker::Model;
@@ -12,7 +12,7 @@ use std::marker::Model;
 /// Requests in order of submission, each found by its id.
 #[derive(Drop)]
 pub(crate) struct Submissions {
-    requests: IndexMap<Id, Sealed>,
+    requests: IndexMap<Id, Sealed, IdHash>,
 }
 
 impl Model for Submissions {
@@ -33,7 +33,7 @@ impl Submissions {
         ensures { result ≡ [] }
     {
         Submissions {
-            requests: IndexMap::new(alloc),
+            requests: IndexMap::with_hasher(alloc, IdHash::new()),
         }
     }
 

@@ -8,7 +8,8 @@ ghost use Rattle.world_core.specs.Event as events;
 ghost use Rattle.world_core.specs.Front.{told_of, group_refusal};
 ghost use Rattle.world_core.specs.World.{first_world, world_step, refusal_of, counts, group_at};
 ghost use Rattle.world_core.specs.Holds.{Holds};
-ghost use Rattle.world_core.specs.Refusing.{RefusedExactly, RefusedOrMemory};
+ghost use Rattle.cap_text.specs.Refused.{RefusedExactly};
+ghost use Rattle.world_core.specs.Refusing.{RefusedOrMemory};
 ghost use Rattle.world_core.specs.Calls.{KeepsPromises};
 
 mod answers;

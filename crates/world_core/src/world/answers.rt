@@ -5,7 +5,8 @@ ghost use Rattle.world_core.specs.Answers.{answer_at};
 ghost use Rattle.world_core.specs.Calls.{answer_refusal};
 ghost use Rattle.world_core.specs.Front.{error_of};
 ghost use Rattle.world_core.specs.Listing.{listing_at};
-ghost use Rattle.world_core.specs.Refusing.{RefusedExactly, RefusedOrMemory};
+ghost use Rattle.cap_text.specs.Refused.{RefusedExactly};
+ghost use Rattle.world_core.specs.Refusing.{RefusedOrMemory};
 
 use crate::fault::WorldFault;
 use crate::group_places::place_of_request;

@@ -4,7 +4,7 @@ use Rattle.compare_core.proofs.comparing.example_of.Goals as goal
 
 pub returns-in-None : goal.returns-in-None
 returns-in-None c =
-    silent_grant c.args.old.now.grants _ _ _ c.args.questions.now _ (c.as_slice.ensures.value ∙ c.in_ok-new.ensures) c.requires.questions c.in_ok-place.ensures c.in_ok-shown_needs.ensures c.in-None.is
+    silent_grant c.args.old.now.grants _ _ _ c.args.questions.now _ (c.as_slice.ensures.value ∙ c.in_ok-new.ensures) c.requires.questions c.in_ok-target.ensures c.in_ok-shown_needs.ensures c.in-None.is
 
 pub returns-in_ok-copy-in-Some : goal.returns-in_ok-copy-in-Some
 returns-in_ok-copy-in-Some c =

@@ -5,4 +5,4 @@ use Rattle.compare_core.proofs.question.shown_needs.Given as goal
 
 -- none of the needs so far shows anything
 abbrev pub invariant-loop-needs : goal.invariant-loop-needs
-invariant-loop-needs l = list_any (shows l.old.grants l.new l.place) (take l.needs-index l.questions) ≡ false
+invariant-loop-needs l = list_any (shows l.old.grants l.new l.target) (take l.needs-index l.questions) ≡ false

@@ -9,4 +9,4 @@ pub grow_use-returns-then-profile-eq0 : goal.grow_use-returns-then-profile-eq0
 grow_use-returns-then-profile-eq0 t c =
     let none : parts_before c.args.profiles.now.entries c.args.before (filled_use c.args.used.now c.args.inner.now) ≡ [] =
     nothing_found c.args.profiles.now.entries c.args.before c.args.used.now c.args.inner.now _ _ c.requires.sized c.in-Some.ensures c.if-profile-eq0.true in
-    ap (λ es. map (under c.args.place) es ++ flat_branches c.args.rest) (sym none)
+    ap (λ es. map (under c.args.number) es ++ flat_branches c.args.rest) (sym none)

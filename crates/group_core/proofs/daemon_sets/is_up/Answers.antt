@@ -1,5 +1,5 @@
 use Rattle.std.proofs.Common.{◌∙◌}
-use Rattle.place_core.specs.Place.{numbers_of}
+use Rattle.place_core.specs.Placement.{numbers_of}
 use Rattle.peer_core.proofs.Counted.{has_is_in}
 use Rattle.group_core.proofs.daemon_sets.is_up.Goals as goal
 

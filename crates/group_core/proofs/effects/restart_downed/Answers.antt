@@ -1,7 +1,7 @@
 use Rattle.std.proofs.Common.{◌∙◌, ◌&&◌, not, ap, get_or, if◌then◌else◌}
 use Rattle.std.specs.Prelude.{slice_set}
 use Rattle.entry_core.specs.Log.{is_in}
-use Rattle.place_core.specs.Place.{numbers_of}
+use Rattle.place_core.specs.Placement.{numbers_of}
 use Rattle.peer_core.specs.Steps.{restarted}
 use Rattle.group_core.specs.Types.{Daemon}
 use Rattle.group_core.proofs.Daemons.{swept}

@@ -1,7 +1,7 @@
 use Rattle.std.proofs.Common.{◌≡◌, take, drop, map, ◌++◌, if◌then◌else◌}
 use Rattle.std.proofs.Common.{◌&&◌, not}
 use Rattle.entry_core.specs.Log.{is_in}
-use Rattle.place_core.specs.Place.{numbers_of}
+use Rattle.place_core.specs.Placement.{numbers_of}
 use Rattle.peer_core.specs.Steps.{restarted}
 use Rattle.group_core.proofs.effects.restart_downed.Given as goal
 

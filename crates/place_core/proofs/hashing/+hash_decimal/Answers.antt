@@ -2,7 +2,7 @@ use Rattle.std.proofs.Common.{◌∷◌, [], ◌/◌, ◌+◌, ◌%◌, ap, sym,
 use Rattle.std.specs.Fmt.{decimal}
 use Rattle.std.proofs.lemmas.Fmt.{decimal_digit, decimal_step}
 use Rattle.std.proofs.lemmas.List.Sums.{fold-append}
-use Rattle.place_core.specs.Place.{fnv_step}
+use Rattle.place_core.specs.Placement.{fnv_step}
 use Rattle.place_core.proofs.hashing.+hash_decimal.Goals as goal
 
 pub returns-then-number-lt10 : goal.returns-then-number-lt10

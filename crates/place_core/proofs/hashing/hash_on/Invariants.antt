@@ -1,5 +1,5 @@
 use Rattle.std.proofs.Common.{◌≡◌, fold, take}
-use Rattle.place_core.specs.Place.{fnv_step}
+use Rattle.place_core.specs.Placement.{fnv_step}
 use Rattle.place_core.proofs.hashing.hash_on.Given as goal
 
 abbrev pub invariant-loop-byte : goal.invariant-loop-byte

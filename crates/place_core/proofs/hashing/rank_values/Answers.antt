@@ -1,5 +1,5 @@
 use Rattle.std.proofs.Common.{◌∙◌, ap, arith, fold}
-use Rattle.place_core.specs.Place.{fnv_step}
+use Rattle.place_core.specs.Placement.{fnv_step}
 use Rattle.place_core.proofs.Hashes.{rank_by_steps}
 use Rattle.place_core.proofs.hashing.rank_values.Goals as goal
 

@@ -1,6 +1,6 @@
 use Rattle.std.proofs.Common.{◌≡◌, ℕ, ◌<◌, fold, length, slice_index}
 use Rattle.std.specs.Fmt.{decimal}
-use Rattle.place_core.specs.Place.{fnv_step}
+use Rattle.place_core.specs.Placement.{fnv_step}
 use Rattle.place_core.proofs.hashing.rank_values.Given as goal
 
 abbrev pub invariant-loop-daemon : goal.invariant-loop-daemon

@@ -1,5 +1,5 @@
 use Rattle.std.proofs.Common.{◌≡◌, ◌∙◌, IfOk, ap, subst}
-use Rattle.place_core.specs.Place.{numbers_of}
+use Rattle.place_core.specs.Placement.{numbers_of}
 use Rattle.group_core.specs.Group.{Group}
 use Rattle.world_core.proofs.NewGroups.{begun_is}
 use Rattle.world_core.proofs.creating.new_group.Goals as goal

@@ -1,7 +1,7 @@
 use Rattle.std.proofs.Common.{◌≡◌, ◌<◌, ap, sym, ◌∙◌, subst, length, false}
 use Rattle.std.specs.Prelude.{Some, slice_get}
 use Rattle.entry_core.specs.Log.{is_in}
-use Rattle.place_core.specs.Place.{numbers_of}
+use Rattle.place_core.specs.Placement.{numbers_of}
 use Rattle.group_core.specs.Reached.{IsReached}
 use Rattle.group_core.proofs.Calls.{get_in, next_answered, whole_dropped, stepped}
 use Rattle.group_core.proofs.Lowering.{delivery_lowers, drop_lowers, found_lowers}

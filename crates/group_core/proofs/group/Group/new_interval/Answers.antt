@@ -1,5 +1,5 @@
 use Rattle.std.proofs.Common.{◌≡◌, ◌<◌, ◌∙◌, sym, ap, subst, refl, length, true, false}
-use Rattle.place_core.specs.Place.{numbers_of}
+use Rattle.place_core.specs.Placement.{numbers_of}
 use Rattle.group_core.specs.Group.{same_set, last_set}
 use Rattle.group_core.proofs.Sets.{set_is}
 use Rattle.group_core.proofs.Calls.{next_same, next_begun, whole_up, stepped_up}

@@ -1,5 +1,5 @@
 use Rattle.std.proofs.Common.{◌∙◌, ap, sym, subst, refl}
-use Rattle.place_core.specs.Place.{numbers_of}
+use Rattle.place_core.specs.Placement.{numbers_of}
 use Rattle.group_core.specs.Group.{NewInterval, Restart, group_step}
 use Rattle.group_core.specs.Inside.{group_of}
 use Rattle.group_core.specs.Moves.{Prepared, IsReady, event_of}

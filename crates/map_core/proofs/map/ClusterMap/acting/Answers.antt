@@ -1,5 +1,5 @@
 use Rattle.std.proofs.Common.{sym, ◌∙◌, ap}
-use Rattle.place_core.specs.Place.{acting_of, numbers_of}
+use Rattle.place_core.specs.Placement.{acting_of, numbers_of}
 use Rattle.map_core.proofs.Current.{limits_now, set_is, group_has_size}
 use Rattle.map_core.specs.Intervals.{size_in}
 use Rattle.map_core.specs.Inside.{history_of}

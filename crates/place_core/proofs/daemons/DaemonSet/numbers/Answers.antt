@@ -1,6 +1,6 @@
 use Rattle.std.proofs.Common.{ℕ, ◌<◌, ◌∙◌, ap, arith, filter, slice_index_or, false, All, subst}
 use Rattle.std.specs.List.{range_with_len}
-use Rattle.place_core.specs.Place.{numbers_of}
+use Rattle.place_core.specs.Placement.{numbers_of}
 use Rattle.place_core.proofs.Numbers.{numbers_yes, numbers_no, numbers_below}
 use Rattle.place_core.proofs.daemons.DaemonSet.numbers.Goals as goal
 use Rattle.place_core.proofs.daemons.DaemonSet.numbers.Goals.{then-self-daemon, else-self-daemon}

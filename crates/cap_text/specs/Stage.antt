@@ -1,0 +1,31 @@
+-- Statement: contracts of public calls use it.
+-- Where in the grammar a text has come to.
+use Rattle.std.specs.Prelude.{ℕ, List}
+use Rattle.cap_text.specs.declared.grant.Flags.{Flags}
+use Rattle.cap_text.specs.declared.grant.Grant.{Grant}
+use Rattle.cap_text.specs.declared.grant.Part.{Part}
+use Rattle.cap_text.specs.declared.stage.ClauseSet.{ClauseSet}
+use Rattle.cap_text.specs.declared.stage.Slot.{Slot}
+use Rattle.cap_text.specs.Draft.{Draft}
+
+-- what may come next, and what was read of the next grant
+pub data Stage : Type 0 where
+  Start : Stage
+  Separator : Stage
+  Clauses : ClauseSet → Draft → Stage
+  Letters : Flags → ClauseSet → Draft → Stage
+  ClassRead : Flags → ClauseSet → Draft → Stage
+  Method : List ℕ → ClauseSet → Draft → Stage
+  Assigned : Slot → ClauseSet → Draft → Stage
+  Value : Slot → ClauseSet → Draft → Stage
+  Namespace : ClauseSet → Draft → Stage
+  NamespaceEquals : ClauseSet → Draft → Stage
+  NamespaceWord : List ℕ → ClauseSet → Draft → Stage
+  Key : List ℕ → Draft → Stage
+  KeyEquals : List ℕ → Part → Draft → Stage
+  KeyValue : List ℕ → Part → Draft → Stage
+
+-- the grants that are whole, and the stage in the next one
+pub record State : Type 0 where
+  pub done : List Grant
+  pub stage : Stage

@@ -1,0 +1,40 @@
+//! Targets that own their names.
+
+ghost use Rattle.std.specs.Prelude.{◌≡◌};
+
+use cap_text::{Name, Tags};
+use std::marker::Model;
+use verdict_core::Target;
+
+/// Where a request goes: an object of a namespace in a pool, and the pool's application tags.
+///
+/// A listing has the empty object name.
+#[derive(Debug, Drop)]
+pub struct OwnedTarget {
+    pub pool: Name,
+    pub tags: Tags,
+    pub namespace: Name,
+    pub object: Name,
+}
+
+impl Model for OwnedTarget {
+    ghost use Rattle.verdict_core.specs.Target as verdict_core;
+
+    ghost Value = { verdict_core.Target };
+
+    ghost view = { λ p. record { pool = p.pool; tags = p.tags; namespace = p.namespace; object = p.object } };
+}
+
+impl OwnedTarget {
+    /// The target, for a verdict. It copies nothing.
+    pub fn as_target(&self) -> Target<'_>
+        ensures { result ≡ self.now }
+    {
+        Target {
+            pool: self.pool.as_str(),
+            tags: &self.tags,
+            namespace: self.namespace.as_str(),
+            object: self.object.as_str(),
+        }
+    }
+}
