@@ -15,9 +15,10 @@ use Rattle.turn_lock.specs.declared.rule.Made.{Made}
 use Rattle.turn_lock.specs.declared.rule.View.{View}
 use Rattle.turn_lock.specs.declared.rule.Stage.{Stage}
 use Rattle.turn_lock.specs.declared.rule.Stage.TheVariants.{Spent, Away, Waiting, Turn}
-use Rattle.turn_lock.specs.Turns.{StartsWith, longer, made, made_by, state_after}
-use Rattle.turn_lock.specs.Turning.{last_word, total_draws, HasSeen, Knows, Turning, Ruled, first_view, kept_view, given_view, joined_view, spent_view, settled_view, drew, called, settled, looked}
-use Rattle.turn_lock.proofs.Lists.{starts_whole, starts_none, starts_more, shorter_begins, made_by_starts, made_by-own, made_by-other, total_draws-set, total_draws-append}
+use Rattle.turn_lock.specs.Turns.{StartsWith, longer, made, made_by, state_after, last_word, HasMadeAll}
+use Rattle.turn_lock.specs.Turning.{total_draws, HasSeen, Knows, Turning, Shares, pending, Ruled, first_view, kept_view, given_view, joined_view, spent_view, settled_view, drew, called, settled, looked}
+use Rattle.turn_lock.proofs.Lists.{starts_whole, starts_none, starts_more, shorter_begins, made_by_starts, made_by-own, made_by-other}
+use Rattle.turn_lock.proofs.Shares.{total-set, total-append, share_same, shares_follow, seat_shares, append_follows, join_shares, has_made_all}
 
 module _ {E : Type 0} where
   seats_stay : (K : ℕ → View E → Type 0) (vs : List (View E)) (me : ℕ) (w : View E) → K me w → ((j : ℕ) (d : View E) → j ≢ me → get_elem? vs j ≡ some d → K j d)
@@ -60,6 +61,16 @@ module _ {E : Type 0} where
     others_drawn busy Away me k = k
     others_drawn busy (Waiting t) me k = (k.0, k.1, omega arith, ap (λ b. cond b me (owner t)) (ne_eqb t next (λ is. omega arith)) ∙ k.3, k.4)
     others_drawn busy (Turn t) me k = (k.0, k.1, k.2, omega arith, ap (λ b. cond b me (owner t)) (ne_eqb t next (λ is. omega arith)) ∙ k.4, k.5)
+
+  -- what a seat that is there has made
+  made_own : (log : List (Made E)) (owner : ℕ → ℕ) (busy : Bool) (serving next seat : ℕ) (v : View E) (st : Stage) → st ≢ Spent → Knows log owner busy serving next seat v st → made_by seat log ≡ v.mine
+  made_own log owner busy serving next seat v Spent live k = absurd (live refl)
+  made_own log owner busy serving next seat v Away live k = k.2
+  made_own log owner busy serving next seat v (Waiting t) live k = k.0.2
+  made_own log owner busy serving next seat v (Turn t) live k = k.0.2
+
+  live_in : (v : View E) (st : Stage) → v.stage ≡ st → st ≢ Spent → v.stage ≢ Spent
+  live_in v st is live spent = live (sym is ∙ spent)
 
 not_true : (b : Bool) → (b ≡ true → ⊥) → b ≡ false
 not_true true h = absurd (h refl)
@@ -118,7 +129,12 @@ module _ {T S E : Type 0} (state : T → S) (after : S → E → S) (first : S) 
   loaded s hs vs wide r = serving_set s (get_or s.words 0 0) hs vs wide r
 
   room_same : (n : ℕ) (vs : List (View E)) (id : ℕ) (v w : View E) → get_elem? vs id ≡ some v → w.draws ≡ v.draws → total_draws vs + n ≤ last_word → total_draws (set vs id w) + n ≤ last_word
-  room_same n vs id v w at same room = let t = total_draws-set vs id v w at in omega arith
+  room_same n vs id v w at same room = let t = total-set (λ x. x.draws) vs id v w at in omega arith
+
+  -- the entries of all seats but this one, where it has all numbers
+  all_made : (serving next : ℕ) (homes : Homes) (views : List (View E)) (r : Turning' serving next homes views) (id : ℕ) (v : View E) → get_elem? views id ≡ some v → v.share ≡ last_word → HasMadeAll r.log id v.joined
+  all_made serving next homes views r id v at all =
+      has_made_all r.log views id v at (all ∙ sym r.whole) r.shares (λ j d there live. made_own r.log r.owner r.busy serving next j d d.stage live (r.each_seat j d there)) r.strangers
 
   pub looks : (slots id : ℕ) (me : M) (t : ℕ) (firsts : List S) (by : ℕ) → by ≡ id → firsts ≡ first ∷ [] → me.0.stage ≡ Waiting t → me.1 ≡ []
       → Allows Rule slots id me 0 (λ n. n) (looked state after firsts by t (step slots 0 0 0 none) me)
@@ -151,6 +167,9 @@ module _ {T S E : Type 0} (state : T → S) (after : S → E → S) (first : S) 
               ((starts_whole r.log, k.0.1, k.0.2), refl, sym hit, k.2, k.3, refl)
               (λ j d other here. others_found r.log r.owner serving next j d d.stage id other own (subst (λ b. Knows r.log r.owner b serving next j d d.stage) free (r.each_seat j d here)));
           strangers = λ j far. r.strangers j (subst (λ (z : ℕ). z ≤ j) (length-set s.views id w) far);
+          whole = share_same s.views id me.0 w at refl r.whole;
+          shares = seat_shares r.log r.log s.views id me.0 w at (seat_below s.views id me.0 at) (live_in me.0 (Waiting t) waits (λ (is : Waiting t ≡ Spent). cc)) (λ (is : Turn t ≡ Spent). cc) refl
+              (let within = (r.shares id me.0 at).0 in let one : pending me.0.stage ≡ 1 = ap pending waits in omega arith) (λ j other. refl) r.shares;
         },
         (
           (λ _. record {
@@ -158,6 +177,7 @@ module _ {T S E : Type 0} (state : T → S) (after : S → E → S) (first : S) 
             log = r.log;
             begins = k.0.0;
             own = ap (λ b. made_by b r.log) same_seat ∙ k.0.2;
+            others = λ all. subst (λ (b : ℕ). HasMadeAll r.log b me.0.joined) (sym same_seat) (all_made serving next s.homes s.views r id me.0 at all);
             seat = ap (λ (l : List (ℕ × Option T)). (w, (0, Some x) ∷ l)) bare;
             stands = λ f is. let same : first ≡ f = cc in home.2 ∙ ap (λ (z : S). state_after after z r.log) same;
           }),
@@ -181,7 +201,7 @@ module _ {T S E : Type 0} (state : T → S) (after : S → E → S) (first : S) 
       let k = known r.log r.owner serving next id me.0 r.busy Away away (r.each_seat id me.0 at) in
       let w : View E = record me.0 { draws = me.0.draws - 1; stage = Waiting next } in
       let owner' : ℕ → ℕ = λ n. cond (eqb n next) id (r.owner n) in
-      let total = total_draws-set s.views id me.0 w at in
+      let total = total-set (λ x. x.draws) s.views id me.0 w at in
       let room = r.room in
       let fits : next + 1 < 18446744073709551616 = omega arith in
       let up : (next + 1) % 2 ^ 64 ≡ next + 1 = mod-eq_of_lt fits in (
@@ -200,6 +220,9 @@ module _ {T S E : Type 0} (state : T → S) (after : S → E → S) (first : S) 
               (k, r.order, omega arith, ap (λ b. cond b id (r.owner next)) (eq-eqb next next refl), λ is. not_true r.busy (λ out. let b = r.within out in omega arith))
               (λ j d other here. others_drawn r.log r.owner serving next j d r.busy d.stage id (r.each_seat j d here));
           strangers = λ j far. r.strangers j (subst (λ (z : ℕ). z ≤ j) (length-set s.views id w) far);
+          whole = share_same s.views id me.0 w at refl r.whole;
+          shares = seat_shares r.log r.log s.views id me.0 w at (seat_below s.views id me.0 at) (live_in me.0 Away away (λ (is : Away ≡ Spent). cc)) (λ (is : Waiting next ≡ Spent). cc) refl
+              (let within = (r.shares id me.0 at).0 in let none : pending me.0.stage ≡ 0 = ap pending away in omega arith) (λ j other. refl) r.shares;
         }),
         refl,
       )
@@ -241,6 +264,10 @@ module _ {T S E : Type 0} (state : T → S) (after : S → E → S) (first : S) 
                   (λ j d other here. others_called r.log r.owner serving next j d d.stage id e other own (subst (λ b. Knows r.log r.owner b serving next j d d.stage) k.5 (r.each_seat j d here)));
               strangers = λ j far. let inside = seat_below s.views id me.0 at in let far' : length s.views ≤ j = subst (λ (z : ℕ). z ≤ j) (length-set s.views id w) far in
                   made_by-other j id r.log e (λ h. omega arith) ∙ r.strangers j far';
+              whole = share_same s.views id me.0 w at refl r.whole;
+              shares = seat_shares r.log log' s.views id me.0 w at (seat_below s.views id me.0 at) (live_in me.0 (Turn t) turn (λ (is : Turn t ≡ Spent). cc)) (λ (is : Away ≡ Spent). cc) refl
+                  (let within = (r.shares id me.0 at).0 in let one : pending me.0.stage ≡ 1 = ap pending turn in let more = length-append me.0.mine (e ∷ []) in omega arith)
+                  (λ j other. made_by-other j id r.log e (λ is. other (sym is))) r.shares;
             })),
         λ f given. let chosen : e ≡ f = cc in (
           ap (λ (x : ℕ × E × List (ℕ × Option T)). (record me.0 { seen = me.0.seen ++ made x.0 x.1 ∷ []; mine = me.0.mine ++ x.1 ∷ []; stage = Away }, put_off x.2)) (λ i. (sym same i, chosen i, carried i)),
@@ -271,6 +298,9 @@ module _ {T S E : Type 0} (state : T → S) (after : S → E → S) (first : S) 
           each_seat = seats_stay (λ j d. Knows r.log r.owner r.busy serving next j d d.stage) s.views id w
               (subst (λ (z : Stage). Knows r.log r.owner r.busy serving next id w z) (sym away) (l.0, starts_none r.log, k.2)) (λ j d other here. r.each_seat j d here);
           strangers = λ j far. r.strangers j (subst (λ (z : ℕ). z ≤ j) (length-set s.views id w) far);
+          whole = share_same s.views id me.0 w at refl r.whole;
+          shares = seat_shares r.log r.log s.views id me.0 w at (seat_below s.views id me.0 at) (live_in me.0 Away away (λ (is : Away ≡ Spent). cc)) (live_in me.0 Away away (λ (is : Away ≡ Spent). cc)) refl
+              (r.shares id me.0 at).0 (λ j other. refl) r.shares;
         },
         (refl, l.1, l.2, subst (λ (b : ℕ). StartsWith me.0.mine (made_by b w.seen)) (sym same) (subst (λ (xs : List E). StartsWith xs (made_by id w.seen)) k.2 (made_by_starts id r.log w.seen l.0))),
       )
@@ -283,9 +313,13 @@ module _ {T S E : Type 0} (state : T → S) (after : S → E → S) (first : S) 
       let k = known r.log r.owner serving next id v r.busy Away away (r.each_seat id v at) in
       let left : View E = kept_view part v in
       let right : View E = given_view part v in
-      let one = total_draws-set s.views id v left at in
-      let two = total_draws-append (set s.views id left) right in
+      let one = total-set (λ x. x.draws) s.views id v left at in
+      let two = total-append (λ x. x.draws) (set s.views id left) right in
+      let mine = total-set (λ x. x.share) s.views id v left at in
+      let given = total-append (λ x. x.share) (set s.views id left) right in
       let room = r.room in
+      let whole = r.whole in
+      let within = (r.shares id v at).0 in
       let long : length (set s.views id left) ≡ length s.views = length-set s.views id left in (
         rule.0,
         record {
@@ -304,20 +338,30 @@ module _ {T S E : Type 0} (state : T → S) (after : S → E → S) (first : S) 
               subst (λ (x : View E). Knows r.log r.owner r.busy serving next j x x.stage) t.1 (k.0, starts_none r.log, none_made))
               (at_end (set s.views id left) right d j here);
           strangers = λ j far. r.strangers j (let n = length-append (set s.views id left) (right ∷ []) in omega arith);
+          whole = omega arith;
+          shares = λ j d here. ⊎_elim
+              (λ (was : get_elem? (set s.views id left) j ≡ some d). shares_follow r.log r.log (set s.views id left) (set s.views id left ++ right ∷ []) (append_follows r.log (set s.views id left) right) j d was
+              (seat_shares r.log r.log s.views id v left at (seat_below s.views id v at) (live_in v Away away (λ (is : Away ≡ Spent). cc)) (live_in v Away away (λ (is : Away ≡ Spent). cc)) refl
+              (omega arith) (λ i other. refl) r.shares j d was))
+              (λ (t : (j ≡ length (set s.views id left)) × (right ≡ d)). subst (λ (x : View E). Shares r.log (set s.views id left ++ right ∷ []) j x) t.1 (omega arith, tt, λ (is : Away ≡ Spent). cc))
+              (at_end (set s.views id left) right d j here);
         },
       )
 
-  pub joins : (id : ℕ) (v : View E) (other : ℕ) (w : View E) → v.stage ≡ Away → w.stage ≡ Away → Joins Rule id v other w (joined_view v w) spent_view
-  joins id v other w away away' s rule at apart there =
+  joins_other : (id : ℕ) (v : View E) (other : ℕ) (w : View E) → v.stage ≡ Away → w.stage ≡ Away → Joins Rule id v other w (joined_view other v w) spent_view
+  joins_other id v other w away away' s rule at apart there =
       let r = rule.1 in
       let serving : ℕ = get_or s.words 0 0 in
       let next : ℕ = get_or s.words 1 0 in
-      let both : View E = joined_view v w in
+      let both : View E = joined_view other v w in
       let was : get_elem? s.views other ≡ some w = ⊎_elim (λ (t : (other ≡ id) × (both ≡ w)). absurd (apart t.0)) (λ (t : (other ≢ id) × (get_elem? s.views other ≡ some w)). t.1) (at_set s.views id other both w there) in
       let k = known r.log r.owner serving next id v r.busy Away away (r.each_seat id v at) in
       let k' = known r.log r.owner serving next other w r.busy Away away' (r.each_seat other w was) in
-      let one = total_draws-set s.views id v both at in
-      let two = total_draws-set (set s.views id both) other w spent_view there in
+      let one = total-set (λ x. x.draws) s.views id v both at in
+      let two = total-set (λ x. x.draws) (set s.views id both) other w spent_view there in
+      let taken = total-set (λ x. x.share) s.views id v both at in
+      let left = total-set (λ x. x.share) (set s.views id both) other w spent_view there in
+      let whole = r.whole in
       let room = r.room in
       let long : length (set (set s.views id both) other spent_view) ≡ length s.views = length-set (set s.views id both) other spent_view ∙ length-set s.views id both in (
         rule.0,
@@ -333,13 +377,23 @@ module _ {T S E : Type 0} (state : T → S) (after : S → E → S) (first : S) 
               (λ j d _ here. seats_stay (λ i x. Knows r.log r.owner r.busy serving next i x x.stage) s.views id both
               (subst (λ (z : Stage). Knows r.log r.owner r.busy serving next id both z) (sym away) (k.0, k'.0, k.2)) (λ i x o h. r.each_seat i x h) j d here);
           strangers = λ j far. r.strangers j (omega arith);
+          whole = omega arith;
+          shares = join_shares r.log s.views id other v w at was (seat_below s.views id v at) (seat_below s.views other w was) apart away away' k'.2 r.shares;
         },
       )
+
+  pub joins : (id : ℕ) (v : View E) (other : ℕ) (w : View E) (by : ℕ) → by ≡ other → v.stage ≡ Away → w.stage ≡ Away → Joins Rule id v other w (joined_view by v w) spent_view
+  joins id v other w by same = subst (λ (b : ℕ). v.stage ≡ Away → w.stage ≡ Away → Joins Rule id v other w (joined_view b v w) spent_view) (sym same) (joins_other id v other w)
 
   first_knows : (views : List (View E)) (j : ℕ) (v : View E) → views ≡ first_view ∷ [] → get_elem? views j ≡ some v → Knows [] (λ _. 0) false 0 0 j v v.stage
   first_knows views zero v is e = let same : first_view ≡ v = some-injective first_view v (ap (λ l. get_elem? l 0) (sym is) ∙ e) in
       subst (λ (x : View E). Knows [] (λ _. 0) false 0 0 0 x x.stage) same (starts_none [], starts_none [], refl)
   first_knows views (suc j) v is e = absurd (some-ne-none v (sym (ap (λ l. get_elem? l (suc j)) (sym is) ∙ e)))
+
+  first_shares : (views : List (View E)) (j : ℕ) (v : View E) → views ≡ first_view ∷ [] → get_elem? views j ≡ some v → Shares [] views j v
+  first_shares views zero v is e = let same : first_view ≡ v = some-injective first_view v (ap (λ l. get_elem? l 0) (sym is) ∙ e) in
+      subst (λ (x : View E). Shares [] views 0 x) same (omega arith, tt, λ (spent : Away ≡ Spent). cc)
+  first_shares views (suc j) v is e = absurd (some-ne-none v (sym (ap (λ l. get_elem? l (suc j)) (sym is) ∙ e)))
 
   pub begins : (x : T) → state x ≡ first → Rule (opening (0 ∷ 0 ∷ []) (Some x ∷ []) first_view)
   begins x is = (
@@ -354,5 +408,7 @@ module _ {T S E : Type 0} (state : T → S) (after : S → E → S) (first : S) 
       home = λ _. (x, refl, is);
       each_seat = λ j v e. first_knows (first_view ∷ []) j v refl e;
       strangers = λ _ _. refl;
+      whole = refl;
+      shares = λ j v e. first_shares (first_view ∷ []) j v refl e;
     },
   )

@@ -5,9 +5,7 @@ use lib.ListN.{get_elem?}
 use Rattle.std.proofs.lemmas.List.{append_assoc, append-nil}
 use Rattle.atomic_table.specs.Table.{rest}
 use Rattle.turn_lock.specs.declared.rule.Made.{Made}
-use Rattle.turn_lock.specs.declared.rule.View.{View}
 use Rattle.turn_lock.specs.Turns.{StartsWith, made, made_by}
-use Rattle.turn_lock.specs.Turning.{total_draws}
 
 module _ {X : Type 0} where
   -- a token that has taken one slot has no other
@@ -78,12 +76,3 @@ module _ {E : Type 0} where
   -- one more entry, of another seat
   pub made_by-other : (by other : ℕ) (log : List (Made E)) (e : E) → other ≢ by → made_by by (log ++ made other e ∷ []) ≡ made_by by log
   made_by-other by other log e ne = made_by-append by log (made other e ∷ []) ∙ (ap (λ b. made_by by log ++ cond b (e ∷ []) []) (ne_eqb other by ne) ∙ append-nil (made_by by log))
-
-  pub total_draws-set : (views : List (View E)) (i : ℕ) (v w : View E) → get_elem? views i ≡ some v → total_draws (set views i w) + v.draws ≡ total_draws views + w.draws
-  total_draws-set [] i v w e = absurd (some-ne-none v (sym e))
-  total_draws-set (x ∷ xs) zero v w e = let same : x.draws ≡ v.draws = ap (λ (z : View E). z.draws) (some-injective x v e) in omega arith
-  total_draws-set (x ∷ xs) (suc i) v w e = let r = total_draws-set xs i v w e in omega arith
-
-  pub total_draws-append : (views : List (View E)) (w : View E) → total_draws (views ++ w ∷ []) ≡ total_draws views + w.draws
-  total_draws-append [] w = omega arith
-  total_draws-append (x ∷ xs) w = let r = total_draws-append xs w in omega arith

@@ -33,7 +33,8 @@
 //!
 //! `close` takes the lock, so no turn goes on any more, and hands the value out. It stands for a
 //! list that begins with what the seat had seen. Who wants this of every seat joins them into one
-//! first.
+//! first. The numbers that turns draw are shared among the seats: a seat whose share is all of them
+//! was joined with every seat that could take a turn, and then the list has no entry but theirs.
 //!
 //! # What is not promised
 //!
@@ -50,14 +51,15 @@
 //! The lock has two words, `serving` and `next`, and one slot, which holds the value. Threads meet
 //! in these eight kinds of atomic step alone, each sequentially consistent. Between any two of them
 //! one rule holds (`specs/Turning.antt`): where nobody has the turn, the value in the slot stands
-//! for the whole list, each number was drawn by one seat, and each seat has seen a beginning of the
-//! list which has just its own entries under its number.
+//! for the whole list, each number was drawn by one seat, each seat has seen a beginning of the
+//! list which has just its own entries under its number, and the shares of all seats are the lock's
+//! numbers.
 //!
 //! | Step | Word or slot | What it tells the seat |
 //! |---|---|---|
 //! | make the first seat, in `new` | none, since nobody shares the lock yet | the list is empty |
-//! | split | load of `serving` | the new seat has seen what the old one had, and made nothing |
-//! | join | load of `serving` | the seat was told what the other had seen, and the other is spent |
+//! | split | load of `serving` | the new seat has seen what the old one had, and made nothing; it has a part of the share |
+//! | join | load of `serving` | the seat was told what the other had seen and has its share too; the other is spent |
 //! | draw a number | `fetch_add` on `next` | its number |
 //! | look | load of `serving` | whether its number is served: if so it has seen the whole list. After a split or a join, which of what it has seen and was told is longer |
 //! | take | exchange on the slot | nothing: the value is the one that the look found |

@@ -1,6 +1,6 @@
 //! The lock and its seats.
-ghost use Rattle.std.specs.Prelude.{◌≡◌, ◌+◌, ◌<◌, [], All, IfOk, IfErr, vec_len};
-ghost use Rattle.turn_lock.specs.Seats.{IsSeatOf, IsNewSeatOf, IsSameSeat, HasItsOwn};
+ghost use Rattle.std.specs.Prelude.{◌≡◌, ◌+◌, ◌<◌, ◌≤◌, [], All, IfOk, IfErr, vec_len};
+ghost use Rattle.turn_lock.specs.Seats.{IsSeatOf, IsNewSeatOf, IsSameSeat, HasSameShare, HasItsOwn, AreShared, joined_after};
 ghost use Rattle.turn_lock.specs.Turns.{StartsWith, longer};
 ghost use Rattle.turn_lock.specs.Turned.{Turned, Closes};
 
@@ -35,9 +35,10 @@ impl<T: Recorded> Model for TurnLock<T> {
 /// The right to take turns on one lock.
 ///
 /// Clauses see a seat as the `lock` that it is of, its `number`, the beginning of the list that it
-/// has `seen`, and the entries that are its own, `mine`. The list itself is nowhere at run time: a
-/// seat is a `u64`, how many numbers it may still draw. A seat that is dropped takes these with it,
-/// and its entries stay.
+/// has `seen`, the entries that are its own, `mine`, its `share` of the numbers that the lock has,
+/// and the seats that were `joined` to it, each with its entries. The list itself is nowhere at run
+/// time: a seat is a `u64`, how many numbers it may still draw. A seat that is dropped takes these
+/// with it, and its entries stay.
 #[derive(Drop)]
 pub struct Seat<T: Recorded> {
     token: Token<T>,
@@ -45,7 +46,7 @@ pub struct Seat<T: Recorded> {
 }
 
 impl<T: Recorded> Model for Seat<T> {
-    ghost use Rattle.std.specs.Prelude.{◌≡◌, []};
+    ghost use Rattle.std.specs.Prelude.{◌≡◌, ◌≤◌, []};
     ghost use Rattle.turn_lock.specs.declared.rule.Stage.TheVariants.{Away};
     ghost use Rattle.turn_lock.specs.Seats.{Seated, HasItsOwn, seated};
 
@@ -53,7 +54,7 @@ impl<T: Recorded> Model for Seat<T> {
 
     ghost view = { λ s. seated s.token };
 
-    ghost invariant = { λ s. (s.token.me.0.stage ≡ Away) × (s.token.me.0.told ≡ []) × (s.token.me.0.draws ≡ s.draws) × (s.token.me.1 ≡ []) × HasItsOwn (seated s.token) };
+    ghost invariant = { λ s. (s.token.me.0.stage ≡ Away) × (s.token.me.0.told ≡ []) × (s.token.me.0.draws ≡ s.draws) × (s.draws ≤ s.token.me.0.share) × (s.token.me.1 ≡ []) × HasItsOwn (seated s.token) };
 }
 
 fn wait_for_ever<R: Wait>(rt: &R)
@@ -65,21 +66,9 @@ fn wait_for_ever<R: Wait>(rt: &R)
 }
 
 impl<T: Recorded> TurnLock<T> {
-    // The lock and a first seat, which may draw every number but the last.
-    fn open(alloc: Global, value: T) -> Result<(TurnLock<T>, Seat<T>), T>
-        ensures ok { IfOk result (λ r. (r.0.first ≡ T.state value) × IsNewSeatOf r.0 r.1) }
-        ensures err { IfErr result (λ x. x ≡ value) }
-    {
-        let (turnstile, token) = Turnstile::new(alloc, value)?;
-        let seat = Seat {
-            token,
-            draws: u64::MAX,
-        };
-        Ok((TurnLock { turnstile }, seat))
-    }
-
     /// A lock over the value, with so many seats, one at least. The list is empty, and no seat has
-    /// seen or made anything. The seats share all numbers that may be drawn evenly.
+    /// seen or made anything. The seats share all numbers that may be drawn evenly: each but the
+    /// last has so many, and the last has what is left.
     ///
     /// # Errors
     ///
@@ -93,19 +82,26 @@ impl<T: Recorded> TurnLock<T> {
         requires { 0 < seats }
         ensures first { IfOk result (λ r. r.0.first ≡ T.state value) }
         ensures seats { IfOk result (λ r. (vec_len r.1 ≡ seats) × All (IsNewSeatOf r.0) r.1.items) }
+        ensures shares { IfOk result (λ r. AreShared seats r.1.items) }
         ensures err { IfErr result (λ e. e.0 ≡ value) }
     {
         let Ok(mut all) = Vec::with_capacity(alloc, seats) else {
             return Err((value, OutOfMemory));
         };
-        match TurnLock::open(alloc, value) {
-            Ok((lock, mut first)) => {
-                let share = u64::MAX / seats as u64;
+        match Turnstile::new(alloc, value) {
+            Ok((turnstile, mut token)) => {
+                let even = u64::MAX / seats as u64;
+                let mut draws = u64::MAX;
                 for _ in 1..seats {
-                    all.push_reserved(first.split_off(&lock, share));
+                    let other = turnstile.split(&mut token, even);
+                    draws -= even;
+                    all.push_reserved(Seat {
+                        token: other,
+                        draws: even,
+                    });
                 }
-                all.push_reserved(first);
-                Ok((lock, all))
+                all.push_reserved(Seat { token, draws });
+                Ok((TurnLock { turnstile }, all))
             }
             Err(value) => Err((value, OutOfMemory)),
         }
@@ -126,6 +122,7 @@ impl<T: Recorded> TurnLock<T> {
         T: Drop,
         requires { IsSeatOf self.now seat.old }
         ensures seat { IsSameSeat seat.old seat.new }
+        ensures share { HasSameShare seat.old seat.new }
         ensures turned { Turned T.after St.entry St.tells self.now.first step result seat.old seat.new }
     {
         if seat.draws == 0 {
@@ -140,7 +137,8 @@ impl<T: Recorded> TurnLock<T> {
     ///
     /// No thread has the lock any more, so each turn that was begun is over. The value stands for
     /// the whole list, which begins with what this seat had seen. To have this of each seat,
-    /// [`Seat::join`] them into one first. It waits as a turn does.
+    /// [`Seat::join`] them into one first. Where all seats that have a share were joined into this
+    /// one, the list has just their entries, each seat's in its order. It waits as a turn does.
     pub fn close<R: Wait>(self, rt: &R, seat: Seat<T>) -> T
     where
         T: Drop,
@@ -160,13 +158,16 @@ impl<T: Recorded> Seat<T> {
     /// A new seat of the lock, which has seen what this one has, and made nothing. It gets `most` of
     /// the numbers that this one may still draw, or all where they are fewer.
     ///
-    /// With it numbers are shared evenly: of a seat made by [`TurnLock::new`] with N seats beside it,
+    /// With `most` 0 the new seat has no share: it carries to another what this one has seen, and a
+    /// lock is closed without it. With more, numbers are shared evenly: of a seat made by [`TurnLock::new`] with N seats beside it,
     /// each of k parts is `u64::MAX / N / k`. A seat that gave all its numbers away waits for ever in
     /// its next turn. It takes no memory, and waits for nobody.
     pub fn split_off(&mut self, lock: &TurnLock<T>, most: u64) -> Seat<T>
         requires { IsSeatOf lock.now self.old }
-        ensures same { self.new ≡ self.old }
-        ensures new { IsSeatOf lock.now result × (result.seen ≡ self.old.seen) × (result.mine ≡ []) }
+        ensures same { self.new ≡ record self.old { share = self.new.share } }
+        ensures new { IsSeatOf lock.now result × (result.seen ≡ self.old.seen) × (result.mine ≡ []) × (result.joined ≡ []) }
+        ensures share { self.new.share + result.share ≡ self.old.share }
+        ensures most { result.share ≤ most }
         ensures own { HasItsOwn self.new × HasItsOwn result }
     {
         let part = self.draws.min(most);
@@ -183,8 +184,9 @@ impl<T: Recorded> Seat<T> {
     /// and waits for nobody.
     pub fn split(&mut self, lock: &TurnLock<T>) -> Seat<T>
         requires { IsSeatOf lock.now self.old }
-        ensures same { self.new ≡ self.old }
-        ensures new { IsSeatOf lock.now result × (result.seen ≡ self.old.seen) × (result.mine ≡ []) }
+        ensures same { self.new ≡ record self.old { share = self.new.share } }
+        ensures new { IsSeatOf lock.now result × (result.seen ≡ self.old.seen) × (result.mine ≡ []) × (result.joined ≡ []) }
+        ensures share { self.new.share + result.share ≡ self.old.share }
         ensures own { HasItsOwn self.new × HasItsOwn result }
     {
         let half = self.draws / 2;
@@ -192,7 +194,8 @@ impl<T: Recorded> Seat<T> {
     }
 
     /// From now on this seat has seen what both had seen, and may draw what both might. The other
-    /// is spent: its entries stay in the list under its number.
+    /// is spent: its entries stay in the list under its number. Where it had a share, clauses see
+    /// it, and those that were joined to it, behind the seats that were joined to this one.
     ///
     /// It takes no memory, and waits for nobody.
     pub fn join(&mut self, lock: &TurnLock<T>, other: Seat<T>)
@@ -201,6 +204,7 @@ impl<T: Recorded> Seat<T> {
         ensures same { IsSameSeat self.old self.new × (self.new.mine ≡ self.old.mine) }
         ensures longer { self.new.seen ≡ longer self.old.seen other.seen }
         ensures begins { StartsWith self.new.seen self.old.seen × StartsWith self.new.seen other.seen }
+        ensures share { (self.new.share ≡ self.old.share + other.share) × (self.new.joined ≡ joined_after self.old other) }
         ensures own { HasItsOwn self.new }
     {
         let Seat { token, draws } = other;

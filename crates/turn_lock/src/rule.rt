@@ -26,6 +26,14 @@ pub enum Stage {
     Turn(u64),
 }
 
+/// A seat that was joined to another. No value of it is made.
+pub struct Joined<E> {
+    /// Its number.
+    pub by: u64,
+    /// All entries that it made.
+    pub entries: LinkedList<E>,
+}
+
 /// What a seat knows. No value of it is made.
 pub struct View<E> {
     /// A beginning of the list.
@@ -36,6 +44,10 @@ pub struct View<E> {
     pub mine: LinkedList<E>,
     /// So many numbers the seat may still draw.
     pub draws: u64,
+    /// So many of the lock's numbers were given to it, those that were drawn counted.
+    pub share: u64,
+    /// The seats that were joined to it, and had a share.
+    pub joined: LinkedList<Joined<E>>,
     /// What it is about.
     pub stage: Stage,
 }
@@ -123,37 +135,40 @@ impl<T: Recorded, N: Tale<T::State, T::Entry>> Play<Option<T>, View<T::Entry>> f
     ghost then = { settled N.by };
 }
 
-/// How many of a seat's numbers go to a new seat, chosen as a `Tale` is.
-pub(crate) trait Part {
+/// A number that an act speaks of, chosen as a `Tale` is: how many of a seat's numbers go to a new
+/// seat, or which seat is joined to another.
+pub(crate) trait Chosen {
     ghost use Rattle.std.specs.Prelude.{ℕ};
 
-    ghost part: { ℕ };
+    ghost number: { ℕ };
 }
 
-impl Part for Brand {
-    ghost part = { 0 };
+impl Chosen for Brand {
+    ghost number = { 0 };
 }
 
 /// A seat is cut in two. The new one gets a part of the numbers that may be drawn.
 pub(crate) struct Halve<N> {
-    part: PhantomData<N>,
+    chosen: PhantomData<N>,
 }
 
-impl<E, N: Part> Split<View<E>> for Halve<N> {
+impl<E, N: Chosen> Split<View<E>> for Halve<N> {
     ghost use Rattle.turn_lock.specs.Turning.{kept_view, given_view};
 
-    ghost left = { kept_view N.part };
+    ghost left = { kept_view N.number };
 
-    ghost right = { given_view N.part };
+    ghost right = { given_view N.number };
 }
 
-/// A seat is told what another had seen, and gets what that one might draw.
-pub(crate) struct Tell;
+/// A seat is told what another had seen, and gets its share.
+pub(crate) struct Tell<N> {
+    chosen: PhantomData<N>,
+}
 
-impl<E> Join<View<E>> for Tell {
+impl<E, N: Chosen> Join<View<E>> for Tell<N> {
     ghost use Rattle.turn_lock.specs.Turning.{joined_view, spent_view};
 
-    ghost both = { joined_view };
+    ghost both = { joined_view N.number };
 
     ghost spent = { spent_view };
 }

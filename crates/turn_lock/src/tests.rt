@@ -1,8 +1,8 @@
 //! A number under a turn lock.
 ghost use Rattle.std.specs.Prelude.{◌≡◌, ◌+◌, ◌<◌, ◌^◌, ◌↔◌, [], ◌∷◌, min, if◌then◌else◌, IsTrue};
 ghost use Rattle.turn_lock.specs.declared.tests.Change.TheVariants.{Added, Idle, Looked};
-ghost use Rattle.turn_lock.specs.Seats.{IsSeatOf, IsNewSeatOf, IsSameSeat};
-ghost use Rattle.turn_lock.specs.Turns.{StartsWith, entries};
+ghost use Rattle.turn_lock.specs.Seats.{IsSeatOf, IsNewSeatOf, IsSameSeat, HasSameShare, HasAllNumbers};
+ghost use Rattle.turn_lock.specs.Turns.{StartsWith, entries, last_word};
 
 use crate::{Recorded, Seat, Step, TurnLock};
 use std::alloc::Global;
@@ -116,6 +116,7 @@ fn add_ones<R: Wait>(
 ) -> Seat<Tally>
     requires { IsSeatOf lock.now seat }
     ensures seat { IsSameSeat seat result }
+    ensures share { HasSameShare seat result }
     ensures seen { StartsWith result.seen seat.seen }
 {
     for _ in 0..times {
@@ -124,7 +125,7 @@ fn add_ones<R: Wait>(
     seat
 }
 
-// Two threads add ones, each so many times. One seat has then seen what both had.
+// Two threads add ones, each so many times. One seat has then seen what both had, and has all numbers where both had them.
 fn add_in_two_threads<R: Threads + Wait + Sync>(
     rt: &R,
     lock: &TurnLock<Tally>,
@@ -132,18 +133,20 @@ fn add_in_two_threads<R: Threads + Wait + Sync>(
     second: Seat<Tally>,
     times: u32,
 ) -> Seat<Tally>
-    requires { IsSeatOf lock.now first × IsSeatOf lock.now second }
+    requires seats { IsSeatOf lock.now first × IsSeatOf lock.now second }
+    requires shares { first.share + second.share ≡ last_word }
     ensures seat { IsSameSeat first result }
+    ensures all { HasAllNumbers result }
 {
     let (mut first, second) = join(
         rt,
         || -> Seat<Tally>
             requires { IsSeatOf lock.now first }
-            ensures { IsSameSeat first result }
+            ensures { IsSameSeat first result × HasSameShare first result }
         { add_ones(rt, lock, first, times) },
         || -> Seat<Tally>
             requires { IsSeatOf lock.now second }
-            ensures { IsSameSeat second result }
+            ensures { IsSameSeat second result × HasSameShare second result }
         { add_ones(rt, lock, second, times) },
     );
     first.join(lock, second);
@@ -174,6 +177,7 @@ fn split_and_join<R: Wait>(
 fn two_seats<R: Abort>(rt: &R, alloc: Global) -> (TurnLock<Tally>, Seat<Tally>, Seat<Tally>)
     ensures first { result.0.first ≡ record { number = 0; turns = 0 } }
     ensures seats { IsNewSeatOf result.0 result.1 × IsNewSeatOf result.0 result.2 }
+    ensures shares { result.1.share + result.2.share ≡ last_word }
 {
     let Ok((lock, mut seats)) = TurnLock::new(alloc, ZERO, 2) else {
         panic!(rt; "there is memory");

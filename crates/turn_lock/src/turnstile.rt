@@ -2,13 +2,13 @@
 ghost use Rattle.std.specs.Prelude.{◌≡◌, ℕ, ◌-◌, ◌<◌, ◌≤◌, [], ◌∷◌, ◌++◌, Some, IfOk, IfErr};
 ghost use Rattle.std.specs.Bool.{MatchBool};
 ghost use Rattle.turn_lock.specs.declared.rule.Stage.TheVariants.{Away, Waiting, Turn};
-ghost use Rattle.turn_lock.specs.Seats.{HasItsOwn, seated};
+ghost use Rattle.turn_lock.specs.Seats.{HasItsOwn, HasSameShare, seated};
 ghost use Rattle.turn_lock.specs.Turns.{StartsWith, made, made_by, state_after};
 ghost use Rattle.turn_lock.specs.Turning.{Found, first_view, kept_view, given_view, joined_view, settled_view};
 ghost use Rattle.turn_lock.specs.Turned.{Turned, Closes};
 
 use crate::locked_value::{Recorded, Step};
-use crate::rule::{Call, Draw, Halve, Look, Part, Settle, Tale, Tell, Turns, View};
+use crate::rule::{Call, Chosen, Draw, Halve, Look, Settle, Tale, Tell, Turns, View};
 use atomic_table::{Refused, Table};
 use std::alloc::Global;
 use std::marker::Brand;
@@ -55,12 +55,12 @@ impl<T: Recorded> Turnstile<T> {
         }
     }
 
-    fn split_as<N: Part>(&self, token: &mut Token<T>, part: u64) -> Token<T>
+    fn split_as<N: Chosen>(&self, token: &mut Token<T>, part: u64) -> Token<T>
         requires table { token.old.table_id ≡ self.now.table.shared.table_id }
-        requires tale { N.part ≡ part }
-        requires ready { (token.old.me.0.stage ≡ Away) × (N.part ≤ token.old.me.0.draws) }
-        ensures kept { (token.new.table_id ≡ token.old.table_id) × (token.new.id ≡ token.old.id) × (token.new.me ≡ (kept_view N.part token.old.me.0, token.old.me.1)) }
-        ensures given { (result.table_id ≡ token.old.table_id) × (result.me ≡ (given_view N.part token.old.me.0, [])) }
+        requires tale { N.number ≡ part }
+        requires ready { (token.old.me.0.stage ≡ Away) × (N.number ≤ token.old.me.0.draws) }
+        ensures kept { (token.new.table_id ≡ token.old.table_id) × (token.new.id ≡ token.old.id) × (token.new.me ≡ (kept_view N.number token.old.me.0, token.old.me.1)) }
+        ensures given { (result.table_id ≡ token.old.table_id) × (result.me ≡ (given_view N.number token.old.me.0, [])) }
     {
         self.table.shared.split_seat::<Halve<N>>(token)
     }
@@ -88,16 +88,26 @@ impl<T: Recorded> Turnstile<T> {
         other
     }
 
-    // Takes in what another token has seen.
+    fn join_as<N: Chosen>(&self, token: &mut Token<T>, other: Token<T>)
+        requires table { (token.old.table_id ≡ self.now.table.shared.table_id) × (other.table_id ≡ self.now.table.shared.table_id) }
+        requires tale { N.number ≡ other.id }
+        requires ready { (token.old.me.0.stage ≡ Away) × (other.me.0.stage ≡ Away) × (other.me.1 ≡ []) }
+        ensures seat { (token.new.table_id ≡ token.old.table_id) × (token.new.id ≡ token.old.id) }
+        ensures joined { token.new.me ≡ (joined_view other.id token.old.me.0 other.me.0, token.old.me.1) }
+    {
+        self.table.shared.join_seat::<Tell<N>>(token, other);
+    }
+
+    // Takes in what another token has seen, and its share.
     pub(crate) fn join(&self, token: &mut Token<T>, other: Token<T>)
         requires table { (token.old.table_id ≡ self.now.table.shared.table_id) × (other.table_id ≡ self.now.table.shared.table_id) }
         requires ready { (token.old.me.0.stage ≡ Away) × (other.me.0.stage ≡ Away) × (other.me.1 ≡ []) }
         requires own { HasItsOwn (seated token.old) }
-        ensures seat { (token.new.table_id ≡ token.old.table_id) × (token.new.id ≡ token.old.id) × (token.new.me ≡ (settled_view (joined_view token.old.me.0 other.me.0), token.old.me.1)) }
+        ensures seat { (token.new.table_id ≡ token.old.table_id) × (token.new.id ≡ token.old.id) × (token.new.me ≡ (settled_view (joined_view other.id token.old.me.0 other.me.0), token.old.me.1)) }
         ensures begins { StartsWith token.new.me.0.seen token.old.me.0.seen × StartsWith token.new.me.0.seen other.me.0.seen }
         ensures own { HasItsOwn (seated token.new) }
     {
-        self.table.shared.join_seat::<Tell>(token, other);
+        self.join_as::<Brand>(token, other);
         self.settle(token);
     }
 
@@ -198,6 +208,7 @@ impl<T: Recorded> Turnstile<T> {
         ensures seat { (token.new.table_id ≡ token.old.table_id) × (token.new.id ≡ token.old.id) }
         ensures turned { Turned T.after St.entry St.tells (T.state self.now.table.shared.key.value) step result (seated token.old) (seated token.new) }
         ensures rests { (token.new.me.0.stage ≡ Away) × (token.new.me.0.told ≡ token.old.me.0.told) × (token.new.me.0.draws ≡ token.old.me.0.draws - 1) × (token.new.me.1 ≡ []) }
+        ensures share { HasSameShare (seated token.old) (seated token.new) }
     {
         let ticket = self.draw(token);
         self.wait(rt, token, ticket);
