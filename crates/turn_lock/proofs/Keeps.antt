@@ -15,9 +15,9 @@ use Rattle.turn_lock.specs.declared.rule.Made.{Made}
 use Rattle.turn_lock.specs.declared.rule.View.{View}
 use Rattle.turn_lock.specs.declared.rule.Stage.{Stage}
 use Rattle.turn_lock.specs.declared.rule.Stage.TheVariants.{Spent, Away, Waiting, Turn}
-use Rattle.turn_lock.specs.Turns.{StartsWith, longer, made, made_by, state_after, last_word, HasMadeAll}
+use Rattle.turn_lock.specs.Turns.{StartsWith, longer, made, made_by, state_after, last_word, HasMadeAll, EachFits}
 use Rattle.turn_lock.specs.Turning.{total_draws, HasSeen, Knows, Turning, Shares, pending, Ruled, first_view, kept_view, given_view, joined_view, spent_view, settled_view, drew, called, settled, looked}
-use Rattle.turn_lock.proofs.Lists.{starts_whole, starts_none, starts_more, shorter_begins, made_by_starts, made_by-own, made_by-other}
+use Rattle.turn_lock.proofs.Lists.{starts_whole, starts_none, starts_more, shorter_begins, made_by_starts, made_by-own, made_by-other, cut_last, nothing_cut}
 use Rattle.turn_lock.proofs.Shares.{total-set, total-append, share_same, shares_follow, seat_shares, append_follows, join_shares, has_made_all}
 
 module _ {E : Type 0} where
@@ -94,7 +94,14 @@ abbrev put_off : {A : Type 0} → List A → List A
 put_off [] = []
 put_off (x ∷ xs) = xs
 
-module _ {T S E : Type 0} (state : T → S) (after : S → E → S) (first : S) where
+-- a list with one entry more, which is one of the state that it finds
+one_fits : {S E : Type 0} → (after : S → E → S) (fits : S → E → Type 0) (first : S) (log : List (Made E)) (m : Made E) → EachFits after fits first log → fits (state_after after first log) m.entry → EachFits after fits first (log ++ m ∷ [])
+one_fits {S} {E} after fits first log m each here before rest n is = ⊎_elim
+    (λ (t : (more : List (Made E)) × (log ≡ before ++ n ∷ more)). each before t.0 n t.1)
+    (λ (t : (log ≡ before) × (m ≡ n)). subst (λ (x : List (Made E) × Made E). fits (state_after after first x.0) x.1.entry) (λ i. (t.0 i, t.1 i)) here)
+    (cut_last log before rest m n is)
+
+module _ {T S E : Type 0} (state : T → S) (after : S → E → S) (fits : S → E → Type 0) (first : S) where
   abbrev St : Type 0
   St = State (Option T) (View E)
 
@@ -105,10 +112,10 @@ module _ {T S E : Type 0} (state : T → S) (after : S → E → S) (first : S) 
   Homes = List (maybe.Option (Option T))
 
   abbrev Rule : St → Type 0
-  Rule = Ruled state after first
+  Rule = Ruled state after fits first
 
   abbrev Turning' : ℕ → ℕ → Homes → List (View E) → Type 0
-  Turning' = Turning state after first
+  Turning' = Turning state after fits first
 
   -- a step that sets `serving`
   serving_set : (s : St) (n : ℕ) (hs : Homes) (vs : List (View E)) → length s.words ≡ 2 → Turning' n (get_or s.words 1 0) hs vs → Rule record { words = set s.words 0 n; homes = hs; views = vs }
@@ -137,7 +144,7 @@ module _ {T S E : Type 0} (state : T → S) (after : S → E → S) (first : S) 
       has_made_all r.log views id v at (all ∙ sym r.whole) r.shares (λ j d there live. made_own r.log r.owner r.busy serving next j d d.stage live (r.each_seat j d there)) r.strangers
 
   pub looks : (slots id : ℕ) (me : M) (t : ℕ) (firsts : List S) (by : ℕ) → by ≡ id → firsts ≡ first ∷ [] → me.0.stage ≡ Waiting t → me.1 ≡ []
-      → Allows Rule slots id me 0 (λ n. n) (looked state after firsts by t (step slots 0 0 0 none) me)
+      → Allows Rule slots id me 0 (λ n. n) (looked state after fits firsts by t (step slots 0 0 0 none) me)
   looks slots id me t firsts by same_seat start waits bare s rule deep at small =
       let wide = rule.0 in
       let r = rule.1 in
@@ -167,6 +174,7 @@ module _ {T S E : Type 0} (state : T → S) (after : S → E → S) (first : S) 
               ((starts_whole r.log, k.0.1, k.0.2), refl, sym hit, k.2, k.3, refl)
               (λ j d other here. others_found r.log r.owner serving next j d d.stage id other own (subst (λ b. Knows r.log r.owner b serving next j d d.stage) free (r.each_seat j d here)));
           strangers = λ j far. r.strangers j (subst (λ (z : ℕ). z ≤ j) (length-set s.views id w) far);
+          fit = r.fit;
           whole = share_same s.views id me.0 w at refl r.whole;
           shares = seat_shares r.log r.log s.views id me.0 w at (seat_below s.views id me.0 at) (live_in me.0 (Waiting t) waits (λ (is : Waiting t ≡ Spent). cc)) (λ (is : Turn t ≡ Spent). cc) refl
               (let within = (r.shares id me.0 at).0 in let one : pending me.0.stage ≡ 1 = ap pending waits in omega arith) (λ j other. refl) r.shares;
@@ -177,6 +185,7 @@ module _ {T S E : Type 0} (state : T → S) (after : S → E → S) (first : S) 
             log = r.log;
             begins = k.0.0;
             own = ap (λ b. made_by b r.log) same_seat ∙ k.0.2;
+            fit = λ f is. let same : first ≡ f = cc in subst (λ (z : S). EachFits after fits z r.log) same r.fit;
             others = λ all. subst (λ (b : ℕ). HasMadeAll r.log b me.0.joined) (sym same_seat) (all_made serving next s.homes s.views r id me.0 at all);
             seat = ap (λ (l : List (ℕ × Option T)). (w, (0, Some x) ∷ l)) bare;
             stands = λ f is. let same : first ≡ f = cc in home.2 ∙ ap (λ (z : S). state_after after z r.log) same;
@@ -203,8 +212,8 @@ module _ {T S E : Type 0} (state : T → S) (after : S → E → S) (first : S) 
       let owner' : ℕ → ℕ = λ n. cond (eqb n next) id (r.owner n) in
       let total = total-set (λ x. x.draws) s.views id me.0 w at in
       let room = r.room in
-      let fits : next + 1 < 18446744073709551616 = omega arith in
-      let up : (next + 1) % 2 ^ 64 ≡ next + 1 = mod-eq_of_lt fits in (
+      let low : next + 1 < 18446744073709551616 = omega arith in
+      let up : (next + 1) % 2 ^ 64 ≡ next + 1 = mod-eq_of_lt low in (
         w,
         keeps,
         tt,
@@ -220,6 +229,7 @@ module _ {T S E : Type 0} (state : T → S) (after : S → E → S) (first : S) 
               (k, r.order, omega arith, ap (λ b. cond b id (r.owner next)) (eq-eqb next next refl), λ is. not_true r.busy (λ out. let b = r.within out in omega arith))
               (λ j d other here. others_drawn r.log r.owner serving next j d r.busy d.stage id (r.each_seat j d here));
           strangers = λ j far. r.strangers j (subst (λ (z : ℕ). z ≤ j) (length-set s.views id w) far);
+          fit = r.fit;
           whole = share_same s.views id me.0 w at refl r.whole;
           shares = seat_shares r.log r.log s.views id me.0 w at (seat_below s.views id me.0 at) (live_in me.0 Away away (λ (is : Away ≡ Spent). cc)) (λ (is : Waiting next ≡ Spent). cc) refl
               (let within = (r.shares id me.0 at).0 in let none : pending me.0.stage ≡ 0 = ap pending away in omega arith) (λ j other. refl) r.shares;
@@ -228,9 +238,9 @@ module _ {T S E : Type 0} (state : T → S) (after : S → E → S) (first : S) 
       )
 
   pub calls : (slots id : ℕ) (me : M) (t : ℕ) (e : E) (adds : List E) (by : ℕ) (y : T) → slots ≡ 1 → by ≡ id → adds ≡ e ∷ [] → me.0.stage ≡ Turn t → me.1 ≡ (0, Some y) ∷ []
-      → state y ≡ state_after after first (me.0.seen ++ made id e ∷ [])
+      → state y ≡ state_after after first (me.0.seen ++ made id e ∷ []) → fits (state_after after first me.0.seen) e
       → Allows Rule slots id me 0 (λ n. (n + 1) % 2 ^ 64) (called by adds (step slots 0 1 0 none) me)
-  calls slots id me t e adds by y one same adds_it turn carried stands s rule deep at small =
+  calls slots id me t e adds by y one same adds_it turn carried stands fit s rule deep at small =
       let wide = rule.0 in
       let r = rule.1 in
       let serving : ℕ = get_or s.words 0 0 in
@@ -242,8 +252,8 @@ module _ {T S E : Type 0} (state : T → S) (after : S → E → S) (first : S) 
       let own : r.owner serving ≡ id = ap r.owner (sym is) ∙ k.4 in
       let below : serving < next = let l = k.3 in omega arith in
       let room = r.room in
-      let fits : serving + 1 < 18446744073709551616 = omega arith in
-      let up : (serving + 1) % 2 ^ 64 ≡ serving + 1 = mod-eq_of_lt fits in
+      let low : serving + 1 < 18446744073709551616 = omega arith in
+      let up : (serving + 1) % 2 ^ 64 ≡ serving + 1 = mod-eq_of_lt low in
       let whole : r.log ≡ me.0.seen = k.1 in
       let held : HasSeen r.log id me.0 = k.0 in
       let homes' : Homes = set s.homes 0 (some (Some y)) in (
@@ -264,6 +274,7 @@ module _ {T S E : Type 0} (state : T → S) (after : S → E → S) (first : S) 
                   (λ j d other here. others_called r.log r.owner serving next j d d.stage id e other own (subst (λ b. Knows r.log r.owner b serving next j d d.stage) k.5 (r.each_seat j d here)));
               strangers = λ j far. let inside = seat_below s.views id me.0 at in let far' : length s.views ≤ j = subst (λ (z : ℕ). z ≤ j) (length-set s.views id w) far in
                   made_by-other j id r.log e (λ h. omega arith) ∙ r.strangers j far';
+              fit = one_fits after fits first r.log (made id e) r.fit (subst (λ l. fits (state_after after first l) e) (sym whole) fit);
               whole = share_same s.views id me.0 w at refl r.whole;
               shares = seat_shares r.log log' s.views id me.0 w at (seat_below s.views id me.0 at) (live_in me.0 (Turn t) turn (λ (is : Turn t ≡ Spent). cc)) (λ (is : Away ≡ Spent). cc) refl
                   (let within = (r.shares id me.0 at).0 in let one : pending me.0.stage ≡ 1 = ap pending turn in let more = length-append me.0.mine (e ∷ []) in omega arith)
@@ -298,6 +309,7 @@ module _ {T S E : Type 0} (state : T → S) (after : S → E → S) (first : S) 
           each_seat = seats_stay (λ j d. Knows r.log r.owner r.busy serving next j d d.stage) s.views id w
               (subst (λ (z : Stage). Knows r.log r.owner r.busy serving next id w z) (sym away) (l.0, starts_none r.log, k.2)) (λ j d other here. r.each_seat j d here);
           strangers = λ j far. r.strangers j (subst (λ (z : ℕ). z ≤ j) (length-set s.views id w) far);
+          fit = r.fit;
           whole = share_same s.views id me.0 w at refl r.whole;
           shares = seat_shares r.log r.log s.views id me.0 w at (seat_below s.views id me.0 at) (live_in me.0 Away away (λ (is : Away ≡ Spent). cc)) (live_in me.0 Away away (λ (is : Away ≡ Spent). cc)) refl
               (r.shares id me.0 at).0 (λ j other. refl) r.shares;
@@ -338,6 +350,7 @@ module _ {T S E : Type 0} (state : T → S) (after : S → E → S) (first : S) 
               subst (λ (x : View E). Knows r.log r.owner r.busy serving next j x x.stage) t.1 (k.0, starts_none r.log, none_made))
               (at_end (set s.views id left) right d j here);
           strangers = λ j far. r.strangers j (let n = length-append (set s.views id left) (right ∷ []) in omega arith);
+          fit = r.fit;
           whole = omega arith;
           shares = λ j d here. ⊎_elim
               (λ (was : get_elem? (set s.views id left) j ≡ some d). shares_follow r.log r.log (set s.views id left) (set s.views id left ++ right ∷ []) (append_follows r.log (set s.views id left) right) j d was
@@ -377,6 +390,7 @@ module _ {T S E : Type 0} (state : T → S) (after : S → E → S) (first : S) 
               (λ j d _ here. seats_stay (λ i x. Knows r.log r.owner r.busy serving next i x x.stage) s.views id both
               (subst (λ (z : Stage). Knows r.log r.owner r.busy serving next id both z) (sym away) (k.0, k'.0, k.2)) (λ i x o h. r.each_seat i x h) j d here);
           strangers = λ j far. r.strangers j (omega arith);
+          fit = r.fit;
           whole = omega arith;
           shares = join_shares r.log s.views id other v w at was (seat_below s.views id v at) (seat_below s.views other w was) apart away away' k'.2 r.shares;
         },
@@ -408,6 +422,7 @@ module _ {T S E : Type 0} (state : T → S) (after : S → E → S) (first : S) 
       home = λ _. (x, refl, is);
       each_seat = λ j v e. first_knows (first_view ∷ []) j v refl e;
       strangers = λ _ _. refl;
+      fit = λ before rest m is. absurd (nothing_cut before rest m is);
       whole = refl;
       shares = λ j v e. first_shares (first_view ∷ []) j v refl e;
     },

@@ -1,5 +1,5 @@
 -- Lists of turns: beginnings, the entries of one seat, and the tickets that all seats may draw.
-use Rattle.std.proofs.Common.{◌≡◌, ◌≢◌, ℕ, zero, suc, ◌+◌, ◌≤◌, eqb, true, false, cond, List, [], ◌∷◌, ◌++◌, length, set, refl, sym, ap, ◌∙◌, subst, arith, eq-eqb, ne_eqb, length-append}
+use Rattle.std.proofs.Common.{◌≡◌, ◌≢◌, ℕ, zero, suc, ◌+◌, ◌≤◌, eqb, true, false, cond, ◌⊎◌, inl, inr, ⊎_elim, List, [], ◌∷◌, ◌++◌, length, set, refl, sym, ap, ◌∙◌, subst, arith, eq-eqb, ne_eqb, length-append}
 use mathlib.Core.Option.{some, some-injective, some-ne-none}
 use lib.ListN.{get_elem?}
 use Rattle.std.proofs.lemmas.List.{append_assoc, append-nil}
@@ -43,6 +43,19 @@ module _ {X : Type 0} where
       let others : xs ++ p.0 ≡ ys ++ q.0 = cc in
       let r : StartsWith xs ys = shorter_begins (xs ++ p.0) xs ys (p.0, refl) (q.0, others) (omega arith) in
       (r.0, λ i. first i ∷ r.1 i)
+
+-- where a list ends with m, an element that stands in it is m, or stands before it
+pub cut_last : {X : Type 0} → (log before rest : List X) (m n : X) → log ++ m ∷ [] ≡ before ++ n ∷ rest → ((more : List X) × (log ≡ before ++ n ∷ more)) ⊎ ((log ≡ before) × (m ≡ n))
+cut_last [] [] rest m n is = let same : m ≡ n = cc in inr (refl, same)
+cut_last [] (y ∷ ys) rest m n is = absurd (let short : 0 ≡ length (ys ++ n ∷ rest) = cc in let long = length-append ys (n ∷ rest) in omega arith)
+cut_last (x ∷ xs) [] rest m n is = let same : x ≡ n = cc in inl (xs, ap (λ z. z ∷ xs) same)
+cut_last (x ∷ xs) (y ∷ ys) rest m n is =
+    let same : x ≡ y = cc in
+    let rests : xs ++ m ∷ [] ≡ ys ++ n ∷ rest = cc in
+    ⊎_elim (λ t. inl (t.0, λ i. same i ∷ t.1 i)) (λ t. inr ((λ i. same i ∷ t.0 i), t.1)) (cut_last xs ys rest m n rests)
+
+pub nothing_cut : {X : Type 0} → (before rest : List X) (m : X) → [] ≡ before ++ m ∷ rest → ⊥
+nothing_cut before rest m is = let long = length-append before (m ∷ rest) in let none : 0 ≡ length (before ++ m ∷ rest) = ap length is in omega arith
 
 module _ {E : Type 0} where
   pub made_by-append : (by : ℕ) (xs ys : List (Made E)) → made_by by (xs ++ ys) ≡ made_by by xs ++ made_by by ys

@@ -3,7 +3,7 @@
 use Rattle.std.specs.Prelude.{◌≡◌, List, [], ◌∷◌, ◌++◌}
 use Rattle.turn_lock.specs.declared.rule.Made.{Made}
 use Rattle.turn_lock.specs.Seats.{Seated, HasAllNumbers}
-use Rattle.turn_lock.specs.Turns.{StartsWith, made, made_by, state_after, HasMadeAll}
+use Rattle.turn_lock.specs.Turns.{StartsWith, made, made_by, state_after, HasMadeAll, EachFits}
 
 module _ {S E : Type 0} (after : S → E → S) where
   -- The step finds the state after a list that begins with all that the seat had seen, and adds one entry, its own: `between` are the turns of others since.
@@ -15,11 +15,13 @@ module _ {S E : Type 0} (after : S → E → S) where
     pub own : made_by old.number new.seen ≡ new.mine
     pub told : tells step (state_after after first (old.seen ++ between)) answer
 
+module _ {S E : Type 0} (after : S → E → S) (fits : S → E → Type 0) where
   -- A lock that held this value at its end: it stands for the whole list, which begins with what the seat had seen, and of the seat's entries has just its own.
-  -- Where the seat has all numbers, the list has no entry but its own and those of the seats that were joined to it
+  -- Each entry is one of the state that it found. Where the seat has all numbers, the list has no entry but its own and those of the seats that were joined to it
   pub record Closes (first last : S) (seat : Seated E) : Type 0 where
     pub list : List (Made E)
     pub begins : StartsWith list seat.seen
     pub own : made_by seat.number list ≡ seat.mine
     pub others : HasAllNumbers seat → HasMadeAll list seat.number seat.joined
+    pub fit : EachFits after fits first list
     pub stands : last ≡ state_after after first list

@@ -10,7 +10,7 @@ use Rattle.turn_lock.specs.declared.rule.Joined.{Joined}
 use Rattle.turn_lock.specs.declared.rule.View.{View}
 use Rattle.turn_lock.specs.declared.rule.Stage.{Stage}
 use Rattle.turn_lock.specs.declared.rule.Stage.TheVariants.{Spent, Away, Waiting, Turn}
-use Rattle.turn_lock.specs.Turns.{StartsWith, longer, made, made_by, state_after, last_word, Has, with_leaver, HasMadeAll}
+use Rattle.turn_lock.specs.Turns.{StartsWith, longer, made, made_by, state_after, last_word, EachFits, Has, with_leaver, HasMadeAll}
 
 -- one number is drawn and not yet called, or none
 abbrev pub pending : Stage → ℕ
@@ -68,7 +68,7 @@ module _ {E : Type 0} where
     Knows (Waiting t) = HasSeen log seat v × (serving ≤ t) × (t < next) × (owner t ≡ seat) × (t ≡ serving → busy ≡ false)
     Knows (Turn t) = HasSeen log seat v × (log ≡ v.seen) × (t ≡ serving) × (t < next) × (owner t ≡ seat) × (busy ≡ true)
 
-module _ {T S E : Type 0} (state : T → S) (after : S → E → S) (first : S) where
+module _ {T S E : Type 0} (state : T → S) (after : S → E → S) (fits : S → E → Type 0) (first : S) where
   -- `log` is the list of all turns, `owner` the seat that drew each ticket, and `busy` says that the value is out.
   -- At home the value stands for the list
   pub record Turning (serving next : ℕ) (homes : List (maybe.Option (Option T))) (views : List (View E)) : Type 0 where
@@ -81,6 +81,7 @@ module _ {T S E : Type 0} (state : T → S) (after : S → E → S) (first : S) 
     pub home : busy ≡ false → (x : T) × (get_elem? homes 0 ≡ some (some (Some x))) × (state x ≡ state_after after first log)
     pub each_seat : (j : ℕ) (v : View E) → get_elem? views j ≡ some v → Knows log owner busy serving next j v v.stage
     pub strangers : (j : ℕ) → length views ≤ j → made_by j log ≡ []
+    pub fit : EachFits after fits first log
     pub whole : total_share views ≡ last_word
     pub shares : (j : ℕ) (v : View E) → get_elem? views j ≡ some v → Shares log views j v
 
@@ -123,7 +124,7 @@ module _ {T E : Type 0} where
   abbrev pub settled : ℕ → Step (Option T) → Sat T E → ℕ → Sat T E → Type 0
   settled by st m n m' = (m' ≡ (settled_view m.0, m.1)) × StartsWith m'.0.seen m.0.seen × StartsWith m'.0.seen m.0.told × StartsWith m'.0.mine (made_by by m'.0.seen)
 
-  module _ {S : Type 0} (state : T → S) (after : S → E → S) (firsts : List S) (by : ℕ) where
+  module _ {S : Type 0} (state : T → S) (after : S → E → S) (fits : S → E → Type 0) (firsts : List S) (by : ℕ) where
     -- the turn has come: the seat has the value, which stands for the list that the seat has now seen
     pub record Found (t : ℕ) (m m' : Sat T E) : Type 0 where
       pub value : T
@@ -132,6 +133,7 @@ module _ {T E : Type 0} where
       pub own : made_by by log ≡ m.0.mine
       pub others : m.0.share ≡ last_word → HasMadeAll log by m.0.joined
       pub seat : m' ≡ (record m.0 { seen = log; stage = Turn t }, (0, Some value) ∷ [])
+      pub fit : (f : S) → firsts ≡ f ∷ [] → EachFits after fits f log
       pub stands : (f : S) → firsts ≡ f ∷ [] → state value ≡ state_after after f log
 
     -- it is the seat's turn exactly where the number found is its ticket

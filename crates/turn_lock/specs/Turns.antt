@@ -51,3 +51,7 @@ module _ {E : Type 0} where
 -- the state that the entries of these turns lead to, one after another
 abbrev pub state_after : {S E : Type 0} → (S → E → S) → S → List (Made E) → S
 state_after after first list = fold after first (entries list)
+
+-- each entry is one of the state that it found
+abbrev pub EachFits : {S E : Type 0} → (S → E → S) → (S → E → Type 0) → S → List (Made E) → Type 0
+EachFits {S} {E} after fits first list = (before rest : List (Made E)) (m : Made E) → list ≡ before ++ m ∷ rest → fits (state_after after first before) m.entry

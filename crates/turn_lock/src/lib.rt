@@ -12,7 +12,8 @@
 //! # A value, a step, a seat
 //!
 //! - A value that may lie under the lock implements [`Recorded`]: which *state* clauses see of it,
-//!   which *entries* the list has, and which state comes *after* one more entry.
+//!   which *entries* the list has, which state comes *after* one more entry, and which entries a
+//!   state can have.
 //! - A [`Step`] is what one turn does: it changes the value and answers. Its contract says which
 //!   entry the run stands for, and what the answer tells of the state that the run found. A step
 //!   that is refused stands for an idle entry, one which leaves the state as it was: a turn was

@@ -143,7 +143,7 @@ impl<T: Recorded> TurnLock<T> {
     where
         T: Drop,
         requires { IsSeatOf self seat }
-        ensures { Closes T.after self.first (T.state result) seat }
+        ensures { Closes T.after T.fits self.first (T.state result) seat }
     {
         let TurnLock { turnstile } = self;
         let Seat { token, draws } = seat;

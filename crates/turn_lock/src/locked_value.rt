@@ -18,6 +18,9 @@ pub trait Recorded {
 
     // the state after one more entry
     ghost after: { Self.State → Self.Entry → Self.State };
+
+    // which entries a state can have: each entry of the list is one of the state that it found
+    ghost fits: { Self.State → Self.Entry → Type 0 } = { λ _ _. Unit {0} };
 }
 
 /// What one turn does, once. The turn owns it, so it may hold what it hands over, as an `Option`
@@ -39,5 +42,6 @@ pub trait Step {
     /// keep it short, and let it wait for nobody.
     fn run(&mut self, value: &mut Self::Value) -> Self::Answer
         ensures keeps { Self.Value.state value.new ≡ Self.Value.after (Self.Value.state value.old) (entry self.old (Self.Value.state value.old) result) }
-        ensures tells { tells self.old (Self.Value.state value.old) result };
+        ensures tells { tells self.old (Self.Value.state value.old) result }
+        ensures fits { Self.Value.fits (Self.Value.state value.old) (entry self.old (Self.Value.state value.old) result) };
 }

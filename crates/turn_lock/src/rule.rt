@@ -60,7 +60,7 @@ pub struct Turns<T> {
 impl<T: Recorded> TableRule<Option<T>, View<T::Entry>, Snapshot<T>> for Turns<T> {
     ghost use Rattle.turn_lock.specs.Turning.{Ruled, first_view};
 
-    ghost holds = { λ key. Ruled T.state T.after (T.state key.value) };
+    ghost holds = { λ key. Ruled T.state T.after T.fits (T.state key.value) };
 
     ghost first = { λ _. first_view };
 }
@@ -110,7 +110,7 @@ pub(crate) struct Look<N> {
 impl<T: Recorded, N: Tale<T::State, T::Entry>> Play<Option<T>, View<T::Entry>> for Look<N> {
     ghost use Rattle.turn_lock.specs.Turning.{looked};
 
-    ghost then = { looked T.state T.after N.firsts N.by N.ticket };
+    ghost then = { looked T.state T.after T.fits N.firsts N.by N.ticket };
 }
 
 /// Call the next number. In the proof the value comes home here, with the entry that it stands for.

@@ -32,6 +32,9 @@ impl Recorded for Tally {
     ghost state = { λ t. t };
 
     ghost after = { λ t c. record { number = elim c [ Added k ↦ t.number + k | Idle ↦ t.number | Looked ↦ t.number ]; turns = min (t.turns + 1) 18446744073709551615 } };
+
+    // What is added leaves a sum that is a `u64`.
+    ghost fits = { λ t c. elim c [ Added k ↦ t.number + k < 2 ^ 64 | Idle ↦ Unit {0} | Looked ↦ Unit {0} ] };
 }
 
 /// Adds, and is refused where the sum is no `u64`. Answers whether it did, and what it found.

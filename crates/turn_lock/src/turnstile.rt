@@ -147,7 +147,7 @@ impl<T: Recorded> Turnstile<T> {
         requires tale { (N.firsts ≡ T.state self.now.table.shared.key.value ∷ []) × (N.by ≡ token.old.id) × (N.ticket ≡ ticket) }
         requires ready { (token.old.me.0.stage ≡ Waiting ticket) × (token.old.me.1 ≡ []) }
         ensures seat { (token.new.table_id ≡ token.old.table_id) × (token.new.id ≡ token.old.id) }
-        ensures found { MatchBool result (Found T.state T.after N.firsts N.by N.ticket token.old.me token.new.me) (token.new.me ≡ token.old.me) }
+        ensures found { MatchBool result (Found T.state T.after T.fits N.firsts N.by N.ticket token.old.me token.new.me) (token.new.me ≡ token.old.me) }
     {
         self.table.shared.load::<Look<N>>(token, SERVING) == ticket
     }
@@ -157,7 +157,7 @@ impl<T: Recorded> Turnstile<T> {
         requires table { token.old.table_id ≡ self.now.table.shared.table_id }
         requires ready { (token.old.me.0.stage ≡ Waiting ticket) × (token.old.me.1 ≡ []) }
         ensures seat { (token.new.table_id ≡ token.old.table_id) × (token.new.id ≡ token.old.id) }
-        ensures found { MatchBool result (Found T.state T.after (T.state self.now.table.shared.key.value ∷ []) token.old.id ticket token.old.me token.new.me) (token.new.me ≡ token.old.me) }
+        ensures found { MatchBool result (Found T.state T.after T.fits (T.state self.now.table.shared.key.value ∷ []) token.old.id ticket token.old.me token.new.me) (token.new.me ≡ token.old.me) }
     {
         self.look_as::<Brand>(token, ticket)
     }
@@ -166,7 +166,7 @@ impl<T: Recorded> Turnstile<T> {
         requires table { token.old.table_id ≡ self.now.table.shared.table_id }
         requires ready { (token.old.me.0.stage ≡ Waiting ticket) × (token.old.me.1 ≡ []) }
         ensures seat { (token.new.table_id ≡ token.old.table_id) × (token.new.id ≡ token.old.id) }
-        ensures found { Found T.state T.after (T.state self.now.table.shared.key.value ∷ []) token.old.id ticket token.old.me token.new.me }
+        ensures found { Found T.state T.after T.fits (T.state self.now.table.shared.key.value ∷ []) token.old.id ticket token.old.me token.new.me }
     {
         for _ in rt.forever() {
             if self.look(token, ticket) {
@@ -187,6 +187,7 @@ impl<T: Recorded> Turnstile<T> {
         requires table { token.old.table_id ≡ self.now.table.shared.table_id }
         requires tale { (N.by ≡ token.old.id) × (N.adds ≡ St.entry before.now.value (T.state found.now.value) answer.now ∷ []) }
         requires ready { (t : ℕ) × (y : T) × (token.old.me.0.stage ≡ Turn t) × (token.old.me.1 ≡ (0, Some y) ∷ []) × (T.state y ≡ state_after T.after (T.state self.now.table.shared.key.value) (token.old.me.0.seen ++ made token.old.id (St.entry before.now.value (T.state found.now.value) answer.now) ∷ [])) }
+        requires fits { T.fits (state_after T.after (T.state self.now.table.shared.key.value) token.old.me.0.seen) (St.entry before.now.value (T.state found.now.value) answer.now) }
         ensures seat { (token.new.table_id ≡ token.old.table_id) × (token.new.id ≡ token.old.id) }
         ensures own { made_by token.old.id token.new.me.0.seen ≡ token.new.me.0.mine }
         ensures added { let e : T.Entry = St.entry before.now.value (T.state found.now.value) answer.now in (token.new.me ≡ (record token.old.me.0 { seen = token.old.me.0.seen ++ made token.old.id e ∷ []; mine = token.old.me.0.mine ++ e ∷ []; stage = Away }, [])) }
@@ -227,7 +228,7 @@ impl<T: Recorded> Turnstile<T> {
         T: Drop,
         requires table { token.table_id ≡ self.table.shared.table_id }
         requires ready { (token.me.0.stage ≡ Away) × (0 < token.me.0.draws) × (token.me.1 ≡ []) }
-        ensures { Closes T.after (T.state self.table.shared.key.value) (T.state result) (seated token) }
+        ensures { Closes T.after T.fits (T.state self.table.shared.key.value) (T.state result) (seated token) }
     {
         let ticket = self.draw(&mut token);
         self.wait(rt, &mut token, ticket);
