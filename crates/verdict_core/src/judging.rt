@@ -1,10 +1,13 @@
 //! Whether a ticket allows a request.
 
-ghost use Rattle.std.specs.Prelude.{◌≡◌};
+ghost use Rattle.std.specs.Prelude.{◌≡◌, []};
 ghost use Rattle.std.specs.List.{list_any, list_all};
+ghost use Rattle.std.specs.Option.{ForSome};
+ghost use Rattle.verdict_core.specs.Chains.{AreChained, chains_of};
 ghost use Rattle.verdict_core.specs.Verdict.{is_allowed};
 ghost use Rattle.verdict_core.specs.Verdict as spec;
 
+use crate::chains::Chains;
 use crate::matching::{FIRST, allows, is_usable, is_usable_at_once, is_usable_by_names};
 use crate::request::{ClassCall, Needs, Target};
 use crate::ticket::Ticket;
@@ -38,11 +41,7 @@ fn has_usable_at_length(grants: &[(Path, AllowGrant)], target: &Target<'_>, need
 /// The same, by a walk that looks at names and tags by a few comparisons of words. Where they do not tell of a grant, another
 /// walk goes on from it, so that nothing of the grants behind is kept.
 #[inline(never)]
-pub(crate) fn has_usable_at_once(
-    grants: &[(Path, AllowGrant)],
-    target: &Target<'_>,
-    needs: &Needs,
-) -> bool
+fn has_usable_at_once(grants: &[(Path, AllowGrant)], target: &Target<'_>, needs: &Needs) -> bool
     ensures { result ≡ list_any (λ entry. spec.is_usable entry.1 target.now needs.now) grants.now }
 {
     let mut rest = grants;
@@ -54,22 +53,6 @@ pub(crate) fn has_usable_at_once(
         }
     }
     false
-}
-
-/// Whether some grant is usable. Many tickets have one grant, so the first one is looked at before a walk begins, if it has no
-/// tag.
-#[inline(always)]
-fn has_usable(grants: &[(Path, AllowGrant)], target: &Target<'_>, needs: &Needs) -> bool
-    ensures { result ≡ list_any (λ entry. spec.is_usable entry.1 target.now needs.now) grants.now }
-{
-    let Some((entry, others)) = grants.split_first() else {
-        return false;
-    };
-    match is_usable_by_names::<FIRST>(&entry.1, target, needs) {
-        Some(true) => true,
-        Some(false) => !others.is_empty() && has_usable_at_once(others, target, needs),
-        None => has_usable_at_once(grants, target, needs),
-    }
 }
 
 /// Whether each call is covered. It is a call of its own, since most requests have no calls.
@@ -90,9 +73,54 @@ pub fn grants_allow(grants: &[(Path, AllowGrant)], target: &Target<'_>, needs: &
     ensures { result ≡ spec.grants_allow grants.now target.now needs.now }
 {
     if needs.calls.as_slice().is_empty() {
-        has_usable(grants, target, needs)
+        has_usable_at_once(grants, target, needs)
     } else {
         are_covered(grants, target, needs)
+    }
+}
+
+/// Whether grants allow a request without calls, by their chains if there are some. Many tickets have one grant, so the first one
+/// is looked at before the chains are, and before a walk begins, if it has no tag.
+#[inline(always)]
+fn allow_without_calls(
+    chains: &Option<Chains>,
+    grants: &[(Path, AllowGrant)],
+    target: &Target<'_>,
+    needs: &Needs,
+) -> bool
+    requires chained { ForSome chains.now (λ p. AreChained 0 (chains_of grants.now) p.first.items p.next.items) }
+    requires no_calls { needs.now.calls ≡ [] }
+    ensures { result ≡ spec.grants_allow grants.now target.now needs.now }
+{
+    let Some((entry, others)) = grants.split_first() else {
+        return false;
+    };
+    match (is_usable_by_names::<FIRST>(&entry.1, target, needs), chains) {
+        (Some(true), _) => true,
+        (_, Some(chains)) => chains.allow(grants, target, needs),
+        (Some(false), None) => !others.is_empty() && has_usable_at_once(others, target, needs),
+        (None, None) => has_usable_at_once(grants, target, needs),
+    }
+}
+
+/// Whether a ticket's grants allow a request, whatever the time, by their chains if there are some. It takes no memory and copies
+/// nothing. It is a call of its own, so that an expired ticket costs no more than its test.
+#[inline(never)]
+pub(crate) fn allow_by(
+    chains: &Option<Chains>,
+    grants: &[(Path, AllowGrant)],
+    target: &Target<'_>,
+    needs: &Needs,
+) -> bool
+    requires { ForSome chains.now (λ p. AreChained 0 (chains_of grants.now) p.first.items p.next.items) }
+    ensures { result ≡ spec.grants_allow grants.now target.now needs.now }
+{
+    if needs.calls.as_slice().is_empty() {
+        return allow_without_calls(chains, grants, target, needs);
+    }
+    match chains {
+        None => are_covered(grants, target, needs),
+        Some(chains) => chains.allow(grants, target, needs),
     }
 }
 
@@ -101,5 +129,5 @@ pub fn grants_allow(grants: &[(Path, AllowGrant)], target: &Target<'_>, needs: &
 pub fn judge(ticket: &Ticket, target: &Target<'_>, needs: &Needs, tick: u64) -> bool
     ensures { result ≡ is_allowed ticket.now target.now needs.now tick }
 {
-    !ticket.is_expired(tick) && grants_allow(ticket.grants(), target, needs)
+    !ticket.is_expired(tick) && ticket.gives(target, needs)
 }

@@ -184,11 +184,8 @@ fn is_usable_in_turn(grant: &AllowGrant, target: &Target<'_>, needs: &Needs) -> 
 /// it is asked. Of these, the first grant of a ticket.
 pub(crate) const FIRST: u8 = 0;
 
-/// The first grant of a ticket with chains.
-pub(crate) const FIRST_OF_INDEXED: u8 = 1;
-
 /// The grants of a walk: of these the last byte of the pool is asked for first, in which most names differ.
-pub(crate) const OTHERS: u8 = 2;
+pub(crate) const OTHERS: u8 = 1;
 
 /// `names`, if two comparisons of words tell, or before them the last byte, where it is asked for.
 #[inline(always)]

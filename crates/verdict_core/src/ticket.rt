@@ -1,10 +1,12 @@
 //! Tickets and reports.
 
-ghost use Rattle.std.specs.Prelude.{◌≡◌, ◌≤◌, [], length, Some, IfOk};
+ghost use Rattle.std.specs.Prelude.{◌≡◌, ◌≤◌, [], length, Some, IfOk, IfErr};
 ghost use Rattle.verdict_core.specs.Text.{report_text};
 ghost use Rattle.verdict_core.specs.Verdict as spec;
 
-use crate::request::Condition;
+use crate::chains::Chains;
+use crate::judging::allow_by;
+use crate::request::{Condition, Needs, Target};
 use cap_text::{AllowGrant, OutOfMemory};
 use grant_core::{GrantTree, Path};
 use std::alloc::Global;
@@ -19,17 +21,21 @@ use std::marker::Model;
 pub struct Ticket {
     grants: Vec<(Path, AllowGrant)>,
     until: Option<u64>,
+    /// The chains of its grants, where it was made an indexed ticket of. Both kinds are judged by one function.
+    chains: Option<Chains>,
 }
 
 impl Model for Ticket {
     ghost use Rattle.std.specs.Prelude.{length, ◌≤◌};
+    ghost use Rattle.std.specs.Option.{ForSome};
+    ghost use Rattle.verdict_core.specs.Chains.{AreChained, chains_of};
     ghost use Rattle.verdict_core.specs.Ticket as seen;
 
     ghost Value = { seen.Ticket };
 
     ghost view = { λ t. record { grants = t.grants.items; until = t.until } };
 
-    ghost invariant = { λ t. length t.grants.items ≤ 256 };
+    ghost invariant = { λ t. (length t.grants.items ≤ 256) × ForSome t.chains (λ p. AreChained 0 (chains_of t.grants.items) p.first.items p.next.items) };
 }
 
 /// Why a request is denied: for each grant its path and the first condition that the request fails.
@@ -57,6 +63,7 @@ impl Ticket {
         Ok(Ticket {
             grants: tree.flat(alloc)?,
             until,
+            chains: None,
         })
     }
 
@@ -67,7 +74,30 @@ impl Ticket {
         Ticket {
             grants: Vec::new(alloc),
             until,
+            chains: None,
         }
+    }
+
+    /// The same ticket, with the chains of its grants. Where a growth is refused, it is given back as it was.
+    pub(crate) fn with_chains(self) -> Result<Ticket, (Ticket, OutOfMemory)>
+        ensures made { IfOk result (λ ticket. ticket ≡ self) }
+        ensures given_back { IfErr result (λ refused. refused.0 ≡ self) }
+    {
+        match Chains::of(self.allocator(), self.grants()) {
+            Ok(chains) => {
+                let chains = Some(chains);
+                Ok(Ticket { chains, ..self })
+            }
+            Err(error) => Err((self, error)),
+        }
+    }
+
+    /// Whether its grants allow a request, whatever the time.
+    #[inline(always)]
+    pub(crate) fn gives(&self, target: &Target<'_>, needs: &Needs) -> bool
+        ensures { result ≡ spec.grants_allow self.now.grants target.now needs.now }
+    {
+        allow_by(&self.chains, self.grants.as_slice(), target, needs)
     }
 
     /// Its grants in order, each with its path.
@@ -100,8 +130,22 @@ impl Ticket {
         *self.grants.allocator()
     }
 
-    /// An equal ticket.
+    /// An equal ticket, with its chains.
     pub fn copy(&self) -> Result<Ticket, OutOfMemory>
+        ensures { IfOk result (λ ticket. ticket ≡ self.now) }
+    {
+        let ticket = self.copy_without_chains()?;
+        match &self.chains {
+            None => Ok(ticket),
+            Some(chains) => {
+                let chains = Some(chains.copy()?);
+                Ok(Ticket { chains, ..ticket })
+            }
+        }
+    }
+
+    /// An equal ticket, which has no chains.
+    fn copy_without_chains(&self) -> Result<Ticket, OutOfMemory>
         ensures { IfOk result (λ ticket. ticket ≡ self.now) }
     {
         let mut grants = Vec::with_capacity(*self.grants.allocator(), self.grants.len())?;
@@ -111,6 +155,7 @@ impl Ticket {
         Ok(Ticket {
             grants,
             until: self.until,
+            chains: None,
         })
     }
 }

@@ -1,0 +1,8 @@
+use Rattle.std.proofs.Common.{◌∙◌}
+use Rattle.std.proofs.lemmas.Grind.{common_steps}
+use Rattle.std.proofs.Common.{arith}
+use Rattle.verdict_core.proofs.Walks.{by_calls}
+use Rattle.verdict_core.proofs.judging.allow_by.Goals as goal
+
+pub returns-in-None : goal.returns-in-None
+returns-in-None c = c.are_covered.ensures ∙ by_calls c.args.grants.now c.args.target.now c.args.needs.now c.args.needs.now.calls (λ e. grind (arith, common_steps, e))
