@@ -1,9 +1,7 @@
 //! Files of entities, as `ceph auth ls` and `ceph auth get` print them.
 
-ghost use Rattle.std.specs.Prelude.{◌≡◌, option_copied};
-ghost use Rattle.osdgate.specs.Entities.{entity_in};
-
 use cap_text::OutOfMemory;
+use gate_text::{Entity, find};
 use serde_json::Value;
 use std::alloc::{AllocFailed, Global};
 use std::{fmt, io};
@@ -15,14 +13,6 @@ pub(crate) trait InputFiles {
 
     /// All bytes of a file. It is an error where the file cannot be read.
     fn read_bytes(&self, path: &str) -> io::Result<Vec<u8>>;
-}
-
-/// An entity of a cluster. Its key is not kept.
-#[derive(Debug, Drop)]
-pub(crate) struct Entity {
-    pub(crate) name: String,
-    /// Its capability text for object stores, empty where it has none, which comes to no grants.
-    pub(crate) osd: String,
 }
 
 /// Why a text has no entities. None of the text stands in it.
@@ -121,13 +111,6 @@ fn entity_of(alloc: Global, entry: &Value, number: usize) -> Result<Entity, Auth
         name: String::from_str(alloc, name)?,
         osd: String::from_str(alloc, osd_text(caps, number)?)?,
     })
-}
-
-/// The entity of this name, the first where there are more.
-pub(crate) fn find<'a>(entities: &'a [Entity], name: &str) -> Option<&'a Entity>
-    ensures { option_copied result ≡ entity_in entities.now name.now }
-{
-    entities.iter().find(|entity| entity.name.as_str() == name)
 }
 
 fn entities_of_list(alloc: Global, entries: &[Value]) -> Result<Vec<Entity>, AuthFault> {

@@ -3,19 +3,16 @@
 ghost use Rattle.std.specs.Prelude.{◌≤◌};
 
 use crate::arguments::whole_command;
-use crate::auth_file::{AuthFault, Entity, InputFiles, entities_of};
-use crate::caret::point_at_fault;
-use crate::compare::compare_text;
-use crate::compare_auth::compare_entities;
-use crate::explain::explain_text;
-use crate::printed::Printed;
+use crate::auth_file::{AuthFault, InputFiles, entities_of};
 use crate::run::{RunFault, run_path};
-use crate::verdict::{Answer, Times, answer, text_of};
-use crate::who::who_text;
 use crate::words::WordsFault;
 use cap_text::{AppTags, Name, OutOfMemory, Pairs, Tags};
 use clap::error::ErrorKind;
 use clap::{ArgMatches, Error};
+use gate_text::{
+    Answer, Entity, Printed, Times, answer, compare_entities, compare_text, explain_text,
+    point_at_fault, text_of, who_text,
+};
 use object_core::{Bytes, Op};
 use std::alloc::{AllocError, AllocFailed, Global};
 use std::convert::AsStr;

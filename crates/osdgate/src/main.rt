@@ -3,16 +3,8 @@
 
 mod arguments;
 mod auth_file;
-mod caret;
 mod command;
-mod compare;
-mod compare_auth;
-mod explain;
-mod printed;
-mod request;
 mod run;
-mod verdict;
-mod who;
 mod words;
 
 use auth_file::InputFiles;

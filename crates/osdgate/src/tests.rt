@@ -3,16 +3,12 @@
 mod explaining;
 
 use crate::command::{refuse_words, run_command};
-use crate::verdict::{Times, verdict_text};
 use crate::who_tests::TestFiles;
 use crate::words::words;
-use cap_text::Tags;
-use object_core::Op;
 use std::alloc::Global;
 use std::env::{Env, FillError};
 use std::io;
 use std::test::Fail;
-use verdict_core::Target;
 
 /// What the program prints on these words, and its status.
 pub(crate) fn run(alloc: Global, words: &[&str]) -> Result<(String, u8), Fail> {
@@ -63,20 +59,11 @@ fn verdicts_print_their_texts(rt: HostRuntime) -> Result<(), Fail> {
     let alloc = rt.alloc();
     for (caps, more, text) in [
         ("allow rw pool=data", BOTH, "allow\n"),
-        ("allow rw pool=other", BOTH, "deny\n1 pool\n"),
-        ("", BOTH, "deny\n"),
-        ("   ", BOTH, "deny\n"),
-        ("allow w", READ, "deny\n1 read\n"),
-        ("allow r, allow w", BOTH, "deny\n1 write\n2 read\n"),
-        ("allow rw tag a b=c", BOTH, "deny\n1 tag\n"),
+        ("allow r, allow w", READ, "allow\n"),
+        ("allow r", WRITE, "deny\n1 write\n"),
         ("allow rw tag cephfs *=*", FS, "allow\n"),
         ("allow rw tag cephfs data=*", FS, "deny\n1 tag\n"),
         ("allow rw tag cephfs data=*", FS_DATA, "allow\n"),
-        (
-            "profile rbd pool=vms",
-            WRITE,
-            "deny\n1.1.1 pool\n1.2 pool\n",
-        ),
         (
             "allow class counter, allow class vault",
             TWO_CALLS,
@@ -84,13 +71,11 @@ fn verdicts_print_their_texts(rt: HostRuntime) -> Result<(), Fail> {
         ),
         ("allow class counter", TWO_CALLS, "deny\n1 call 2\n"),
         ("allow x", TWO_CALLS, "deny\n1 call 2\n"),
-        ("allow r pool='d\u{e9}'", READ, "refused C6 BadWord at 13\n"),
         (
             "allow rw network 10.0.0.0/8",
             READ,
             "refused C7 NetworkClause at 9\n",
         ),
-        ("profile osd", READ, "refused G1 UnknownProfile 1\n"),
         (
             "allow class counter",
             &["counter.drop"],
@@ -235,29 +220,6 @@ fn words_that_are_no_text(rt: HostRuntime) -> Result<(), Fail> {
         }
         assert!(rt; out.is_empty());
         assert!(rt; err.as_slice() == line.as_bytes());
-    }
-    Ok(())
-}
-
-#[test]
-fn the_text_of_a_verdict(rt: HostRuntime) -> Result<(), Fail> {
-    let alloc = rt.alloc();
-    let tags = Tags::from_vec(Vec::new(alloc));
-    let calls: Vec<Op> = Vec::new(alloc);
-    let target = Target {
-        pool: "data",
-        tags: &tags,
-        namespace: "",
-        object: "x",
-    };
-    for (tick, text) in [(9, "allow\n"), (10, "deny\n1 expired\n")] {
-        let times = Times {
-            until: Some(10),
-            tick,
-        };
-        let caps = "allow r pool=data";
-        let printed = verdict_text(alloc, caps, &target, true, false, calls.as_slice(), times)?;
-        assert_eq!(rt; printed.as_str(), text);
     }
     Ok(())
 }

@@ -48,9 +48,6 @@ fn file_of(path: &str) -> Option<&'static str> {
         "changed" => Some(CHANGED),
         "empty" => Some("[]"),
         "script" => Some("osds 2\nosd down 1\n"),
-        "less" => Some(
-            r#"[{"entity":"client.backup","caps":{"osd":"allow r pool=data"}},{"entity":"client.app","caps":{"osd":"allow rw pool=data namespace=a"}}]"#,
-        ),
         "refused" => Some(
             r#"[{"entity":"client.app","caps":{"osd":"allow rw network 10.0.0.0/8"}}]"#,
         ),
@@ -110,12 +107,6 @@ fn who(alloc: Global, file: &str, input: &str, more: &[&str]) -> Result<Ran, Fai
 fn entities_that_may(rt: HostRuntime) -> Result<(), Fail> {
     let alloc = rt.alloc();
     for (file, more, text) in [
-        (
-            "three",
-            ["--read"].as_slice(),
-            "client.backup\nclient.app\n",
-        ),
-        ("three", ["--read", "--write"].as_slice(), "client.app\n"),
         ("three", ["counter.get"].as_slice(), ""),
         (
             "three",
@@ -130,7 +121,6 @@ fn entities_that_may(rt: HostRuntime) -> Result<(), Fail> {
             "client.app allow\n",
         ),
         ("empty", ["--write", "--all"].as_slice(), ""),
-        ("odd", ["--read"].as_slice(), "client.\\xc3\\xa9\n"),
         (
             "odd",
             ["--read", "--all"].as_slice(),
@@ -161,14 +151,9 @@ fn entities_of_standard_input(rt: HostRuntime) -> Result<(), Fail> {
 #[test]
 fn calls_that_are_refused(rt: HostRuntime) -> Result<(), Fail> {
     let alloc = rt.alloc();
-    for more in [
-        ["counter.drop"].as_slice(),
-        ["counter.drop", "--all"].as_slice(),
-    ] {
-        let ran = who(alloc, "odd", "", more)?;
-        assert_eq!(rt; ran.out.as_str(), "refused N3 NoMethod\n");
-        assert_eq!(rt; ran.status, 1);
-    }
+    let ran = who(alloc, "odd", "", ["counter.drop"].as_slice())?;
+    assert_eq!(rt; ran.out.as_str(), "refused N3 NoMethod\n");
+    assert_eq!(rt; ran.status, 1);
     Ok(())
 }
 
@@ -257,25 +242,11 @@ fn compare(alloc: Global, old: &str, new: &str, more: &[&str]) -> Result<Ran, Fa
 fn changes_of_entities(rt: HostRuntime) -> Result<(), Fail> {
     let alloc = rt.alloc();
     for (old, new, text, checked) in [
-        ("three", "three", "", 0),
         ("one", "-", "", 0),
-        ("empty", "empty", "", 0),
         (
             "three",
             "changed",
             "client.backup different\n  + 1 --pool data --namespace a --object a --write\n  - 2 --pool logs --namespace a --object a --write\nclient.crash gone\nclient.new new\n  + 1 --pool data --namespace a --object a --read\nclient.idle new\n",
-            1,
-        ),
-        (
-            "three",
-            "less",
-            "client.backup narrower\n  - 2 --pool logs --namespace a --object a --write\nclient.app narrower\n  - 1 --pool data --namespace b --object a --read\nclient.crash gone\n",
-            0,
-        ),
-        (
-            "empty",
-            "one",
-            "client.app new\n  + 1 --pool data --namespace a --object a --read\n",
             1,
         ),
         (

@@ -1,0 +1,53 @@
+-- What the examples of two tickets say of both.
+use Rattle.std.proofs.Common.{◌≡◌, ◌↔◌, ℕ, List, [], ◌∷◌, ◌++◌, Bool, ◌&&◌, Result, Ok, Err, IfOk, codes, refl, arith}
+use Rattle.std.specs.List.{All}
+use Rattle.grant_core.specs.Flat.{Flat}
+use Rattle.compare_core.specs.Widening.{IsGained, Widens, request_of}
+use Rattle.compare_core.specs.declared.comparing.Example.{Example}
+use Rattle.gate_text.specs.Entities.{IsChangeTold, change_lines, word_of}
+use Rattle.gate_text.specs.declared.compare.Change.{Change}
+use Rattle.gate_text.specs.declared.compare_auth.Presence.{Presence}
+use Rattle.gate_text.specs.Compared.{IsRelation, IsChange, IsCompared, relation_of, relation_word, is_any, is_wider, example_lines}
+
+-- the first of some examples is gained
+first : (old new : Flat) (example : Example) (examples : List Example) → All (λ e. IsGained old new (request_of e)) (example ∷ examples) → Widens old new
+first old new example examples all = (request_of example, all 0 example (omega arith))
+
+stands : (old new : Flat) (gained lost : List Example) → ((gained ≡ []) ↔ (¬ Widens old new)) → ((lost ≡ []) ↔ (¬ Widens new old))
+    → All (λ e. IsGained old new (request_of e)) gained → All (λ e. IsGained new old (request_of e)) lost → IsRelation old new (relation_of (is_any gained) (is_any lost))
+stands old new [] [] no_gain no_loss gains loses = (no_gain.0 refl, no_loss.0 refl)
+stands old new [] (e ∷ es) no_gain no_loss gains loses = (no_gain.0 refl, first new old e es loses)
+stands old new (e ∷ es) [] no_gain no_loss gains loses = (first old new e es gains, no_loss.0 refl)
+stands old new (e ∷ es) (d ∷ ds) no_gain no_loss gains loses = (first old new e es gains, first new old d ds loses)
+
+pub compared_lines : (old new : Flat) (change : Change) (check : Bool) (text : List ℕ) (fails : Bool) → IsChange old new change
+    → text ≡ relation_word (relation_of (is_any change.gained.items) (is_any change.lost.items)) ++ (codes "\n" ++ example_lines change.gained.items change.lost.items)
+    → fails ≡ (check && is_wider (relation_of (is_any change.gained.items) (is_any change.lost.items))) → IsCompared old new check text fails
+compared_lines old new change check text fails is printed ends = record {
+  relation = relation_of (is_any change.gained.items) (is_any change.lost.items);
+  gained = change.gained.items;
+  lost = change.lost.items;
+  stands = stands old new change.gained.items change.lost.items is.no_gain is.no_loss is.first_gain is.first_loss;
+  gains = is.gains;
+  loses = is.loses;
+  printed = printed;
+  ends = ends;
+}
+
+pub change_told : (presence : Presence) (name : List ℕ) (old new : Flat) (change : Change) (check : Bool) (text : List ℕ) (fails : Bool) → IsChange old new change
+    → text ≡ change_lines name (word_of presence (relation_of (is_any change.gained.items) (is_any change.lost.items))) change.gained.items change.lost.items
+    → fails ≡ (check && is_wider (relation_of (is_any change.gained.items) (is_any change.lost.items))) → IsChangeTold presence name old new check text fails
+change_told presence name old new change check text fails is printed ends = record {
+  relation = relation_of (is_any change.gained.items) (is_any change.lost.items);
+  gained = change.gained.items;
+  lost = change.lost.items;
+  stands = stands old new change.gained.items change.lost.items is.no_gain is.no_loss is.first_gain is.first_loss;
+  gains = is.gains;
+  loses = is.loses;
+  printed = printed;
+  ends = ends;
+}
+
+pub ok_also : {T E : Type 0} {P Q : T → Type 0} (r : Result T E) → ((x : T) → P x → Q x) → IfOk r P → IfOk r Q
+ok_also (Ok x) also h = also x h
+ok_also (Err e) also h = tt

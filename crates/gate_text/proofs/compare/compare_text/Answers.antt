@@ -1,0 +1,9 @@
+use Rattle.std.proofs.Common.{rules, inr}
+use Rattle.gate_text.proofs.Comparisons.{ok_also}
+use Rattle.gate_text.proofs.compare.compare_text.Goals as goal
+
+pub returns : goal.returns
+returns c =
+    ok_also c.refused-in-Err-ticket_of.result
+    (λ printed h. inr (inr ((_, c.in-Ok.ensures.ticket), record { fault = c.in-Err-ticket_of.fault; is = c.in-Err-ticket_of.ensures.refused; real = search rules; printed = h.0; ends = h.1 })))
+    c.refused-in-Err-ticket_of.ensures

@@ -1,0 +1,130 @@
+-- Statement: contracts of public calls use it.
+-- What is printed of two capability texts: which allows more, and an example for each grant that does (this project's
+-- profile). Comparison is over the class registry: the calls of all requests are of its methods.
+use Rattle.std.specs.Prelude.{ℕ, ◌≡◌, ◌≢◌, ◌⊎◌, ◌↔◌, ◌&&◌, List, [], ◌∷◌, ◌++◌, Bool, true, false, None, Some, codes}
+use Rattle.std.specs.List.{All, flat_map}
+use Rattle.cap_text.specs.FaultText as cap
+use Rattle.cap_text.specs.Faults.{IsFirstFault}
+use Rattle.cap_text.specs.Grammar.{Spells}
+use Rattle.cap_text.specs.declared.grant.Grant.{Grant}
+use Rattle.cap_text.specs.declared.fault.FaultKind.TheVariants as kinds
+use Rattle.grant_core.specs.BuiltIn.{built_in}
+use Rattle.grant_core.specs.Flat.{Flat, flat}
+use Rattle.grant_core.specs.Refusal.{expand_refusal}
+use Rattle.grant_core.specs.Text as profiles
+use Rattle.compare_core.specs.Widening.{Answers, IsGained, Widens, request_of}
+use Rattle.compare_core.specs.declared.comparing.Example.{Example}
+use Rattle.gate_text.specs.Request.{example_line}
+use Rattle.gate_text.specs.declared.compare.Change.{Change}
+use Rattle.gate_text.specs.declared.compare.Relation.{Relation}
+use Rattle.gate_text.specs.declared.compare.Relation.TheVariants.{Same, Narrower, Wider, Different}
+use Rattle.gate_text.specs.declared.compare.TextFault.{TextFault}
+use Rattle.gate_text.specs.declared.compare.TextFault.TheVariants.{Spelling, Expansion, OutOfMemory}
+
+-- how new grants stand to old ones: by what only the new allow, and what only the old allow
+abbrev pub IsRelation : Flat → Flat → Relation → Type 0
+IsRelation old new Same = (¬ Widens old new) × (¬ Widens new old)
+IsRelation old new Narrower = (¬ Widens old new) × Widens new old
+IsRelation old new Wider = Widens old new × (¬ Widens new old)
+IsRelation old new Different = Widens old new × Widens new old
+
+abbrev pub relation_word : Relation → List ℕ
+relation_word Same = codes "same"
+relation_word Narrower = codes "narrower"
+relation_word Wider = codes "wider"
+relation_word Different = codes "different"
+
+-- the new grants allow what the old ones deny
+abbrev pub is_wider : Relation → Bool
+is_wider Same = false
+is_wider Narrower = false
+is_wider Wider = true
+is_wider Different = true
+
+-- the examples of what only the new grants allow, and of what only the old ones did
+abbrev pub example_lines : List Example → List Example → List ℕ
+example_lines gained lost = flat_map (example_line (codes "+ ")) gained ++ flat_map (example_line (codes "- ")) lost
+
+-- the same, indented
+abbrev pub indented_lines : List Example → List Example → List ℕ
+indented_lines gained lost = flat_map (example_line (codes "  + ")) gained ++ flat_map (example_line (codes "  - ")) lost
+
+abbrev pub relation_of : Bool → Bool → Relation
+relation_of false false = Same
+relation_of false true = Narrower
+relation_of true false = Wider
+relation_of true true = Different
+
+abbrev pub is_any : List Example → Bool
+is_any [] = false
+is_any (example ∷ examples) = true
+
+-- the examples of both ways, and that there are none exactly where nothing is allowed that the other denies
+pub record IsChange (old new : Flat) (change : Change) : Type 0 where
+  pub gains : Answers old new change.gained.items
+  pub loses : Answers new old change.lost.items
+  pub no_gain : (change.gained.items ≡ []) ↔ (¬ Widens old new)
+  pub no_loss : (change.lost.items ≡ []) ↔ (¬ Widens new old)
+  pub first_gain : All (λ example. IsGained old new (request_of example)) change.gained.items
+  pub first_loss : All (λ example. IsGained new old (request_of example)) change.lost.items
+
+-- The first line is the relation, and each grant that by itself allows more has a line with its example. It fails where a
+-- check was asked for and the new grants allow what the old ones deny.
+pub record IsCompared (old new : Flat) (check : Bool) (text : List ℕ) (fails : Bool) : Type 0 where
+  pub relation : Relation
+  pub gained : List Example
+  pub lost : List Example
+  pub stands : IsRelation old new relation
+  pub gains : Answers old new gained
+  pub loses : Answers new old lost
+  pub printed : text ≡ relation_word relation ++ (codes "\n" ++ example_lines gained lost)
+  pub ends : fails ≡ (check && is_wider relation)
+
+-- the list is expanded by the built-in profiles, and comes to these grants
+abbrev pub Expands : List Grant → Flat → Type 0
+Expands grants flat_grants = (expand_refusal built_in grants ≡ None) × (flat_grants ≡ flat built_in grants)
+
+-- the text spells grants that come to this list
+abbrev pub ComesTo : List ℕ → Flat → Type 0
+ComesTo caps flat_grants = (grants : List Grant) × Spells caps grants × Expands grants flat_grants
+
+-- the list is not expanded
+abbrev pub IsExpansionFault : List Grant → TextFault → Type 0
+IsExpansionFault grants (Spelling fault) = ⊥
+IsExpansionFault grants (Expansion fault) = expand_refusal built_in grants ≡ Some fault
+IsExpansionFault grants OutOfMemory = Unit {0}
+
+-- the text spells no grants, or grants that are not expanded
+abbrev pub IsFaultOf : List ℕ → TextFault → Type 0
+IsFaultOf caps (Spelling fault) = (fault.kind ≢ kinds.OutOfMemory) × IsFirstFault caps fault
+IsFaultOf caps (Expansion fault) = (grants : List Grant) × Spells caps grants × (expand_refusal built_in grants ≡ Some fault)
+IsFaultOf caps OutOfMemory = Unit {0}
+
+abbrev pub fault_text : TextFault → List ℕ
+fault_text (Spelling fault) = cap.fault_text fault
+fault_text (Expansion fault) = profiles.fault_text fault
+fault_text OutOfMemory = codes "OutOfMemory"
+
+abbrev pub refused_side : List ℕ → TextFault → List ℕ
+refused_side side fault = codes "refused " ++ (side ++ (codes " " ++ (fault_text fault ++ codes "\n")))
+
+-- a side is refused, the old one first
+pub record IsSideRefused (caps side : List ℕ) (text : List ℕ) (fails : Bool) : Type 0 where
+  pub fault : TextFault
+  pub is : IsFaultOf caps fault
+  pub real : fault ≢ OutOfMemory
+  pub printed : text ≡ refused_side side fault
+  pub ends : fails ≡ true
+
+pub record AreCompared (old new : List ℕ) (check : Bool) (text : List ℕ) (fails : Bool) : Type 0 where
+  pub old_grants : Flat
+  pub new_grants : Flat
+  pub old_comes : ComesTo old old_grants
+  pub new_comes : ComesTo new new_grants
+  pub compared : IsCompared old_grants new_grants check text fails
+
+abbrev pub IsCompareAnswer : List ℕ → List ℕ → Bool → List ℕ → Bool → Type 0
+IsCompareAnswer old new check text fails =
+    AreCompared old new check text fails
+    ⊎ (IsSideRefused old (codes "old") text fails
+    ⊎ (((grants : Flat) × ComesTo old grants) × IsSideRefused new (codes "new") text fails))

@@ -1,0 +1,109 @@
+-- Statement: contracts of public calls use it.
+-- What is printed of two lists of entities, an old and a new one: whose rights change, and how (this project's profile).
+-- Every line ends with byte 10.
+use Rattle.std.specs.Prelude.{ℕ, ◌≡◌, ◌≢◌, ◌⊎◌, ◌&&◌, ◌||◌, List, [], ◌∷◌, ◌++◌, Bool, true, false, Option, Some, None, codes, string_bytes}
+use Rattle.std.specs.List.{find}
+use Rattle.std.specs.Str.{bytes_eq}
+use Rattle.grant_core.specs.Flat.{Flat}
+use Rattle.compare_core.specs.Widening.{Answers}
+use Rattle.compare_core.specs.declared.comparing.Example.{Example}
+use Rattle.gate_text.specs.Caret.{shown}
+use Rattle.gate_text.specs.Compared.{ComesTo, IsFaultOf, IsRelation, indented_lines, is_wider, refused_side, relation_word}
+use Rattle.gate_text.specs.declared.entity.Entity.{Entity}
+use Rattle.gate_text.specs.declared.compare.Relation.{Relation}
+use Rattle.gate_text.specs.declared.compare.Relation.TheVariants.{Same, Narrower, Wider, Different}
+use Rattle.gate_text.specs.declared.compare.TextFault.{TextFault}
+use Rattle.gate_text.specs.declared.compare.TextFault.TheVariants.{OutOfMemory}
+use Rattle.gate_text.specs.declared.compare_auth.Presence.{Presence}
+use Rattle.gate_text.specs.declared.compare_auth.Presence.TheVariants.{Both, New, Gone}
+
+-- the entity of this name, the first where there are more
+abbrev pub entity_in : List Entity → List ℕ → Option Entity
+entity_in entities name = find (λ entity. bytes_eq (string_bytes entity.name) name) entities
+
+-- the word behind the name of an entity, which has none where both lists have it and its rights are the same
+abbrev pub word_of : Presence → Relation → Option (List ℕ)
+word_of Both Same = None
+word_of Both Narrower = Some (relation_word Narrower)
+word_of Both Wider = Some (relation_word Wider)
+word_of Both Different = Some (relation_word Different)
+word_of New relation = Some (codes "new")
+word_of Gone relation = Some (codes "gone")
+
+-- a line, and below it the examples, indented; without a word there is nothing
+abbrev pub change_lines : List ℕ → Option (List ℕ) → List Example → List Example → List ℕ
+change_lines name None gained lost = []
+change_lines name (Some word) gained lost = shown name ++ (codes " " ++ (word ++ (codes "\n" ++ indented_lines gained lost)))
+
+-- the line of an entity of which a text has no grants
+abbrev pub refused_line : List ℕ → List ℕ → TextFault → List ℕ
+refused_line name side fault = shown name ++ (codes " " ++ refused_side side fault)
+
+-- How the rights of an entity change. It fails where a check was asked for and the new grants allow what the old ones deny.
+pub record IsChangeTold (presence : Presence) (name : List ℕ) (old new : Flat) (check : Bool) (text : List ℕ) (fails : Bool) : Type 0 where
+  pub relation : Relation
+  pub gained : List Example
+  pub lost : List Example
+  pub stands : IsRelation old new relation
+  pub gains : Answers old new gained
+  pub loses : Answers new old lost
+  pub printed : text ≡ change_lines name (word_of presence relation) gained lost
+  pub ends : fails ≡ (check && is_wider relation)
+
+-- both texts come to grants
+pub record AreRightsTold (presence : Presence) (name old new : List ℕ) (check : Bool) (text : List ℕ) (fails : Bool) : Type 0 where
+  pub old_grants : Flat
+  pub new_grants : Flat
+  pub old_comes : ComesTo old old_grants
+  pub new_comes : ComesTo new new_grants
+  pub told : IsChangeTold presence name old_grants new_grants check text fails
+
+-- a text has no grants
+pub record IsFaultTold (name caps side text : List ℕ) (fails : Bool) : Type 0 where
+  pub fault : TextFault
+  pub is : IsFaultOf caps fault
+  pub real : fault ≢ OutOfMemory
+  pub printed : text ≡ refused_line name side fault
+  pub ends : fails ≡ true
+
+-- what is told of an entity with an old and a new text, of which the old one is refused first
+abbrev pub IsPairTold : Presence → List ℕ → List ℕ → List ℕ → Bool → List ℕ → Bool → Type 0
+IsPairTold presence name old new check text fails =
+    AreRightsTold presence name old new check text fails
+    ⊎ (IsFaultTold name old (codes "old") text fails
+    ⊎ (((grants : Flat) × ComesTo old grants) × IsFaultTold name new (codes "new") text fails))
+
+-- an entity of the old list, by what the new list has under its name; one that is gone is compared with the empty text
+abbrev pub IsOldToldBy : Option Entity → Bool → Entity → List ℕ → Bool → Type 0
+IsOldToldBy None check entity text fails = IsPairTold Gone (string_bytes entity.name) (string_bytes entity.osd) [] check text fails
+IsOldToldBy (Some other) check entity text fails =
+    IsPairTold Both (string_bytes entity.name) (string_bytes entity.osd) (string_bytes other.osd) check text fails
+
+abbrev pub IsOldTold : List Entity → Bool → Entity → List ℕ → Bool → Type 0
+IsOldTold new check entity text fails = IsOldToldBy (entity_in new (string_bytes entity.name)) check entity text fails
+
+-- an entity of the new list, by what the old list has under its name: nothing more is told of one that the old list has
+abbrev pub IsNewToldBy : Option Entity → Bool → Entity → List ℕ → Bool → Type 0
+IsNewToldBy None check entity text fails = IsPairTold New (string_bytes entity.name) [] (string_bytes entity.osd) check text fails
+IsNewToldBy (Some other) check entity text fails = (text ≡ []) × (fails ≡ false)
+
+abbrev pub IsNewTold : List Entity → Bool → Entity → List ℕ → Bool → Type 0
+IsNewTold old check entity text fails = IsNewToldBy (entity_in old (string_bytes entity.name)) check entity text fails
+
+-- what is told of each entity, in order; it fails where it fails for one
+abbrev pub AreAllTold : (Entity → List ℕ → Bool → Type 0) → List Entity → List ℕ → Bool → Type 0
+AreAllTold IsTold [] text fails = (text ≡ []) × (fails ≡ false)
+AreAllTold IsTold (entity ∷ entities) text fails =
+    (front rest : List ℕ) × (first later : Bool) × IsTold entity front first × AreAllTold IsTold entities rest later
+    × (text ≡ front ++ rest) × (fails ≡ (first || later))
+
+-- what is printed of two lists, and whether the command fails: the entities of the old list, and then those of the new list alone
+pub record IsEntitiesAnswer (old new : List Entity) (check : Bool) (text : List ℕ) (fails : Bool) : Type 0 where
+  pub old_text : List ℕ
+  pub new_text : List ℕ
+  pub old_fails : Bool
+  pub new_fails : Bool
+  pub old_told : AreAllTold (IsOldTold new check) old old_text old_fails
+  pub new_told : AreAllTold (IsNewTold old check) new new_text new_fails
+  pub printed : text ≡ old_text ++ new_text
+  pub ends : fails ≡ (old_fails || new_fails)

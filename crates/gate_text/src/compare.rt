@@ -1,0 +1,235 @@
+//! What changes between two capability texts.
+
+ghost use Rattle.std.specs.Prelude.{◌≡◌, ◌≤◌, ◌++◌, ◌&&◌, true, codes, length, string_bytes, IfOk, IfErr, OnOk};
+ghost use Rattle.std.specs.List.{flat_map};
+ghost use Rattle.gate_text.specs.Compared as spec;
+ghost use Rattle.gate_text.specs.Compared.{ComesTo, IsChange, IsCompareAnswer, IsFaultOf, refused_side};
+ghost use Rattle.gate_text.specs.Request.{example_line};
+
+use crate::printed::Printed;
+use crate::request::push_example;
+use cap_text::{CapFault, CapList, FaultKind, OutOfMemory, parse};
+use compare_core::{Example, widening};
+use grant_core::{ExpandFault, ProfileTable, expand};
+use std::alloc::{AllocError, Global};
+use std::fmt;
+use verdict_core::Ticket;
+
+/// How the rights of new grants stand to those of old ones.
+#[derive(Clone, Copy, Debug, PartialEq, Eq)]
+pub(crate) enum Relation {
+    /// Each allows what the other does.
+    Same,
+    /// The old grants allow all that the new ones do, and more.
+    Narrower,
+    /// The new grants allow all that the old ones do, and more.
+    Wider,
+    /// Each allows something that the other denies.
+    Different,
+}
+
+/// Why a capability text has no grants.
+#[derive(Clone, Copy, Debug)]
+pub(crate) enum TextFault {
+    /// It spells no list.
+    Spelling(CapFault),
+    /// The list cannot be expanded by the built-in profiles.
+    Expansion(ExpandFault),
+    /// A growth was refused, which is no fault of the text.
+    OutOfMemory,
+}
+
+/// What changes between two tickets.
+#[derive(Debug, Drop)]
+pub(crate) struct Change {
+    /// An example for each new grant that allows what the old ones deny.
+    pub(crate) gained: Vec<Example>,
+    /// An example for each old grant that allows what the new ones deny.
+    pub(crate) lost: Vec<Example>,
+}
+
+impl From<AllocError> for TextFault {
+    ghost use Rattle.gate_text.specs.declared.compare.TextFault.TheVariants as faults;
+
+    ghost from_gives = { λ _ fault. fault ≡ faults.OutOfMemory };
+
+    fn from(_error: AllocError) -> TextFault {
+        TextFault::OutOfMemory
+    }
+}
+
+impl fmt::Display for TextFault {
+    ghost use Rattle.std.specs.Prelude.{Some};
+    ghost use Rattle.gate_text.specs.Compared.{fault_text};
+
+    ghost output = { λ fault. Some (fault_text fault) };
+
+    fn fmt<W: fmt::Write>(&self, f: &mut fmt::Formatter<W>) -> fmt::Result {
+        match self {
+            TextFault::Spelling(fault) => write!(f, "{fault}"),
+            TextFault::Expansion(fault) => write!(f, "{fault}"),
+            TextFault::OutOfMemory => write!(f, "OutOfMemory"),
+        }
+    }
+}
+
+impl Relation {
+    fn of(gains: bool, loses: bool) -> Relation
+        ensures { result ≡ spec.relation_of gains loses }
+    {
+        match (gains, loses) {
+            (false, false) => Relation::Same,
+            (false, true) => Relation::Narrower,
+            (true, false) => Relation::Wider,
+            (true, true) => Relation::Different,
+        }
+    }
+
+    pub(crate) fn word(self) -> &'static str
+        ensures { result.now ≡ spec.relation_word self }
+    {
+        match self {
+            Relation::Same => "same",
+            Relation::Narrower => "narrower",
+            Relation::Wider => "wider",
+            Relation::Different => "different",
+        }
+    }
+
+    /// Whether the new grants allow what the old ones deny.
+    pub(crate) fn is_wider(self) -> bool
+        ensures { result ≡ spec.is_wider self }
+    {
+        match self {
+            Relation::Same | Relation::Narrower => false,
+            Relation::Wider | Relation::Different => true,
+        }
+    }
+}
+
+impl Change {
+    pub(crate) fn relation(&self) -> Relation
+        ensures { result ≡ spec.relation_of (spec.is_any self.now.gained.items) (spec.is_any self.now.lost.items) }
+    {
+        Relation::of(!self.gained.is_empty(), !self.lost.is_empty())
+    }
+
+    /// Adds a line for each example.
+    pub(crate) fn push_lines(&self, text: &mut String) -> Result<(), OutOfMemory>
+        ensures { OnOk result (string_bytes text.new ≡ string_bytes text.old ++ spec.example_lines self.now.gained.items self.now.lost.items) }
+    {
+        push_examples(text, "+ ", &self.gained)?;
+        push_examples(text, "- ", &self.lost)
+    }
+
+    /// Adds a line for each example, indented by two blanks.
+    pub(crate) fn push_indented(&self, text: &mut String) -> Result<(), OutOfMemory>
+        ensures { OnOk result (string_bytes text.new ≡ string_bytes text.old ++ spec.indented_lines self.now.gained.items self.now.lost.items) }
+    {
+        push_examples(text, "  + ", &self.gained)?;
+        push_examples(text, "  - ", &self.lost)
+    }
+}
+
+fn push_examples(text: &mut String, sign: &str, examples: &[Example]) -> Result<(), OutOfMemory>
+    ensures { OnOk result (string_bytes text.new ≡ string_bytes text.old ++ flat_map (example_line sign.now) examples.now) }
+{
+    for example in examples {
+        push_example(text, sign, example)?;
+    }
+    Ok(())
+}
+
+/// The ticket of a list of grants, by the built-in profiles.
+fn ticket_of_list(alloc: Global, list: &CapList) -> Result<Ticket, TextFault>
+    ensures ticket { IfOk result (λ ticket. spec.Expands list.now ticket.grants) }
+    ensures refused { IfErr result (λ fault. spec.IsExpansionFault list.now fault) }
+{
+    match expand(alloc, &ProfileTable::builtin(alloc)?, list) {
+        Ok(tree) => Ok(Ticket::of(alloc, &tree, None)?),
+        Err(ExpandFault::OutOfMemory) => Err(TextFault::OutOfMemory),
+        Err(fault) => Err(TextFault::Expansion(fault)),
+    }
+}
+
+/// The ticket that a capability text comes to, by the built-in profiles.
+pub(crate) fn ticket_of(alloc: Global, caps: &str) -> Result<Ticket, TextFault>
+    ensures ticket { IfOk result (λ ticket. ComesTo caps.now ticket.grants) }
+    ensures refused { IfErr result (λ fault. IsFaultOf caps.now fault) }
+{
+    match parse(alloc, caps) {
+        Ok(list) => ticket_of_list(alloc, &list),
+        Err(
+            CapFault {
+                kind: FaultKind::OutOfMemory,
+                ..
+            },
+        ) => Err(TextFault::OutOfMemory),
+        Err(fault) => Err(TextFault::Spelling(fault)),
+    }
+}
+
+/// What changes from an old ticket to a new one, both ways.
+pub(crate) fn changes(alloc: Global, old: &Ticket, new: &Ticket) -> Result<Change, OutOfMemory>
+    ensures { IfOk result (λ change. IsChange old.now.grants new.now.grants change) }
+{
+    Ok(Change {
+        gained: widening(alloc, old, new)?,
+        lost: widening(alloc, new, old)?,
+    })
+}
+
+/// The line of a side that is refused.
+fn refused(alloc: Global, side: &str, fault: TextFault) -> Result<Printed, OutOfMemory>
+    ensures { IfOk result (λ printed. (string_bytes printed.text ≡ refused_side side.now fault) × (printed.fails ≡ true)) }
+{
+    Ok(Printed {
+        text: format!(in alloc; "refused {side} {fault}\n")?,
+        fails: true,
+    })
+}
+
+pub(crate) fn fails_check(check: bool, relation: Relation) -> bool
+    ensures { result ≡ (check && spec.is_wider relation) }
+{
+    check && relation.is_wider()
+}
+
+/// The relation and the examples. It fails where a check was asked for and the new ticket is wider.
+fn compared(alloc: Global, old: &Ticket, new: &Ticket, check: bool) -> Result<Printed, OutOfMemory>
+    ensures { IfOk result (λ printed. spec.IsCompared old.now.grants new.now.grants check (string_bytes printed.text) printed.fails) }
+{
+    let change = changes(alloc, old, new)?;
+    let relation = change.relation();
+    let mut text = String::from_str(alloc, relation.word())?;
+    text.push_str("\n")?;
+    change.push_lines(&mut text)?;
+    let fails = fails_check(check, relation);
+    Ok(Printed { text, fails })
+}
+
+/// What the program prints of two capability texts: `same`, `narrower`, `wider` or `different`, by what the new
+/// text allows and the old one denies and the other way round; then for each grant of the new text that by itself
+/// allows what the old text denies a line `+ PATH REQUEST`, and for each such grant of the old text a line
+/// `- PATH REQUEST`, where REQUEST is what `osdgate verdict` takes, quoted for a shell. A text that has no grants
+/// is refused, the old one first, which fails. With `check` it fails too where the new text allows something that
+/// the old one denies.
+pub fn compare_text(
+    alloc: Global,
+    old: &str,
+    new: &str,
+    check: bool,
+) -> Result<Printed, OutOfMemory>
+    ensures { IfOk result (λ printed. IsCompareAnswer old.now new.now check (string_bytes printed.text) printed.fails) }
+{
+    let old_ticket = match ticket_of(alloc, old) {
+        Ok(ticket) => ticket,
+        Err(TextFault::OutOfMemory) => return Err(AllocError),
+        Err(fault) => return refused(alloc, "old", fault),
+    };
+    match ticket_of(alloc, new) {
+        Ok(ticket) => compared(alloc, &old_ticket, &ticket, check),
+        Err(TextFault::OutOfMemory) => Err(AllocError),
+        Err(fault) => refused(alloc, "new", fault),
+    }
+}

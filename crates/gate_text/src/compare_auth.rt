@@ -1,0 +1,236 @@
+//! What changes between two lists of entities.
+
+ghost use Rattle.std.specs.Prelude.{◌≡◌, ◌++◌, ◌||◌, true, codes, IfOk, OnOk, option_copied, string_bytes};
+ghost use Rattle.gate_text.specs.Entities as spec;
+ghost use Rattle.gate_text.specs.Entities.{AreAllTold, IsChangeTold, IsEntitiesAnswer, IsNewTold, IsOldTold, IsPairTold, refused_line};
+
+use crate::caret::push_shown_text;
+use crate::compare::{Change, Relation, TextFault, changes, fails_check, ticket_of};
+use crate::entity::{Entity, find};
+use crate::printed::Printed;
+use cap_text::OutOfMemory;
+use std::alloc::{AllocError, Global};
+use std::fmt::Write;
+use verdict_core::Ticket;
+
+/// Which of two lists have an entity.
+#[derive(Clone, Copy, Debug, PartialEq, Eq)]
+pub(crate) enum Presence {
+    Both,
+    /// The new list alone.
+    New,
+    /// The old list alone.
+    Gone,
+}
+
+/// An entity's name, and its texts in two lists, empty where a list does not have it.
+#[derive(Clone, Copy, Debug)]
+pub(crate) struct Pair<'a> {
+    name: &'a str,
+    presence: Presence,
+    old: &'a str,
+    new: &'a str,
+}
+
+/// The word behind an entity's name, or nothing where its rights are the same.
+fn word_of(presence: Presence, relation: Relation) -> Option<&'static str>
+    ensures { option_copied result ≡ spec.word_of presence relation }
+{
+    match (presence, relation) {
+        (Presence::Both, Relation::Same) => None,
+        (Presence::Both, relation) => Some(relation.word()),
+        (Presence::New, _) => Some("new"),
+        (Presence::Gone, _) => Some("gone"),
+    }
+}
+
+/// The lines of an entity's change, or nothing where there is no word for it.
+fn change_lines(
+    alloc: Global,
+    pair: &Pair<'_>,
+    relation: Relation,
+    change: &Change,
+) -> Result<String, OutOfMemory>
+    ensures { IfOk result (λ text. string_bytes text ≡ spec.change_lines pair.now.name.now (spec.word_of pair.now.presence relation) change.now.gained.items change.now.lost.items) }
+{
+    let mut text = String::new(alloc);
+    if let Some(word) = word_of(pair.presence, relation) {
+        push_shown_text(&mut text, pair.name)?;
+        write!(text, " {word}\n")?;
+        change.push_indented(&mut text)?;
+    }
+    Ok(text)
+}
+
+/// The line of an entity that is refused.
+fn refused_pair(
+    alloc: Global,
+    name: &str,
+    side: &str,
+    fault: TextFault,
+) -> Result<Printed, OutOfMemory>
+    ensures { IfOk result (λ printed. (string_bytes printed.text ≡ refused_line name.now side.now fault) × (printed.fails ≡ true)) }
+{
+    let mut text = String::new(alloc);
+    push_shown_text(&mut text, name)?;
+    write!(text, " refused {side} {fault}\n")?;
+    Ok(Printed { text, fails: true })
+}
+
+/// What is told of an entity whose texts come to these tickets.
+fn changed_pair(
+    alloc: Global,
+    pair: &Pair<'_>,
+    old: &Ticket,
+    new: &Ticket,
+    check: bool,
+) -> Result<Printed, OutOfMemory>
+    ensures { IfOk result (λ printed. IsChangeTold pair.now.presence pair.now.name.now old.now.grants new.now.grants check (string_bytes printed.text) printed.fails) }
+{
+    let change = changes(alloc, old, new)?;
+    let relation = change.relation();
+    let text = change_lines(alloc, pair, relation, &change)?;
+    let fails = fails_check(check, relation);
+    Ok(Printed { text, fails })
+}
+
+/// What is told of an entity, and whether it fails.
+fn told_pair(alloc: Global, pair: &Pair<'_>, check: bool) -> Result<Printed, OutOfMemory>
+    ensures { IfOk result (λ printed. IsPairTold pair.now.presence pair.now.name.now pair.now.old.now pair.now.new.now check (string_bytes printed.text) printed.fails) }
+{
+    let old = match ticket_of(alloc, pair.old) {
+        Ok(ticket) => ticket,
+        Err(TextFault::OutOfMemory) => return Err(AllocError),
+        Err(fault) => return refused_pair(alloc, pair.name, "old", fault),
+    };
+    match ticket_of(alloc, pair.new) {
+        Ok(new) => changed_pair(alloc, pair, &old, &new, check),
+        Err(TextFault::OutOfMemory) => Err(AllocError),
+        Err(fault) => refused_pair(alloc, pair.name, "new", fault),
+    }
+}
+
+/// What is told of an entity of the old list.
+fn told_of_old(
+    alloc: Global,
+    entity: &Entity,
+    new: &[Entity],
+    check: bool,
+) -> Result<Printed, OutOfMemory>
+    ensures { IfOk result (λ printed. IsOldTold new.now check entity.now (string_bytes printed.text) printed.fails) }
+{
+    let gone = Pair {
+        name: entity.name.as_str(),
+        presence: Presence::Gone,
+        old: entity.osd.as_str(),
+        new: "",
+    };
+    match find(new, gone.name) {
+        None => told_pair(alloc, &gone, check),
+        Some(other) => {
+            let both = Pair {
+                presence: Presence::Both,
+                new: other.osd.as_str(),
+                ..gone
+            };
+            told_pair(alloc, &both, check)
+        }
+    }
+}
+
+/// What is told of an entity of the new list, which is nothing where the old list has it.
+fn told_of_new(
+    alloc: Global,
+    entity: &Entity,
+    old: &[Entity],
+    check: bool,
+) -> Result<Printed, OutOfMemory>
+    ensures { IfOk result (λ printed. IsNewTold old.now check entity.now (string_bytes printed.text) printed.fails) }
+{
+    let added = Pair {
+        name: entity.name.as_str(),
+        presence: Presence::New,
+        old: "",
+        new: entity.osd.as_str(),
+    };
+    match find(old, added.name) {
+        None => told_pair(alloc, &added, check),
+        Some(_) => Ok(Printed {
+            text: String::new(alloc),
+            fails: false,
+        }),
+    }
+}
+
+/// Adds what is told behind what is printed, which fails where one of them does.
+fn push_told(printed: &mut Printed, told: &Printed) -> Result<(), OutOfMemory>
+    ensures text { OnOk result (string_bytes printed.new.text ≡ string_bytes printed.old.text ++ string_bytes told.now.text) }
+    ensures fails { OnOk result (printed.new.fails ≡ (printed.old.fails || told.now.fails)) }
+{
+    printed.text.push_str(told.text.as_str())?;
+    printed.fails = printed.fails || told.fails;
+    Ok(())
+}
+
+/// What is told of the entities of the old list, in its order.
+fn old_told(
+    alloc: Global,
+    old: &[Entity],
+    new: &[Entity],
+    check: bool,
+) -> Result<Printed, OutOfMemory>
+    ensures { IfOk result (λ printed. AreAllTold (IsOldTold new.now check) old.now (string_bytes printed.text) printed.fails) }
+{
+    let mut printed = Printed {
+        text: String::new(alloc),
+        fails: false,
+    };
+    for entity in old {
+        let told = told_of_old(alloc, entity, new, check)?;
+        push_told(&mut printed, &told)?;
+    }
+    Ok(printed)
+}
+
+/// What is told of the entities of the new list, in its order.
+fn new_told(
+    alloc: Global,
+    old: &[Entity],
+    new: &[Entity],
+    check: bool,
+) -> Result<Printed, OutOfMemory>
+    ensures { IfOk result (λ printed. AreAllTold (IsNewTold old.now check) new.now (string_bytes printed.text) printed.fails) }
+{
+    let mut printed = Printed {
+        text: String::new(alloc),
+        fails: false,
+    };
+    for entity in new {
+        let told = told_of_new(alloc, entity, old, check)?;
+        push_told(&mut printed, &told)?;
+    }
+    Ok(printed)
+}
+
+/// What the program prints of two lists of entities: for each entity of the old list in its order, and then for
+/// each of the new list alone, a line `ENTITY WORD`, and below it, indented by two blanks, the lines of
+/// `compare_text` for its texts. WORD is `narrower`, `wider` or `different`, or `new` or `gone` where one list alone
+/// has the entity, which is compared with no grants then. An entity that both have with the same rights has no
+/// line. Where a text has no grants, the entity's line is `ENTITY refused SIDE FAULT`, which fails. With `check` it
+/// fails too where an entity's new text allows something that its old one denies.
+///
+/// Where a list has a name twice, an entity of the other list is compared with the first of them. A name's bytes
+/// outside 32 to 126 are shown as `\x` and two hexadecimal digits.
+pub fn compare_entities(
+    alloc: Global,
+    old: &[Entity],
+    new: &[Entity],
+    check: bool,
+) -> Result<Printed, OutOfMemory>
+    ensures { IfOk result (λ printed. IsEntitiesAnswer old.now new.now check (string_bytes printed.text) printed.fails) }
+{
+    let mut printed = old_told(alloc, old, new, check)?;
+    let told = new_told(alloc, old, new, check)?;
+    push_told(&mut printed, &told)?;
+    Ok(printed)
+}

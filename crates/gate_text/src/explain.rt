@@ -1,0 +1,104 @@
+//! What a capability text comes to.
+
+ghost use Rattle.std.specs.Prelude.{◌≡◌, ◌++◌, true, is_some, IfOk, OnOk, string_bytes, flat_map};
+ghost use Rattle.cap_text.specs.FaultText as cap;
+ghost use Rattle.grant_core.specs.BuiltIn.{built_in};
+ghost use Rattle.grant_core.specs.Refusal.{expand_refusal};
+ghost use Rattle.grant_core.specs.Text as profiles;
+ghost use Rattle.gate_text.specs.Explain.{IsExplainText, explained_text, grant_line, list_text};
+ghost use Rattle.gate_text.specs.Text.{refused_text};
+
+use crate::printed::Printed;
+use cap_text::{AllowGrant, CapFault, CapList, FaultKind, OutOfMemory, parse, print, push_allow};
+use grant_core::{ExpandFault, Path, ProfileTable, expand};
+use std::alloc::{AllocError, Global};
+use std::fmt::{Display, Write};
+
+/// Adds the line of a grant: its path and its printed form.
+fn push_grant(text: &mut String, entry: &(Path, AllowGrant)) -> Result<(), OutOfMemory>
+    ensures { OnOk result (string_bytes text.new ≡ string_bytes text.old ++ grant_line entry.now) }
+{
+    let path = &entry.0;
+    write!(text, "{path} ")?;
+    push_allow(text, &entry.1)?;
+    text.push_str("\n")
+}
+
+/// Adds the line of each grant.
+fn push_grants(text: &mut String, grants: &[(Path, AllowGrant)]) -> Result<(), OutOfMemory>
+    ensures { OnOk result (string_bytes text.new ≡ string_bytes text.old ++ flat_map grant_line grants.now) }
+{
+    for entry in grants {
+        push_grant(text, entry)?;
+    }
+    Ok(())
+}
+
+/// The canonical form of a list on a line, and a line for each grant that it comes to.
+fn explained_text(
+    alloc: Global,
+    list: &CapList,
+    grants: &[(Path, AllowGrant)],
+) -> Result<String, OutOfMemory>
+    ensures { IfOk result (λ text. string_bytes text ≡ explained_text list.now grants.now) }
+{
+    let mut text = print(alloc, list)?;
+    text.push_str("\n")?;
+    push_grants(&mut text, grants)?;
+    Ok(text)
+}
+
+/// What is printed of a list: by its expansion with the built-in profiles, or by why that is refused.
+fn explained_list(alloc: Global, list: &CapList) -> Result<Printed, OutOfMemory>
+    ensures text { IfOk result (λ printed. string_bytes printed.text ≡ list_text (expand_refusal built_in list.now) list.now) }
+    ensures fails { IfOk result (λ printed. printed.fails ≡ is_some (expand_refusal built_in list.now)) }
+{
+    let table = ProfileTable::builtin(alloc)?;
+    match expand(alloc, &table, list) {
+        Ok(tree) => Ok(Printed {
+            text: explained_text(alloc, list, tree.flat(alloc)?.as_slice())?,
+            fails: false,
+        }),
+        Err(ExpandFault::OutOfMemory) => Err(AllocError),
+        Err(fault) => refused_by_expansion(alloc, fault),
+    }
+}
+
+/// The line of a list that is not expanded.
+fn refused_by_expansion(alloc: Global, fault: ExpandFault) -> Result<Printed, OutOfMemory>
+    ensures { IfOk result (λ printed. (string_bytes printed.text ≡ refused_text (profiles.fault_text fault)) × (printed.fails ≡ true)) }
+{
+    Ok(Printed {
+        text: format!(in alloc; "refused {fault}\n")?,
+        fails: true,
+    })
+}
+
+/// The line of a text that spells no list.
+fn refused_by_parse(alloc: Global, fault: CapFault) -> Result<Printed, OutOfMemory>
+    ensures { IfOk result (λ printed. (string_bytes printed.text ≡ refused_text (cap.fault_text fault)) × (printed.fails ≡ true)) }
+{
+    Ok(Printed {
+        text: format!(in alloc; "refused {fault}\n")?,
+        fails: true,
+    })
+}
+
+/// What the program prints to explain a capability text: its canonical form on a line, which is empty where it
+/// spells no grants, and a line `PATH GRANT` for each grant that it comes to with the built-in profiles; or
+/// `refused FAULT` where it spells no list or cannot be expanded, and then the command fails. Every line ends
+/// with a line feed.
+pub fn explain_text(alloc: Global, caps: &str) -> Result<Printed, OutOfMemory>
+    ensures { IfOk result (λ printed. IsExplainText caps.now (string_bytes printed.text) printed.fails) }
+{
+    match parse(alloc, caps) {
+        Ok(list) => explained_list(alloc, &list),
+        Err(
+            CapFault {
+                kind: FaultKind::OutOfMemory,
+                ..
+            },
+        ) => Err(AllocError),
+        Err(fault) => refused_by_parse(alloc, fault),
+    }
+}

@@ -1,0 +1,25 @@
+//! What the program prints: verdicts, explanations and comparisons of capability texts, and who may do what.
+//!
+//! Each text is a value, made of capability texts, entities and a request; the program reads words and files, and writes
+//! the texts. Each call borrows what it is given, and its only error is want of memory: what is wrong with a capability
+//! text or with calls is part of what is printed. The forms of the lines are this project's profile.
+#![tactic(auto)]
+
+mod caret;
+mod compare;
+mod compare_auth;
+mod entity;
+mod explain;
+mod printed;
+mod request;
+mod verdict;
+mod who;
+
+pub use caret::point_at_fault;
+pub use compare::compare_text;
+pub use compare_auth::compare_entities;
+pub use entity::{Entity, find};
+pub use explain::explain_text;
+pub use printed::Printed;
+pub use verdict::{Answer, Times, Verdict, VerdictFault, answer, text_of, verdict_text};
+pub use who::who_text;

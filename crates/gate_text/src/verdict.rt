@@ -1,0 +1,209 @@
+//! What a capability text and a request come to, as a value and as a text.
+
+ghost use Rattle.std.specs.Prelude.{◌≡◌, IfOk, Some, string_bytes};
+ghost use Rattle.cap_text.specs.Refused.{RefusedFirst};
+ghost use Rattle.object_core.specs.Needs.{needs_of};
+ghost use Rattle.gate_text.specs.Answer as spec;
+ghost use Rattle.gate_text.specs.Answer.{IsAnswer, IsVerdictText, answer_of, needed, calls_fault};
+ghost use Rattle.gate_text.specs.Text as printed;
+
+use cap_text::{CapFault, CapList, FaultKind, OutOfMemory, parse};
+use grant_core::{ExpandFault, ProfileTable, expand};
+use object_core::{NeedsFault, Op, needs_of};
+use std::alloc::{AllocError, Global};
+use std::fmt;
+use verdict_core::{Calls, Needs, Report, Target, Ticket, judge, report};
+
+/// What a request gets. It prints `allow`, or `deny` and a line `PATH CONDITION` for each grant; every line ends
+/// with a line feed.
+#[derive(Debug, Drop)]
+pub enum Verdict {
+    Allowed,
+    Denied(Report),
+}
+
+/// Why there is no verdict. It prints as the fault that it is.
+#[derive(Debug, Drop)]
+pub enum VerdictFault {
+    /// The capability text spells no list.
+    Caps(CapFault),
+    /// The list cannot be expanded by the built-in profiles.
+    Profiles(ExpandFault),
+    /// The calls are refused.
+    Calls(NeedsFault),
+}
+
+/// A verdict, or why there is none.
+pub type Answer = Result<Verdict, VerdictFault>;
+
+/// When a ticket ends, if it does, and when the request comes, both as ticks: at tick `until` its grants hold no more.
+#[derive(Clone, Copy, Debug)]
+pub struct Times {
+    pub until: Option<u64>,
+    pub tick: u64,
+}
+
+impl fmt::Display for Verdict {
+    ghost use Rattle.std.specs.Prelude.{Some};
+    ghost use Rattle.gate_text.specs.Text as printed;
+
+    ghost output = { λ verdict. Some (printed.verdict_text verdict) };
+
+    fn fmt<W: fmt::Write>(&self, f: &mut fmt::Formatter<W>) -> fmt::Result {
+        match self {
+            Verdict::Allowed => write!(f, "allow\n"),
+            Verdict::Denied(report) => write!(f, "deny\n{report}"),
+        }
+    }
+}
+
+impl fmt::Display for VerdictFault {
+    ghost use Rattle.std.specs.Prelude.{Some};
+    ghost use Rattle.gate_text.specs.Text as printed;
+
+    ghost output = { λ fault. Some (printed.fault_text fault) };
+
+    fn fmt<W: fmt::Write>(&self, f: &mut fmt::Formatter<W>) -> fmt::Result {
+        match self {
+            VerdictFault::Caps(fault) => write!(f, "{fault}"),
+            VerdictFault::Profiles(fault) => write!(f, "{fault}"),
+            VerdictFault::Calls(fault) => write!(f, "{fault}"),
+        }
+    }
+}
+
+/// Allowed, or denied with the report.
+fn judged(
+    alloc: Global,
+    ticket: &Ticket,
+    target: &Target<'_>,
+    needs: &Needs,
+    tick: u64,
+) -> Result<Verdict, OutOfMemory>
+    ensures { IfOk result (λ verdict. verdict ≡ spec.judged ticket.now target.now needs.now tick) }
+{
+    if judge(ticket, target, needs, tick) {
+        return Ok(Verdict::Allowed);
+    }
+    Ok(Verdict::Denied(report(alloc, ticket, target, needs, tick)?))
+}
+
+/// What a request with these calls asks for. Without calls it asks for nothing.
+pub(crate) fn needs_of_calls(alloc: Global, calls: &[Op]) -> Result<Needs, NeedsFault>
+    ensures refused { RefusedFirst (calls_fault calls.now) NeedsFault.OutOfMemory result }
+    ensures needs { IfOk result (λ needs. needs ≡ needs_of calls.now) }
+{
+    if calls.is_empty() {
+        return Ok(Needs {
+            reads: false,
+            writes: false,
+            calls: Calls::from_vec(Vec::new(alloc)),
+        });
+    }
+    needs_of(alloc, calls)
+}
+
+/// The answer of a ticket, which is a verdict where the calls are not refused.
+fn answer_ticket(
+    alloc: Global,
+    ticket: &Ticket,
+    target: &Target<'_>,
+    reads: bool,
+    writes: bool,
+    calls: &[Op],
+    times: Times,
+) -> Result<Answer, OutOfMemory>
+    ensures { IfOk result (λ answer. answer ≡ needed (calls_fault calls.now) ticket.now
+        (record { target = target.now; reads = reads; writes = writes; calls = calls.now; until = times.until; tick = times.tick })) }
+{
+    match needs_of_calls(alloc, calls) {
+        Ok(needs) => {
+            let needs = Needs {
+                reads: reads || needs.reads,
+                writes: writes || needs.writes,
+                calls: needs.calls,
+            };
+            Ok(Ok(judged(alloc, ticket, target, &needs, times.tick)?))
+        }
+        Err(NeedsFault::OutOfMemory) => Err(AllocError),
+        Err(fault) => Ok(Err(VerdictFault::Calls(fault))),
+    }
+}
+
+/// The answer of a list of grants, which is its ticket's where it can be expanded by the built-in profiles.
+fn answer_list(
+    alloc: Global,
+    list: &CapList,
+    target: &Target<'_>,
+    reads: bool,
+    writes: bool,
+    calls: &[Op],
+    times: Times,
+) -> Result<Answer, OutOfMemory>
+    ensures { IfOk result (λ answer. answer ≡ answer_of list.now
+        (record { target = target.now; reads = reads; writes = writes; calls = calls.now; until = times.until; tick = times.tick })) }
+{
+    let table = ProfileTable::builtin(alloc)?;
+    match expand(alloc, &table, list) {
+        Ok(tree) => {
+            let ticket = Ticket::of(alloc, &tree, times.until)?;
+            answer_ticket(alloc, &ticket, target, reads, writes, calls, times)
+        }
+        Err(ExpandFault::OutOfMemory) => Err(AllocError),
+        Err(fault) => Ok(Err(VerdictFault::Profiles(fault))),
+    }
+}
+
+/// What a capability text and a request come to: a verdict; or the first of these that holds: the text spells no
+/// grants, they cannot be expanded by the built-in profiles, the calls are refused. The request reads and writes
+/// as the two flags say, beside what its calls ask for.
+pub fn answer(
+    alloc: Global,
+    caps: &str,
+    target: &Target<'_>,
+    reads: bool,
+    writes: bool,
+    calls: &[Op],
+    times: Times,
+) -> Result<Answer, OutOfMemory>
+    ensures { IfOk result (λ answer. IsAnswer caps.now
+        (record { target = target.now; reads = reads; writes = writes; calls = calls.now; until = times.until; tick = times.tick }) answer) }
+{
+    match parse(alloc, caps) {
+        Ok(list) => answer_list(alloc, &list, target, reads, writes, calls, times),
+        Err(
+            CapFault {
+                kind: FaultKind::OutOfMemory,
+                ..
+            },
+        ) => Err(AllocError),
+        Err(fault) => Ok(Err(VerdictFault::Caps(fault))),
+    }
+}
+
+/// The text of an answer: the verdict's, or a line `refused FAULT`.
+pub fn text_of(alloc: Global, answer: &Answer) -> Result<String, OutOfMemory>
+    ensures { IfOk result (λ text. string_bytes text ≡ printed.answer_text answer.now) }
+{
+    match answer {
+        Ok(verdict) => format!(in alloc; "{verdict}"),
+        Err(fault) => format!(in alloc; "refused {fault}\n"),
+    }
+}
+
+/// The whole text that the program prints for a capability text and a request: that of their answer.
+pub fn verdict_text(
+    alloc: Global,
+    caps: &str,
+    target: &Target<'_>,
+    reads: bool,
+    writes: bool,
+    calls: &[Op],
+    times: Times,
+) -> Result<String, OutOfMemory>
+    ensures { IfOk result (λ text. IsVerdictText caps.now
+        (record { target = target.now; reads = reads; writes = writes; calls = calls.now; until = times.until; tick = times.tick }) (string_bytes text)) }
+{
+    let answer = answer(alloc, caps, target, reads, writes, calls, times)?;
+    text_of(alloc, &answer)
+}

@@ -1,0 +1,4 @@
+mod answers;
+mod changes;
+mod entities;
+mod explanations;
