@@ -108,7 +108,7 @@ map_fit state (OsdDown d) m = moved_fit (after state (OsdDown d)) (flat_map grou
 map_fit state (OsdRestart d) m = restarted_fit d (flat_map groups_of state.pools)
 
 -- the map after an accepted command
-next_map : (f : Front) (c : MapCommand) → FrontKept (front_step f (Map c)) → IsMap (after (map_of f.history) c)
+pub next_map : (f : Front) (c : MapCommand) → FrontKept (front_step f (Map c)) → IsMap (after (map_of f.history) c)
 next_map f c next = record { history = later f.history c; accepted = next.accepted; is = after_push f.history.daemons f.history.commands c }
 
 parts_fit : (f : Front) (e : Event) → FrontKept (front_step f e) → Fit (parts_of f e)
@@ -163,7 +163,7 @@ parts_within f (Lose id k) next = (tt, tt)
 parts_within f (Repeat id k) next = (tt, tt)
 parts_within f (Kick id) next = (tt, tt)
 
-within_step : (count : ℕ) (g : Group) (e : group.Event) → IsWithin count g → EventFits e → ActsWithin count e → IsWithin count (group_step g e)
+pub within_step : (count : ℕ) (g : Group) (e : group.Event) → IsWithin count g → EventFits e → ActsWithin count e → IsWithin count (group_step g e)
 within_step count g e h fits acts =
     let r : IsReached g = h.is.reached in
     let A : ℕ → Type 0 = λ n. ActsWithin n e in
@@ -200,7 +200,7 @@ within_on f e id g next r =
 -- ---- a group that was there
 
 -- an event that leaves the map, with these new requests
-asking_on : (f f' : Front) (id : GroupId) (g g' : Group) (news : List Sealed) → GroupKept f id g → f'.history ≡ f.history → f'.submissions ≡ f.submissions ++ news
+pub asking_on : (f f' : Front) (id : GroupId) (g g' : Group) (news : List Sealed) → GroupKept f id g → f'.history ≡ f.history → f'.submissions ≡ f.submissions ++ news
     → facts g' ≡ record (facts g) { requests = g.requests ++ filter (is_for id) news } → IsWithin (map_of f.history).daemons g' → GroupKept f' id g'
 asking_on f f' id g g' news h history submissions now within =
     let I : History → Type 0 = λ k. InMap k id.pool h.groups in
@@ -244,7 +244,7 @@ mapped_facts f id g groups c kept h there none = by c none
     by (OsdDown d) passed = moved_facts id g groups (after (map_of f.history) (OsdDown d)) there passed one_place
     by (OsdRestart d) passed = restarted_facts id g groups (map_of f.history) d there passed one_place ∙ ap (λ u. record { requests = g.requests; sets = sets_after f.history id g.sets (OsdRestart d); up = u }) h.up
 
-mapped_on : (f : Front) (id : GroupId) (g g' : Group) (c : MapCommand) → GroupKept f id g → facts g' ≡ record { requests = g.requests; sets = sets_after f.history id g.sets c; up = numbers_of (after (map_of f.history) c).up }
+pub mapped_on : (f : Front) (id : GroupId) (g g' : Group) (c : MapCommand) → GroupKept f id g → facts g' ≡ record { requests = g.requests; sets = sets_after f.history id g.sets c; up = numbers_of (after (map_of f.history) c).up }
     → IsWithin (map_of f.history).daemons g' → GroupKept (front_step f (Map c)) id g'
 unfolding requests_of
 mapped_on f id g g' c h now within =

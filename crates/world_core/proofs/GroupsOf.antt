@@ -101,7 +101,7 @@ found_by_name (x ∷ xs) (suc place) g h one = go (is_same_group g.group x.group
 
 -- ---- sound worlds
 
-at_place : (w : World) → IsSound w → (place : ℕ) (g : Group) → slice_get w.groups place ≡ Some g → group_at g.group w.groups ≡ Some g
+pub at_place : (w : World) → IsSound w → (place : ℕ) (g : Group) → slice_get w.groups place ≡ Some g → group_at g.group w.groups ≡ Some g
 at_place w h place g there =
     let pools : List Pool = (map_of w.front.history).pools in
     let all : Each (HasPlace pools) (ids_of w.groups) = subst (Each (HasPlace pools)) (sym h.places) (all_places pools (once w.front h.kept.front)) in

@@ -31,6 +31,7 @@ pub mod FrontSteps
 pub mod Sounds
 pub mod Calling
 pub mod RunPlaces
+pub mod Parts
 pub mod Messages
 pub mod GroupsOf
 pub mod Sweeps
@@ -58,3 +59,5 @@ pub mod PlainKeepings
 pub mod WorkedScripts
 pub mod Answering
 pub mod JoinedPieces
+pub mod Apart
+pub mod Together

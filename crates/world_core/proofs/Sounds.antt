@@ -57,7 +57,7 @@ tagged_places c name (p ∷ ps) = go (is_named name p) (tagged_places c name ps)
     go false rest = ap (λ l. groups_of p ++ l) rest
 
 -- the places of a map after a command: those before it, and then those of a new pool
-command_places : (state : MapState) (f : Front) (c : MapCommand) → map_of f.history ≡ state → flat_map groups_of (pools_after c state.pools) ≡ flat_map groups_of state.pools ++ ids_of (created_by f (Map c))
+pub command_places : (state : MapState) (f : Front) (c : MapCommand) → map_of f.history ≡ state → flat_map groups_of (pools_after c state.pools) ≡ flat_map groups_of state.pools ++ ids_of (created_by f (Map c))
 command_places state f (PoolCreate name pg_num size min_size) is =
     let new : Pool = created name pg_num size min_size in
     flat_map-append groups_of state.pools (new ∷ [])

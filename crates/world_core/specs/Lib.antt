@@ -32,3 +32,4 @@ pub mod Applying
 pub mod Sweeping
 pub mod Steps
 pub mod Joining
+pub mod Parts

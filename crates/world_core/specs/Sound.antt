@@ -1,4 +1,4 @@
--- Refinement: only contracts inside the crate use it.
+-- Statement: contracts of public calls use it.
 -- What holds of every world of the program: facts of its front, of its groups and of its runs, and of no history of events.
 use Rattle.std.specs.Prelude.{◌≡◌, ℕ, ◌<◌, ◌≤◌, List, Some, length, map, slice_get}
 use Rattle.std.specs.List.{filter, flat_map}

@@ -1,4 +1,4 @@
--- Refinement: only contracts inside the crate use it.
+-- Statement: contracts of public calls use it.
 -- What every front keeps: each request was sealed well, under a number of a session that was given once.
 use Rattle.std.specs.Prelude.{◌≡◌, ℕ, ◌+◌, ◌-◌, ◌*◌, ◌<◌, ◌≤◌, List, Option, Some, None, true, length, slice_get, is_some}
 use Rattle.map_core.specs.State.{History}

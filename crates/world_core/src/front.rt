@@ -10,6 +10,7 @@ ghost use Rattle.world_core.specs.Front.{asker_of, error_of, first_front, front_
 ghost use Rattle.world_core.specs.Listing.{list_at};
 ghost use Rattle.world_core.specs.Asking.{IsOfList, IsOfVector};
 ghost use Rattle.world_core.specs.Refusing.{RefusedOrMemory};
+ghost use Rattle.world_core.specs.Stands.{IsKept};
 
 use crate::asking::{Asker, are_names, is_namespace, view_for};
 use crate::event::{Ask, AuthCommand, Told};
@@ -70,6 +71,27 @@ impl Front {
             map,
             sessions: Sessions::new(alloc),
             submissions: Submissions::new(alloc),
+            lists: Lists::new(alloc),
+        }
+    }
+
+    /// These users, this map, these sessions and submissions, and no lists. It takes no memory.
+    pub fn of(
+        alloc: Global,
+        users: AuthDb,
+        map: ClusterMap,
+        sessions: Vec<Session>,
+        submissions: Submissions,
+    ) -> Front
+        requires { IsKept (record { database = users; history = map; sessions = sessions.items; submissions = submissions; lists = [] }) }
+        ensures { result ≡ record { database = users; history = map; sessions = sessions.items; submissions = submissions; lists = [] } }
+    {
+        Front {
+            alloc,
+            users,
+            map,
+            sessions: Sessions::from_vec(sessions),
+            submissions,
             lists: Lists::new(alloc),
         }
     }

@@ -41,4 +41,5 @@ pub use ops::Ops;
 pub use running::run;
 pub use script::run_script;
 pub use script_text::ScriptFault;
-pub use world::World;
+pub use session::Session;
+pub use world::{World, WorldParts};

@@ -16,16 +16,17 @@ use verdict_core::SharedTicket;
 
 /// Who asks, with the ticket of the last opening or renewal. Its requests count from 1.
 #[derive(Drop)]
-pub(crate) struct Session {
-    pub(crate) entity: Name,
-    pub(crate) ticket: SharedTicket,
+pub struct Session {
+    /// The user's name.
+    pub entity: Name,
+    pub ticket: SharedTicket,
     /// The last epoch that was used, 0 at first.
-    pub(crate) epoch: Epoch,
+    pub epoch: Epoch,
     /// The last tick that was used, 0 at first.
-    pub(crate) tick: u64,
+    pub tick: u64,
     /// The number of its next request.
-    pub(crate) next: u32,
-    pub(crate) is_closed: bool,
+    pub next: u32,
+    pub is_closed: bool,
 }
 
 /// The requests of one list: consecutive numbers.
@@ -74,6 +75,13 @@ impl Sessions {
         Sessions {
             all: Vec::new(alloc),
         }
+    }
+
+    /// These sessions. It takes no memory.
+    pub fn from_vec(all: Vec<Session>) -> Sessions
+        ensures { result ≡ all.items }
+    {
+        Sessions { all }
     }
 
     /// How many there are, closed ones counted.

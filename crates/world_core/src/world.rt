@@ -13,6 +13,7 @@ ghost use Rattle.world_core.specs.Refusing.{RefusedOrMemory};
 ghost use Rattle.world_core.specs.Calls.{KeepsPromises};
 
 mod answers;
+mod parts;
 
 use crate::audit::{Run, collect};
 use crate::calls::{GroupCall, call_at, told};
@@ -29,6 +30,7 @@ use entry_core::{Entry, GroupId, OutOfMemory};
 use grant_core::ProfileTable;
 use group_core::Group;
 use map_core::{ClusterMap, MapCommand};
+pub use parts::WorldParts;
 use peer_core::Sent;
 use std::alloc::Global;
 use std::marker::Model;
