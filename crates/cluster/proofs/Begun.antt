@@ -1,0 +1,153 @@
+-- The seats of a cluster that is begun.
+use Rattle.std.proofs.Common.{◌≡◌, ℕ, zero, suc, ◌+◌, ◌-◌, ◌*◌, ◌<◌, List, [], ◌∷◌, ◌++◌, map, length, take, get_or, refl, sym, ap, ◌∙◌, subst, arith}
+use Rattle.std.specs.Prelude.{All, Option, None, Some, IfSome}
+use Rattle.std.specs.Option.{option_to_list}
+use Rattle.std.proofs.lemmas.List.{map-append, length-append, take_more}
+use Rattle.std.proofs.lemmas.List.Elements.{All-head, All-tail, All-cons, All-nil}
+use Rattle.turn_lock.specs.Turns.{last_word}
+use Rattle.turn_lock.specs.Seats.{Locked, Seated, lock_of, seat_lock, IsFresh, IsNewSeatOf, AreShared}
+use Rattle.cluster.specs.Places.{InStep, Beside, IsFreshRow, share_of}
+use Rattle.cluster.specs.Passes.{times, pass_share, monitor_share, shares_of, AreFreshOf, AreSeatsOf, HaveShare, AreAlone}
+use Rattle.cluster.specs.declared.groups.GroupEntry.{GroupEntry}
+use Rattle.cluster.specs.declared.users.UserEntry.{UserEntry}
+use Rattle.cluster.specs.declared.cluster.Cluster.{Cluster}
+use Rattle.cluster.specs.declared.cluster.Seats.{Seats}
+use Rattle.cluster.proofs.Places.{take_whole}
+
+-- ---- shares
+
+evens : {E : Type 0} → (share : ℕ) (seats : List (Seated E)) → All (λ s. s.share ≡ share) seats → map share_of seats ≡ times (length seats) share
+evens share [] h = refl
+evens share (s ∷ ss) h = (λ i. All-head (λ x. x.share ≡ share) s ss h i ∷ evens share ss (All-tail (λ x. x.share ≡ share) s ss h) i)
+
+pub shares_are : {E : Type 0} → (passes : ℕ) (seats : List (Seated E)) → AreShared (passes + 1) seats → length seats ≡ passes + 1 → map share_of seats ≡ shares_of passes
+shares_are passes seats h long =
+    let count : length h.others ≡ passes = let e = sym (ap length h.are) ∙ long in let f = length-append h.others (h.last ∷ []) in omega arith in
+    let all : map share_of h.others ≡ times passes (pass_share passes) = evens (pass_share passes) h.others h.even ∙ ap (λ n. times n (pass_share passes)) count in
+    let less : (passes + 1) - 1 ≡ passes = omega arith in
+    let last : h.last.share ≡ monitor_share passes = h.rest ∙ ap (λ n. last_word - n * pass_share passes) less in
+    ap (map share_of) h.are ∙ (map-append share_of h.others (h.last ∷ []) ∙ (λ i. all i ++ last i ∷ []))
+
+times_long : (n x : ℕ) → length (times n x) ≡ n
+times_long zero x = refl
+times_long (suc n) x = ap suc (times_long n x)
+
+pub shares_long : (passes : ℕ) → length (shares_of passes) ≡ passes + 1
+shares_long passes = length-append (times passes (pass_share passes)) (monitor_share passes ∷ []) ∙ ap (λ n. n + 1) (times_long passes (pass_share passes))
+
+-- ---- rows
+
+pub row_longer : {S E : Type 0} → (share : ℕ) (ls : List (Locked S)) (ss : List (Seated E)) (l : Locked S) (s : Seated E) → IsFreshRow share ls ss → IsFresh l.table s → s.share ≡ share → IsFreshRow share (ls ++ l ∷ []) (ss ++ s ∷ [])
+row_longer share [] [] l s h fresh is = (fresh, is, tt)
+row_longer share [] (x ∷ xs) l s h fresh is = absurd h
+row_longer share (l' ∷ ls) [] l s h fresh is = absurd h
+row_longer share (l' ∷ ls) (x ∷ xs) l s h fresh is = (h.0, h.1, row_longer share ls xs l s h.2 fresh is)
+
+module _ {S E V : Type 0} (row_of : V → List (Seated E)) (ls : List (Locked S)) (l : Locked S) where
+  -- each row has a seat of one lock more
+  pub rows_longer : (shares : List ℕ) (rows : List V) (seats : List (Seated E)) (longer : List V) → Beside (λ share row. IsFreshRow share ls (row_of row)) shares rows → All (IsNewSeatOf l) seats → map share_of seats ≡ shares
+      → InStep (λ row seat next. row_of next ≡ row_of row ++ seat ∷ []) rows seats longer → Beside (λ share row. IsFreshRow share (ls ++ l ∷ []) (row_of row)) shares longer
+  rows_longer [] [] [] [] h new are dealt = tt
+  rows_longer [] [] [] (n ∷ ns) h new are dealt = absurd dealt
+  rows_longer [] [] (s ∷ ss) ns h new are dealt = absurd (cc)
+  rows_longer [] (r ∷ rs) ss ns h new are dealt = absurd h
+  rows_longer (x ∷ xs) [] ss ns h new are dealt = absurd h
+  rows_longer (x ∷ xs) (r ∷ rs) [] ns h new are dealt = absurd (cc)
+  rows_longer (x ∷ xs) (r ∷ rs) (s ∷ ss) [] h new are dealt = absurd dealt
+  rows_longer (x ∷ xs) (r ∷ rs) (s ∷ ss) (n ∷ ns) h new are dealt =
+      let first : s.share ≡ x = cc in
+      let rest : map share_of ss ≡ xs = cc in
+      (subst (IsFreshRow x (ls ++ l ∷ [])) (sym dealt.0) (row_longer x ls (row_of r) l s h.0 (All-head (IsNewSeatOf l) s ss new) first), rows_longer xs rs ss ns h.1 (All-tail (IsNewSeatOf l) s ss new) rest dealt.1)
+
+-- rows without a seat
+pub rows_empty : (S : Type 0) {E V : Type 0} → (row_of : V → List (Seated E)) (shares : List ℕ) (rows : List V) → length rows ≡ length shares → All (λ row. row_of row ≡ []) rows → Beside (λ share row. IsFreshRow {S = S} share [] (row_of row)) shares rows
+rows_empty S row_of [] [] long h = tt
+rows_empty S row_of [] (r ∷ rs) long h = absurd (omega arith)
+rows_empty S row_of (x ∷ xs) [] long h = absurd (omega arith)
+rows_empty S row_of (x ∷ xs) (r ∷ rs) long h = (subst (IsFreshRow {S = S} x []) (sym (All-head (λ row. row_of row ≡ []) r rs h)) tt, rows_empty S row_of xs rs (omega arith) (All-tail (λ row. row_of row ≡ []) r rs h))
+
+-- ---- the last, and those before it
+
+pub last_of : {X : Type 0} → (P : ℕ → X → Type 0) (n a b : ℕ) (xs : List X) (x : X) → Beside P (times n a ++ b ∷ []) (xs ++ x ∷ []) → P b x × All (P a) xs
+last_of P zero a b [] x h = (h.0, All-nil (P a))
+last_of P zero a b (y ∷ []) x h = absurd h.1
+last_of P zero a b (y ∷ z ∷ ys) x h = absurd h.1
+last_of P (suc n) a b [] x h = absurd (none n h.1)
+  where
+    none : (n : ℕ) → Beside P (times n a ++ b ∷ []) [] → ⊥
+    none zero h = h
+    none (suc n) h = h
+last_of P (suc n) a b (y ∷ ys) x h = let r = last_of P n a b ys x h.1 in (r.0, All-cons (P a) y ys h.0 r.1)
+
+pub beside_long : {X Y : Type 0} → (P : X → Y → Type 0) (xs : List X) (ys : List Y) → Beside P xs ys → length ys ≡ length xs
+beside_long P [] [] h = refl
+beside_long P [] (y ∷ ys) h = absurd h
+beside_long P (x ∷ xs) [] h = absurd h
+beside_long P (x ∷ xs) (y ∷ ys) h = ap suc (beside_long P xs ys h.1)
+
+pub in_step_long : {X Y Z : Type 0} → (P : X → Y → Z → Type 0) (xs : List X) (ys : List Y) (zs : List Z) → InStep P xs ys zs → (length ys ≡ length xs) × (length zs ≡ length xs)
+in_step_long P [] [] [] h = (refl, refl)
+in_step_long P [] [] (z ∷ zs) h = absurd h
+in_step_long P [] (y ∷ ys) zs h = absurd h
+in_step_long P (x ∷ xs) [] zs h = absurd h
+in_step_long P (x ∷ xs) (y ∷ ys) [] h = absurd h
+in_step_long P (x ∷ xs) (y ∷ ys) (z ∷ zs) h = let r = in_step_long P xs ys zs h.1 in (ap suc r.0, ap suc r.1)
+
+-- ---- a row and a seat of the users each
+
+module _ {V : Type 0} (row_of : V → List (Seated GroupEntry)) (c : Cluster) where
+  pub pairs_fresh : (shares : List ℕ) (rows : List V) (users : List (Seated UserEntry)) (all : List Seats) → Beside (λ share row. IsFreshRow share c.groups.items (row_of row)) shares rows → All (IsNewSeatOf c.users) users
+      → map share_of users ≡ shares → InStep (λ row seat s. (s.groups.items ≡ row_of row) × (s.users ≡ seat)) rows users all → Beside (AreFreshOf c) shares all
+  pairs_fresh [] [] [] [] h new are made = tt
+  pairs_fresh [] [] [] (n ∷ ns) h new are made = absurd made
+  pairs_fresh [] [] (s ∷ ss) ns h new are made = absurd (cc)
+  pairs_fresh [] (r ∷ rs) ss ns h new are made = absurd h
+  pairs_fresh (x ∷ xs) [] ss ns h new are made = absurd h
+  pairs_fresh (x ∷ xs) (r ∷ rs) [] ns h new are made = absurd (cc)
+  pairs_fresh (x ∷ xs) (r ∷ rs) (s ∷ ss) [] h new are made = absurd made
+  pairs_fresh (x ∷ xs) (r ∷ rs) (s ∷ ss) (n ∷ ns) h new are made =
+      let first : s.share ≡ x = cc in
+      let rest : map share_of ss ≡ xs = cc in
+      let is = made.0 in
+      let fresh : IsFresh c.users.table s = All-head (IsNewSeatOf c.users) s ss new in
+      ((subst (IsFreshRow x c.groups.items) (sym is.0) h.0, subst (IsFresh c.users.table) (sym is.1) fresh, ap share_of is.1 ∙ first), pairs_fresh xs rs ss ns h.1 (All-tail (IsNewSeatOf c.users) s ss new) rest made.1)
+
+-- a list whose last element was taken off
+pub last_off : {X : Type 0} → (xs : List X) (k : ℕ) (x : X) → length xs ≡ k + 1 → x ≡ get_or xs k x → xs ≡ take k xs ++ x ∷ []
+last_off xs k x long at = take_whole xs (k + 1) long ∙ (take_more xs k x (omega arith) ∙ λ i. take k xs ++ sym at i ∷ [])
+
+-- ---- fresh seats are seats of the locks
+
+fresh_locks : {S E : Type 0} → (share : ℕ) (ls : List (Locked S)) (ss : List (Seated E)) → IsFreshRow share ls ss → map seat_lock ss ≡ map lock_of ls
+fresh_locks share [] [] h = refl
+fresh_locks share [] (s ∷ ss) h = absurd h
+fresh_locks share (l ∷ ls) [] h = absurd h
+fresh_locks share (l ∷ ls) (s ∷ ss) h = (λ i. h.0.0 i ∷ fresh_locks share ls ss h.2 i)
+
+fresh_shares : {S E : Type 0} → (share : ℕ) (ls : List (Locked S)) (ss : List (Seated E)) → IsFreshRow share ls ss → All (λ s. s.share ≡ share) ss × All (λ s. s.joined ≡ []) ss
+fresh_shares share [] [] h = (All-nil (λ s. s.share ≡ share), All-nil (λ s. s.joined ≡ []))
+fresh_shares share [] (s ∷ ss) h = absurd h
+fresh_shares share (l ∷ ls) [] h = absurd h
+fresh_shares share (l ∷ ls) (s ∷ ss) h = let r = fresh_shares share ls ss h.2 in (All-cons (λ x. x.share ≡ share) s ss h.1 r.0, All-cons (λ x. x.joined ≡ []) s ss h.0.3 r.1)
+
+pub fresh_are : (c : Cluster) (share : ℕ) (p : Seats) → AreFreshOf c share p → AreSeatsOf c p × HaveShare share p × AreAlone p
+fresh_are c share p h = let r = fresh_shares share c.groups.items p.groups.items h.0 in
+    ((fresh_locks share c.groups.items p.groups.items h.0, h.1.0), (r.0, h.2), (r.1, h.1.3))
+
+pub all_are : {X : Type 0} → (P Q : X → Type 0) (xs : List X) → ((x : X) → P x → Q x) → All P xs → All Q xs
+all_are P Q [] f h = All-nil Q
+all_are P Q (x ∷ xs) f h = All-cons Q x xs (f x (All-head P x xs h)) (all_are P Q xs f (All-tail P x xs h))
+
+-- ---- what holds of all holds of some
+
+pub all_front : {X : Type 0} → (P : X → Type 0) (xs ys : List X) → All P (xs ++ ys) → All P xs
+all_front P [] ys h = All-nil P
+all_front P (x ∷ xs) ys h = All-cons P x xs (All-head P x (xs ++ ys) h) (all_front P xs ys (All-tail P x (xs ++ ys) h))
+
+pub all_back : {X : Type 0} → (P : X → Type 0) (xs ys : List X) → All P (xs ++ ys) → All P ys
+all_back P [] ys h = h
+all_back P (x ∷ xs) ys h = all_back P xs ys (All-tail P x (xs ++ ys) h)
+
+pub all_in : {X : Type 0} → (P : X → Type 0) (o : Option X) → All P (option_to_list o) → IfSome o P
+all_in P None h = tt
+all_in P (Some x) h = All-head P x [] h

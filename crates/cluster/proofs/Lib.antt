@@ -1,0 +1,9 @@
+pub mod Grows
+pub mod Finding
+pub mod Places
+pub mod Telling
+pub mod Begun
+pub mod Gathering
+pub mod Moved
+pub mod Changing
+pub mod Following

@@ -1,0 +1,72 @@
+use Rattle.std.proofs.Common.{◌≡◌, ℕ, List, Some, refl, sym, ap, ◌∙◌, subst}
+use Rattle.map_core.specs.declared.command.MapCommand.{MapCommand}
+use Rattle.entry_core.specs.declared.sealed.GroupId.{GroupId}
+use Rattle.cluster.specs.declared.cluster.Cluster.{Cluster}
+use Rattle.cluster.specs.declared.cluster.Seats.{Seats}
+use Rattle.cluster.specs.declared.monitor.Monitor.{Monitor}
+use Rattle.cluster.specs.Published.{with_command}
+use Rattle.cluster.specs.Passes.{group_count}
+use Rattle.cluster.specs.Change.{HaveLooked, NoneFull, Goes}
+use Rattle.cluster.specs.Monitors.{HasBegun, IsAdmitted, IsLeft, IsLeftBy, left_at, change_refusal, published_of}
+use Rattle.cluster.proofs.Moved.{none_through, goes_nowhere, goes_through}
+use Rattle.cluster.proofs.Following.{follows_begun}
+use Rattle.cluster.proofs.Changing.{begins, stands_whole, where_none}
+use Rattle.std.specs.Prelude.{None}
+use Rattle.cluster.proofs.monitor.Monitor.begin.Goals as goal
+
+-- the command that was copied, by which the change goes on
+started : (command kept : MapCommand) (at : ℕ) (old mid new : Monitor) → kept ≡ command → HaveLooked old.seats mid.seats → mid.map ≡ with_command old.map command → mid.places ≡ old.places
+    → (HasBegun kept 0 old mid → HasBegun kept at old new) → HasBegun command at old new
+started command kept at old mid new same looked map_is places go =
+    subst (λ (x : MapCommand). HasBegun x at old new) same (go (begins kept old mid looked (map_is ∙ ap (with_command old.map) (sym same)) places))
+
+admitted : (c : Cluster) (command : MapCommand) (old new : Monitor) (places : List GroupId) (mid : Seats) → change_refusal old.map command ≡ None → places ≡ old.places.items
+    → NoneFull c old.map command places (group_count c) old.seats mid → Goes mid new.seats → IsAdmitted c command old new
+admitted c command old new places mid free same room goes = record {
+  free = free;
+  room = subst (λ (l : List GroupId). NoneFull c old.map command l (group_count c) old.seats new.seats) same
+      (none_through c old.map command places (group_count c) old.seats old.seats mid new.seats (goes_nowhere old.seats) room goes);
+}
+
+pub returns-in-Ok-go_on-clause-ok : goal.returns-in-Ok-go_on-clause-ok
+returns-in-Ok-go_on-clause-ok g c = let old = c.args.self.now in let new = c.go_on.new.self in let world = c.args.cluster.now in let count = group_count world in
+    let mid : Monitor = record old { map = c.apply.new.self; seats = c.any_full.new.seats } in
+    let begun : HasBegun c.args.command count old new = started c.args.command c.in-Ok.kept count old mid new c.in-Ok.ensures c.any_full.ensures.looked c.in-Ok-apply.ensures.accepted refl (c.in-Ok-go_on.ensures.begun old) in (
+      admitted world c.args.command old new c.as_slice-places.result.now c.any_full.new.seats c.requires.free c.as_slice-places.ensures.value c.if-any_full.ensures.found c.go_on.ensures.goes,
+      record {
+        begun = begun;
+        before = stands_whole old.unfinished count old.map (published_of old) _ c.requires.whole c.requires.monitor.stands;
+        shown = stands_whole new.unfinished count new.map (published_of new) _ c.in-Ok-go_on.ensures.ok c.go_on.ensures.monitor.stands ∙ ap (λ m. Some m) begun.map_is;
+        done = c.in-Ok-go_on.ensures.ok;
+      },
+    )
+
+pub returns-in-Err-go_on-clause-err : goal.returns-in-Err-go_on-clause-err
+returns-in-Err-go_on-clause-err g c = let old = c.args.self.now in let new = c.go_on.new.self in let world = c.args.cluster.now in let count = group_count world in
+    let at = c.in-Err-go_on.at in
+    let mid : Monitor = record old { map = c.apply.new.self; seats = c.any_full.new.seats } in
+    let before : published_of old ≡ Some old.map = stands_whole old.unfinished count old.map (published_of old) _ c.requires.whole c.requires.monitor.stands in
+    let left : IsLeft world c.args.command at old new = record {
+      begun = started c.args.command c.in-Ok.kept at old mid new c.in-Ok.ensures c.any_full.ensures.looked c.in-Ok-apply.ensures.accepted refl (c.in-Err-go_on.ensures.begun old);
+      before = before;
+      shown = c.in-Err-go_on.ensures.err.0 ∙ before;
+      left = subst (λ (x : MapCommand). IsLeftBy world x at new.unfinished) c.in-Ok.ensures c.in-Err-go_on.ensures.err.1;
+    } in
+    where_none old.unfinished (λ u. (at ≡ left_at world u) × (new ≡ old)) (IsAdmitted world c.args.command old new × IsLeft world c.args.command at old new) c.requires.whole
+    (admitted world c.args.command old new c.as_slice-places.result.now c.any_full.new.seats c.requires.free c.as_slice-places.ensures.value c.if-any_full.ensures.found c.go_on.ensures.goes, left)
+
+pub returns-in-Ok-go_on-clause-goes : goal.returns-in-Ok-go_on-clause-goes
+returns-in-Ok-go_on-clause-goes g c = goes_through c.args.self.now.seats c.any_full.new.seats c.go_on.new.self.seats c.any_full.ensures.looked.goes c.go_on.ensures.goes
+
+pub returns-in-Ok-go_on-clause-follows : goal.returns-in-Ok-go_on-clause-follows
+returns-in-Ok-go_on-clause-follows g c first h = let old = c.args.self.now in
+    let mid : Monitor = record old { map = c.apply.new.self; seats = c.any_full.new.seats } in
+    c.go_on.ensures.follows first (follows_begun first c.args.command c.in-Ok.kept old mid c.requires.whole c.requires.free c.in-Ok.ensures c.any_full.ensures.looked c.in-Ok-apply.ensures.accepted refl h)
+
+pub returns-in-Err-go_on-clause-goes : goal.returns-in-Err-go_on-clause-goes
+returns-in-Err-go_on-clause-goes g c = goes_through c.args.self.now.seats c.any_full.new.seats c.go_on.new.self.seats c.any_full.ensures.looked.goes c.go_on.ensures.goes
+
+pub returns-in-Err-go_on-clause-follows : goal.returns-in-Err-go_on-clause-follows
+returns-in-Err-go_on-clause-follows g c first h = let old = c.args.self.now in
+    let mid : Monitor = record old { map = c.apply.new.self; seats = c.any_full.new.seats } in
+    c.go_on.ensures.follows first (follows_begun first c.args.command c.in-Ok.kept old mid c.requires.whole c.requires.free c.in-Ok.ensures c.any_full.ensures.looked c.in-Ok-apply.ensures.accepted refl h)

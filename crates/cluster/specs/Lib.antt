@@ -1,0 +1,9 @@
+pub mod Published
+pub mod Finding
+pub mod Groups
+pub mod Users
+pub mod Places
+pub mod Passes
+pub mod Moves
+pub mod Change
+pub mod Monitors

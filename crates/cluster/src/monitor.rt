@@ -1,0 +1,308 @@
+//! The monitor, who changes the map.
+
+ghost use Rattle.std.specs.Prelude.{◌≡◌, ℕ, [], ◌∷◌, ◌++◌, ◌<◌, ◌≤◌, Option, Some, None, Ok, map, length, IfOk, IfErr, MatchResult, OnOk, OnErr, IsSome, IsNone};
+ghost use Rattle.std.specs.Option.{option_map};
+ghost use Rattle.left_right.specs.Sides.{view as known};
+ghost use Rattle.map_core.specs.State.{History};
+ghost use Rattle.map_core.specs.Map.{epoch_of};
+ghost use Rattle.map_core.specs.declared.command.MapCommand.{MapCommand};
+ghost use Rattle.cluster.specs.Published.{with_commands};
+ghost use Rattle.cluster.specs.Change.{Goes};
+ghost use Rattle.cluster.specs.declared.monitor.Unfinished.TheVariants as left_by;
+
+use crate::change::{any_full, move_groups};
+use crate::cluster::{Cluster, Seats};
+use crate::moves::creates;
+use crate::news::{News, tell};
+use crate::published::{MapWriter, publish};
+use entry_core::GroupId;
+use group_core::GroupFault;
+use map_core::{ClusterMap, Epoch, MapCommand, MapFault};
+use std::alloc::AllocError;
+use std::mem::replace;
+use std::sync::Wait;
+
+/// What is left of a change whose command stands in the monitor's map.
+#[derive(Drop)]
+pub enum Unfinished {
+    /// The groups from `at` on have not moved, and the command is not laid down to be published.
+    Left { command: MapCommand, at: usize },
+    /// All groups have moved and the command is laid down, but it is not published.
+    Laid,
+}
+
+/// The right to change the map: the monitor's own map, the places of the cluster's groups in order, seats of it, and the writer of
+/// the published map, which is there between calls. End the writer by its `take`.
+pub struct Monitor {
+    pub map: ClusterMap,
+    pub places: Vec<GroupId>,
+    pub seats: Seats,
+    pub writer: Option<MapWriter>,
+    pub unfinished: Option<Unfinished>,
+}
+
+/// Why the map is not changed, or not wholly.
+#[derive(Clone, Copy, Debug, PartialEq, Eq)]
+pub enum ChangeFault {
+    /// The command is refused, and nothing changed. A new pool is M7: the pools are those of the start.
+    Map(MapFault),
+    /// P3: a group has all its intervals, and the command would begin one more. Nothing changed.
+    Group(GroupFault),
+    /// K1: the move of this group was refused, or, at the number of groups, the publication. The change is left for `finish`.
+    Unfinished(usize),
+}
+
+/// Why there is no news.
+#[derive(Clone, Copy, Debug, PartialEq, Eq)]
+pub enum TellFault {
+    /// K1: a change is left at this group, or, at the number of groups, at its publication.
+    Unfinished(usize),
+    /// K4: no reader is left.
+    NoReader,
+}
+
+impl Monitor {
+    ghost use Rattle.cluster.specs.Passes.{group_count};
+    ghost use Rattle.cluster.specs.Monitors.{IsMonitorOf, published_of, waiting_of, known_of, left_with, laid_with, left_at, IsLeftBy, HasBegun, Changed, IsAdmitted, ChangeFails, TellFails, Finishes, Follows, change_refusal};
+
+    // The group at which a change is left, if one is.
+    fn left(&self, cluster: &Cluster) -> Option<usize>
+        ensures { result ≡ option_map (left_at cluster.now) self.now.unfinished }
+    {
+        match &self.unfinished {
+            None => None,
+            Some(Unfinished::Left { command: _, at }) => Some(*at),
+            Some(Unfinished::Laid) => Some(cluster.group_count()),
+        }
+    }
+
+    // Why a command is refused before any group is looked at.
+    fn refusal(&self, command: &MapCommand) -> Option<MapFault>
+        ensures { result ≡ change_refusal self.now.map command.now }
+    {
+        if creates(command) {
+            return Some(MapFault::Limit);
+        }
+        self.map.refusal(command)
+    }
+
+    // Publishes what waits.
+    fn publish_all<R: Wait>(&mut self, rt: &R) -> Result<(), AllocError>
+        requires { IsSome self.old.writer }
+        ensures writer { IsSome self.new.writer }
+        ensures rest { (self.new.map ≡ self.old.map) × (self.new.places ≡ self.old.places) × (self.new.seats ≡ self.old.seats) × (self.new.unfinished ≡ self.old.unfinished) }
+        ensures ok { OnOk result (option_map (λ shown. with_commands shown (waiting_of self.old)) (published_of self.old) ≡ published_of self.new) }
+        ensures none_left { OnOk result ((waiting_of self.new ≡ []) × (known_of self.new ≡ published_of self.new)) }
+        ensures err { OnErr result ((published_of self.new ≡ published_of self.old) × (waiting_of self.new ≡ waiting_of self.old) × (known_of self.new ≡ known_of self.old)) }
+    {
+        let Some(writer) = self.writer.take() else {
+            unreachable!()
+        };
+        let (writer, answer) = publish(rt, writer);
+        match replace(&mut self.writer, Some(writer)) {
+            None => answer,
+            Some(_) => unreachable!(),
+        }
+    }
+
+    // Lays a command down to be published.
+    fn append(&mut self, command: MapCommand) -> Result<(), MapCommand>
+        requires { IsSome self.old.writer }
+        ensures writer { IsSome self.new.writer }
+        ensures rest { (self.new.map ≡ self.old.map) × (self.new.places ≡ self.old.places) × (self.new.seats ≡ self.old.seats) × (self.new.unfinished ≡ self.old.unfinished) }
+        ensures shown { (published_of self.new ≡ published_of self.old) × (known_of self.new ≡ known_of self.old) }
+        ensures waiting { MatchResult result (λ _. waiting_of self.new ≡ waiting_of self.old ++ command ∷ []) (λ back. (back ≡ command) × (waiting_of self.new ≡ waiting_of self.old)) }
+    {
+        match &mut self.writer {
+            Some(writer) => writer.append(command),
+            None => unreachable!(),
+        }
+    }
+
+    /// The news of what the monitor has published. There is none while a change is unfinished. At `Err` nothing changed.
+    pub fn tell(&mut self, cluster: &Cluster) -> Result<News, TellFault>
+        requires { IsMonitorOf cluster.now self.old }
+        ensures monitor { IsMonitorOf cluster.now self.new }
+        ensures follows { (first : History) → Follows first self.old → Follows first self.new }
+        ensures told { IfOk result (λ news. (known news.reader.place).told ≡ published_of self.old) }
+        ensures ok { OnOk result (IsNone self.old.unfinished) }
+        ensures err { IfErr result (λ fault. TellFails cluster.now fault self.old.unfinished) }
+        ensures rest { (self.new.map ≡ self.old.map) × (self.new.places ≡ self.old.places) × (self.new.seats ≡ self.old.seats) × (self.new.unfinished ≡ self.old.unfinished) }
+        ensures shown { (published_of self.new ≡ published_of self.old) × (waiting_of self.new ≡ waiting_of self.old) × (known_of self.new ≡ known_of self.old) }
+    {
+        match &self.unfinished {
+            None => (),
+            Some(Unfinished::Left { command: _, at }) => return Err(TellFault::Unfinished(*at)),
+            Some(Unfinished::Laid) => return Err(TellFault::Unfinished(cluster.group_count())),
+        }
+        match &mut self.writer {
+            Some(writer) => match tell(writer) {
+                Some(news) => Ok(news),
+                None => Err(TellFault::NoReader),
+            },
+            None => unreachable!(),
+        }
+    }
+
+    // Publishes a command that is laid down.
+    fn show<R: Wait>(&mut self, rt: &R, cluster: &Cluster) -> Result<(), usize>
+        requires { IsMonitorOf cluster.now (laid_with self.old) × IsNone self.old.unfinished }
+        ensures monitor { IsMonitorOf cluster.now self.new }
+        ensures rest { (self.new.map ≡ self.old.map) × (self.new.places ≡ self.old.places) × (self.new.seats ≡ self.old.seats) }
+        ensures ok { OnOk result (IsNone self.new.unfinished) }
+        ensures at { IfErr result (λ at. at ≡ group_count cluster.now) }
+        ensures laid { OnErr result (self.new.unfinished ≡ Some left_by.Laid) }
+        ensures err { IfErr result (λ at. (published_of self.new ≡ published_of self.old) × ((command : MapCommand) → IsLeftBy cluster.now command at self.new.unfinished)) }
+    {
+        match self.publish_all(rt) {
+            Ok(()) => Ok(()),
+            Err(_) => {
+                self.unfinished = Some(Unfinished::Laid);
+                Err(cluster.group_count())
+            }
+        }
+    }
+
+    // Lays down a command by which all groups have moved, and publishes it.
+    fn lay<R: Wait>(&mut self, rt: &R, cluster: &Cluster, command: MapCommand) -> Result<(), usize>
+        requires { IsMonitorOf cluster.now (left_with command (group_count cluster.now) self.old) × IsNone self.old.unfinished }
+        ensures monitor { IsMonitorOf cluster.now self.new }
+        ensures rest { (self.new.map ≡ self.old.map) × (self.new.places ≡ self.old.places) × (self.new.seats ≡ self.old.seats) }
+        ensures ok { OnOk result (IsNone self.new.unfinished) }
+        ensures at { IfErr result (λ at. at ≡ group_count cluster.now) }
+        ensures err { IfErr result (λ at. (published_of self.new ≡ published_of self.old) × IsLeftBy cluster.now command at self.new.unfinished) }
+    {
+        match self.append(command) {
+            Ok(()) => self.show(rt, cluster),
+            Err(command) => {
+                let at = cluster.group_count();
+                self.unfinished = Some(Unfinished::Left { command, at });
+                Err(at)
+            }
+        }
+    }
+
+    // Goes on with a change from the group `at` on, and publishes at the end. At `Err` it is left for `finish`.
+    fn go_on<R: Wait>(
+        &mut self,
+        rt: &R,
+        cluster: &Cluster,
+        command: MapCommand,
+        at: usize,
+    ) -> Result<(), usize>
+        requires { IsMonitorOf cluster.now (left_with command at self.old) × IsNone self.old.unfinished }
+        ensures monitor { IsMonitorOf cluster.now self.new }
+        ensures map { self.new.map ≡ self.old.map }
+        ensures goes { Goes self.old.seats self.new.seats }
+        ensures follows { (first : History) → Follows first (left_with command at self.old) → Follows first self.new }
+        ensures ok { OnOk result (IsNone self.new.unfinished) }
+        ensures err { IfErr result (λ to. (published_of self.new ≡ published_of self.old) × IsLeftBy cluster.now command to self.new.unfinished) }
+        ensures begun { (first : Monitor) → HasBegun command at first self.old → MatchResult result (λ _. HasBegun command (group_count cluster.now) first self.new) (λ to. HasBegun command to first self.new) }
+    {
+        let places = self.places.as_slice();
+        let moved = move_groups(
+            rt,
+            cluster,
+            &mut self.seats,
+            &self.map,
+            &command,
+            places,
+            at,
+        );
+        match moved {
+            Ok(()) => self.lay(rt, cluster, command),
+            Err(to) => {
+                self.unfinished = Some(Unfinished::Left { command, at: to });
+                Err(to)
+            }
+        }
+    }
+
+    /// Goes on with a change that was left: the groups that have not moved, then the publication. Where none was left, nothing changes.
+    ///
+    /// At `Err`, K1, it is left again, from the group that is named on. It takes a turn on each group that moves, and waits for it.
+    pub fn finish<R: Wait>(&mut self, rt: &R, cluster: &Cluster) -> Result<(), ChangeFault>
+        requires { IsMonitorOf cluster.now self.old }
+        ensures monitor { IsMonitorOf cluster.now self.new }
+        ensures goes { Goes self.old.seats self.new.seats }
+        ensures follows { (first : History) → Follows first self.old → Follows first self.new }
+        ensures nothing { IsNone self.old.unfinished → (self.new ≡ self.old) × (result ≡ Ok tt) }
+        ensures finished { Finishes cluster.now result self.old self.new }
+    {
+        match self.unfinished.take() {
+            None => Ok(()),
+            Some(Unfinished::Left { command, at }) => {
+                match self.go_on(rt, cluster, command, at) {
+                    Ok(()) => Ok(()),
+                    Err(at) => Err(ChangeFault::Unfinished(at)),
+                }
+            }
+            Some(Unfinished::Laid) => match self.show(rt, cluster) {
+                Ok(()) => Ok(()),
+                Err(at) => Err(ChangeFault::Unfinished(at)),
+            },
+        }
+    }
+
+    // Changes the map by a command that it does not refuse, where no group is too full.
+    fn begin<R: Wait>(
+        &mut self,
+        rt: &R,
+        cluster: &Cluster,
+        command: MapCommand,
+    ) -> Result<Epoch, ChangeFault>
+        requires monitor { IsMonitorOf cluster.now self.old }
+        requires whole { IsNone self.old.unfinished }
+        requires free { change_refusal self.old.map command ≡ None }
+        ensures monitor { IsMonitorOf cluster.now self.new }
+        ensures goes { Goes self.old.seats self.new.seats }
+        ensures follows { (first : History) → Follows first self.old → Follows first self.new }
+        ensures ok { OnOk result (IsAdmitted cluster.now command self.old self.new × Changed cluster.now command self.old self.new) }
+        ensures epoch { IfOk result (λ epoch. epoch ≡ epoch_of self.new.map) }
+        ensures err { IfErr result (λ fault. ChangeFails cluster.now command fault self.old self.new) }
+    {
+        let places = self.places.as_slice();
+        if any_full(rt, cluster, &mut self.seats, &self.map, &command, places) {
+            return Err(ChangeFault::Group(GroupFault::Full));
+        }
+        let Ok(kept) = command.copy() else {
+            return Err(ChangeFault::Map(MapFault::OutOfMemory));
+        };
+        match self.map.apply(command) {
+            Err(_) => Err(ChangeFault::Map(MapFault::OutOfMemory)),
+            Ok(epoch) => match self.go_on(rt, cluster, kept, 0) {
+                Ok(()) => Ok(epoch),
+                Err(at) => Err(ChangeFault::Unfinished(at)),
+            },
+        }
+    }
+
+    /// Changes the map, then moves the groups in order, then publishes, and answers the new epoch.
+    ///
+    /// It is refused while a change is unfinished, K1; for a new pool, M7; then as the map refuses it; then by P3 where a group of which
+    /// it begins an interval has all of them; then for want of memory. So far nothing changed. Where the move of a group is refused or
+    /// memory for the publication, K1, the change is left for `finish`. It takes turns on groups, and waits for them.
+    pub fn change_map<R: Wait>(
+        &mut self,
+        rt: &R,
+        cluster: &Cluster,
+        command: MapCommand,
+    ) -> Result<Epoch, ChangeFault>
+        requires { IsMonitorOf cluster.now self.old }
+        ensures monitor { IsMonitorOf cluster.now self.new }
+        ensures goes { Goes self.old.seats self.new.seats }
+        ensures follows { (first : History) → Follows first self.old → Follows first self.new }
+        ensures whole { OnOk result (IsNone self.old.unfinished) }
+        ensures ok { OnOk result (IsAdmitted cluster.now command self.old self.new × Changed cluster.now command self.old self.new) }
+        ensures epoch { IfOk result (λ epoch. epoch ≡ epoch_of self.new.map) }
+        ensures err { IfErr result (λ fault. ChangeFails cluster.now command fault self.old self.new) }
+    {
+        if let Some(at) = self.left(cluster) {
+            return Err(ChangeFault::Unfinished(at));
+        }
+        if let Some(fault) = self.refusal(&command) {
+            return Err(ChangeFault::Map(fault));
+        }
+        self.begin(rt, cluster, command)
+    }
+}

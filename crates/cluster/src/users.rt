@@ -1,0 +1,181 @@
+//! The users under a turn lock, with the number of sessions, and the steps on them.
+
+ghost use Rattle.std.specs.Prelude.{◌≡◌, OnOk, OnErr, IfOk};
+ghost use Rattle.auth_db.specs.Refusals.{auth_refusal, RefusedOrMemory};
+ghost use Rattle.auth_db.specs.Users.{after, user_at, GetOrCreate};
+ghost use Rattle.world_core.specs.Front.{command_of, told_auth, told_creation};
+ghost use Rattle.cluster.specs.Users.{table_after, open_entry, OpenTells, renew_entry, RenewTells, change_entry, ChangeTells};
+
+use auth_db::{AuthDb, AuthFault, Caps, Creation};
+use cap_text::Name;
+use std::marker::Model;
+use turn_lock::{Recorded, Step};
+use verdict_core::Ticket;
+use world_core::{AuthCommand, Told};
+
+/// The most sessions that are opened, closed ones counted.
+const MOST_SESSIONS: u32 = 1024;
+
+/// The users, and how many sessions were opened.
+#[derive(Drop)]
+pub struct UserTable {
+    pub db: AuthDb,
+    pub sessions: u32,
+}
+
+/// A command that changed the users, as clauses see it. No value of it is made.
+pub struct UserCommand {
+    nothing: (),
+}
+
+impl Model for UserCommand {
+    ghost use Rattle.std.specs.Prelude.{[]};
+    ghost use Rattle.auth_db.specs.Users.{Command, Delete};
+
+    ghost Value = { Command };
+
+    ghost view = { λ _. Delete [] };
+}
+
+/// An entry of the users' list. No value of it is made.
+pub enum UserEntry {
+    /// A command that was accepted.
+    Changed(UserCommand),
+    /// A session was opened.
+    Opened,
+    /// A turn that only looked.
+    Looked,
+    /// A turn that was refused.
+    Idle,
+}
+
+impl Recorded for UserTable {
+    type State = UserTable;
+
+    type Entry = UserEntry;
+
+    ghost state = { λ t. t };
+
+    ghost after = { table_after };
+}
+
+/// Opens a session of a user, whose ticket ends at a tick or never: the session's number, and the ticket.
+#[derive(Drop)]
+pub struct Open {
+    pub name: Name,
+    pub until: Option<u64>,
+}
+
+/// Why no session is opened.
+#[derive(Clone, Copy, Debug)]
+pub enum OpenFault {
+    User(AuthFault),
+    /// W6: 1,024 sessions were opened, over all passes.
+    Limit,
+}
+
+impl Step for Open {
+    type Value = UserTable;
+
+    type Answer = Result<(u32, Ticket), OpenFault>;
+
+    ghost entry = { open_entry };
+
+    ghost tells = { OpenTells };
+
+    fn run(&mut self, table: &mut UserTable) -> Result<(u32, Ticket), OpenFault> {
+        if let Err(fault) = table.db.get(self.name.as_str()) {
+            return Err(OpenFault::User(fault));
+        }
+        if table.sessions >= MOST_SESSIONS {
+            return Err(OpenFault::Limit);
+        }
+        match table.db.ticket(self.name.as_str(), self.until) {
+            Ok(ticket) => {
+                table.sessions += 1;
+                Ok((table.sessions, ticket))
+            }
+            Err(fault) => Err(OpenFault::User(fault)),
+        }
+    }
+}
+
+/// Looks for the present ticket of a user, which ends at a tick or never.
+#[derive(Drop)]
+pub struct Renew {
+    pub name: Name,
+    pub until: Option<u64>,
+}
+
+impl Step for Renew {
+    type Value = UserTable;
+
+    type Answer = Result<Ticket, AuthFault>;
+
+    ghost entry = { renew_entry };
+
+    ghost tells = { RenewTells };
+
+    fn run(&mut self, table: &mut UserTable) -> Result<Ticket, AuthFault> {
+        table.db.ticket(self.name.as_str(), self.until)
+    }
+}
+
+/// Carries out a command, which the step hands over.
+#[derive(Drop)]
+pub struct Change(pub Option<AuthCommand>);
+
+impl Step for Change {
+    type Value = UserTable;
+
+    type Answer = Result<Told, AuthFault>;
+
+    ghost entry = { change_entry };
+
+    ghost tells = { ChangeTells };
+
+    fn run(&mut self, table: &mut UserTable) -> Result<Told, AuthFault> {
+        match self.0.take() {
+            None => Ok(Told::Done),
+            Some(command) => carry_out(&mut table.db, command),
+        }
+    }
+}
+
+// Carries out a command on the users.
+fn carry_out(db: &mut AuthDb, command: AuthCommand) -> Result<Told, AuthFault>
+    ensures steps { OnOk result (db.new ≡ after db.old (command_of command)) }
+    ensures tells { IfOk result (λ told. told ≡ told_auth db.old command) }
+    ensures refused { RefusedOrMemory (auth_refusal db.old (command_of command)) result }
+    ensures unchanged { OnErr result (db.new ≡ db.old) }
+{
+    match command {
+        AuthCommand::Add { name, caps } => match db.add(name.as_str(), caps) {
+            Ok(()) => Ok(Told::Done),
+            Err(fault) => Err(fault),
+        },
+        AuthCommand::GetOrCreate { name, caps } => create(db, name.as_str(), caps),
+        AuthCommand::SetCaps { name, caps } => match db.caps(name.as_str(), caps) {
+            Ok(()) => Ok(Told::Done),
+            Err(fault) => Err(fault),
+        },
+        AuthCommand::Delete { name } => match db.del(name.as_str()) {
+            Ok(()) => Ok(Told::Done),
+            Err(fault) => Err(fault),
+        },
+    }
+}
+
+// Makes a user, or finds it.
+fn create(db: &mut AuthDb, name: &str, caps: Caps) -> Result<Told, AuthFault>
+    ensures steps { OnOk result (db.new ≡ after db.old (GetOrCreate name.now caps)) }
+    ensures tells { IfOk result (λ told. told ≡ told_creation (user_at db.old.users name.now)) }
+    ensures refused { RefusedOrMemory (auth_refusal db.old (GetOrCreate name.now caps)) result }
+    ensures unchanged { OnErr result (db.new ≡ db.old) }
+{
+    match db.get_or_create(name, caps) {
+        Ok(Creation::Made) => Ok(Told::Made),
+        Ok(Creation::There) => Ok(Told::There),
+        Err(fault) => Err(fault),
+    }
+}
