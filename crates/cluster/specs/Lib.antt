@@ -7,3 +7,6 @@ pub mod Passes
 pub mod Moves
 pub mod Change
 pub mod Monitors
+pub mod Sessions
+pub mod Asks
+pub mod Ends

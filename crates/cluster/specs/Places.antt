@@ -1,7 +1,7 @@
 -- Statement: contracts of public calls use it.
 -- A turn on one of a list of locks, each of which a seat of a list is of; what a list of seats takes in; and the end of such a list of locks.
 use Rattle.std.specs.Prelude.{◌≡◌, ℕ, ◌+◌, List, [], ◌∷◌, ◌++◌, Option, Some, slice_get, slice_set}
-use Rattle.turn_lock.specs.Seats.{Locked, Seated, IsFresh, IsSameSeat, HasSameShare, joined_after}
+use Rattle.turn_lock.specs.Seats.{Locked, Seated, IsFresh, IsSameSeat, HasSameShare, HasItsOwn, joined_after}
 use Rattle.turn_lock.specs.Turns.{StartsWith}
 use Rattle.turn_lock.specs.Turned.{Turned, Closes}
 
@@ -46,6 +46,7 @@ module _ {E : Type 0} where
     pub heard : StartsWith new.seen other.seen
     pub share : new.share ≡ old.share + other.share
     pub joined : new.joined ≡ joined_after old other
+    pub made : HasItsOwn new
 
 -- seats of these locks, which have seen nothing, each with this share of the numbers of its lock
 abbrev pub IsFreshRow : {S E : Type 0} → ℕ → List (Locked S) → List (Seated E) → Type 0

@@ -1,4 +1,4 @@
-//! Starting a cluster.
+//! The locks of a cluster, and their seats.
 
 ghost use Rattle.std.specs.Prelude.{◌≡◌, ℕ, ◌+◌, ◌<◌, [], ◌∷◌, ◌++◌, All, vec_len, map, IfOk};
 ghost use Rattle.turn_lock.specs.Seats.{IsNewSeatOf, first_of};
@@ -8,6 +8,7 @@ ghost use Rattle.cluster.specs.Passes.{ArePassOf, AreMonitorOf, AreFreshOf, firs
 use crate::cluster::{Cluster, Seats};
 use crate::groups::LockedGroup;
 use crate::users::UserTable;
+use map_core::ClusterMap;
 use std::alloc::{AllocError, Global};
 use turn_lock::{Recorded, Seat, TurnLock};
 
@@ -98,12 +99,13 @@ fn pair(
     Ok(all)
 }
 
-/// A cluster of these groups and users, with so many passes, and the seats of its monitor.
+/// A cluster that begins with this map, these groups and these users, with so many passes, and the seats of its monitor.
 ///
 /// The passes and the monitor share all numbers that their turns may draw evenly: each pass may take about 2^64 / (passes + 1)
 /// turns on each lock.
-pub fn start(
+pub(crate) fn open_cluster(
     alloc: Global,
+    map: ClusterMap,
     groups: Vec<LockedGroup>,
     users: UserTable,
     passes: usize,
@@ -114,6 +116,7 @@ pub fn start(
     ensures fresh { IfOk result (λ r. AreFreshOf r.0 (monitor_share passes) r.1 × All (AreFreshOf r.0 (pass_share passes)) r.2.items) }
     ensures groups { IfOk result (λ r. firsts_of r.0 ≡ map group_in groups.items) }
     ensures users { IfOk result (λ r. r.0.users.first ≡ users) }
+    ensures start { IfOk result (λ r. r.0.start ≡ map) }
 {
     let Some(count) = passes.checked_add(1) else {
         return Err(AllocError);
@@ -122,5 +125,5 @@ pub fn start(
     let (users, seats) = open_lock(alloc, users, count)?;
     let mut all = pair(alloc, rows, seats)?;
     let monitor = all.pop().unwrap();
-    Ok((Cluster::of(locks, users, passes), monitor, all))
+    Ok((Cluster::of(locks, users, map, passes), monitor, all))
 }

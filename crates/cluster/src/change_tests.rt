@@ -2,8 +2,9 @@
 
 ghost use Rattle.cluster.specs.Monitors.{IsMonitorOf};
 
+use crate::begin::open_cluster;
 use crate::pass_tests::{group, users};
-use crate::{ChangeFault, Cluster, Monitor, places_of, start, watch};
+use crate::{ChangeFault, Cluster, Monitor, places_of, watch};
 use cap_text::Name;
 use map_core::{ClusterMap, MapCommand, MapFault};
 use std::alloc::Global;
@@ -52,7 +53,7 @@ fn a_change_moves_the_groups(rt: HostRuntime) -> Result<(), Fail> {
     let mut groups = Vec::new(alloc);
     groups.push(group(alloc)?)?;
     let places = places_of(alloc, groups.as_slice())?;
-    let (cluster, seats, _passes) = start(alloc, groups, users(alloc)?, 1)?;
+    let (cluster, seats, _passes) = open_cluster(alloc, map(alloc)?, groups, users(alloc)?, 1)?;
     match watch(&rt, alloc, &cluster, seats, map(alloc)?, places, 4) {
         Err(_) => Err(Fail::from("no monitor")),
         Ok(mut monitor) => {

@@ -11,6 +11,7 @@ use auth_db::AuthFault;
 use cap_text::Name;
 use entry_core::{Id, Reply, Sealed};
 use group_core::GroupFault;
+use map_core::ClusterMap;
 use std::alloc::{AllocError, Global};
 use std::sync::Wait;
 use turn_lock::{Seat, Step, TurnLock};
@@ -22,6 +23,8 @@ use world_core::{AuthCommand, Told};
 pub struct Cluster {
     groups: Vec<TurnLock<LockedGroup>>,
     users: TurnLock<UserTable>,
+    /// The map that it began with, which has all its pools.
+    start: ClusterMap,
     passes: usize,
 }
 
@@ -70,13 +73,15 @@ impl Cluster {
     pub(crate) fn of(
         groups: Vec<TurnLock<LockedGroup>>,
         users: TurnLock<UserTable>,
+        start: ClusterMap,
         passes: usize,
     ) -> Cluster
-        ensures { (result.groups ≡ groups) × (result.users ≡ users) × (result.passes ≡ passes) }
+        ensures { (result.groups ≡ groups) × (result.users ≡ users) × (result.start ≡ start) × (result.passes ≡ passes) }
     {
         Cluster {
             groups,
             users,
+            start,
             passes,
         }
     }
@@ -280,6 +285,7 @@ impl Cluster {
         let Cluster {
             groups,
             users,
+            start: _,
             passes: _,
         } = self;
         let Seats {

@@ -27,11 +27,13 @@ mod change;
 #[cfg(test)]
 mod change_tests;
 mod cluster;
+mod fault;
 mod groups;
 mod located;
 mod monitor;
 mod moves;
 mod news;
+mod pass;
 #[cfg(test)]
 mod pass_tests;
 mod published;
@@ -41,9 +43,9 @@ mod tests;
 mod users;
 mod watching;
 
-pub use begin::start;
 pub use cap_text::OutOfMemory;
 pub use cluster::{CloseFault, Cluster, Ended, Note, Seats};
+pub use fault::ClusterFault;
 pub use groups::{
     AnswerFault, AnswerOf, GroupEntry, GroupEvent, LockedGroup, Submission, Work, Worked,
 };
@@ -51,6 +53,7 @@ pub use located::{Located, judge, locate};
 pub use monitor::{ChangeFault, Monitor, TellFault, Unfinished};
 pub use moves::{IsFull, Move};
 pub use news::{News, learn, tell};
+pub use pass::{OwnSession, Pass};
 pub use published::{
     Knowledge, MapReader, MapWriter, PublishedMap, PublishedRule, SeenMap, publish, publish_first,
     view,

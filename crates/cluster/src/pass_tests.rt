@@ -3,13 +3,14 @@
 ghost use Rattle.std.specs.Prelude.{◌<◌, All, IfOk, IfSome};
 ghost use Rattle.cluster.specs.Passes.{ArePassOf, AreMonitorOf, AreSeatsOf, group_count};
 
-use crate::{CloseFault, Cluster, LockedGroup, Seats, UserTable, start};
+use crate::begin::open_cluster;
+use crate::{CloseFault, Cluster, LockedGroup, Seats, UserTable};
 use auth_db::AuthDb;
 use cap_text::{Name, Tags, parse};
 use entry_core::{GroupId, Id, Reply, Sealed};
 use grant_core::{ProfileTable, expand};
 use group_core::Group;
-use map_core::PoolView;
+use map_core::{ClusterMap, PoolView};
 use object_core::{Bytes, Op};
 use place_core::{ActingSet, DaemonSet};
 use std::alloc::Global;
@@ -83,7 +84,7 @@ fn begun(alloc: Global) -> Result<(Cluster, Seats, Vec<Seats>), Fail>
 {
     let mut groups = Vec::new(alloc);
     groups.push(group(alloc)?)?;
-    Ok(start(alloc, groups, users(alloc)?, 2)?)
+    Ok(open_cluster(alloc, ClusterMap::new(alloc, 3)?, groups, users(alloc)?, 2)?)
 }
 
 // The next pass.

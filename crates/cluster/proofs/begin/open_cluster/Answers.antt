@@ -4,7 +4,7 @@ use Rattle.turn_lock.specs.Seats.{IsNewSeatOf}
 use Rattle.cluster.specs.Places.{Beside, IsFreshRow}
 use Rattle.cluster.specs.Passes.{AreSeatsOf, ArePassOf, HaveShare, AreAlone, AreFreshOf, pass_share, monitor_share, shares_of}
 use Rattle.cluster.proofs.Begun.{in_step_long, pairs_fresh, last_of, last_off, fresh_are, all_are}
-use Rattle.cluster.proofs.begin.start.Goals as goal
+use Rattle.cluster.proofs.begin.open_cluster.Goals as goal
 
 all_long : (c : goal.After-pop) → vec_len c.in_ok-all.all ≡ c.args.passes + 1
 all_long c = let count : c.in-Some.count ≡ c.args.passes + 1 = search rules in
@@ -43,15 +43,15 @@ split c =
     (r.0, subst (All (AreFreshOf c.of.result (pass_share c.args.passes))) (sym rest) r.1)
 
 pub returns-clause-count : goal.returns-clause-count
-returns-clause-count c = let long = all_long' c in let fewer : vec_len c.pop.new.self + 1 ≡ vec_len c.in_ok-all.all = let there : 0 < vec_len c.in_ok-all.all = omega arith in search rules in (c.of.ensures.2, omega arith)
+returns-clause-count c = let long = all_long' c in let fewer : vec_len c.pop.new.self + 1 ≡ vec_len c.in_ok-all.all = let there : 0 < vec_len c.in_ok-all.all = omega arith in search rules in (c.of.ensures.3, omega arith)
 
 pub returns-clause-fresh : goal.returns-clause-fresh
 returns-clause-fresh c = split c
 
 pub returns-clause-monitor : goal.returns-clause-monitor
-returns-clause-monitor c = subst (λ n. AreSeatsOf c.of.result c.unwrap-monitor.result × HaveShare (monitor_share n) c.unwrap-monitor.result × AreAlone c.unwrap-monitor.result) (sym c.of.ensures.2)
+returns-clause-monitor c = subst (λ n. AreSeatsOf c.of.result c.unwrap-monitor.result × HaveShare (monitor_share n) c.unwrap-monitor.result × AreAlone c.unwrap-monitor.result) (sym c.of.ensures.3)
     (fresh_are c.of.result (monitor_share c.args.passes) c.unwrap-monitor.result (split c).0)
 
 pub returns-clause-passes : goal.returns-clause-passes
 returns-clause-passes c = all_are (AreFreshOf c.of.result (pass_share c.args.passes)) (ArePassOf c.of.result) c.pop.new.self.items
-    (λ p h. subst (λ n. AreSeatsOf c.of.result p × HaveShare (pass_share n) p × AreAlone p) (sym c.of.ensures.2) (fresh_are c.of.result (pass_share c.args.passes) p h)) (split c).1
+    (λ p h. subst (λ n. AreSeatsOf c.of.result p × HaveShare (pass_share n) p × AreAlone p) (sym c.of.ensures.3) (fresh_are c.of.result (pass_share c.args.passes) p h)) (split c).1
