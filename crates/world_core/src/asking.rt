@@ -44,7 +44,7 @@ pub(crate) fn is_object_name(name: &Name) -> bool
 }
 
 /// Whether it is a namespace: at most 64 bytes of 33 to 126.
-pub(crate) fn is_namespace(name: &Name) -> bool
+pub fn is_namespace(name: &Name) -> bool
     ensures { result ≡ spec.is_namespace name.now }
 {
     let bytes = name.as_str().as_bytes();
@@ -52,7 +52,7 @@ pub(crate) fn is_namespace(name: &Name) -> bool
 }
 
 /// Whether an object's name and its namespace are what they may be.
-pub(crate) fn are_names(object: &Name, namespace: &Name) -> bool
+pub fn are_names(object: &Name, namespace: &Name) -> bool
     ensures { result ≡ (spec.is_object_name object.now && spec.is_namespace namespace.now) }
 {
     is_object_name(object) && is_namespace(namespace)

@@ -96,6 +96,13 @@ impl Front {
         }
     }
 
+    /// The users, the map and the sessions. It takes no memory.
+    pub fn into_parts(self) -> (AuthDb, ClusterMap, Vec<Session>)
+        ensures { (result.0 ≡ self.database) × (result.1 ≡ self.history) × (result.2.items ≡ self.sessions) }
+    {
+        (self.users, self.map, self.sessions.into_vec())
+    }
+
     /// The users.
     pub fn users(&self) -> &AuthDb
         ensures { result.now ≡ self.now.database }

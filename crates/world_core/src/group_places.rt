@@ -23,7 +23,7 @@ use map_core::{ClusterMap, MapFault, Pool};
 /// memory, and a step for each pool, of which there are at most 32.
 ///
 /// M9 for a pool's name that is none, M2 for a pool that is not there, M10 for a number that the pool has not.
-pub(crate) fn place_of(map: &ClusterMap, group: &GroupId) -> Result<usize, WorldFault>
+pub fn place_of(map: &ClusterMap, group: &GroupId) -> Result<usize, WorldFault>
     ensures refused { error_of result ≡ option_map OfMap (acting_refusal map.now group.now.pool group.now.number) }
     ensures place { IfOk result (λ place. (groups : List Group) → AreGroupsOf map.now groups → IsAt groups group.now place) }
 {

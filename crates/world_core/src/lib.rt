@@ -29,8 +29,10 @@ mod taking;
 mod users;
 mod world;
 
+pub use asking::{are_names, is_namespace};
 pub use event::{Ask, AuthCommand, Event, Told};
 pub use fault::WorldFault;
+pub use group_places::place_of;
 pub use laws::{
     a_kick_recovers, accepted_have_numbers, answers_are_decided, decided_is_one_list,
     every_place_has_its_group, groups_are_served, intervals_are_the_maps, listings_are_told,
@@ -41,5 +43,6 @@ pub use ops::Ops;
 pub use running::run;
 pub use script::run_script;
 pub use script_text::ScriptFault;
+pub use sealing::{seal_piece, seal_vector};
 pub use session::Session;
 pub use world::{World, WorldParts};

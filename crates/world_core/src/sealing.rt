@@ -22,7 +22,7 @@ use std::alloc::Global;
 /// The request of a vector, which shares the session's ticket.
 ///
 /// It is refused as its operations are, by N1 to N3, or for want of memory.
-pub(crate) fn seal_vector(
+pub fn seal_vector(
     alloc: Global,
     ask: &Ask,
     session: &Session,
@@ -45,20 +45,23 @@ pub(crate) fn seal_vector(
     Ok(request)
 }
 
-// The piece of a list for one group. It shares the session's ticket, and its view is a copy.
-fn seal_piece(
+/// The piece of a list for one group, under the number that is so many after the session's next. It shares the session's ticket, and
+/// its view is a copy.
+pub fn seal_piece(
     alloc: Global,
     ask: &Ask,
-    asker: &Asker<'_>,
+    session: &Session,
+    view: &PoolView,
     group: u32,
+    offset: u32,
 ) -> Result<Sealed, OutOfMemory>
-    requires groups { 1 ≤ asker.now.view.pg_num }
-    requires room { asker.now.session.now.next + group < 4294967296 }
-    ensures { IfOk result (λ s. s ≡ sealed_of ask.now (record { session = asker.now.session.now; view = asker.now.view }) Listing group group) }
+    requires groups { 1 ≤ view.now.pg_num }
+    requires room { session.now.next + offset < 4294967296 }
+    ensures { IfOk result (λ s. s ≡ sealed_of ask.now (record { session = session.now; view = view.now }) Listing group offset) }
 {
-    let id = Id::new(ask.session, asker.session.next + group);
-    let ticket = asker.session.ticket.copy()?;
-    let view = asker.view.copy()?;
+    let id = Id::new(ask.session, session.next + offset);
+    let ticket = session.ticket.copy()?;
+    let view = view.copy()?;
     let namespace = ask.namespace.copy()?;
     Sealed::listing(alloc, id, ticket, ask.tick, view, group, namespace)
 }
@@ -75,7 +78,7 @@ pub(crate) fn seal_pieces(
 {
     let mut all = Items::new(alloc);
     for group in 0..asker.view.pg_num {
-        all.push(seal_piece(alloc, ask, asker, group)?)?;
+        all.push(seal_piece(alloc, ask, asker.session, &asker.view, group, group)?)?;
     }
     Ok(all)
 }

@@ -84,6 +84,13 @@ impl Sessions {
         Sessions { all }
     }
 
+    /// All of them. It takes no memory.
+    pub fn into_vec(self) -> Vec<Session>
+        ensures { result.items ≡ self }
+    {
+        self.all
+    }
+
     /// How many there are, closed ones counted.
     pub fn len(&self) -> usize
         ensures { result ≡ length self.now }

@@ -4,7 +4,7 @@ ghost use Rattle.std.specs.Prelude.{◌≡◌, [], IfOk, IfErr};
 ghost use Rattle.group_core.specs.Each.{Each};
 ghost use Rattle.world_core.specs.Inside.{entries_told};
 ghost use Rattle.world_core.specs.Parts.{FitTogether, decided_of, put_together, requests_of};
-ghost use Rattle.world_core.specs.Sound.{FitsAt};
+ghost use Rattle.world_core.specs.Sound.{FitsAt, IsSound};
 ghost use Rattle.world_core.specs.Submitting.{AreNew};
 
 use crate::audit::{Run, keep};
@@ -86,5 +86,25 @@ impl World {
             groups,
             runs,
         })
+    }
+
+    /// The users, the map, the sessions and the groups. What was submitted and decided is told by the groups, too. It takes no memory.
+    pub fn into_parts(self) -> WorldParts
+        ensures front { (result.users ≡ self.front.database) × (result.map ≡ self.front.history) × (result.sessions.items ≡ self.front.sessions) }
+        ensures groups { result.groups.items ≡ self.groups }
+        ensures sound { IsSound self }
+    {
+        let World {
+            front,
+            groups,
+            runs: _,
+        } = self;
+        let (users, map, sessions) = front.into_parts();
+        WorldParts {
+            users,
+            map,
+            sessions,
+            groups,
+        }
     }
 }
