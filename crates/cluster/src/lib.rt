@@ -44,7 +44,7 @@ mod users;
 mod watching;
 
 pub use cap_text::OutOfMemory;
-pub use cluster::{CloseFault, Cluster, Ended, Note, Seats};
+pub use cluster::{Cluster, Ended, Seats};
 pub use fault::ClusterFault;
 pub use groups::{
     AnswerFault, AnswerOf, GroupEntry, GroupEvent, LockedGroup, Submission, Work, Worked,
