@@ -1,11 +1,13 @@
 -- Statement: contracts of public calls use it.
--- The world that a cluster is closed to.
-use Rattle.std.specs.Prelude.{◌≡◌, List, [], map}
-use Rattle.world_core.specs.World.{World}
-use Rattle.world_core.specs.Parts.{decided_of, requests_of}
+-- What a cluster is closed to.
+use Rattle.std.specs.Prelude.{◌≡◌, List, map, length, IsSome, IsNone}
+use Rattle.world_core.specs.declared.session.Session.{Session}
+use Rattle.world_core.specs.declared.world.parts.WorldParts.{WorldParts}
 use Rattle.cluster.specs.declared.cluster.Cluster.{Cluster}
 use Rattle.cluster.specs.declared.cluster.Seats.{Seats}
 use Rattle.cluster.specs.declared.cluster.Ended.{Ended}
+use Rattle.cluster.specs.declared.closing.CloseFault.{CloseFault}
+use Rattle.cluster.specs.declared.closing.CloseFault.TheVariants as faults
 use Rattle.cluster.specs.declared.monitor.Monitor.{Monitor}
 use Rattle.cluster.specs.declared.pass.OwnSession.{OwnSession}
 use Rattle.cluster.specs.declared.pass.Pass.{Pass}
@@ -18,15 +20,24 @@ seats_of p = p.seats
 abbrev pub sessions_of : Pass → List OwnSession
 sessions_of p = p.sessions.items
 
--- Groups and users are the fold of lists which begin with what each pass and the monitor had seen, and which have no entries but theirs. The map
--- is the monitor's, the sessions are those of the passes, the submissions are the groups' requests, and what was decided is told group by group
-pub record IsEndOf (c : Cluster) (m : Monitor) (passes : List Pass) (w : World) : Type 0 where
+-- Groups and users are the fold of lists which begin with what each pass and the monitor had seen, and which have no entries but theirs, each one's
+-- in its order. The map is the monitor's, and the sessions are those of the passes
+pub record IsEndOf (c : Cluster) (m : Monitor) (passes : List Pass) (p : WorldParts) : Type 0 where
   pub ended : Ended
   pub closed : Closed c m.seats (map seats_of passes) ended
-  pub groups : w.groups ≡ map group_in ended.groups.items
-  pub users : w.front.database ≡ ended.users.db
-  pub map_is : w.front.history ≡ m.map
-  pub sessions : AreSessionsOf (map sessions_of passes) w.front.sessions
-  pub submissions : w.front.submissions ≡ requests_of w.groups
-  pub lists : w.front.lists ≡ []
-  pub decided : w.audit ≡ decided_of w.groups
+  pub groups : p.groups.items ≡ map group_in ended.groups.items
+  pub users : p.users ≡ ended.users.db
+  pub map_is : p.map ≡ m.map
+  pub sessions : AreSessionsOf (map sessions_of passes) p.sessions.items
+
+-- all passes are there: as many as were given, and their sessions are numbered from 1 on, with no gap and none twice
+pub record AreAll (c : Cluster) (passes : List Pass) : Type 0 where
+  pub count : length passes ≡ c.passes
+  pub sessions : List Session
+  pub numbered : AreSessionsOf (map sessions_of passes) sessions
+
+-- a pass is missing; or none is, and a change of the map is unfinished; or there was no memory
+abbrev pub CloseFails : Cluster → Monitor → List Pass → CloseFault → Type 0
+CloseFails c m passes faults.MissingPass = AreAll c passes → ⊥
+CloseFails c m passes faults.Unfinished = AreAll c passes × IsSome m.unfinished
+CloseFails c m passes faults.OutOfMemory = Unit {0}

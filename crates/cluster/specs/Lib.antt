@@ -9,4 +9,5 @@ pub mod Change
 pub mod Monitors
 pub mod Sessions
 pub mod Asks
+pub mod Starts
 pub mod Ends

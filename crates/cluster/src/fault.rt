@@ -1,5 +1,9 @@
 //! Why a call on a cluster is refused.
 
+ghost use Rattle.std.specs.Prelude.{◌≡◌};
+ghost use Rattle.cluster.specs.declared.fault.ClusterFault.TheVariants as faults;
+
+use std::alloc::{AllocError, AllocFailed};
 use world_core::WorldFault;
 
 /// Why a call on a cluster is refused.
@@ -16,4 +20,20 @@ pub enum ClusterFault {
     OutOfMemory,
     /// K4: the published map gave no reader, or no reading. The call can be made again.
     NoReader,
+}
+
+impl From<AllocError> for ClusterFault {
+    ghost from_gives = { λ _ fault. fault ≡ faults.OutOfMemory };
+
+    fn from(_error: AllocError) -> ClusterFault {
+        ClusterFault::OutOfMemory
+    }
+}
+
+impl<T: Drop> From<AllocFailed<T>> for ClusterFault {
+    ghost from_gives = { λ _ fault. fault ≡ faults.OutOfMemory };
+
+    fn from(_error: AllocFailed<T>) -> ClusterFault {
+        ClusterFault::OutOfMemory
+    }
 }

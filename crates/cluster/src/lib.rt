@@ -26,6 +26,7 @@ mod begin;
 mod change;
 #[cfg(test)]
 mod change_tests;
+mod closing;
 mod cluster;
 mod fault;
 mod groups;
@@ -38,12 +39,14 @@ mod pass;
 mod pass_tests;
 mod published;
 mod rows;
+mod start;
 #[cfg(test)]
 mod tests;
 mod users;
 mod watching;
 
 pub use cap_text::OutOfMemory;
+pub use closing::CloseFault;
 pub use cluster::{Cluster, Ended, Seats};
 pub use fault::ClusterFault;
 pub use groups::{
@@ -58,5 +61,6 @@ pub use published::{
     Knowledge, MapReader, MapWriter, PublishedMap, PublishedRule, SeenMap, publish, publish_first,
     view,
 };
+pub use start::{PoolSpec, UserSpec, start};
 pub use users::{Change, Open, OpenFault, Renew, UserCommand, UserEntry, UserTable};
 pub use watching::{places_of, watch};

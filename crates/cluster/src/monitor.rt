@@ -86,6 +86,23 @@ impl Monitor {
         self.map.refusal(command)
     }
 
+    // Ends the publication. It waits until no reader is within a reading.
+    pub(crate) fn end<R: Wait>(self, rt: &R) -> (ClusterMap, Seats)
+        ensures { (result.0 ≡ self.map) × (result.1 ≡ self.seats) }
+    {
+        let Monitor {
+            map,
+            places: _,
+            seats,
+            writer,
+            unfinished: _,
+        } = self;
+        if let Some(writer) = writer {
+            drop(writer.take(rt));
+        }
+        (map, seats)
+    }
+
     // Publishes what waits.
     fn publish_all<R: Wait>(&mut self, rt: &R) -> Result<(), AllocError>
         requires { IsSome self.old.writer }

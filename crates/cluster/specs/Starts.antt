@@ -1,0 +1,58 @@
+-- Statement: contracts of public calls use it.
+-- What a cluster begins with.
+use Rattle.std.specs.Prelude.{◌≡◌, ℕ, List, [], ◌++◌, map}
+use Rattle.grant_core.specs.Flat.{Table}
+use Rattle.map_core.specs.declared.command.MapCommand.TheVariants.{PoolCreate}
+use Rattle.world_core.specs.Event.{Event, Add, Auth, Map}
+use Rattle.world_core.specs.World.{World}
+use Rattle.world_core.specs.Sound.{IsSound}
+use Rattle.world_core.specs.Holds.{Holds}
+use Rattle.world_core.specs.Calls.{IsFirstRefused}
+use Rattle.world_core.specs.declared.world.parts.WorldParts.{WorldParts}
+use Rattle.cluster.specs.declared.start.PoolSpec.{PoolSpec}
+use Rattle.cluster.specs.declared.start.UserSpec.{UserSpec}
+use Rattle.cluster.specs.declared.cluster.Cluster.{Cluster}
+use Rattle.cluster.specs.declared.fault.ClusterFault.{ClusterFault}
+use Rattle.cluster.specs.declared.fault.ClusterFault.TheVariants as faults
+use Rattle.cluster.specs.Passes.{firsts_of}
+
+abbrev pub creation_of : PoolSpec → Event
+creation_of p = Map (PoolCreate p.name p.pg_num p.size p.min_size)
+
+abbrev pub addition_of : UserSpec → Event
+addition_of u = Auth (Add u.name u.caps)
+
+-- the pools in order, and then the users
+abbrev pub events_of : List PoolSpec → List UserSpec → List Event
+events_of pools users = map creation_of pools ++ map addition_of users
+
+-- the parts are those of a world that holds, in which nothing was asked
+pub record HasWorld (p : WorldParts) : Type 0 where
+  pub world : World
+  pub sound : IsSound world
+  pub unasked : world.front.submissions ≡ []
+  pub users : p.users ≡ world.front.database
+  pub map_is : p.map ≡ world.front.history
+  pub groups : p.groups.items ≡ world.groups
+
+-- the cluster begins with the users, the map and the groups of the world that these events make, and no session
+pub record IsStartOf (table : Table) (daemons : ℕ) (events : List Event) (c : Cluster) : Type 0 where
+  pub world : World
+  pub holds : Holds table daemons events world
+  pub map_is : c.start ≡ world.front.history
+  pub groups : firsts_of c ≡ world.groups
+  pub users : c.users.first.db ≡ world.front.database
+  pub sessions : c.users.first.sessions ≡ 0
+
+-- there was no memory, or no reader
+abbrev pub IsWant : ClusterFault → Type 0
+IsWant faults.OutOfMemory = Unit {0}
+IsWant faults.NoReader = Unit {0}
+IsWant faults.NoThread = ⊥
+IsWant (faults.World fault) = ⊥
+IsWant (faults.Unfinished at) = ⊥
+
+-- the first of these events that is refused, and why; or there was no memory, or no reader
+abbrev pub StartFails : Table → ℕ → List Event → ClusterFault → Type 0
+StartFails table daemons events (faults.World fault) = (place : ℕ) × IsFirstRefused table daemons events place fault
+StartFails table daemons events fault = IsWant fault

@@ -1,0 +1,250 @@
+//! Starting a cluster.
+
+ghost use Rattle.std.specs.Prelude.{◌≡◌, ◌<◌, ◌≤◌, ◌^◌, ◌++◌, [], All, map as each, vec_len, IfOk, IfErr, IsNone};
+ghost use Rattle.world_core.specs.Sound.{IsSound};
+ghost use Rattle.cluster.specs.Starts.{HasWorld};
+ghost use Rattle.cluster.specs.Passes.{AreFreshOf, firsts_of, group_in, pass_share};
+ghost use Rattle.cluster.specs.Monitors.{IsMonitorOf, Follows};
+ghost use Rattle.cluster.specs.Asks.{IsBegun, IsPassOf};
+ghost use Rattle.cluster.specs.Starts.{creation_of, addition_of, events_of, IsStartOf, IsWant, StartFails};
+
+use crate::begin::open_cluster;
+use crate::cluster::{Cluster, Seats};
+use crate::fault::ClusterFault;
+use crate::groups::LockedGroup;
+use crate::monitor::Monitor;
+use crate::pass::Pass;
+use crate::users::UserTable;
+use crate::watching::{places_of, watch};
+use auth_db::Caps;
+use cap_text::Name;
+use grant_core::ProfileTable;
+use group_core::Group;
+use map_core::MapCommand;
+use std::alloc::{AllocError, Global};
+use std::sync::Wait;
+use world_core::{AuthCommand, Event, WorldFault, WorldParts, run};
+
+/// How many news there may be at once, beside a reader for each pass.
+const MOST_NEWS: usize = 64;
+
+/// The most passes: each has a reader of the published map.
+const MOST_PASSES: usize = 65536;
+
+/// A pool of a cluster: 1 to 64 groups, sets of 1 to 5 daemons, and how many of a set are needed at least.
+#[derive(Debug, Drop)]
+pub struct PoolSpec {
+    pub name: Name,
+    pub pg_num: u32,
+    pub size: u32,
+    pub min_size: u32,
+}
+
+/// A user of a cluster, and its texts.
+#[derive(Debug, Drop)]
+pub struct UserSpec {
+    pub name: Name,
+    pub caps: Caps,
+}
+
+// The creation of a pool, as an event of a world.
+fn creation(pool: PoolSpec) -> Event
+    ensures { result ≡ creation_of pool }
+{
+    let PoolSpec {
+        name,
+        pg_num,
+        size,
+        min_size,
+    } = pool;
+    Event::Map(MapCommand::PoolCreate {
+        name,
+        pg_num,
+        size,
+        min_size,
+    })
+}
+
+// The addition of a user, as an event of a world.
+fn addition(user: UserSpec) -> Event
+    ensures { result ≡ addition_of user }
+{
+    let UserSpec { name, caps } = user;
+    Event::Auth(AuthCommand::Add { name, caps })
+}
+
+// The creations of pools, in order.
+fn creations(alloc: Global, pools: Vec<PoolSpec>) -> Result<Vec<Event>, AllocError>
+    ensures { IfOk result (λ events. events.items ≡ each creation_of pools.items) }
+{
+    let mut events = Vec::new(alloc);
+    for pool in pools {
+        events.push(creation(pool))?;
+    }
+    Ok(events)
+}
+
+// With the additions of users, in order.
+fn with_users(mut events: Vec<Event>, users: Vec<UserSpec>) -> Result<Vec<Event>, AllocError>
+    ensures { IfOk result (λ all. all.items ≡ events.items ++ each addition_of users.items) }
+{
+    for user in users {
+        events.push(addition(user))?;
+    }
+    Ok(events)
+}
+
+// Each group, to be put under a lock.
+fn to_lock(alloc: Global, groups: Vec<Group>) -> Result<Vec<LockedGroup>, AllocError>
+    ensures { IfOk result (λ locked. each group_in locked.items ≡ groups.items) }
+{
+    let mut locked = Vec::with_capacity(alloc, groups.len())?;
+    for group in groups {
+        locked.push(LockedGroup { group })?;
+    }
+    Ok(locked)
+}
+
+// A pass of these seats, with a reader who is told of the monitor's map.
+fn pass_with(
+    alloc: Global,
+    cluster: &Cluster,
+    monitor: &mut Monitor,
+    seats: Seats,
+) -> Result<Pass, ClusterFault>
+    requires monitor { IsMonitorOf cluster.now monitor.old × IsNone monitor.old.unfinished }
+    requires follows { (monitor.old.map ≡ cluster.now.start) × Follows cluster.now.start monitor.old }
+    requires begun { IsBegun cluster.now }
+    requires fresh { AreFreshOf cluster.now (pass_share cluster.now.passes) seats }
+    ensures monitor { IsMonitorOf cluster.now monitor.new × IsNone monitor.new.unfinished }
+    ensures follows { (monitor.new.map ≡ cluster.now.start) × Follows cluster.now.start monitor.new }
+    ensures pass { IfOk result (λ pass. IsPassOf cluster.now pass × (pass.seats ≡ seats) × (pass.sessions.items ≡ [])) }
+    ensures err { IfErr result IsWant }
+{
+    match monitor.tell(cluster) {
+        Err(_) => Err(ClusterFault::NoReader),
+        Ok(news) => Ok(Pass {
+            seats,
+            reader: Some(news.reader),
+            sessions: Vec::new(alloc),
+        }),
+    }
+}
+
+// A pass of each of these seats.
+fn all_passes(
+    alloc: Global,
+    cluster: &Cluster,
+    monitor: &mut Monitor,
+    seats: Vec<Seats>,
+) -> Result<Vec<Pass>, ClusterFault>
+    requires monitor { IsMonitorOf cluster.now monitor.old × IsNone monitor.old.unfinished }
+    requires follows { (monitor.old.map ≡ cluster.now.start) × Follows cluster.now.start monitor.old }
+    requires begun { IsBegun cluster.now }
+    requires fresh { All (AreFreshOf cluster.now (pass_share cluster.now.passes)) seats.items }
+    ensures monitor { IsMonitorOf cluster.now monitor.new × IsNone monitor.new.unfinished }
+    ensures follows { (monitor.new.map ≡ cluster.now.start) × Follows cluster.now.start monitor.new }
+    ensures passes { IfOk result (λ passes. (vec_len passes ≡ vec_len seats) × All (λ pass. IsPassOf cluster.now pass × (pass.sessions.items ≡ [])) passes.items) }
+    ensures err { IfErr result IsWant }
+{
+    let mut passes = Vec::new(alloc);
+    for own in seats {
+        passes.reserve(1)?;
+        passes.push_reserved(pass_with(alloc, cluster, monitor, own)?);
+    }
+    Ok(passes)
+}
+
+// The cluster of a world that was taken apart.
+fn cluster_of<R: Wait>(
+    rt: &R,
+    alloc: Global,
+    parts: WorldParts,
+    passes: usize,
+) -> Result<(Cluster, Monitor, Vec<Pass>), ClusterFault>
+    requires world { HasWorld parts }
+    ensures cluster { IfOk result (λ r. (r.0.start ≡ parts.map) × (firsts_of r.0 ≡ parts.groups.items) × (r.0.users.first.db ≡ parts.users) × (r.0.users.first.sessions ≡ 0)) }
+    ensures monitor { IfOk result (λ r. IsMonitorOf r.0 r.1 × Follows r.0.start r.1) }
+    ensures whole { IfOk result (λ r. IsNone r.1.unfinished × (r.1.map ≡ parts.map)) }
+    ensures passes { IfOk result (λ r. (vec_len r.2 ≡ passes) × All (λ pass. IsPassOf r.0 pass × (pass.sessions.items ≡ [])) r.2.items) }
+    ensures err { IfErr result IsWant }
+{
+    let WorldParts {
+        users,
+        map,
+        sessions: _,
+        groups,
+    } = parts;
+    if passes > MOST_PASSES {
+        return Err(ClusterFault::NoReader);
+    }
+    let groups = to_lock(alloc, groups)?;
+    let places = places_of(alloc, groups.as_slice())?;
+    let start = map.copy()?;
+    let users = UserTable {
+        db: users,
+        sessions: 0,
+    };
+    let (cluster, seats, all) = open_cluster(alloc, start, groups, users, passes)?;
+    match watch(rt, alloc, &cluster, seats, map, places, passes + MOST_NEWS) {
+        Err(_) => Err(ClusterFault::OutOfMemory),
+        Ok(monitor) => with_passes(rt, alloc, cluster, monitor, all),
+    }
+}
+
+// With a pass of each of these seats. Without them the monitor is ended.
+fn with_passes<R: Wait>(
+    rt: &R,
+    alloc: Global,
+    cluster: Cluster,
+    mut monitor: Monitor,
+    seats: Vec<Seats>,
+) -> Result<(Cluster, Monitor, Vec<Pass>), ClusterFault>
+    requires monitor { IsMonitorOf cluster monitor × IsNone monitor.unfinished }
+    requires follows { (monitor.map ≡ cluster.start) × Follows cluster.start monitor }
+    requires begun { IsBegun cluster }
+    requires fresh { All (AreFreshOf cluster (pass_share cluster.passes)) seats.items }
+    ensures cluster { IfOk result (λ r. r.0 ≡ cluster) }
+    ensures monitor { IfOk result (λ r. IsMonitorOf cluster r.1 × Follows cluster.start r.1) }
+    ensures whole { IfOk result (λ r. IsNone r.1.unfinished × (r.1.map ≡ cluster.start)) }
+    ensures passes { IfOk result (λ r. (vec_len r.2 ≡ vec_len seats) × All (λ pass. IsPassOf cluster pass × (pass.sessions.items ≡ [])) r.2.items) }
+    ensures err { IfErr result IsWant }
+{
+    match all_passes(alloc, &cluster, &mut monitor, seats) {
+        Ok(passes) => Ok((cluster, monitor, passes)),
+        Err(fault) => {
+            monitor.end(rt);
+            Err(fault)
+        }
+    }
+}
+
+/// A cluster of 1 to 16 daemons, all up, with these pools and users, its monitor, and so many passes, one for each thread.
+///
+/// It is refused as the first of the creations of the pools, in order, and then the additions of the users is refused by a world; for
+/// want of memory (K3); or where the published map gives no reader (K4), of which there may be one for each of 65,536 passes. No pool
+/// comes later. Each pass may take about 2^64 / (passes + 1) turns on each group and on the users.
+pub fn start<R: Wait>(
+    rt: &R,
+    alloc: Global,
+    table: ProfileTable,
+    daemons: u8,
+    pools: Vec<PoolSpec>,
+    users: Vec<UserSpec>,
+    passes: usize,
+) -> Result<(Cluster, Monitor, Vec<Pass>), ClusterFault>
+    requires some { 1 ≤ daemons }
+    requires few { daemons ≤ 16 }
+    ensures cluster { IfOk result (λ r. IsStartOf table daemons (events_of pools.items users.items) r.0) }
+    ensures monitor { IfOk result (λ r. IsMonitorOf r.0 r.1 × Follows r.0.start r.1) }
+    ensures whole { IfOk result (λ r. IsNone r.1.unfinished × (r.1.map ≡ r.0.start)) }
+    ensures passes { IfOk result (λ r. (vec_len r.2 ≡ passes) × All (λ pass. IsPassOf r.0 pass × (pass.sessions.items ≡ [])) r.2.items) }
+    ensures err { IfErr result (λ fault. StartFails table daemons (events_of pools.items users.items) fault) }
+{
+    let events = with_users(creations(alloc, pools)?, users)?;
+    match run(alloc, table, daemons, events.as_slice()) {
+        Ok(world) => cluster_of(rt, alloc, world.into_parts(), passes),
+        Err((_, WorldFault::OutOfMemory)) => Err(ClusterFault::OutOfMemory),
+        Err((_, fault)) => Err(ClusterFault::World(fault)),
+    }
+}
