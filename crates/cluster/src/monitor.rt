@@ -86,8 +86,8 @@ impl Monitor {
         self.map.refusal(command)
     }
 
-    // Ends the publication. It waits until no reader is within a reading.
-    pub(crate) fn end<R: Wait>(self, rt: &R) -> (ClusterMap, Seats)
+    /// Ends the publication, and gives the map and the seats back. It waits until no reader is within a reading.
+    pub fn end<R: Wait>(self, rt: &R) -> (ClusterMap, Seats)
         ensures { (result.0 ≡ self.map) × (result.1 ≡ self.seats) }
     {
         let Monitor {

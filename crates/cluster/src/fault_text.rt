@@ -1,0 +1,51 @@
+//! The printed forms of faults: number, name, and what they carry.
+
+use crate::closing::CloseFault;
+use crate::fault::ClusterFault;
+use crate::monitor::{ChangeFault, TellFault};
+use std::fmt;
+
+/// As `K1 Unfinished 2`; a fault of a lower layer prints itself.
+impl fmt::Display for ClusterFault {
+    fn fmt<W: fmt::Write>(&self, f: &mut fmt::Formatter<W>) -> fmt::Result {
+        match self {
+            ClusterFault::World(fault) => write!(f, "{fault}"),
+            ClusterFault::Unfinished(at) => write!(f, "K1 Unfinished {at}"),
+            ClusterFault::NoThread => write!(f, "K2 NoThread"),
+            ClusterFault::OutOfMemory => write!(f, "K3 OutOfMemory"),
+            ClusterFault::NoReader => write!(f, "K4 NoReader"),
+        }
+    }
+}
+
+/// As `K1 Unfinished 2`; a fault of the map or of a group prints itself.
+impl fmt::Display for ChangeFault {
+    fn fmt<W: fmt::Write>(&self, f: &mut fmt::Formatter<W>) -> fmt::Result {
+        match self {
+            ChangeFault::Map(fault) => write!(f, "{fault}"),
+            ChangeFault::Group(fault) => write!(f, "{fault}"),
+            ChangeFault::Unfinished(at) => write!(f, "K1 Unfinished {at}"),
+        }
+    }
+}
+
+/// As `K4 NoReader`.
+impl fmt::Display for TellFault {
+    fn fmt<W: fmt::Write>(&self, f: &mut fmt::Formatter<W>) -> fmt::Result {
+        match self {
+            TellFault::Unfinished(at) => write!(f, "K1 Unfinished {at}"),
+            TellFault::NoReader => write!(f, "K4 NoReader"),
+        }
+    }
+}
+
+/// As `L1 MissingPass`.
+impl fmt::Display for CloseFault {
+    fn fmt<W: fmt::Write>(&self, f: &mut fmt::Formatter<W>) -> fmt::Result {
+        match self {
+            CloseFault::MissingPass => write!(f, "L1 MissingPass"),
+            CloseFault::Unfinished => write!(f, "L2 Unfinished"),
+            CloseFault::OutOfMemory => write!(f, "L3 OutOfMemory"),
+        }
+    }
+}

@@ -1,0 +1,168 @@
+//! Workers: a thread for each pass, which delivers messages round by round.
+
+ghost use Rattle.std.specs.Prelude.{◌≡◌, ◌≤◌, [], All, map as each, vec_len};
+ghost use Rattle.std.specs.Vec.{vec_capacity};
+ghost use Rattle.cluster.specs.Places.{Beside};
+ghost use Rattle.cluster.specs.Asks.{IsPassOf};
+ghost use Rattle.cluster.specs.Works.{HasWorked, HasWorkedOf, AreAtWork, pass_of};
+
+use crate::cluster::Cluster;
+use crate::fault::ClusterFault;
+use crate::groups::Worked;
+use crate::pass::Pass;
+use group_core::GroupFault;
+use std::alloc::Global;
+use std::sync::Wait;
+use std::thread;
+use std::thread::Threads;
+use world_core::WorldFault;
+
+/// Asked before each round of a worker.
+pub trait Gate {
+    /// Whether this worker goes on with this round, both counted from 0. The worker ends where it does not.
+    fn enter(&self, worker: u32, round: u32) -> bool;
+}
+
+/// A pass at work, and why it ended before its last round, if it did.
+#[derive(Drop)]
+struct Worker {
+    pass: Pass,
+    fault: Option<ClusterFault>,
+}
+
+// Delivers message 0 of each group, in order, once, and passes over messages to daemons that are down.
+fn work_round<R: Wait>(rt: &R, cluster: &Cluster, pass: &mut Pass) -> Result<(), ClusterFault>
+    requires { IsPassOf cluster.now pass.old }
+    ensures pass { IsPassOf cluster.now pass.new }
+    ensures worked { HasWorked 1 pass.old pass.new }
+{
+    for place in 0..cluster.group_count() {
+        match cluster.work_at(rt, pass, place) {
+            Ok(_) | Err(ClusterFault::World(WorldFault::Group(GroupFault::Unreachable))) => {}
+            Err(fault) => return Err(fault),
+        }
+    }
+    Ok(())
+}
+
+// So many rounds, as long as the gate lets the worker in.
+fn work_rounds<R: Wait, G: Gate>(
+    rt: &R,
+    cluster: &Cluster,
+    gate: &G,
+    number: u32,
+    pass: &mut Pass,
+    rounds: u32,
+) -> Option<ClusterFault>
+    requires { IsPassOf cluster.now pass.old }
+    ensures pass { IsPassOf cluster.now pass.new }
+    ensures worked { HasWorked rounds pass.old pass.new }
+{
+    for round in 0..rounds {
+        if !gate.enter(number, round) {
+            return None;
+        }
+        if let Err(fault) = work_round(rt, cluster, pass) {
+            return Some(fault);
+        }
+    }
+    None
+}
+
+// One worker's rounds. It keeps the fault that ended it.
+fn work_on<R: Wait, G: Gate>(
+    rt: &R,
+    cluster: &Cluster,
+    gate: &G,
+    number: usize,
+    worker: &mut Worker,
+    rounds: u32,
+)
+    requires { IsPassOf cluster.now worker.old.pass }
+    ensures { HasWorkedOf cluster.now rounds worker.old worker.new }
+{
+    if let Ok(number) = u32::try_from(number) {
+        worker.fault = work_rounds(rt, cluster, gate, number, &mut worker.pass, rounds);
+    }
+}
+
+// All workers' rounds, each on a thread of its own where there can be one.
+fn work_all<R: Threads + Wait + Sync, G: Gate + Sync>(
+    rt: &R,
+    cluster: &Cluster,
+    gate: &G,
+    workers: &mut [Worker],
+    rounds: u32,
+)
+    requires { AreAtWork cluster.now workers.old }
+    ensures { Beside (HasWorkedOf cluster.now rounds) workers.old workers.new }
+{
+    let count = workers.len();
+    if count == 0 {
+        return;
+    }
+    thread::for_each_mut(
+        rt,
+        workers,
+        count,
+        &|number, worker|
+            requires { IsPassOf cluster.now worker.now.pass }
+            ensures { HasWorkedOf cluster.entry.now rounds worker.entry.now worker.exit.now }
+        { work_on(rt, cluster, gate, number, worker, rounds) },
+    );
+}
+
+// Passes, to be put to work.
+fn enlist(passes: Vec<Pass>, mut workers: Vec<Worker>) -> Vec<Worker>
+    requires { (workers.items ≡ []) × (vec_len passes ≤ vec_capacity workers) }
+    ensures { each pass_of result.items ≡ passes.items }
+{
+    for pass in passes {
+        workers.push_reserved(Worker { pass, fault: None });
+    }
+    workers
+}
+
+// The passes of workers, and the first fault that ended one.
+fn dismiss(workers: Vec<Worker>, mut passes: Vec<Pass>) -> (Vec<Pass>, Option<ClusterFault>)
+    requires { (passes.items ≡ []) × (vec_len workers ≤ vec_capacity passes) }
+    ensures { result.0.items ≡ each pass_of workers.items }
+{
+    let mut first = None;
+    for worker in workers {
+        if first.is_none() {
+            first = worker.fault;
+        }
+        passes.push_reserved(worker.pass);
+    }
+    (passes, first)
+}
+
+/// Workers deliver messages, each by a pass and on a thread of its own: worker w has pass w, both counted from 0.
+///
+/// In each of so many rounds a worker asks the gate, and ends where it is not let in; then it delivers message 0 of each group once, in
+/// order, and passes over a message to a daemon that is down. Another fault ends that worker. The passes come back in order, also where a
+/// worker ended early, and with them the fault of the first worker that did, by number. K3 comes before any round. Where no thread can be
+/// made the workers run one after another, so a gate that waits for another worker may wait for ever.
+pub fn run_workers<R: Threads + Wait + Sync, G: Gate + Sync>(
+    rt: &R,
+    alloc: Global,
+    cluster: &Cluster,
+    passes: Vec<Pass>,
+    gate: &G,
+    rounds: u32,
+) -> (Vec<Pass>, Option<ClusterFault>)
+    requires { All (IsPassOf cluster.now) passes.items }
+    ensures passes { All (IsPassOf cluster.now) result.0.items }
+    ensures worked { Beside (HasWorked rounds) passes.items result.0.items }
+{
+    let Ok(workers) = Vec::with_capacity(alloc, passes.len()) else {
+        return (passes, Some(ClusterFault::OutOfMemory));
+    };
+    let Ok(room) = Vec::with_capacity(alloc, passes.len()) else {
+        return (passes, Some(ClusterFault::OutOfMemory));
+    };
+    let mut workers = enlist(passes, workers);
+    work_all(rt, cluster, gate, workers.as_mut_slice(), rounds);
+    dismiss(workers, room)
+}
