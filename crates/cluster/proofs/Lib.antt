@@ -7,3 +7,5 @@ pub mod Gathering
 pub mod Moved
 pub mod Changing
 pub mod Following
+pub mod Starting
+pub mod Numbers

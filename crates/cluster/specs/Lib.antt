@@ -11,3 +11,4 @@ pub mod Sessions
 pub mod Asks
 pub mod Starts
 pub mod Ends
+pub mod Numbering

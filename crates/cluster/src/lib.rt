@@ -34,6 +34,7 @@ mod located;
 mod monitor;
 mod moves;
 mod news;
+mod numbering;
 mod pass;
 #[cfg(test)]
 mod pass_tests;
