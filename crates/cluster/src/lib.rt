@@ -26,6 +26,8 @@ mod begin;
 mod change;
 #[cfg(test)]
 mod change_tests;
+#[cfg(test)]
+mod close_tests;
 mod closing;
 mod cluster;
 mod fault;
