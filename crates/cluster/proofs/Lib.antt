@@ -7,3 +7,4 @@ pub mod Gathering
 pub mod Moved
 pub mod Changing
 pub mod Following
+pub mod Makers
