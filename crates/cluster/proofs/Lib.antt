@@ -8,3 +8,4 @@ pub mod Moved
 pub mod Changing
 pub mod Following
 pub mod Makers
+pub mod Ending

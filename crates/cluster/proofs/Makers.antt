@@ -39,7 +39,7 @@ mapped_at f (y ∷ ys) zero x h = let same : y ≡ x = cc in ap (λ z. Some (f z
 mapped_at f (y ∷ ys) (suc k) x h = mapped_at f ys k x h
 
 -- what stands at a place of a list that is as long under some f
-mapped_beside : {X Y Z : Type 0} → (f : X → Z) (g : Y → Z) (xs : List X) (ys : List Y) (k : ℕ) (y : Y) → map f xs ≡ map g ys → slice_get ys k ≡ Some y → (x : X) × (slice_get xs k ≡ Some x)
+pub mapped_beside : {X Y Z : Type 0} → (f : X → Z) (g : Y → Z) (xs : List X) (ys : List Y) (k : ℕ) (y : Y) → map f xs ≡ map g ys → slice_get ys k ≡ Some y → (x : X) × (slice_get xs k ≡ Some x)
 mapped_beside f g xs ys k y same there =
     let t = at_mapped f xs k (g y) (ap (λ l. slice_get l k) same ∙ mapped_at g ys k y there) in (t.0, t.1)
 
