@@ -9,3 +9,5 @@ pub mod Changing
 pub mod Following
 pub mod Starting
 pub mod Numbers
+pub mod Makers
+pub mod Ending
