@@ -12,3 +12,4 @@ pub mod Asks
 pub mod Starts
 pub mod Ends
 pub mod Numbering
+pub mod Works

@@ -31,6 +31,7 @@ mod close_tests;
 mod closing;
 mod cluster;
 mod fault;
+mod fault_text;
 mod groups;
 mod located;
 mod monitor;
@@ -47,6 +48,7 @@ mod start;
 mod tests;
 mod users;
 mod watching;
+mod workers;
 
 pub use cap_text::OutOfMemory;
 pub use closing::CloseFault;
@@ -67,3 +69,4 @@ pub use published::{
 pub use start::{PoolSpec, UserSpec, start};
 pub use users::{Change, Open, OpenFault, Renew, UserCommand, UserEntry, UserTable};
 pub use watching::{places_of, watch};
+pub use workers::{Gate, run_workers};
