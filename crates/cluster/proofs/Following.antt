@@ -175,7 +175,7 @@ module _ (first : History) (command : MapCommand) (at : ℕ) (old new : Monitor)
 
 -- ---- at the beginning
 
-fresh_mine : {S : Type 0} → (share : ℕ) (ls : List (Locked S)) (ss : List (Seated GroupEntry)) (k : ℕ) → IsFreshRow share ls ss → get_or (map mine_of ss) k [] ≡ []
+pub fresh_mine : {S : Type 0} → (share : ℕ) (ls : List (Locked S)) (ss : List (Seated GroupEntry)) (k : ℕ) → IsFreshRow share ls ss → get_or (map mine_of ss) k [] ≡ []
 fresh_mine share [] [] k h = refl
 fresh_mine share [] (s ∷ ss) k h = absurd h
 fresh_mine share (l ∷ ls) [] k h = absurd h

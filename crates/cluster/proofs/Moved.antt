@@ -78,7 +78,7 @@ module _ (c : Cluster) (k : ℕ) (old new : Seats) (inside : k < length old.grou
       (starts_through _ _ _ (_, sees) (t.turned.between, ap (λ l. l ++ t.turned.between) (sym saw))))
       (λ other. subst (λ l. StartsWith l (seen_at old j)) (sym (ap (λ l. get_or (map seen_by l) j []) t.stays ∙ read_other seen_by old.groups.items k inside t.after j [] other)) (starts_whole _))
 
-  goes : Goes old new
+  pub goes : Goes old new
   goes = let t = turn.0 in record {
     seen = seen_later;
     stands = ap (map standing) t.stays ∙ put_same standing old.groups.items k inside t.before t.after found_at (λ i. (t.same.0 i, t.same.1 i, t.share.0 i, t.share.1 i));
@@ -86,7 +86,7 @@ module _ (c : Cluster) (k : ℕ) (old new : Seats) (inside : k < length old.grou
   }
 
   -- an entry of the seat k was added
-  added : (event : Option Event) → ((g : Group) → happened (entry step g answer ∷ []) ≡ option_to_list event) → OneMoved event k old new
+  pub added : (event : Option Event) → ((g : Group) → happened (entry step g answer ∷ []) ≡ option_to_list event) → OneMoved event k old new
   added event is =
       let t = turn.0 in
       let g : Group = state_after group_after t.lock.first (t.before.seen ++ t.turned.between) in

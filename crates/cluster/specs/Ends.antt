@@ -36,8 +36,8 @@ pub record AreAll (c : Cluster) (passes : List Pass) : Type 0 where
   pub sessions : List Session
   pub numbered : AreSessionsOf (map sessions_of passes) sessions
 
--- a pass is missing; or none is, and a change of the map is unfinished; or there was no memory
+-- a pass is missing; or none is, and a change of the map is unfinished; or neither is so, and there was no memory
 abbrev pub CloseFails : Cluster → Monitor → List Pass → CloseFault → Type 0
 CloseFails c m passes faults.MissingPass = AreAll c passes → ⊥
 CloseFails c m passes faults.Unfinished = AreAll c passes × IsSome m.unfinished
-CloseFails c m passes faults.OutOfMemory = Unit {0}
+CloseFails c m passes faults.OutOfMemory = AreAll c passes × IsNone m.unfinished

@@ -15,3 +15,5 @@ pub mod Asking
 pub mod ToAsk
 pub mod Starts
 pub mod Ends
+pub mod Numbering
+pub mod Works

@@ -1,6 +1,6 @@
 //! The cluster and its passes.
 
-ghost use Rattle.std.specs.Prelude.{◌≡◌, ◌<◌, ◌≤◌, [], All, length, IfOk};
+ghost use Rattle.std.specs.Prelude.{◌≡◌, ◌<◌, ◌≤◌, [], length, IfOk};
 ghost use Rattle.std.specs.Vec.{vec_capacity};
 ghost use Rattle.turn_lock.specs.Turned.{Closes};
 ghost use Rattle.cluster.specs.Groups.{group_after, entry_fits};
@@ -49,7 +49,7 @@ impl Seats {
 }
 
 impl Cluster {
-    ghost use Rattle.cluster.specs.Passes.{AreSeatsOf, group_count, group_in, GroupTurn, UserTurn, heard_of, SameSeats, TakeIn, Gathers, HaveShare};
+    ghost use Rattle.cluster.specs.Passes.{AreSeatsOf, group_count, group_in, GroupTurn, UserTurn, heard_of, SameSeats, TakeIn, HaveShare};
 
     // A cluster of these locks.
     pub(crate) fn of(
@@ -73,6 +73,13 @@ impl Cluster {
         ensures { result ≡ group_count self.now }
     {
         self.groups.len()
+    }
+
+    // How many passes it was given.
+    pub(crate) fn pass_count(&self) -> usize
+        ensures { result ≡ self.now.passes }
+    {
+        self.passes
     }
 
     // A turn on a group.
@@ -126,19 +133,6 @@ impl Cluster {
         let Seats { groups, users } = other;
         join_all(&self.groups, &mut seats.groups, groups);
         seats.users.join(&self.users, users);
-    }
-
-    // The monitor's seats, which have heard of all passes and have their numbers.
-    pub(crate) fn gather(&self, mut all: Seats, passes: Vec<Seats>) -> Seats
-        requires seats { AreSeatsOf self.now all }
-        requires passes { All (AreSeatsOf self.now) passes.items }
-        ensures seats { AreSeatsOf self.now result }
-        ensures heard { Gathers all passes.items result }
-    {
-        for pass in passes {
-            self.absorb(&mut all, pass);
-        }
-        all
     }
 
     // The groups and the users at the end, by a last turn on each lock.

@@ -27,14 +27,18 @@ mod begin;
 mod change;
 #[cfg(test)]
 mod change_tests;
+#[cfg(test)]
+mod close_tests;
 mod closing;
 mod cluster;
 mod fault;
+mod fault_text;
 mod groups;
 mod located;
 mod monitor;
 mod moves;
 mod news;
+mod numbering;
 mod pass;
 #[cfg(test)]
 mod pass_tests;
@@ -46,6 +50,7 @@ mod start;
 mod tests;
 mod users;
 mod watching;
+mod workers;
 mod working;
 
 pub use asking::{Asked, Asking};
@@ -68,3 +73,4 @@ pub use published::{
 pub use start::{PoolSpec, UserSpec, start};
 pub use users::{Change, Open, OpenFault, Renew, UserCommand, UserEntry, UserTable};
 pub use watching::{places_of, watch};
+pub use workers::{Gate, run_workers};

@@ -163,6 +163,7 @@ fn cluster_of<R: Wait>(
     passes: usize,
 ) -> Result<(Cluster, Monitor, Vec<Pass>), ClusterFault>
     requires world { HasWorld parts }
+    ensures begun { IfOk result (λ r. IsBegun r.0) }
     ensures cluster { IfOk result (λ r. (r.0.start ≡ parts.map) × (firsts_of r.0 ≡ parts.groups.items) × (r.0.users.first.db ≡ parts.users) × (r.0.users.first.sessions ≡ 0)) }
     ensures monitor { IfOk result (λ r. IsMonitorOf r.0 r.1 × Follows r.0.start r.1) }
     ensures whole { IfOk result (λ r. IsNone r.1.unfinished × (r.1.map ≡ parts.map)) }
@@ -219,7 +220,7 @@ fn with_passes<R: Wait>(
     }
 }
 
-/// A cluster of 1 to 16 daemons, all up, with these pools and users, its monitor, and so many passes, one for each thread.
+/// A cluster of 1 to 16 daemons, all up, with these pools and users, its monitor, and so many passes, one for each thread and at least one.
 ///
 /// It is refused as the first of the creations of the pools, in order, and then the additions of the users is refused by a world; for
 /// want of memory (K3); or where the published map gives no reader (K4), of which there may be one for each of 65,536 passes. No pool
@@ -235,6 +236,8 @@ pub fn start<R: Wait>(
 ) -> Result<(Cluster, Monitor, Vec<Pass>), ClusterFault>
     requires some { 1 ≤ daemons }
     requires few { daemons ≤ 16 }
+    requires pass { 1 ≤ passes }
+    ensures begun { IfOk result (λ r. IsBegun r.0) }
     ensures cluster { IfOk result (λ r. IsStartOf table daemons (events_of pools.items users.items) r.0) }
     ensures monitor { IfOk result (λ r. IsMonitorOf r.0 r.1 × Follows r.0.start r.1) }
     ensures whole { IfOk result (λ r. IsNone r.1.unfinished × (r.1.map ≡ r.0.start)) }
