@@ -11,3 +11,6 @@ pub mod Starting
 pub mod Numbers
 pub mod Makers
 pub mod Ending
+pub mod Turning
+pub mod WorkTurns
+pub mod ClusterPlaces

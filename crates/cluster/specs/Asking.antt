@@ -9,7 +9,9 @@ use Rattle.object_core.specs.declared.op.Op.{Op}
 use Rattle.entry_core.specs.Request.{Sealed, Listing}
 use Rattle.entry_core.specs.Locality.{group_for}
 use Rattle.group_core.specs.declared.fault.GroupFault.{GroupFault}
-use Rattle.world_core.specs.Event.{Ask, Fault, NoSession, NoPool, BadObjectName, StaleTick, OfNeeds}
+use Rattle.world_core.specs.declared.event.Ask.{Ask}
+use Rattle.world_core.specs.declared.fault.WorldFault.{WorldFault as Fault}
+use Rattle.world_core.specs.declared.fault.WorldFault.TheVariants.{NoSession, NoPool, BadObjectName, StaleTick, Needs as OfNeeds}
 use Rattle.world_core.specs.Front.{◌>>=◌, need, unless, lower, Asker, is_object_name, is_namespace, sealed_of, vector_of, asks_more}
 use Rattle.world_core.specs.Moves.{IsAt}
 use Rattle.world_core.specs.declared.session.Session.{Session}

@@ -6,7 +6,7 @@ use Rattle.map_core.specs.Refusal.{is_word}
 use Rattle.map_core.specs.declared.pool.PoolView.{PoolView}
 use Rattle.object_core.specs.declared.op.Op.{Op}
 use Rattle.entry_core.specs.Request.{Sealed}
-use Rattle.world_core.specs.Event.{Ask}
+use Rattle.world_core.specs.declared.event.Ask.{Ask}
 use Rattle.world_core.specs.Front.{id_of}
 use Rattle.world_core.specs.Sound.{IsSealedFor}
 use Rattle.world_core.specs.declared.session.Session.{Session}

@@ -6,7 +6,7 @@ use Rattle.entry_core.specs.declared.sealed.GroupId.{GroupId}
 use Rattle.group_core.specs.Group.{Group}
 use Rattle.group_core.specs.declared.fault.GroupFault.{GroupFault}
 use Rattle.group_core.specs.declared.fault.GroupFault.TheVariants as group_fault
-use Rattle.world_core.specs.Event.{NoRequest, OfGroup}
+use Rattle.world_core.specs.declared.fault.WorldFault.TheVariants.{NoRequest, Group as OfGroup}
 use Rattle.world_core.specs.Moves.{IsAt}
 use Rattle.cluster.specs.declared.groups.GroupEntry.{GroupEntry}
 use Rattle.cluster.specs.declared.groups.Worked.{Worked}

@@ -3,8 +3,9 @@
 ghost use Rattle.std.specs.Prelude.{◌≡◌, ◌⊎◌, ◌<◌, ◌+◌, Ok, None, Some, IfOk, IfErr, length};
 ghost use Rattle.std.specs.Option.{option_map};
 ghost use Rattle.object_core.specs.Needs.{needs_fault};
-ghost use Rattle.world_core.specs.Event.{OfNeeds, Fault};
-ghost use Rattle.world_core.specs.Front.{error_of, vector_of, asks_more, Session as Opened};
+ghost use Rattle.world_core.specs.declared.fault.WorldFault.{WorldFault as Fault};
+ghost use Rattle.world_core.specs.declared.fault.WorldFault.TheVariants.{Needs as OfNeeds};
+ghost use Rattle.world_core.specs.Front.{error_of, vector_of, asks_more};
 ghost use Rattle.cap_text.specs.Refused.{RefusedExactly};
 ghost use Rattle.cluster.specs.declared.fault.ClusterFault.TheVariants as faults;
 ghost use Rattle.cluster.specs.Sessions.{own_session, own_session_at};

@@ -1,9 +1,9 @@
 //! What a pass reads of the published map.
 
-ghost use Rattle.std.specs.Prelude.{◌≡◌, IfOk, IfErr};
+ghost use Rattle.std.specs.Prelude.{◌≡◌, IfOk, IfErr, option_copied};
 ghost use Rattle.left_right.specs.Sides.{view as known};
 ghost use Rattle.map_core.specs.Limits.{HasLimits, IsAccepted};
-ghost use Rattle.map_core.specs.Map.{epoch_of, map_of, view_at};
+ghost use Rattle.map_core.specs.Map.{epoch_of, map_of, pool_in, view_at};
 ghost use Rattle.map_core.specs.Refusal as tests;
 ghost use Rattle.cap_text.specs.Refused.{RefusedFirst};
 ghost use Rattle.cluster.specs.Published.{AnswersBy};
@@ -15,7 +15,7 @@ use crate::fault::ClusterFault;
 use crate::pass::Pass;
 use crate::published::{MapReader, Sees};
 use cap_text::Name;
-use map_core::{ClusterMap, MapFault, PoolView};
+use map_core::{ClusterMap, MapFault, Pool, PoolView};
 use world_core::WorldFault;
 
 // A pool by a map at its present epoch.
@@ -47,12 +47,19 @@ pub(crate) fn read_view(
     }
 }
 
-// Whether a map has a pool of this name.
+// The pool of a name.
 #[tactic(auto, unfolding(map_core::specs::Map::pool_in))]
-fn has_pool(map: &ClusterMap, pool: &Name) -> bool
-    ensures { result ≡ tests.has_pool (map_of map.now).pools pool.now }
+fn pool_of<'a>(pools: &'a [Pool], name: &Name) -> Option<&'a Pool>
+    ensures { option_copied result ≡ pool_in pools.now name.now }
 {
-    map.pools().iter().any(|had| had.name.equals(pool))
+    pools.iter().find(|pool| pool.name.equals(name))
+}
+
+// Whether a map has a pool of this name.
+fn has_pool(map: &ClusterMap, name: &Name) -> bool
+    ensures { result ≡ tests.has_pool (map_of map.now).pools name.now }
+{
+    pool_of(map.pools(), name).is_some()
 }
 
 impl Cluster {
