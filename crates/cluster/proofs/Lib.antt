@@ -14,3 +14,4 @@ pub mod Ending
 pub mod Turning
 pub mod WorkTurns
 pub mod ClusterPlaces
+pub mod Readings
