@@ -15,3 +15,5 @@ pub mod Turning
 pub mod WorkTurns
 pub mod ClusterPlaces
 pub mod Readings
+pub mod OwnSessions
+pub mod Submitting
