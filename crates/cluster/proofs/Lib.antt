@@ -17,3 +17,5 @@ pub mod ClusterPlaces
 pub mod Readings
 pub mod OwnSessions
 pub mod Submitting
+pub mod Vectors
+pub mod Pieces
