@@ -73,3 +73,47 @@ pool_unnamed start map own a who is bad =
 
 pub no_pool : (start map : History) (own : List OwnSession) (a : Asking) (fault : Fault) → asker_by start map own a ≡ Err fault → pool_by start map own a ≡ Err fault
 no_pool start map own a fault is = ap (λ (r : Result Asker Fault). r >>= λ k. unless (not (is_namespace a.namespace)) BadObjectName >>= λ _. Ok k.view) is
+
+memory_unlists : (c : Cluster) (a : Asking) (r : Result PoolView Fault) (p : Pass) → IsUnlistedBy c a r faults.OutOfMemory p p
+memory_unlists c a (Ok view) p = inl (refl, refl)
+memory_unlists c a (Err why) p = (inr refl, refl)
+
+-- ---- a list, by a reading and turns
+
+module _ (c : Cluster) (a : Asking) (old : Pass) (fine : error_of (session_by old.sessions.items a) ≡ None) (s : Session) (has : own_session old.sessions.items a.session ≡ Some s) where
+  given : session_by old.sessions.items a ≡ Ok s
+  given = session_given old.sessions.items a s fine has
+
+  pub list_unseen : (new : Pass) (fault : ClusterFault) → IsUnseen c.start a.pool fault old new → ListFails c a fault old new
+  list_unseen new fault (inl u) = inr (inl u)
+  list_unseen new fault (inr u) = inr (inr (u.0, new, u.1, by u.2))
+    where
+      by : (fault ≡ faults.OutOfMemory) ⊎ ((fault ≡ faults.World NoPool) × (view_by c.start u.0 a.pool ≡ None)) → IsUnlistedBy c a (pool_by c.start u.0 old.sessions.items a) fault new new
+      by (inl memory) = subst (λ (f : ClusterFault). IsUnlistedBy c a (pool_by c.start u.0 old.sessions.items a) f new new) (sym memory) (memory_unlists c a (pool_by c.start u.0 old.sessions.items a) new)
+      by (inr none) = subst (λ (r : Result PoolView Fault). IsUnlistedBy c a r fault new new) (sym (no_pool c.start u.0 old.sessions.items a NoPool (asker_unseen c.start u.0 old.sessions.items a s given none.1))) (inl none.0, refl)
+
+  module _ (mid : Pass) (view : PoolView) (seen : HasSeen c.start a.pool view old mid) where
+    asks : asker_by c.start seen.map old.sessions.items a ≡ Ok (record { session = s; view = view })
+    asks = asker_seen c.start seen.map old.sessions.items a s given view seen.is
+
+    pub list_unnamed : is_namespace a.namespace ≡ false → ListFails c a (faults.World BadObjectName) old mid
+    list_unnamed bad = inr (inr (seen.map, mid, seen.read,
+      subst (λ (r : Result PoolView Fault). IsUnlistedBy c a r (faults.World BadObjectName) mid mid) (sym (pool_unnamed c.start seen.map old.sessions.items a (record { session = s; view = view }) asks bad)) (inl refl, refl)))
+
+    module _ (new : Pass) (ask : Ask) (good : is_namespace a.namespace ≡ true) (is : ask ≡ ask_by a view) where
+      pool : pool_by c.start seen.map old.sessions.items a ≡ Ok view
+      pool = pool_as c.start seen.map old.sessions.items a (record { session = s; view = view }) asks good
+
+      pub listed_by : (all : List Asked) → ArePieces c ask view 0 all mid new × (length all ≡ view.pg_num) → IsListed c a all old new
+      listed_by all h = record {
+        map = seen.map;
+        mid = mid;
+        read = seen.read;
+        view = view;
+        is = pool;
+        pieces = subst (λ (k : Ask). ArePieces c k view 0 all mid new) is h.0;
+        every = h.1;
+      }
+
+      pub unlisted_by : (fault : ClusterFault) → IsCutShort c ask view fault mid new → ListFails c a fault old new
+      unlisted_by fault h = inr (inr (seen.map, mid, seen.read, subst (λ (r : Result PoolView Fault). IsUnlistedBy c a r fault mid new) (sym pool) (inr (subst (λ (k : Ask). IsCutShort c k view fault mid new) is h))))

@@ -159,10 +159,11 @@ pub record IsCutShort (c : Cluster) (ask : Ask) (view : PoolView) (fault : Clust
   pub fewer : length before < view.pg_num
   pub fails : IsNoPiece c ask view (length before) fault at new
 
--- by the map that was read there is no such pool, for this reason or for want of memory; or a piece was not submitted
+-- by the map that was read there is no such pool, for this reason or for want of memory; or there is one, and no memory was there for its view, or a piece was
+-- not submitted
 abbrev pub IsUnlistedBy : Cluster → Asking → Result PoolView Fault → ClusterFault → Pass → Pass → Type 0
 IsUnlistedBy c a (Err why) fault old new = ((fault ≡ faults.World why) ⊎ (fault ≡ faults.OutOfMemory)) × (new ≡ old)
-IsUnlistedBy c a (Ok view) fault old new = IsCutShort c (ask_by a view) view fault old new
+IsUnlistedBy c a (Ok view) fault old new = ((fault ≡ faults.OutOfMemory) × (new ≡ old)) ⊎ IsCutShort c (ask_by a view) view fault old new
 
 abbrev pub ListFails : Cluster → Asking → ClusterFault → Pass → Pass → Type 0
 ListFails c a fault old new =
