@@ -11,3 +11,6 @@ pub mod Starting
 pub mod Numbers
 pub mod Makers
 pub mod Ending
+pub mod Own
+pub mod Held
+pub mod Looks
