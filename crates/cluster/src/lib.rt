@@ -44,7 +44,7 @@ mod opening;
 mod pass;
 mod published;
 mod rows;
-mod start;
+mod starting;
 mod users;
 mod watching;
 mod workers;
@@ -65,7 +65,7 @@ pub use pass::{OwnSession, Pass};
 pub use published::{
     Knowledge, MapReader, MapWriter, PublishedMap, PublishedRule, SeenMap, publish, publish_first,
 };
-pub use start::{PoolSpec, UserSpec, start};
+pub use starting::{PoolSpec, UserSpec, start};
 pub use users::{Change, Open, OpenFault, Renew, UserCommand, UserEntry, UserTable};
 pub use watching::{places_of, watch};
 pub use workers::{Gate, run_workers};
