@@ -1,31 +1,32 @@
 -- A pass that looked, took a turn on the users, gave a note or heard one is still a pass of its cluster.
-use Rattle.std.proofs.Common.{◌≡◌, ◌≢◌, ℕ, ◌+◌, ◌<◌, ◌≤◌, ◌∙◌, List, [], ◌∷◌, ◌++◌, map, get_or, refl, sym, ap, subst, arith}
-use Rattle.std.specs.Prelude.{All, true, Option, None, Some, IsSome, slice_get}
+use Rattle.std.proofs.Common.{◌≡◌, ℕ, ◌+◌, ◌<◌, ◌≤◌, ◌∙◌, List, [], ◌∷◌, ◌++◌, map, get_or, refl, sym, ap, subst, arith}
+use Rattle.std.specs.Prelude.{All, true, Some, IsSome}
 use Rattle.std.proofs.lemmas.List.Elements.{All-head, All-tail, All-cons, All-nil}
 use Rattle.turn_lock.specs.Turns.{with_leaver}
-use Rattle.turn_lock.specs.Seats.{Seated, mine_of, HasItsOwn}
+use Rattle.turn_lock.specs.Seats.{Seated, mine_of, seat_lock, IsSeatOf, HasItsOwn}
 use Rattle.map_core.specs.State.{History, GoesOn}
 use Rattle.entry_core.specs.declared.sealed.GroupId.{GroupId}
 use Rattle.group_core.specs.Each.{Each}
-use Rattle.group_core.specs.Group.{Group, Event, Submit, Deliver, Lose, Repeat, NewInterval, Restart, Kick, is_submitted}
+use Rattle.group_core.specs.Group.{Event, Submit, Deliver, Lose, Repeat, NewInterval, Restart, Kick, is_submitted}
 use Rattle.world_core.specs.Front.{id_of}
 use Rattle.cluster.specs.declared.cluster.Cluster.{Cluster}
 use Rattle.cluster.specs.declared.cluster.Seats.{Seats}
 use Rattle.cluster.specs.declared.pass.OwnSession.{OwnSession}
 use Rattle.cluster.specs.declared.pass.Pass.{Pass}
 use Rattle.cluster.specs.declared.published.Knowledge.{Knowledge}
-use Rattle.cluster.specs.declared.groups.GroupEntry.{GroupEntry}
 use Rattle.cluster.specs.declared.users.UserTable.{UserTable}
 use Rattle.cluster.specs.declared.users.UserEntry.{UserEntry}
-use Rattle.cluster.specs.Asks.{Asks, IsAskedAt, IsOwnEvent, IsPassOf, asked_of, known_by}
+use Rattle.cluster.specs.Asks.{Asks, IsOwnEvent, IsPassOf, asked_of, known_by}
 use Rattle.cluster.specs.Change.{happened, happened_at}
-use Rattle.cluster.specs.Sessions.{next_of, IsNumbered}
+use Rattle.world_core.specs.declared.session.Session.{Session}
+use Rattle.cluster.specs.Sessions.{own_session_at, next_of, IsNumbered}
 use Rattle.cluster.specs.Places.{InStep, TakesIn}
-use Rattle.cluster.specs.Passes.{ArePassOf, AreSeatsOf, HaveShare, AreAlone, SameSeats, TakeIn, UserTurn, firsts_of, pass_share}
+use Rattle.cluster.specs.Passes.{ArePassOf, AreSeatsOf, HaveShare, TakeIn, UserTurn, pass_share}
 use Rattle.cluster.specs.Published.{Covers, GoesOnFrom, Sees}
 use Rattle.cluster.specs.Noted.{GaveNote, KnowsAll}
 use Rattle.cluster.specs.Looking.{OnlyLooked}
 use Rattle.cluster.proofs.Grows.{from_through}
+use Rattle.cluster.proofs.Own.{more_up, more_down, same_next}
 
 -- ---- what is known of the map
 
@@ -44,6 +45,16 @@ SameNumbers own new = ((s n : ℕ) → n < next_of own s → n < next_of new s) 
 
 pub same_numbers : (own new : List OwnSession) → new ≡ own → SameNumbers own new
 same_numbers own new is = (λ s n h. subst (λ l. n < next_of l s) (sym is) h, λ s n far h. subst (λ l. n < next_of l s) is h)
+
+-- one session more
+pub opened_numbers : (o : OwnSession) (own new : List OwnSession) → o.session.next ≡ 1 → new ≡ own ++ o ∷ [] → SameNumbers own new
+opened_numbers o own new fresh is = (λ s n h. subst (λ l. n < next_of l s) (sym is) (more_up o fresh own s n h), λ s n far h. more_down o fresh own s n far (subst (λ l. n < next_of l s) is h))
+
+-- a session with another ticket
+pub renewed_numbers : (change : Session → Session) → ((s : Session) → (change s).next ≡ s.next) → (own new : List OwnSession) (n : ℕ) → new ≡ own_session_at own n change → SameNumbers own new
+renewed_numbers change keeps own new n is =
+    let next : (s : ℕ) → next_of new s ≡ next_of own s = λ s. ap (λ l. next_of l s) is ∙ same_next change keeps own n s in
+    (λ s m h. subst (λ k. m < k) (sym (next s)) h, λ s m far h. subst (λ k. m < k) (next s) h)
 
 module _ (start : History) (own new : List OwnSession) (same : SameNumbers own new) where
   numbered_still : (id : ℕ) → IsNumbered own id → IsNumbered new id
@@ -111,24 +122,26 @@ pub pass_turned : {A Step : Type 0} (entry : Step → UserTable → A → UserEn
     → IsPassOf c old → AreSeatsOf c new.seats → UserTurn entry tells c old.seats new.seats step answer → SameNumbers old.sessions.items new.sessions.items → new.reader ≡ old.reader → IsPassOf c new
 pass_turned entry tells step answer c old new p own turn numbers reader =
     let seats = p.seats in
-    let groups = turn.3 in pass_still c old new p
-    (own,
+    let groups = turn.3 in pass_still c old new p (
+      own,
       (subst (λ v. All (λ s. s.share ≡ pass_share c.passes) v.items) (sym groups) seats.1.0, turn.2.0 ∙ seats.1.1),
-      (subst (λ v. All (λ s. s.joined ≡ []) v.items) (sym groups) seats.2.0, turn.2.1 ∙ seats.2.1))
+      (subst (λ v. All (λ s. s.joined ≡ []) v.items) (sym groups) seats.2.0, turn.2.1 ∙ seats.2.1),
+    )
     (subst (λ v. All HasItsOwn v.items) (sym groups) p.made)
     (λ j. ap (λ v. happened_at (record new.seats { groups = v }) j) groups)
     numbers (still_reader old new reader p.reader) (same_reader old new reader)
 
 -- it gave a note
-pub pass_noted : (c : Cluster) (old new : Pass) → IsPassOf c old → AreSeatsOf c new.seats → GaveNote old new → IsPassOf c new
-pass_noted c old new p own gave =
+pub pass_noted : (c : Cluster) (old new : Pass) → IsPassOf c old → GaveNote old new → IsPassOf c new
+pass_noted c old new p gave =
     let seats = p.seats in
-    let groups = gave.0.0 in let users = gave.0.1 in pass_still c old new p
-    (own,
+    let groups = gave.0.0 in let users = gave.0.1 in pass_still c old new p (
+      (ap (map seat_lock) groups ∙ seats.0.0, subst (IsSeatOf c.users) (sym users) seats.0.1),
       (subst (λ l. All (λ s. s.share ≡ pass_share c.passes) l) (sym groups) seats.1.0, ap (λ s. s.share) users ∙ seats.1.1),
-      (subst (λ l. All (λ s. s.joined ≡ []) l) (sym groups) seats.2.0, ap (λ s. s.joined) users ∙ seats.2.1))
+      (subst (λ l. All (λ s. s.joined ≡ []) l) (sym groups) seats.2.0, ap (λ s. s.joined) users ∙ seats.2.1),
+    )
     (subst (λ l. All HasItsOwn l) (sym groups) p.made)
-    (λ j. ap (λ l. happened_at (record new.seats { groups = record new.seats.groups { items = l } }) j) groups)
+    (λ j. ap (λ l. happened (get_or (map mine_of l) j [])) groups)
     (same_numbers old.sessions.items new.sessions.items (ap (λ v. v.items) gave.2))
     (still_reader old new gave.1 p.reader) (same_reader old new gave.1)
 
@@ -146,28 +159,45 @@ module _ {E : Type 0} where
   share_row n (x ∷ xs) (y ∷ ys) (z ∷ zs) h none is = All-cons (λ s. s.share ≡ n) z zs
       (share_heard n x y z h.0 (All-head (λ s. s.share ≡ 0) y ys none) (All-head (λ s. s.share ≡ n) x xs is))
       (share_row n xs ys zs h.1 (All-tail (λ s. s.share ≡ 0) y ys none) (All-tail (λ s. s.share ≡ n) x xs is))
+  share_row n [] [] (z ∷ zs) h none is = elim h [ ]
+  share_row n [] (y ∷ ys) zs h none is = elim h [ ]
+  share_row n (x ∷ xs) [] zs h none is = elim h [ ]
+  share_row n (x ∷ xs) (y ∷ ys) [] h none is = elim h [ ]
 
   alone_row : (xs ys zs : List (Seated E)) → InStep TakesIn xs ys zs → All (λ s. s.share ≡ 0) ys → All (λ s. s.joined ≡ []) xs → All (λ s. s.joined ≡ []) zs
   alone_row [] [] [] h none is = All-nil (λ s. s.joined ≡ [])
   alone_row (x ∷ xs) (y ∷ ys) (z ∷ zs) h none is = All-cons (λ s. s.joined ≡ []) z zs
       (alone_heard x y z h.0 (All-head (λ s. s.share ≡ 0) y ys none) (All-head (λ s. s.joined ≡ []) x xs is))
       (alone_row xs ys zs h.1 (All-tail (λ s. s.share ≡ 0) y ys none) (All-tail (λ s. s.joined ≡ []) x xs is))
+  alone_row [] [] (z ∷ zs) h none is = elim h [ ]
+  alone_row [] (y ∷ ys) zs h none is = elim h [ ]
+  alone_row (x ∷ xs) [] zs h none is = elim h [ ]
+  alone_row (x ∷ xs) (y ∷ ys) [] h none is = elim h [ ]
 
   made_row : (xs ys zs : List (Seated E)) → InStep TakesIn xs ys zs → All HasItsOwn zs
   made_row [] [] [] h = All-nil HasItsOwn
   made_row (x ∷ xs) (y ∷ ys) (z ∷ zs) h = let t = h.0 in All-cons HasItsOwn z zs t.made (made_row xs ys zs h.1)
+  made_row [] [] (z ∷ zs) h = elim h [ ]
+  made_row [] (y ∷ ys) zs h = elim h [ ]
+  made_row (x ∷ xs) [] zs h = elim h [ ]
+  made_row (x ∷ xs) (y ∷ ys) [] h = elim h [ ]
 
   mine_row : (xs ys zs : List (Seated E)) → InStep TakesIn xs ys zs → map mine_of zs ≡ map mine_of xs
   mine_row [] [] [] h = refl
   mine_row (x ∷ xs) (y ∷ ys) (z ∷ zs) h = let t = h.0 in λ i. t.own i ∷ mine_row xs ys zs h.1 i
+  mine_row [] [] (z ∷ zs) h = elim h [ ]
+  mine_row [] (y ∷ ys) zs h = elim h [ ]
+  mine_row (x ∷ xs) [] zs h = elim h [ ]
+  mine_row (x ∷ xs) (y ∷ ys) [] h = elim h [ ]
 
 pub pass_heard : (c : Cluster) (other : Seats) (old new : Pass) → IsPassOf c old → HaveShare 0 other → AreSeatsOf c new.seats → TakeIn old.seats other new.seats → new.reader ≡ old.reader → new.sessions ≡ old.sessions → IsPassOf c new
 pass_heard c other old new p none own heard reader sessions =
     let seats = p.seats in
-    let xs = old.seats.groups.items in let ys = other.groups.items in let zs = new.seats.groups.items in pass_still c old new p
-    (own,
+    let xs = old.seats.groups.items in let ys = other.groups.items in let zs = new.seats.groups.items in pass_still c old new p (
+      own,
       (share_row (pass_share c.passes) xs ys zs heard.0 none.0 seats.1.0, share_heard (pass_share c.passes) old.seats.users other.users new.seats.users heard.1 none.1 seats.1.1),
-      (alone_row xs ys zs heard.0 none.0 seats.2.0, alone_heard old.seats.users other.users new.seats.users heard.1 none.1 seats.2.1))
+      (alone_row xs ys zs heard.0 none.0 seats.2.0, alone_heard old.seats.users other.users new.seats.users heard.1 none.1 seats.2.1),
+    )
     (made_row xs ys zs heard.0)
     (λ j. ap (λ l. happened (get_or l j [])) (mine_row xs ys zs heard.0))
     (same_numbers old.sessions.items new.sessions.items (ap (λ v. v.items) sessions))

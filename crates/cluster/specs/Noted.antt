@@ -8,7 +8,6 @@ use Rattle.cluster.specs.declared.notes.Note.{Note}
 use Rattle.cluster.specs.declared.published.Knowledge.{Knowledge}
 use Rattle.cluster.specs.Passes.{AreSeatsOf, HaveShare, SameSeats}
 use Rattle.cluster.specs.Published.{Covers}
-use Rattle.cluster.specs.Asks.{known_by}
 
 -- a note of this cluster: its seats take no turns
 abbrev pub IsNoteOf : Cluster → Note → Type 0

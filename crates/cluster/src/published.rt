@@ -173,7 +173,10 @@ fn view_in(map: &ClusterMap, pool: &Name) -> Result<PoolView, MapFault>
 // A pool at the present epoch of a map that goes on from all that this reader saw before or was told of. It waits for nobody.
 //
 // `None` where `left_right` gives no reading, as once the writer was ended. The reader comes back in every case.
-pub(crate) fn view(reader: MapReader, pool: &Name) -> (Option<Result<PoolView, MapFault>>, MapReader)
+pub(crate) fn view(
+    reader: MapReader,
+    pool: &Name,
+) -> (Option<Result<PoolView, MapFault>>, MapReader)
     ensures { AnswersBy (λ map answer. RefusedFirst (tests.view_refusal map pool.now (epoch_of map)) MapFault.OutOfMemory answer × IfOk answer (λ view. view_at map pool.now (epoch_of map) ≡ Some view)) result.0 (known reader.place) (known result.1.place) }
 {
     match reader.enter_as::<Sees>() {
