@@ -11,3 +11,5 @@ pub mod Starting
 pub mod Numbers
 pub mod Makers
 pub mod Ending
+pub mod Turns
+pub mod Requested
