@@ -7,7 +7,7 @@ pub mod Gathering
 pub mod Moved
 pub mod Changing
 pub mod Following
-pub mod Starting
+pub mod FirstPasses
 pub mod Numbers
 pub mod Makers
 pub mod Ending

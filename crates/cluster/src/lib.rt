@@ -43,7 +43,7 @@ mod pass;
 mod pass_tests;
 mod published;
 mod rows;
-mod start;
+mod starting;
 #[cfg(test)]
 mod tests;
 mod users;
@@ -66,7 +66,7 @@ pub use published::{
     Knowledge, MapReader, MapWriter, PublishedMap, PublishedRule, SeenMap, publish, publish_first,
     view,
 };
-pub use start::{PoolSpec, UserSpec, start};
+pub use starting::{PoolSpec, UserSpec, start};
 pub use users::{Change, Open, OpenFault, Renew, UserCommand, UserEntry, UserTable};
 pub use watching::{places_of, watch};
 pub use workers::{Gate, run_workers};

@@ -2,7 +2,7 @@ use Rattle.std.proofs.Common.{◌≡◌, [], length, vec_len}
 use Rattle.std.specs.Prelude.{All, IsNone}
 use Rattle.cluster.specs.Monitors.{IsMonitorOf, Follows}
 use Rattle.cluster.specs.Asks.{IsPassOf}
-use Rattle.cluster.proofs.start.all_passes.Given as goal
+use Rattle.cluster.proofs.starting.all_passes.Given as goal
 
 abbrev pub invariant-loop-own : goal.invariant-loop-own
 invariant-loop-own l = record {

@@ -17,8 +17,8 @@ use Rattle.cluster.specs.declared.cluster.Seats.{Seats}
 use Rattle.cluster.specs.declared.monitor.Monitor.{Monitor}
 use Rattle.cluster.specs.declared.monitor.Unfinished.{Unfinished}
 use Rattle.cluster.specs.declared.pass.Pass.{Pass}
-use Rattle.cluster.specs.declared.start.PoolSpec.{PoolSpec}
-use Rattle.cluster.specs.declared.start.UserSpec.{UserSpec}
+use Rattle.cluster.specs.declared.starting.PoolSpec.{PoolSpec}
+use Rattle.cluster.specs.declared.starting.UserSpec.{UserSpec}
 use Rattle.cluster.specs.Places.{IsFreshRow}
 use Rattle.cluster.specs.Published.{GoesOnFrom, Covers}
 use Rattle.cluster.specs.Passes.{AreFreshOf, group_count, pass_share}
