@@ -13,3 +13,4 @@ pub mod Makers
 pub mod Ending
 pub mod Turns
 pub mod Requested
+pub mod Rounds
