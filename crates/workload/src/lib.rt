@@ -4,11 +4,11 @@
 mod asking;
 mod fault;
 mod moving;
+mod scenario;
 mod settling;
 mod tally;
 mod worker;
-mod workload;
 
 pub use fault::WorkloadFault;
+pub use scenario::{run_workload, world_of_workload};
 pub use tally::Tally;
-pub use workload::run_workload;

@@ -182,17 +182,17 @@ fn run_cluster<R: Threads + Wait + Sync>(
     }
 }
 
-/// Runs so many workers, each on a thread of its own, over a cluster of three daemons and a pool of four groups, and tells what became
-/// of their requests once every group has settled.
+/// Runs so many workers, each on a thread of its own, over a cluster of three daemons and a pool of four groups, and gives the world that
+/// they leave once every group has settled, and how many changes of the map there were.
 ///
 /// Each worker asks for 50 additions of 1 to one counter, as a user who may, and then for 10 appends, as one who may not. With
 /// `moves` a daemon goes down and comes up 20 times meanwhile; then each group settles, sends again what is unanswered, and settles.
-pub fn run_workload<R: Threads + Wait + Sync>(
+pub fn world_of_workload<R: Threads + Wait + Sync>(
     rt: &R,
     alloc: Global,
     workers: u32,
     moves: bool,
-) -> Result<Tally, WorkloadFault> {
+) -> Result<(World, Option<u32>), WorkloadFault> {
     let (parts, count) = run_cluster(rt, alloc, workers as usize, moves)?;
     let Ok(mut world) = World::of(parts) else {
         return Err(WorkloadFault::Cluster(ClusterFault::OutOfMemory));
@@ -202,5 +202,16 @@ pub fn run_workload<R: Threads + Wait + Sync>(
         kick(alloc, &mut world, GROUPS)?;
         settle(alloc, &mut world, GROUPS)?;
     }
+    Ok((world, count))
+}
+
+/// What became of the requests of such a workload.
+pub fn run_workload<R: Threads + Wait + Sync>(
+    rt: &R,
+    alloc: Global,
+    workers: u32,
+    moves: bool,
+) -> Result<Tally, WorkloadFault> {
+    let (world, count) = world_of_workload(rt, alloc, workers, moves)?;
     Ok(tally_of(alloc, &world, workers.saturating_mul(2), count)?)
 }
