@@ -69,11 +69,7 @@ pub(crate) fn take_pass(cluster: &Cluster, passes: &mut Vec<Pass>) -> Option<Pas
 }
 
 // Who asks, in a namespace of the pool `data`.
-pub(crate) fn asking(
-    alloc: Global,
-    session: u32,
-    namespace: &str,
-) -> Result<Asking, ClusterFault> {
+pub(crate) fn asking(alloc: Global, session: u32, namespace: &str) -> Result<Asking, ClusterFault> {
     Ok(Asking {
         session,
         tick: 0,

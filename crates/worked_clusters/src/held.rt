@@ -68,7 +68,13 @@ fn hold<R: Wait>(rt: &R, cluster: &Cluster, seats: &mut Seats, progress: &Progre
 }
 
 // Looks at the map, judges, and works on group 1: whether all is answered.
-fn look<R: Wait>(rt: &R, alloc: Global, cluster: &Cluster, pass: &mut Pass, session: u32) -> Result<bool, ClusterFault>
+fn look<R: Wait>(
+    rt: &R,
+    alloc: Global,
+    cluster: &Cluster,
+    pass: &mut Pass,
+    session: u32,
+) -> Result<bool, ClusterFault>
     requires { IsPassOf cluster.now pass.old }
 {
     let pool = Name::new(alloc, "data")?;

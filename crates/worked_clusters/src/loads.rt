@@ -57,7 +57,9 @@ fn counts<R: std::thread::Threads + std::sync::Wait + Sync>(
     rt: &R,
     alloc: Global,
 ) -> Result<bool, Fail> {
-    let (world, _moves) = world_of_workload(rt, alloc, 4, true).map_err(|_| "a workload that fails")?;
+    let (world, _moves) = world_of_workload(rt, alloc, 4, true).map_err(
+        |_| "a workload that fails",
+    )?;
     Ok(count_up_to(world.audit()?.as_slice(), 200))
 }
 

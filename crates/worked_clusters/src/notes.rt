@@ -40,7 +40,10 @@ fn both<R: Wait>(rt: &R, alloc: Global, cluster: &Cluster, passes: Vec<Pass>) ->
     let Some(mut first) = take_pass(cluster, &mut passes) else {
         return false;
     };
-    matches!(append_and_read(rt, alloc, cluster, &mut first, &mut second), Ok(true))
+    matches!(
+        append_and_read(rt, alloc, cluster, &mut first, &mut second),
+        Ok(true)
+    )
 }
 
 #[test]

@@ -58,7 +58,11 @@ fn users(alloc: Global) -> Result<Vec<UserSpec>, WorkloadFault> {
 }
 
 // A worker for each pass.
-fn workers_of(alloc: Global, cluster: &Cluster, passes: Vec<Pass>) -> Result<Vec<Worker>, WorkloadFault>
+fn workers_of(
+    alloc: Global,
+    cluster: &Cluster,
+    passes: Vec<Pass>,
+) -> Result<Vec<Worker>, WorkloadFault>
     requires { All (IsPassOf cluster.now) passes.items }
     ensures { IfOk result (λ workers. AreWorkersOf cluster.now workers.items) }
 {
@@ -70,7 +74,11 @@ fn workers_of(alloc: Global, cluster: &Cluster, passes: Vec<Pass>) -> Result<Vec
 }
 
 // The passes of workers that met no fault.
-fn passes_of(alloc: Global, cluster: &Cluster, workers: Vec<Worker>) -> Result<Vec<Pass>, WorkloadFault>
+fn passes_of(
+    alloc: Global,
+    cluster: &Cluster,
+    workers: Vec<Worker>,
+) -> Result<Vec<Pass>, WorkloadFault>
     requires { AreWorkersOf cluster.now workers.items }
     ensures { IfOk result (λ passes. All (IsPassOf cluster.now) passes.items) }
 {
