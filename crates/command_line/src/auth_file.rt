@@ -4,15 +4,26 @@ use cap_text::OutOfMemory;
 use gate_text::{Entity, find};
 use serde_json::Value;
 use std::alloc::{AllocFailed, Global};
-use std::{fmt, io};
+use std::{fmt, fs, io};
 
 /// Files by their paths.
-pub(crate) trait InputFiles {
+pub trait InputFiles {
     /// The whole text of a file. It is an error where the file cannot be read, or is no UTF-8.
     fn read(&self, path: &str) -> io::Result<String>;
 
     /// All bytes of a file. It is an error where the file cannot be read.
     fn read_bytes(&self, path: &str) -> io::Result<Vec<u8>>;
+}
+
+/// The files of the program's host.
+impl InputFiles for HostRuntime {
+    fn read(&self, path: &str) -> io::Result<String> {
+        fs::read_to_string(self, path)
+    }
+
+    fn read_bytes(&self, path: &str) -> io::Result<Vec<u8>> {
+        fs::read(self, path)
+    }
 }
 
 /// Why a text has no entities. None of the text stands in it.

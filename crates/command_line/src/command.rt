@@ -4,8 +4,8 @@ ghost use Rattle.std.specs.Prelude.{◌≤◌};
 
 use crate::arguments::whole_command;
 use crate::auth_file::{AuthFault, InputFiles, entities_of};
+use crate::read_words::WordsFault;
 use crate::run::{RunFault, run_path};
-use crate::words::WordsFault;
 use cap_text::{AppTags, Name, OutOfMemory, Pairs, Tags};
 use clap::error::ErrorKind;
 use clap::{ArgMatches, Error};
@@ -442,7 +442,7 @@ fn finish_error<O: Write, E: Write>(error: &Error, out: &mut O, err: &mut E) -> 
 }
 
 /// Tells why the words of the command line cannot be read, and answers the status.
-pub(crate) fn refuse_words<O: Write, E: Write>(fault: WordsFault, out: &mut O, err: &mut E) -> u8
+pub fn refuse_words<O: Write, E: Write>(fault: WordsFault, out: &mut O, err: &mut E) -> u8
     ensures { result ≤ 2 }
 {
     match fault {
@@ -463,7 +463,7 @@ pub(crate) fn refuse_words<O: Write, E: Write>(fault: WordsFault, out: &mut O, e
 ///
 /// Answers, and the help that was asked for, go to `out`, and what is wrong with a command line to `err`. Where a
 /// capability text has a fault, the text and a caret under the fault's byte go to `err` as well.
-pub(crate) fn run_command<S: AsStr, F: InputFiles, R: Read, O: Write, E: Write>(
+pub fn run_command<S: AsStr, F: InputFiles, R: Read, O: Write, E: Write>(
     alloc: Global,
     words: &[S],
     files: &F,

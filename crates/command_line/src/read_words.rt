@@ -11,7 +11,7 @@ const DOUBLINGS: u32 = 40;
 
 /// Why the words cannot be read.
 #[derive(Clone, Copy, Debug, PartialEq, Eq)]
-pub(crate) enum WordsFault {
+pub enum WordsFault {
     /// The word with this number is not UTF-8. The program's own name has number 0.
     NotText(usize),
     /// A growth was refused.
@@ -51,7 +51,7 @@ fn word<R: Env>(rt: &R, alloc: Global, number: usize) -> Result<Option<String>, 
 }
 
 /// The words of the command line, the program's own name first.
-pub(crate) fn words<R: Env>(rt: &R, alloc: Global) -> Result<Vec<String>, WordsFault> {
+pub fn words<R: Env>(rt: &R, alloc: Global) -> Result<Vec<String>, WordsFault> {
     let mut words = Vec::new(alloc);
     for number in 0..usize::MAX {
         match word(rt, alloc, number)? {

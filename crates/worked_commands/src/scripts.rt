@@ -1,6 +1,6 @@
-//! Scripts, run on words.
+//! Scripts of standard input and of files.
 
-use crate::who_tests::run_with;
+use super::lines::{Row, expect, expect_of_inputs};
 use std::test::Fail;
 
 /// Two requests that are done, and one that is denied.
@@ -164,79 +164,34 @@ settled 10
 - \"\"
 ";
 
-/// A script, what it prints, and what is told of its end.
-struct Case {
-    script: &'static str,
-    prints: &'static str,
-    told: &'static str,
-}
-
 /// Scripts that run to their ends, and scripts that do not.
-const CASES: &[Case] = &[
-    Case {
-        script: FIRST,
-        prints: FIRST_PRINTS,
-        told: "",
-    },
-    Case {
-        script: FAILOVER,
-        prints: FAILOVER_PRINTS,
-        told: "",
-    },
-    Case {
-        script: EXPIRY,
-        prints: EXPIRY_PRINTS,
-        told: "",
-    },
-    Case {
-        script: RECOVERY,
-        prints: RECOVERY_PRINTS,
-        told: "",
-    },
-    Case {
-        script: "",
-        prints: "",
-        told: "",
-    },
-    Case {
-        script: "osds 3\nosd dwon 0\nauth ls\n",
-        prints: "epoch 1\n",
-        told: "osdgate: S3 BadLine 2\n",
-    },
-    Case {
-        script: "auth ls\n",
-        prints: "",
-        told: "osdgate: S3 BadLine 1\n",
-    },
+const SCRIPTS: &[Row] = &[
+    (FIRST, FIRST_PRINTS, "", 0),
+    (FAILOVER, FAILOVER_PRINTS, "", 0),
+    (EXPIRY, EXPIRY_PRINTS, "", 0),
+    (RECOVERY, RECOVERY_PRINTS, "", 0),
+    ("", "", "", 0),
+    (
+        "osds 3\nosd dwon 0\nauth ls\n",
+        "epoch 1\n",
+        "osdgate: S3 BadLine 2\n",
+        1,
+    ),
+    ("auth ls\n", "", "osdgate: S3 BadLine 1\n", 1),
 ];
 
 #[test]
 fn scripts_print_what_happens(rt: HostRuntime) -> Result<(), Fail> {
-    let alloc = rt.alloc();
-    for case in CASES {
-        let ran = run_with(alloc, &["osdgate", "run"], case.script)?;
-        assert_eq!(rt; ran.out.as_str(), case.prints);
-        assert_eq!(rt; ran.err.as_str(), case.told);
-        assert_eq!(rt; ran.status == 0, case.told.is_empty());
-    }
-    Ok(())
+    expect_of_inputs(&rt, rt.alloc(), "osdgate run", SCRIPTS)
 }
+
+const OF_FILES: &[Row] = &[
+    ("script", "epoch 1\nepoch 2\n", "~", 0),
+    ("-", "epoch 1\n", "~", 0),
+    ("nowhere", "", "^osdgate: the script cannot be read: ", 1),
+];
 
 #[test]
 fn a_script_is_read_from_a_file(rt: HostRuntime) -> Result<(), Fail> {
-    let alloc = rt.alloc();
-    let ran = run_with(alloc, &["osdgate", "run", "script"], "osds 1\n")?;
-    assert_eq!(rt; ran.out.as_str(), "epoch 1\nepoch 2\n");
-    assert_eq!(rt; ran.status, 0);
-    let dash = run_with(alloc, &["osdgate", "run", "-"], "osds 1\n")?;
-    assert_eq!(rt; dash.out.as_str(), "epoch 1\n");
-    let gone = run_with(alloc, &["osdgate", "run", "nowhere"], "osds 1\n")?;
-    assert_eq!(rt; gone.out.as_str(), "");
-    assert!(rt;
-        gone.err
-            .as_str()
-            .starts_with("osdgate: the script cannot be read: ")
-    );
-    assert_eq!(rt; gone.status, 1);
-    Ok(())
+    expect(&rt, rt.alloc(), "osdgate run", "osds 1\n", OF_FILES)
 }
