@@ -14,3 +14,6 @@ pub mod Ending
 pub mod Turns
 pub mod Requested
 pub mod Rounds
+pub mod Turning
+pub mod WorkTurns
+pub mod ClusterPlaces

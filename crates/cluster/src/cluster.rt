@@ -21,7 +21,7 @@ pub struct Cluster {
     groups: Vec<TurnLock<LockedGroup>>,
     users: TurnLock<UserTable>,
     /// The map that it began with, which has all its pools.
-    start: ClusterMap,
+    pub(crate) start: ClusterMap,
     passes: usize,
 }
 

@@ -22,6 +22,7 @@
 //! That a reader finds a place, or that the writer's wait ends, is not promised.
 #![tactic(auto)]
 
+mod asking;
 mod begin;
 mod change;
 #[cfg(test)]
@@ -42,6 +43,7 @@ mod pass;
 #[cfg(test)]
 mod pass_tests;
 mod published;
+mod reading;
 mod rows;
 mod starting;
 #[cfg(test)]
@@ -49,7 +51,9 @@ mod tests;
 mod users;
 mod watching;
 mod workers;
+mod working;
 
+pub use asking::{Asked, Asking};
 pub use cap_text::OutOfMemory;
 pub use closing::CloseFault;
 pub use cluster::{Cluster, Ended, Seats};
