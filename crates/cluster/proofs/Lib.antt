@@ -14,3 +14,9 @@ pub mod Ending
 pub mod Own
 pub mod Held
 pub mod Looks
+pub mod Turns
+pub mod Requested
+pub mod Rounds
+pub mod Turning
+pub mod WorkTurns
+pub mod ClusterPlaces

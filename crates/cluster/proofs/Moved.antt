@@ -215,13 +215,13 @@ still_all P Q to from (x ∷ xs) (y ∷ ys) is h =
     let rest : map standing ys ≡ map standing xs = cc in
     All-cons P y ys (from y (subst Q (sym first) (to x (All-head P x xs h)))) (still_all P Q to from xs ys rest (All-tail P x xs h))
 
-still_share : (n : ℕ) (old new : Seats) → Goes old new → HaveShare n old → HaveShare n new
+pub still_share : (n : ℕ) (old new : Seats) → Goes old new → HaveShare n old → HaveShare n new
 still_share n old new goes h = (
   still_all (λ s. s.share ≡ n) (λ t. t.2 ≡ n) (λ s e. e) (λ s e. e) old.groups.items new.groups.items goes.stands h.0,
   ap (λ s. s.share) goes.users ∙ h.1,
 )
 
-still_alone : (old new : Seats) → Goes old new → AreAlone old → AreAlone new
+pub still_alone : (old new : Seats) → Goes old new → AreAlone old → AreAlone new
 still_alone old new goes h = (
   still_all (λ s. s.joined ≡ []) (λ t. t.3 ≡ []) (λ s e. e) (λ s e. e) old.groups.items new.groups.items goes.stands h.0,
   ap (λ s. s.joined) goes.users ∙ h.1,

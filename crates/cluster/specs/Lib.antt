@@ -9,6 +9,10 @@ pub mod Change
 pub mod Monitors
 pub mod Sessions
 pub mod Asks
+pub mod Working
+pub mod Reading
+pub mod Asking
+pub mod ToAsk
 pub mod Starts
 pub mod Ends
 pub mod Numbering

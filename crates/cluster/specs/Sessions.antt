@@ -25,7 +25,6 @@ pub record IsNumbered (own : List OwnSession) (id : ℕ) : Type 0 where
   pub session : ℕ
   pub number : ℕ
   pub is : id ≡ id_of session number
-  pub first : 1 ≤ number
   pub past : number < next_of own session
   pub fits : number < 4294967296
 

@@ -22,6 +22,7 @@
 //! That a reader finds a place, or that the writer's wait ends, is not promised.
 #![tactic(auto)]
 
+mod asking;
 mod begin;
 mod change;
 #[cfg(test)]
@@ -43,12 +44,15 @@ mod numbering;
 mod opening;
 mod pass;
 mod published;
+mod reading;
 mod rows;
 mod starting;
 mod users;
 mod watching;
 mod workers;
+mod working;
 
+pub use asking::{Asked, Asking};
 pub use cap_text::OutOfMemory;
 pub use closing::CloseFault;
 pub use cluster::{Cluster, Ended, Seats};
