@@ -58,7 +58,7 @@ renewed_numbers change keeps own new n is =
 
 module _ (start : History) (own new : List OwnSession) (same : SameNumbers own new) where
   numbered_still : (id : ℕ) → IsNumbered own id → IsNumbered new id
-  numbered_still id h = record { session = h.session; number = h.number; is = h.is; first = h.first; past = same.0 h.session h.number h.past; fits = h.fits }
+  numbered_still id h = record { session = h.session; number = h.number; is = h.is; past = same.0 h.session h.number h.past; fits = h.fits }
 
   own_still : (id : GroupId) (e : Event) → IsOwnEvent start own id e → IsOwnEvent start new id e
   own_still id (Submit s) h = (h.0, h.1, numbered_still s.id h.2)
