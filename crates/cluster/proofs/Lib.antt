@@ -11,6 +11,9 @@ pub mod FirstPasses
 pub mod Numbers
 pub mod Makers
 pub mod Ending
+pub mod Own
+pub mod Held
+pub mod Looks
 pub mod Turns
 pub mod Requested
 pub mod Rounds
