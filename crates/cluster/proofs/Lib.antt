@@ -20,3 +20,4 @@ pub mod Rounds
 pub mod Turning
 pub mod WorkTurns
 pub mod ClusterPlaces
+pub mod Readings

@@ -1,8 +1,13 @@
 -- Refinement: only contracts inside the crate use it.
--- A request that is ready to be submitted, and what becomes of a vector on a pool that was read.
-use Rattle.std.specs.Prelude.{◌≡◌, ℕ, ◌+◌, ◌<◌, List, true, Some, Ok}
-use Rattle.map_core.specs.State.{History}
-use Rattle.map_core.specs.Refusal.{is_word}
+-- What a reading answers, a request that is ready to be submitted, and what becomes of a vector on a pool that was read.
+use Rattle.std.specs.Prelude.{◌≡◌, ℕ, ◌+◌, ◌<◌, List, true, Some, Result, Ok, IfOk}
+use Rattle.cap_text.specs.Refused.{RefusedFirst}
+use Rattle.map_core.specs.State.{History, GoesOn}
+use Rattle.map_core.specs.Map.{epoch_of, view_at}
+use Rattle.map_core.specs.Limits.{IsAccepted, HasLimits}
+use Rattle.map_core.specs.Refusal.{is_word, view_refusal}
+use Rattle.map_core.specs.declared.fault.MapFault.{MapFault}
+use Rattle.map_core.specs.declared.fault.MapFault.TheVariants as map_fault
 use Rattle.map_core.specs.declared.pool.PoolView.{PoolView}
 use Rattle.object_core.specs.declared.op.Op.{Op}
 use Rattle.entry_core.specs.Request.{Sealed}
@@ -13,11 +18,32 @@ use Rattle.world_core.specs.declared.session.Session.{Session}
 use Rattle.cluster.specs.declared.asking.Asking.{Asking}
 use Rattle.cluster.specs.declared.asking.Asked.{Asked}
 use Rattle.cluster.specs.declared.fault.ClusterFault.{ClusterFault}
+use Rattle.cluster.specs.declared.fault.ClusterFault.TheVariants as faults
+use Rattle.world_core.specs.declared.fault.WorldFault.TheVariants.{NoPool}
 use Rattle.cluster.specs.declared.cluster.Cluster.{Cluster}
 use Rattle.cluster.specs.declared.pass.OwnSession.{OwnSession}
 use Rattle.cluster.specs.declared.pass.Pass.{Pass}
 use Rattle.cluster.specs.Sessions.{own_session, next_of}
+use Rattle.cluster.specs.Reading.{HasRead}
 use Rattle.cluster.specs.Asking.{ask_by, vector_by, HasAsked, IsRefusedBy}
+
+-- ---- a reading
+
+-- why a pool is not seen
+abbrev pub fault_of_view : MapFault → ClusterFault
+fault_of_view map_fault.OutOfMemory = faults.OutOfMemory
+fault_of_view fault = faults.World NoPool
+
+-- a map was read that goes on from the start, and this is what it says of a pool now
+pub record HasAnswered (start : History) (pool : List ℕ) (answer : Result PoolView MapFault) (old new : Pass) : Type 0 where
+  pub map : History
+  pub read : HasRead map old new
+  pub on : GoesOn map start
+  pub accepted : IsAccepted map
+  pub refused : RefusedFirst (view_refusal map pool (epoch_of map)) map_fault.OutOfMemory answer
+  pub found : IfOk answer (λ view. (view_at map pool (epoch_of map) ≡ Some view) × HasLimits view.pg_num view.size view.min_size)
+
+-- ---- a request
 
 -- one number more of the session fits
 abbrev pub FitsOneMore : List OwnSession → ℕ → Type 0

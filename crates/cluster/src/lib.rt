@@ -25,10 +25,6 @@
 mod asking;
 mod begin;
 mod change;
-#[cfg(test)]
-mod change_tests;
-#[cfg(test)]
-mod close_tests;
 mod closing;
 mod cluster;
 mod fault;

@@ -1,6 +1,6 @@
 //! What a pass reads of the published map.
 
-ghost use Rattle.std.specs.Prelude.{◌≡◌, IfOk, IfErr, option_copied};
+ghost use Rattle.std.specs.Prelude.{◌≡◌, IfOk, IfErr, MatchOption, option_copied};
 ghost use Rattle.left_right.specs.Sides.{view as known};
 ghost use Rattle.map_core.specs.Limits.{HasLimits, IsAccepted};
 ghost use Rattle.map_core.specs.Map.{epoch_of, map_of, pool_in, view_at};
@@ -8,7 +8,8 @@ ghost use Rattle.map_core.specs.Refusal as tests;
 ghost use Rattle.cap_text.specs.Refused.{RefusedFirst};
 ghost use Rattle.cluster.specs.Published.{AnswersBy};
 ghost use Rattle.cluster.specs.Asks.{IsPassOf};
-ghost use Rattle.cluster.specs.Reading.{HasSeen, IsUnseen};
+ghost use Rattle.cluster.specs.Reading.{KnowsTheSame, HasSeen, IsUnseen};
+ghost use Rattle.cluster.specs.ToAsk.{fault_of_view, HasAnswered};
 
 use crate::cluster::Cluster;
 use crate::fault::ClusterFault;
@@ -62,7 +63,29 @@ fn has_pool(map: &ClusterMap, name: &Name) -> bool
     pool_of(map.pools(), name).is_some()
 }
 
+// Why a pool is not seen: W2, but for want of memory.
+fn of_view(fault: MapFault) -> ClusterFault
+    ensures { result ≡ fault_of_view fault }
+{
+    match fault {
+        MapFault::OutOfMemory => ClusterFault::OutOfMemory,
+        _ => ClusterFault::World(WorldFault::NoPool),
+    }
+}
+
 impl Cluster {
+    // What the published map says of a pool now, by one reading, if there is one. The pass keeps its reader.
+    fn read_pool(&self, pass: &mut Pass, pool: &Name) -> Option<Result<PoolView, MapFault>>
+        requires { IsPassOf self.now pass.old }
+        ensures pass { IsPassOf self.now pass.new }
+        ensures read { MatchOption result (KnowsTheSame pass.old pass.new) (λ answer. HasAnswered self.now.start pool.now answer pass.old pass.new) }
+    {
+        let reader = pass.reader.take()?;
+        let (answer, reader) = read_view(reader, pool);
+        pass.reader = Some(reader);
+        answer
+    }
+
     // A pool as it is now, by one reading of the map: K4, K3, and W2 where the map has no such pool, or the cluster began without it.
     pub(crate) fn see_pool(&self, pass: &mut Pass, pool: &Name) -> Result<PoolView, ClusterFault>
         requires { IsPassOf self.now pass.old }
@@ -70,15 +93,9 @@ impl Cluster {
         ensures ok { IfOk result (λ view. HasSeen self.now.start pool.now view pass.old pass.new) }
         ensures err { IfErr result (λ fault. IsUnseen self.now.start pool.now fault pass.old pass.new) }
     {
-        let Some(reader) = pass.reader.take() else {
-            return Err(ClusterFault::NoReader);
-        };
-        let (answer, reader) = read_view(reader, pool);
-        pass.reader = Some(reader);
-        match answer {
+        match self.read_pool(pass, pool) {
             None => Err(ClusterFault::NoReader),
-            Some(Err(MapFault::OutOfMemory)) => Err(ClusterFault::OutOfMemory),
-            Some(Err(_)) => Err(ClusterFault::World(WorldFault::NoPool)),
+            Some(Err(fault)) => Err(of_view(fault)),
             Some(Ok(view)) => {
                 if has_pool(&self.start, pool) {
                     Ok(view)

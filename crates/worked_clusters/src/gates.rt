@@ -19,6 +19,7 @@ const MOST_TURNS: u32 = 10_000_000;
 const ROUNDS: u32 = 20;
 
 /// Worker 0 waits until worker 1 has come, and sees it.
+#[derive(Drop)]
 struct Meeting {
     came: AtomicU64,
     seen: AtomicU64,

@@ -20,6 +20,7 @@ use verdict_core::{Calls, Needs};
 const MOST_TURNS: u32 = 10_000_000;
 
 /// How far the two have come: 1 once the lock is held, 2 once all was answered meanwhile.
+#[derive(Drop)]
 struct Progress {
     stage: AtomicU64,
 }
@@ -60,7 +61,7 @@ impl<'a> Step for Hold<'a> {
 }
 
 // Holds the lock of group 0: whether all was answered meanwhile.
-fn hold<R: Wait>(rt: &R, cluster: &Cluster, seats: &mut Seats, progress: &Progress) -> bool
+fn hold_group<R: Wait>(rt: &R, cluster: &Cluster, seats: &mut Seats, progress: &Progress) -> bool
     requires seats { AreSeatsOf cluster.now seats.old }
     requires group { 0 < group_count cluster.now }
 {
@@ -138,7 +139,7 @@ fn both<R: Threads + Wait + Sync>(
     };
     let (held, looked) = join_mut(
         rt,
-        &mut || hold(rt, cluster, &mut holder.seats, &progress),
+        &mut || hold_group(rt, cluster, &mut holder.seats, &progress),
         &mut || look_meanwhile(rt, alloc, cluster, &mut looker, session, &progress),
     );
     held && looked

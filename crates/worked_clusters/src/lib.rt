@@ -6,6 +6,10 @@
 #[cfg(test)]
 mod begun;
 #[cfg(test)]
+mod changes;
+#[cfg(test)]
+mod closing;
+#[cfg(test)]
 mod failover;
 #[cfg(test)]
 mod gates;

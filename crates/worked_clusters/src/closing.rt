@@ -1,54 +1,15 @@
-//! That a cluster is started and closed where memory is ample.
+//! That a cluster is closed with all its passes, and not before.
 
 ghost use Rattle.std.specs.Prelude.{All, IfSome};
 ghost use Rattle.cluster.specs.Asks.{IsBegun, IsPassOf};
 ghost use Rattle.cluster.specs.Monitors.{IsMonitorOf, Follows};
 
-use crate::{CloseFault, Cluster, Monitor, Pass, PoolSpec, UserSpec, start};
-use auth_db::Caps;
-use cap_text::Name;
-use grant_core::ProfileTable;
+use crate::begun::{begun, take_pass};
+use cluster::{CloseFault, Cluster, Monitor, Pass};
 use std::alloc::Global;
 use std::sync::Wait;
 use std::test::Fail;
 use world_core::World;
-
-// A pool of one group.
-fn pools(alloc: Global) -> Result<Vec<PoolSpec>, Fail> {
-    let mut pools = Vec::new(alloc);
-    pools.push(PoolSpec {
-        name: Name::new(alloc, "data")?,
-        pg_num: 1,
-        size: 3,
-        min_size: 2,
-    })?;
-    Ok(pools)
-}
-
-// A user of that pool.
-fn users(alloc: Global) -> Result<Vec<UserSpec>, Fail> {
-    let mut users = Vec::new(alloc);
-    let caps = Caps {
-        mon: None,
-        mgr: None,
-        mds: None,
-        osd: Some(Name::new(alloc, "allow rwx pool=data")?),
-    };
-    users.push(UserSpec {
-        name: Name::new(alloc, "client.w")?,
-        caps,
-    })?;
-    Ok(users)
-}
-
-// The last pass.
-fn take_pass(cluster: &Cluster, passes: &mut Vec<Pass>) -> Option<Pass>
-    requires { All (IsPassOf cluster.now) passes.old.items }
-    ensures rest { All (IsPassOf cluster.now) passes.new.items }
-    ensures pass { IfSome result (IsPassOf cluster.now) }
-{
-    passes.pop()
-}
 
 // The pass is put back, where there is memory.
 fn put_pass(cluster: &Cluster, passes: &mut Vec<Pass>, pass: Option<Pass>)
@@ -112,19 +73,12 @@ fn close_late<R: Wait>(
 #[test]
 fn a_cluster_is_closed_with_all_its_passes(rt: HostRuntime) -> Result<(), Fail> {
     let alloc = rt.alloc();
-    let (pools, users) = (pools(alloc)?, users(alloc)?);
-    let table = ProfileTable::builtin(alloc)?;
-    match start(&rt, alloc, table, 3, pools, users, 2) {
-        Err(_) => Err(Fail::from("not started")),
-        Ok((cluster, monitor, passes)) => {
-            assert_eq!(&rt; passes.len(), 2);
-            match close_late(&rt, alloc, cluster, monitor, passes) {
-                None => Err(Fail::from("no world")),
-                Some(world) => {
-                    assert_eq!(&rt; world.map().epoch(), 2);
-                    Ok(())
-                }
-            }
+    let (cluster, monitor, passes) = begun(&rt, alloc, 1, "client.w", "allow rwx", 2)?;
+    match close_late(&rt, alloc, cluster, monitor, passes) {
+        None => Err(Fail::from("no world")),
+        Some(world) => {
+            assert_eq!(&rt; world.map().epoch(), 2);
+            Ok(())
         }
     }
 }
