@@ -11,6 +11,9 @@ use Rattle.map_core.specs.declared.command.MapCommand.{MapCommand}
 use Rattle.entry_core.specs.declared.sealed.GroupId.{GroupId}
 use Rattle.group_core.specs.Each.{Each}
 use Rattle.group_core.specs.Group.{Event, is_submitted}
+use Rattle.world_core.specs.declared.event.Event.{Event as WorldEvent}
+use Rattle.world_core.specs.World.{World}
+use Rattle.world_core.specs.Holds.{Holds}
 use Rattle.world_core.specs.Front.{Front, first_front, front_step, front_after, requests_of}
 use Rattle.cluster.specs.declared.cluster.Cluster.{Cluster}
 use Rattle.cluster.specs.declared.cluster.Seats.{Seats}
@@ -41,10 +44,13 @@ unfolding requests_of
 after_users f [] = refl
 after_users f (u ∷ us) = after_users (front_step f (addition_of u)) us ∙ append-nil f.submissions
 
-pub unasked : (table : Table) (daemons : ℕ) (pools : List PoolSpec) (users : List UserSpec) → (front_after table daemons (events_of pools users)).submissions ≡ []
+unasked : (table : Table) (daemons : ℕ) (pools : List PoolSpec) (users : List UserSpec) → (front_after table daemons (events_of pools users)).submissions ≡ []
 unasked table daemons pools users =
     ap (λ (f : Front). f.submissions) (fold-append front_step (first_front table daemons) (map creation_of pools) (map addition_of users))
     ∙ (after_users (fold front_step (first_front table daemons) (map creation_of pools)) users ∙ after_pools (first_front table daemons) pools)
+
+pub nothing_asked : (table : Table) (daemons : ℕ) (pools : List PoolSpec) (users : List UserSpec) (events : List WorldEvent) (w : World) → events ≡ events_of pools users → Holds table daemons events w → w.front.submissions ≡ []
+nothing_asked table daemons pools users events w are holds = ap (λ (f : Front). f.submissions) (holds.front ∙ ap (front_after table daemons) are) ∙ unasked table daemons pools users
 
 -- ---- fresh seats have made nothing
 
