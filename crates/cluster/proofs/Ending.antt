@@ -55,7 +55,7 @@ use Rattle.cluster.proofs.Requested.{requests_after, asked_by_all, asked_by_one,
 -- ---- lists
 
 -- what stands at the same place of a list that is as long
-beside_as_long : {X Y : Type 0} → (xs : List X) (ys : List Y) (k : ℕ) (y : Y) → length ys ≡ length xs → slice_get ys k ≡ Some y → (x : X) × (slice_get xs k ≡ Some x)
+pub beside_as_long : {X Y : Type 0} → (xs : List X) (ys : List Y) (k : ℕ) (y : Y) → length ys ≡ length xs → slice_get ys k ≡ Some y → (x : X) × (slice_get xs k ≡ Some x)
 beside_as_long xs [] k y long there = absurd (cc)
 beside_as_long [] (v ∷ vs) k y long there = absurd (omega arith)
 beside_as_long (u ∷ us) (v ∷ vs) zero y long there = (u, refl)
@@ -113,7 +113,7 @@ runs_apart w h cs gs ends sound empty same groups r none accepted numbers =
 -- ---- requests by their ids
 
 -- one that a pass asked has an id of its sessions
-numbered_in : (start : History) (own : List OwnSession) (group : GroupId) (es : List Event) (id : ℕ) → Each (IsOwnEvent start own group) es → is_submitted (asked_of es) id ≡ true → IsNumbered own id
+pub numbered_in : (start : History) (own : List OwnSession) (group : GroupId) (es : List Event) (id : ℕ) → Each (IsOwnEvent start own group) es → is_submitted (asked_of es) id ≡ true → IsNumbered own id
 numbered_in start own group [] id h asked = absurd (cc)
 numbered_in start own group (Submit s ∷ es) id h asked = go (s.id == id) refl asked (λ more. numbered_in start own group es id h.1 more)
   where
@@ -140,13 +140,13 @@ each_asked P (r ∷ rs) h = (h r.id (ap (λ b. b || is_submitted rs r.id) (numbe
         go false = asked
 
 -- where a request stands among those of the seat j, there is such a seat
-asked_inside : (seats : List (Seated GroupEntry)) (j id : ℕ) → is_submitted (asked_of (happened (get_or (map mine_of seats) j []))) id ≡ true → (s : Seated GroupEntry) × (slice_get seats j ≡ Some s)
+pub asked_inside : (seats : List (Seated GroupEntry)) (j id : ℕ) → is_submitted (asked_of (happened (get_or (map mine_of seats) j []))) id ≡ true → (s : Seated GroupEntry) × (slice_get seats j ≡ Some s)
 asked_inside [] j id asked = absurd (cc)
 asked_inside (s ∷ ss) zero id asked = (s, refl)
 asked_inside (s ∷ ss) (suc j) id asked = asked_inside ss j id asked
 
 -- an id tells its session, and the number in it
-same_session : (s t m n : ℕ) → m < 4294967296 → n < 4294967296 → s * 4294967296 + m ≡ t * 4294967296 + n → s ≡ t
+pub same_session : (s t m n : ℕ) → m < 4294967296 → n < 4294967296 → s * 4294967296 + m ≡ t * 4294967296 + n → s ≡ t
 same_session s t m n few less same = omega arith
 
 has_session : (o : Option Session) (n : ℕ) → n < next_in o → (s : Session) × (o ≡ Some s)

@@ -21,3 +21,7 @@ pub mod Turning
 pub mod WorkTurns
 pub mod ClusterPlaces
 pub mod Readings
+pub mod OwnSessions
+pub mod Submitting
+pub mod Vectors
+pub mod Pieces

@@ -1,7 +1,6 @@
 -- Statement: contracts of public calls use it.
 -- What a pass asks of groups: requests sealed by its sessions and by the map that it reads, each submitted by one turn.
-use Rattle.std.specs.Prelude.{◌≡◌, ◌⊎◌, ℕ, ◌+◌, ◌<◌, ◌==◌, ◌&&◌, not, List, [], ◌∷◌, Option, Some, None, Result, Ok, Err, if◌then◌else◌, length, nat_lt}
-use Rattle.std.specs.Option.{option_map}
+use Rattle.std.specs.Prelude.{◌≡◌, ◌⊎◌, ℕ, ◌+◌, ◌<◌, ◌==◌, ◌&&◌, not, List, [], ◌∷◌, Option, Some, None, Result, Ok, Err, length, nat_lt, position}
 use Rattle.map_core.specs.State.{History}
 use Rattle.map_core.specs.declared.pool.PoolView.{PoolView}
 use Rattle.object_core.specs.Needs.{needs_fault}
@@ -69,8 +68,7 @@ piece_of ask asker group = sealed_of ask asker Listing group 0
 -- ---- where a session stands
 
 abbrev pub own_place : List OwnSession → ℕ → Option ℕ
-own_place [] n = None
-own_place (o ∷ os) n = if o.number == n then Some 0 else option_map (λ k. k + 1) (own_place os n)
+own_place own n = position (λ (o : OwnSession). o.number == n) own
 
 -- ---- one request
 

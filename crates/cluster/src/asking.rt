@@ -1,6 +1,6 @@
 //! Requests, each submitted by one turn on its group.
 
-ghost use Rattle.std.specs.Prelude.{◌≡◌, ◌⊎◌, ◌<◌, ◌≤◌, ◌+◌, Ok, None, Some, IfOk, IfErr, length};
+ghost use Rattle.std.specs.Prelude.{◌≡◌, ◌⊎◌, ◌<◌, ◌≤◌, ◌+◌, Ok, None, Some, IfOk, IfErr, IfSome, length};
 ghost use Rattle.std.specs.Option.{option_map};
 ghost use Rattle.object_core.specs.Needs.{needs_fault};
 ghost use Rattle.world_core.specs.declared.fault.WorldFault.{WorldFault as Fault};
@@ -51,7 +51,8 @@ pub struct Asked {
 
 // Where the session of a number stands.
 fn find_session(own: &[OwnSession], number: u32) -> Option<usize>
-    ensures { result ≡ own_place own.now number }
+    ensures place { result ≡ own_place own.now number }
+    ensures inside { IfSome result (λ k. k < length own.now) }
 {
     own.iter().position(|session| session.number == number)
 }

@@ -1,0 +1,19 @@
+use Rattle.std.proofs.Common.{◌≡◌, ◌∙◌, get_or, sym, ap, Some}
+use Rattle.world_core.specs.Front.{error_of}
+use Rattle.cluster.specs.declared.pass.OwnSession.{OwnSession}
+use Rattle.cluster.specs.Sessions.{own_session}
+use Rattle.cluster.proofs.Places.{at_read}
+use Rattle.cluster.proofs.OwnSessions.{stands_at, no_session, read_session}
+use Rattle.cluster.proofs.Submitting.{session_none, session_stale, session_fine}
+use Rattle.cluster.proofs.asking.asking_session.Goals as goal
+
+pub returns-in-None-clause-refused : goal.returns-in-None-clause-refused
+returns-in-None-clause-refused c = ap error_of (session_none c.args.own.now c.args.asking.now (no_session c.args.own.now c.args.asking.now.session (sym c.in-None.ensures.place)))
+
+pub returns-then-asking-own-clause-refused : goal.returns-then-asking-own-clause-refused
+returns-then-asking-own-clause-refused c =
+    ap error_of (session_stale c.args.own.now c.args.asking.now (get_or c.args.own.now c.in-Some.k c.index-own-k.result).session (read_session c.args.own.now c.args.asking.now.session c.in-Some.k (get_or c.args.own.now c.in-Some.k c.index-own-k.result) (sym c.in-Some.ensures.place) (at_read c.args.own.now c.in-Some.k c.index-own-k.result c.index-own-k.is)) c.if-asking-own.true)
+
+pub returns-else-asking-own-clause-refused : goal.returns-else-asking-own-clause-refused
+returns-else-asking-own-clause-refused c =
+    ap error_of (session_fine c.args.own.now c.args.asking.now (get_or c.args.own.now c.in-Some.k c.index-own-k.result).session (read_session c.args.own.now c.args.asking.now.session c.in-Some.k (get_or c.args.own.now c.in-Some.k c.index-own-k.result) (sym c.in-Some.ensures.place) (at_read c.args.own.now c.in-Some.k c.index-own-k.result c.index-own-k.is)) c.if-asking-own.false)
