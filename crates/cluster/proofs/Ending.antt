@@ -1,7 +1,12 @@
 -- The groups of a cluster that was closed ran apart.
-use Rattle.std.proofs.Common.{◌≡◌, ℕ, zero, suc, ◌+◌, ◌-◌, ◌*◌, ◌<◌, ◌≤◌, ◌==◌, ◌||◌, Bool, true, false, List, [], ◌∷◌, ◌++◌, map, length, get_or, refl, sym, ap, ◌∙◌, subst, arith}
-use Rattle.std.specs.Prelude.{All, Option, Some, None, slice_get}
-use Rattle.std.specs.List.{flat_map}
+use Rattle.std.proofs.Common.{◌≡◌, ◌≢◌, ℕ, zero, suc, ◌+◌, ◌-◌, ◌*◌, ◌<◌, ◌≤◌, ◌==◌, ◌||◌, ◌⊎◌, inl, inr, Bool, true, false, List, [], ◌∷◌, ◌++◌, map, length, get_or, refl, sym, ap, ◌∙◌, subst, arith}
+use Rattle.std.specs.Prelude.{All, Option, Some, None, IsNone, slice_get}
+use Rattle.std.specs.List.{filter}
+use Rattle.std.proofs.lemmas.List.{length-map}
+use Rattle.std.proofs.lemmas.Option.{slice_get_within}
+use mathlib.Core.Logic.{dite}
+use native.Mathlib.Decide.{ℕ_discrete}
+use Rattle.turn_lock.specs.Turns.{entries, made_by, state_after}
 use Rattle.turn_lock.specs.Seats.{Seated, lock_of, first_of, seat_lock, mine_of}
 use Rattle.map_core.specs.State.{History}
 use Rattle.map_core.specs.Limits.{IsAccepted}
@@ -13,6 +18,7 @@ use Rattle.group_core.specs.Each.{Each}
 use Rattle.group_core.specs.Group.{Group, Event, Submit, Deliver, Lose, Repeat, NewInterval, Restart, Kick, is_submitted}
 use Rattle.world_core.specs.Front.{id_of}
 use Rattle.world_core.specs.Stands.{next_in, next_at, IsGiven}
+use Rattle.world_core.specs.Groups.{is_for}
 use Rattle.world_core.specs.World.{World}
 use Rattle.world_core.specs.Sound.{IsSound}
 use Rattle.world_core.specs.Parts.{requests_of}
@@ -20,21 +26,31 @@ use Rattle.world_core.specs.declared.session.Session.{Session}
 use Rattle.world_core.specs.declared.world.parts.WorldParts.{WorldParts}
 use Rattle.world_core.proofs.Bytes.{number_same}
 use Rattle.world_core.proofs.Merge.{number_refl}
+use Rattle.world_core.proofs.Acting.{each_weaker}
+use Rattle.world_core.proofs.GroupsOf.{kept_at}
 use Rattle.world_core.proofs.Apart.{Turn, TakesTurns, commands_of, creates_pool}
 use Rattle.world_core.proofs.Together.{AreApart, RanApart, NumbersApart, TurnsOf, TookTurns, after_turns, apart_after, most_given, asked_in_one, each_joined, each_placed}
 use Rattle.cluster.specs.declared.groups.GroupEntry.{GroupEntry}
+use Rattle.cluster.specs.declared.groups.GroupEntry.TheVariants.{Happened, Looked, Idle}
 use Rattle.cluster.specs.declared.cluster.Cluster.{Cluster}
 use Rattle.cluster.specs.declared.cluster.Seats.{Seats}
+use Rattle.cluster.specs.declared.cluster.Ended.{Ended}
+use Rattle.cluster.specs.declared.monitor.Monitor.{Monitor}
+use Rattle.cluster.specs.declared.monitor.Unfinished.{Unfinished}
 use Rattle.cluster.specs.declared.pass.OwnSession.{OwnSession}
 use Rattle.cluster.specs.declared.pass.Pass.{Pass}
+use Rattle.cluster.specs.Groups.{group_after}
 use Rattle.cluster.specs.Published.{with_commands}
 use Rattle.cluster.specs.Moves.{is_creation}
-use Rattle.cluster.specs.Passes.{firsts_of}
+use Rattle.cluster.specs.Passes.{firsts_of, group_in, AreMonitorOf, Closed}
 use Rattle.cluster.specs.Change.{happened, happened_at}
+use Rattle.cluster.specs.Monitors.{moves_from, AllFollow, FollowBy, Follows}
 use Rattle.cluster.specs.Sessions.{own_session, next_of, IsNumbered, AreSessionsOf}
-use Rattle.cluster.specs.Asks.{asked_of, IsOwnEvent, IsAskedAt, IsPassOf}
-use Rattle.cluster.specs.Ends.{sessions_of}
-use Rattle.cluster.proofs.Makers.{at_mapped, mapped_at, mapped_beside, all_at, each_at}
+use Rattle.cluster.specs.Asks.{IsBegun, asked_of, IsOwnEvent, IsAskedAt, IsPassOf}
+use Rattle.cluster.specs.Ends.{seats_of, sessions_of}
+use Rattle.cluster.proofs.Makers.{at_mapped, mapped_at, mapped_beside, all_at, each_at, mine_at, MadeAt, AreMade, are_made}
+use Rattle.cluster.proofs.Turns.{IsPassEvent, Took, took_turns}
+use Rattle.cluster.proofs.Requested.{requests_after, asked_by_all, asked_by_one, moves_ask_none}
 
 -- ---- lists
 
@@ -233,3 +249,107 @@ all_ran c passes p w cs sound empty same groups are none accepted map_is long nu
       given = all_given c passes p.sessions.items are numbered ends long has;
       most = few_given c passes p.sessions.items are numbered ends long has;
     }
+
+-- ---- one group of a closed cluster
+
+pass_event : (start : History) (own : List OwnSession) (id : GroupId) (e : Event) → IsOwnEvent start own id e → IsPassEvent start id e
+pass_event start own id (Submit s) h = (h.0, h.1)
+pass_event start own id (Deliver k) h = h
+pass_event start own id (Lose k) h = absurd h
+pass_event start own id (Repeat k) h = absurd h
+pass_event start own id (NewInterval acting up) h = absurd h
+pass_event start own id (Restart d) h = absurd h
+pass_event start own id Kick h = absurd h
+
+-- what was asked among entries is asked where there are more
+asked_front : (es more : List GroupEntry) (id : ℕ) → is_submitted (asked_of (happened es)) id ≡ true → is_submitted (asked_of (happened (es ++ more))) id ≡ true
+asked_front [] more id h = absurd (cc)
+asked_front (Looked ∷ es) more id h = asked_front es more id h
+asked_front (Idle ∷ es) more id h = asked_front es more id h
+asked_front (Happened (Submit s) ∷ es) more id h = go (s.id == id) h (λ k. asked_front es more id k)
+  where
+    go : (b : Bool) → (b || is_submitted (asked_of (happened es)) id) ≡ true → (is_submitted (asked_of (happened es)) id ≡ true → is_submitted (asked_of (happened (es ++ more))) id ≡ true) → (b || is_submitted (asked_of (happened (es ++ more))) id) ≡ true
+    go true k rest = refl
+    go false k rest = rest k
+asked_front (Happened (Deliver k) ∷ es) more id h = asked_front es more id h
+asked_front (Happened (Lose k) ∷ es) more id h = asked_front es more id h
+asked_front (Happened (Repeat k) ∷ es) more id h = asked_front es more id h
+asked_front (Happened (NewInterval acting up) ∷ es) more id h = asked_front es more id h
+asked_front (Happened (Restart d) ∷ es) more id h = asked_front es more id h
+asked_front (Happened Kick ∷ es) more id h = asked_front es more id h
+
+none_asked : (rs : List Sealed) (id : ℕ) → rs ≡ [] → is_submitted rs id ≡ true → ⊥
+none_asked rs id none asked = let is : false ≡ true = ap (λ l. is_submitted l id) (sym none) ∙ asked in absurd (cc)
+
+module _ (c : Cluster) (m : Monitor) (passes : List Pass) (ended : Ended) (are : All (IsPassOf c) passes) (cs : List MapCommand) (accepted : IsAccepted (with_commands c.start cs))
+    (k : ℕ) (first : Group) (at : slice_get (firsts_of c) k ≡ Some first) (made : MadeAt m.seats passes ended k first) (moves : happened_at m.seats k ≡ moves_from c.start first.group cs) (empty : first.requests ≡ []) where
+  others_pass : (by : ℕ) → by ≢ made.number → Each (IsPassEvent c.start first.group) (happened (made_by by made.list))
+  others_pass by other = go (made.others by other)
+    where
+      go : (made_by by made.list ≡ []) ⊎ ((a : ℕ) × (p : Pass) × (slice_get passes a ≡ Some p) × (happened (made_by by made.list) ≡ happened_at p.seats k)) → Each (IsPassEvent c.start first.group) (happened (made_by by made.list))
+      go (inl none) = subst (λ (es : List GroupEntry). Each (IsPassEvent c.start first.group) (happened es)) (sym none) tt
+      go (inr t) =
+          let own : List OwnSession = t.1.sessions.items in
+          subst (Each (IsPassEvent c.start first.group)) (sym t.3)
+          (each_weaker (IsOwnEvent c.start own first.group) (IsPassEvent c.start first.group) (λ e h. pass_event c.start own first.group e h) (happened_at t.1.seats k) ((all_at (IsPassOf c) passes t.0 t.1 are t.2).asks.events k first at))
+
+  took_so : TookAt c.start cs (map group_in ended.groups.items) k first
+  took_so =
+      let t : Took c.start first cs (state_after group_after first made.list) = took_turns c.start first made.number cs made.list made.fit (made.own ∙ moves) others_pass accepted in
+      record { turns = t.0; takes = t.1; commands = t.2; last = made.is ∙ ap (λ (g : Group). Some g) (sym t.3) }
+
+  requests_are : (state_after group_after first made.list).requests ≡ asked_of (happened (entries made.list))
+  requests_are = requests_after made.list first made.fit ∙ ap (λ rs. rs ++ asked_of (happened (entries made.list))) empty
+
+  -- who made a request is a pass
+  pass_asked : (by id : ℕ) → is_submitted (asked_of (happened (made_by by made.list))) id ≡ true → (a : ℕ) × (p : Pass) × (slice_get passes a ≡ Some p) × IsAskedAt p.seats k id
+  pass_asked by id asked = dite (ℕ_discrete by made.number)
+      (λ is. absurd (none_asked (asked_of (happened (made_by by made.list))) id (ap (λ n. asked_of (happened (made_by n made.list))) is ∙ (ap asked_of (made.own ∙ moves) ∙ moves_ask_none first.group cs c.start)) asked))
+      (λ other. go (made.others by other))
+    where
+      go : (made_by by made.list ≡ []) ⊎ ((a : ℕ) × (p : Pass) × (slice_get passes a ≡ Some p) × (happened (made_by by made.list) ≡ happened_at p.seats k)) → (a : ℕ) × (p : Pass) × (slice_get passes a ≡ Some p) × IsAskedAt p.seats k id
+      go (inl none) = absurd (none_asked (asked_of (happened (made_by by made.list))) id (ap (λ es. asked_of (happened es)) none) asked)
+      go (inr t) = (t.0, t.1, t.2, subst (λ (es : List Event). is_submitted (asked_of es) id ≡ true) t.3 asked)
+
+  -- and what a pass asked is there
+  asked_kept : (a : ℕ) (p : Pass) (id : ℕ) → slice_get passes a ≡ Some p → IsAskedAt p.seats k id → is_submitted (asked_of (happened (entries made.list))) id ≡ true
+  asked_kept a p id there asked =
+      let b = made.kept a p there in
+      asked_by_all made.list b.0 id (subst (λ (es : List GroupEntry). is_submitted (asked_of (happened es)) id ≡ true) (sym b.2) (asked_front (mine_at p.seats k) b.1 id asked))
+
+  has_asked : (last : Group) → slice_get (map group_in ended.groups.items) k ≡ Some last → HasAsked passes k last
+  has_asked last here =
+      let same : state_after group_after first made.list ≡ last = one_there (map group_in ended.groups.items) k (state_after group_after first made.list) last made.is here in
+      subst (HasAsked passes k) same (record {
+        asked = λ id asked. let b = asked_by_one made.list id (subst (λ (rs : List Sealed). is_submitted rs id ≡ true) requests_are asked) in pass_asked b.0 id b.1;
+        kept = λ a p id there asked. subst (λ (rs : List Sealed). is_submitted rs id ≡ true) (sym requests_are) (asked_kept a p id there asked);
+      })
+
+-- ---- the whole
+
+all_follow : (u : Option Unfinished) (first : History) (commands : List MapCommand) (places : List GroupId) (seats : Seats) → IsNone u → FollowBy u first commands places seats → AllFollow first commands places seats
+all_follow None first commands places seats none h = h
+all_follow (Some x) first commands places seats none h = absurd (cc)
+
+-- the seat of a group made the events of the commands
+moves_at : (c : Cluster) (m : Monitor) (f : Follows c.start m) → IsNone m.unfinished → m.places.items ≡ map (λ g. g.group) (firsts_of c) → (k : ℕ) (first : Group) → slice_get (firsts_of c) k ≡ Some first
+    → happened_at m.seats k ≡ moves_from c.start first.group f.commands
+moves_at c m f none places k first at =
+    let there : slice_get m.places.items k ≡ Some first.group = ap (λ (l : List GroupId). slice_get l k) places ∙ mapped_at (λ (g : Group). g.group) (firsts_of c) k first at in
+    all_follow m.unfinished c.start f.commands m.places.items m.seats none f.events k first.group (slice_get_within m.places.items k first.group there) there
+
+-- at first no group has a request
+begins_empty : (c : Cluster) → IsBegun c → (k : ℕ) (first : Group) → slice_get (firsts_of c) k ≡ Some first → first.requests ≡ []
+begins_empty c b k first at = (kept_at b.world b.sound k first (ap (λ (l : List Group). slice_get l k) (sym b.groups) ∙ at)).requests ∙ ap (filter (is_for first.group)) b.unasked
+
+-- the groups of a cluster that was closed by all its passes, with no change of the map unfinished, ran apart
+pub ran_apart : (c : Cluster) (m : Monitor) (passes : List Pass) (ended : Ended) (p : WorldParts) → IsBegun c → All (IsPassOf c) passes → length passes ≡ c.passes → c.passes < 18446744073709551615 → AreMonitorOf c m.seats → Follows c.start m → IsNone m.unfinished
+    → m.places.items ≡ map (λ g. g.group) (firsts_of c) → IsAccepted m.map → Closed c m.seats (map seats_of passes) ended → p.groups.items ≡ map group_in ended.groups.items → p.map ≡ m.map → AreSessionsOf (map sessions_of passes) p.sessions.items → RanApart p
+ran_apart c m passes ended p begun are whole few own follows none places accepted closed groups map_is numbered =
+    let made : AreMade c m.seats passes ended = are_made c m.seats passes ended own are whole few closed in
+    let fine : IsAccepted (with_commands c.start follows.commands) = subst IsAccepted follows.map_is accepted in
+    all_ran c passes p begun.world follows.commands begun.sound begun.unasked begun.map_is begun.groups are follows.pools fine (map_is ∙ follows.map_is)
+    (ap length groups ∙ (length-map ended.groups.items group_in ∙ (made.count ∙ sym (length-map c.groups.items first_of)))) numbered
+    (λ k first at. subst (λ (l : List Group). TookAt c.start follows.commands l k first) (sym groups)
+    (took_so c m passes ended are follows.commands fine k first at (made.each k first at) (moves_at c m follows none places k first at) (begins_empty c begun k first at)))
+    (λ k first last at here. has_asked c m passes ended are follows.commands fine k first at (made.each k first at) (moves_at c m follows none places k first at) (begins_empty c begun k first at) last (ap (λ (l : List Group). slice_get l k) (sym groups) ∙ here))

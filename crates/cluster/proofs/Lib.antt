@@ -7,10 +7,16 @@ pub mod Gathering
 pub mod Moved
 pub mod Changing
 pub mod Following
-pub mod Starting
+pub mod FirstPasses
 pub mod Numbers
 pub mod Makers
 pub mod Ending
+pub mod Own
+pub mod Held
+pub mod Looks
+pub mod Turns
+pub mod Requested
+pub mod Rounds
 pub mod Turning
 pub mod WorkTurns
 pub mod ClusterPlaces

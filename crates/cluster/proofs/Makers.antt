@@ -1,13 +1,13 @@
 -- Whose turns the list of each group has, at the end of a cluster.
 use Rattle.std.proofs.Common.{◌≡◌, ◌≢◌, ℕ, zero, suc, ◌+◌, ◌-◌, ◌*◌, ◌/◌, ◌<◌, ◌≤◌, ◌⊎◌, inl, inr, ⊎_elim, eqb, true, false, Bool, cond, ne_eqb, List, [], ◌∷◌, ◌++◌, map, length, get_or, refl, sym, ap, ◌∙◌, subst, suc-mul, arith}
-use Rattle.std.specs.Prelude.{All, Option, Some, None, slice_get}
+use Rattle.std.specs.Prelude.{All, Some, slice_get}
 use Rattle.std.proofs.Math.Nat.{mul-div-le, le-div_iff_mul-le}
 use Rattle.std.proofs.lemmas.List.{append_assoc, append-nil, length-map}
 use Rattle.std.proofs.lemmas.Option.{slice_get_within, get_or_from_slice_get}
 use Rattle.turn_lock.specs.declared.rule.Made.{Made}
 use Rattle.turn_lock.specs.declared.rule.Joined.{Joined}
 use Rattle.turn_lock.specs.Turns.{StartsWith, made_by, state_after, last_word, leaver, entries_by, EachFits}
-use Rattle.turn_lock.specs.Seats.{Locked, Seated, lock_of, first_of, seat_lock, seat_number, seen_by, mine_of, HasItsOwn}
+use Rattle.turn_lock.specs.Seats.{Locked, Seated, lock_of, first_of, seat_lock, seat_number, mine_of, HasItsOwn}
 use Rattle.turn_lock.specs.Turned.{Closes}
 use Rattle.turn_lock.proofs.Lists.{starts_through, starts_whole, made_by_starts}
 use Rattle.group_core.specs.Each.{Each}
@@ -24,7 +24,7 @@ use Rattle.cluster.specs.Passes.{Gathers, Closed, AreMonitorOf, group_in, group_
 use Rattle.cluster.specs.Change.{happened, happened_at}
 use Rattle.cluster.specs.Asks.{IsPassOf}
 use Rattle.cluster.specs.Ends.{seats_of}
-use Rattle.cluster.proofs.Begun.{in_step_long}
+use Rattle.cluster.proofs.Begun.{beside_long, in_step_long}
 
 -- ---- elements by their places
 
@@ -68,12 +68,6 @@ beside_back P [] (v ∷ vs) k y h there = absurd h
 beside_back P (u ∷ us) [] k y h there = absurd h
 beside_back P (u ∷ us) (v ∷ vs) zero y h there = let same : v ≡ y = cc in (u, refl, subst (λ z. P u z) same h.0)
 beside_back P (u ∷ us) (v ∷ vs) (suc k) y h there = beside_back P us vs k y h.1 there
-
-beside_long : {X Y : Type 0} → (P : X → Y → Type 0) (xs : List X) (ys : List Y) → Beside P xs ys → length ys ≡ length xs
-beside_long P [] [] h = refl
-beside_long P [] (y ∷ ys) h = absurd h
-beside_long P (x ∷ xs) [] h = absurd h
-beside_long P (x ∷ xs) (y ∷ ys) h = ap suc (beside_long P xs ys h.1)
 
 step_at : {X Y Z : Type 0} → (P : X → Y → Z → Type 0) (xs : List X) (ys : List Y) (zs : List Z) (k : ℕ) (x : X) → InStep P xs ys zs → slice_get xs k ≡ Some x
     → (y : Y) × (z : Z) × (slice_get ys k ≡ Some y) × (slice_get zs k ≡ Some z) × P x y z

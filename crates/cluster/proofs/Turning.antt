@@ -111,10 +111,10 @@ module _ (c : Cluster) (own own' : List OwnSession) (old new : Seats) (k : ℕ) 
         let was : Each (IsOwnEvent c.start own' g.group) (happened_at old j) = each_weaker (IsOwnEvent c.start own g.group) (IsOwnEvent c.start own' g.group) (λ e h. own_later c.start own own' g e grows h) (happened_at old j) (before.events j g there) in
         dite (ℕ_discrete j k)
         (λ same.
-          let there' : slice_get (firsts_of c) k ≡ Some g = subst (λ (i : ℕ). slice_get (firsts_of c) i ≡ Some g) same there in
-          subst (λ (i : ℕ). Each (IsOwnEvent c.start own' g.group) (happened_at new i)) (sym same)
-          (subst (Each (IsOwnEvent c.start own' g.group)) (sym one.here)
-          (each_join (IsOwnEvent c.start own' g.group) (happened_at old k) (option_to_list event) (subst (λ (i : ℕ). Each (IsOwnEvent c.start own' g.group) (happened_at old i)) same was) (fits g there'))))
+        let there' : slice_get (firsts_of c) k ≡ Some g = subst (λ (i : ℕ). slice_get (firsts_of c) i ≡ Some g) same there in
+        subst (λ (i : ℕ). Each (IsOwnEvent c.start own' g.group) (happened_at new i)) (sym same)
+        (subst (Each (IsOwnEvent c.start own' g.group)) (sym one.here)
+        (each_join (IsOwnEvent c.start own' g.group) (happened_at old k) (option_to_list event) (subst (λ (i : ℕ). Each (IsOwnEvent c.start own' g.group) (happened_at old i)) same was) (fits g there'))))
         (λ other. subst (Each (IsOwnEvent c.start own' g.group)) (sym (one.others j other)) was);
     each = λ session number first past. elim (given session number first past) [
       | inl was ↦ (let e = before.each session number first was in (e.0, still_asked e.0 (id_of session number) e.1))

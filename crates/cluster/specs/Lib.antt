@@ -17,3 +17,6 @@ pub mod Starts
 pub mod Ends
 pub mod Numbering
 pub mod Works
+pub mod Looking
+pub mod Noted
+pub mod Opening

@@ -3,14 +3,16 @@
 use Rattle.std.specs.Prelude.{◌≡◌, ℕ, List, [], ◌++◌, map}
 use Rattle.grant_core.specs.Flat.{Table}
 use Rattle.map_core.specs.declared.command.MapCommand.TheVariants.{PoolCreate}
-use Rattle.world_core.specs.Event.{Event, Add, Auth, Map}
+use Rattle.world_core.specs.declared.event.AuthCommand.TheVariants.{Add}
+use Rattle.world_core.specs.declared.event.Event.{Event}
+use Rattle.world_core.specs.declared.event.Event.TheVariants.{Auth, Map}
 use Rattle.world_core.specs.World.{World}
 use Rattle.world_core.specs.Sound.{IsSound}
 use Rattle.world_core.specs.Holds.{Holds}
 use Rattle.world_core.specs.Calls.{IsFirstRefused}
 use Rattle.world_core.specs.declared.world.parts.WorldParts.{WorldParts}
-use Rattle.cluster.specs.declared.start.PoolSpec.{PoolSpec}
-use Rattle.cluster.specs.declared.start.UserSpec.{UserSpec}
+use Rattle.cluster.specs.declared.starting.PoolSpec.{PoolSpec}
+use Rattle.cluster.specs.declared.starting.UserSpec.{UserSpec}
 use Rattle.cluster.specs.declared.cluster.Cluster.{Cluster}
 use Rattle.cluster.specs.declared.fault.ClusterFault.{ClusterFault}
 use Rattle.cluster.specs.declared.fault.ClusterFault.TheVariants as faults

@@ -25,7 +25,9 @@ use entry_core::{GroupId, Id, Sealed};
 use map_core::PoolView;
 use std::alloc::Global;
 use std::sync::Wait;
-use world_core::{Ask, Ops, Session, WorldFault, are_names, is_namespace, place_of, seal_piece, seal_vector};
+use world_core::{
+    Ask, Ops, Session, WorldFault, are_names, is_namespace, place_of, seal_piece, seal_vector,
+};
 
 /// Who asks, when, and where. The request names the epoch of the map that the pass reads.
 #[derive(Debug, Drop)]

@@ -1,6 +1,6 @@
 //! The locks of a cluster, and their seats.
 
-ghost use Rattle.std.specs.Prelude.{◌≡◌, ℕ, ◌+◌, ◌<◌, [], ◌∷◌, ◌++◌, All, vec_len, map, IfOk};
+ghost use Rattle.std.specs.Prelude.{◌≡◌, ℕ, ◌+◌, ◌<◌, [], ◌∷◌, ◌++◌, All, vec_len, map as each, IfOk};
 ghost use Rattle.turn_lock.specs.Seats.{IsNewSeatOf, first_of};
 ghost use Rattle.cluster.specs.Places.{InStep, Beside, IsFreshRow, share_of};
 ghost use Rattle.cluster.specs.Passes.{ArePassOf, AreMonitorOf, AreFreshOf, firsts_of, group_in, pass_share, monitor_share, shares_of};
@@ -24,7 +24,7 @@ fn open_lock<T: Recorded + Drop>(
     requires { 0 < count }
     ensures first { IfOk result (λ r. r.0.first ≡ T.state value) }
     ensures seats { IfOk result (λ r. (vec_len r.1 ≡ count) × All (IsNewSeatOf r.0) r.1.items) }
-    ensures shares { IfOk result (λ r. (passes : ℕ) → passes + 1 ≡ count → map share_of r.1.items ≡ shares_of passes) }
+    ensures shares { IfOk result (λ r. (passes : ℕ) → passes + 1 ≡ count → each share_of r.1.items ≡ shares_of passes) }
 {
     match TurnLock::new(alloc, value, count) {
         Ok(opened) => Ok(opened),
@@ -68,7 +68,7 @@ fn open_groups(
     count: usize,
 ) -> Result<(Vec<TurnLock<LockedGroup>>, Vec<Row<LockedGroup>>), AllocError>
     requires { 0 < count }
-    ensures firsts { IfOk result (λ r. map first_of r.0.items ≡ map group_in groups.items) }
+    ensures firsts { IfOk result (λ r. each first_of r.0.items ≡ each group_in groups.items) }
     ensures count { IfOk result (λ r. vec_len r.1 ≡ count) }
     ensures rows { IfOk result (λ r. (passes : ℕ) → passes + 1 ≡ count → Beside (λ share row. IsFreshRow share r.0.items row.items) (shares_of passes) r.1.items) }
 {
@@ -114,7 +114,7 @@ pub(crate) fn open_cluster(
     ensures monitor { IfOk result (λ r. AreMonitorOf r.0 r.1) }
     ensures passes { IfOk result (λ r. All (ArePassOf r.0) r.2.items) }
     ensures fresh { IfOk result (λ r. AreFreshOf r.0 (monitor_share passes) r.1 × All (AreFreshOf r.0 (pass_share passes)) r.2.items) }
-    ensures groups { IfOk result (λ r. firsts_of r.0 ≡ map group_in groups.items) }
+    ensures groups { IfOk result (λ r. firsts_of r.0 ≡ each group_in groups.items) }
     ensures users { IfOk result (λ r. r.0.users.first ≡ users) }
     ensures start { IfOk result (λ r. r.0.start ≡ map) }
 {

@@ -25,29 +25,24 @@
 mod asking;
 mod begin;
 mod change;
-#[cfg(test)]
-mod change_tests;
-#[cfg(test)]
-mod close_tests;
 mod closing;
 mod cluster;
 mod fault;
 mod fault_text;
 mod groups;
 mod located;
+mod looking;
 mod monitor;
 mod moves;
 mod news;
+mod notes;
 mod numbering;
+mod opening;
 mod pass;
-#[cfg(test)]
-mod pass_tests;
 mod published;
 mod reading;
 mod rows;
-mod start;
-#[cfg(test)]
-mod tests;
+mod starting;
 mod users;
 mod watching;
 mod workers;
@@ -61,16 +56,16 @@ pub use fault::ClusterFault;
 pub use groups::{
     AnswerFault, AnswerOf, GroupEntry, GroupEvent, LockedGroup, Submission, Work, Worked,
 };
-pub use located::{Located, judge, locate};
+pub use located::Located;
 pub use monitor::{ChangeFault, Monitor, TellFault, Unfinished};
 pub use moves::{IsFull, Move};
-pub use news::{News, learn, tell};
+pub use news::{News, tell};
+pub use notes::Note;
 pub use pass::{OwnSession, Pass};
 pub use published::{
     Knowledge, MapReader, MapWriter, PublishedMap, PublishedRule, SeenMap, publish, publish_first,
-    view,
 };
-pub use start::{PoolSpec, UserSpec, start};
+pub use starting::{PoolSpec, UserSpec, start};
 pub use users::{Change, Open, OpenFault, Renew, UserCommand, UserEntry, UserTable};
 pub use watching::{places_of, watch};
 pub use workers::{Gate, run_workers};

@@ -1,19 +1,17 @@
-//! Where an object is, by the published map, and what a ticket allows there.
+//! Where an object is, by the published map.
 
 ghost use Rattle.std.specs.Prelude.{◌≡◌, IfOk};
 ghost use Rattle.left_right.specs.Sides.{view as known};
 ghost use Rattle.map_core.specs.Map.{epoch_of};
 ghost use Rattle.map_core.specs.Refusal as tests;
 ghost use Rattle.cap_text.specs.Refused.{RefusedFirst};
-ghost use Rattle.verdict_core.specs.Verdict.{is_allowed};
-ghost use Rattle.cluster.specs.Published.{SeesNoLess, AnswersBy};
+ghost use Rattle.cluster.specs.Published.{AnswersBy};
 ghost use Rattle.cluster.specs.Finding.{IsLocated};
 
 use crate::published::{MapReader, Sees};
 use cap_text::Name;
-use map_core::{ClusterMap, MapFault, PoolView};
+use map_core::{ClusterMap, MapFault};
 use place_core::{ActingSet, group_of};
-use verdict_core::{Needs, Target, Ticket};
 
 /// The group of an object, and the daemons that act for it.
 #[derive(Drop)]
@@ -45,17 +43,16 @@ fn locate_in(
     }
 }
 
-/// Where an object is now, by a map that goes on from all that this reader saw before or was told of. It waits for nobody.
-///
-/// `None` where `left_right` gives no reading. The reader comes back in every case.
-pub fn locate(
+// Where an object is now, by a map that goes on from all that this reader saw before or was told of. It waits for nobody.
+//
+// `None` where `left_right` gives no reading. The reader comes back in every case.
+pub(crate) fn locate(
     reader: MapReader,
     pool: &Name,
     namespace: &str,
     object: &str,
 ) -> (Option<Result<Located, MapFault>>, MapReader)
-    ensures later { SeesNoLess (known result.1.place).seen (known reader.place).seen }
-    ensures found { AnswersBy (λ map answer. RefusedFirst (tests.view_refusal map pool.now (epoch_of map)) MapFault.OutOfMemory answer × IfOk answer (λ located. IsLocated map pool.now namespace.now object.now located)) result.0 (known reader.place) (known result.1.place) }
+    ensures { AnswersBy (λ map answer. RefusedFirst (tests.view_refusal map pool.now (epoch_of map)) MapFault.OutOfMemory answer × IfOk answer (λ located. IsLocated map pool.now namespace.now object.now located)) result.0 (known reader.place) (known result.1.place) }
 {
     match reader.enter_as::<Sees>() {
         Ok(reading) => {
@@ -64,24 +61,4 @@ pub fn locate(
         }
         Err(reader) => (None, reader),
     }
-}
-
-/// Whether a ticket allows at a tick what is needed of an object, by the view in hand. It takes no memory and waits for nobody.
-pub fn judge(
-    ticket: &Ticket,
-    view: &PoolView,
-    namespace: &str,
-    object: &str,
-    needs: &Needs,
-    tick: u64,
-) -> bool
-    ensures { result ≡ is_allowed ticket.now (record { pool = view.now.pool; tags = view.now.tags; namespace = namespace.now; object = object.now }) needs.now tick }
-{
-    let target = Target {
-        pool: view.pool.as_str(),
-        tags: &view.tags,
-        namespace,
-        object,
-    };
-    verdict_core::judge(ticket, &target, needs, tick)
 }

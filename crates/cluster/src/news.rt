@@ -24,10 +24,10 @@ pub fn tell(writer: &mut MapWriter) -> Option<News>
     Some(News { reader })
 }
 
-/// From now on the reader sees no less than what was told. At `Err` nothing is lost, and the call can be made again.
-///
-/// Both enter, the news first, and the reader's map is compared with the news's: the time is linear in the commands. It waits for nobody.
-pub fn learn(reader: MapReader, news: News) -> Result<MapReader, (MapReader, News)>
+// From now on the reader sees no less than what was told. At `Err` nothing is lost, and the call can be made again.
+//
+// Both enter, the news first, and the reader's map is compared with the news's: the time is linear in the commands. It waits for nobody.
+pub(crate) fn learn(reader: MapReader, news: News) -> Result<MapReader, (MapReader, News)>
     ensures ok { IfOk result (λ later. (map : History) × ((known later.place).seen ≡ Some map) × Covers map (known reader.place) × Covers map (known news.reader.place)) }
     ensures own { IfErr result (λ back. (map : History) → Covers map (known back.0.place) → Covers map (known reader.place)) }
     ensures news { IfErr result (λ back. (map : History) → Covers map (known back.1.reader.place) → Covers map (known news.reader.place)) }

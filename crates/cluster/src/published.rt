@@ -2,11 +2,11 @@
 
 ghost use Rattle.std.specs.Prelude.{◌≡◌, ◌<◌, ◌^◌, [], ◌∷◌, None, IfOk, OnOk, OnErr, IfSome, drop as dropped};
 ghost use Rattle.left_right.specs.Sides.{view as known};
-ghost use Rattle.map_core.specs.Map.{view_at};
+ghost use Rattle.map_core.specs.Map.{epoch_of, view_at};
 ghost use Rattle.map_core.specs.Refusal as tests;
 ghost use Rattle.cap_text.specs.Refused.{RefusedFirst};
 ghost use Rattle.cluster.specs.Published as spec;
-ghost use Rattle.cluster.specs.Published.{CoversAll, SeesNoLess, AnswersBy, informed, nothing_known, with_command, with_commands};
+ghost use Rattle.cluster.specs.Published.{CoversAll, AnswersBy, informed, nothing_known, with_command, with_commands};
 
 use atomic_table::{Join, Split};
 use cap_text::{Name, OutOfMemory};
@@ -14,7 +14,7 @@ use crossbeam_utils::rule::{Outcome, Protocol};
 use left_right::Absorb;
 use left_right::reader::Reader;
 use left_right::writer::Writer;
-use map_core::{ClusterMap, Epoch, MapCommand, MapFault, PoolView};
+use map_core::{ClusterMap, MapCommand, MapFault, PoolView};
 use std::alloc::{AllocError, Global};
 use std::marker::Model;
 use std::sync::Wait;
@@ -162,20 +162,26 @@ pub(crate) fn inform(writer: &mut MapWriter, reader: &mut MapReader)
     reader.learn::<Telling>(writer.tell::<Telling>());
 }
 
-/// A pool as it was at an epoch, by a map that goes on from all that this reader saw before or was told of. It waits for nobody.
-///
-/// `None` where `left_right` gives no reading, as once the writer was ended. The reader comes back in every case.
-pub fn view(
+// A pool at the present epoch of a map.
+fn view_in(map: &ClusterMap, pool: &Name) -> Result<PoolView, MapFault>
+    ensures view { IfOk result (λ view. view_at map.now pool.now (epoch_of map.now) ≡ Some view) }
+    ensures refused { RefusedFirst (tests.view_refusal map.now pool.now (epoch_of map.now)) MapFault.OutOfMemory result }
+{
+    map.view(pool, map.epoch())
+}
+
+// A pool at the present epoch of a map that goes on from all that this reader saw before or was told of. It waits for nobody.
+//
+// `None` where `left_right` gives no reading, as once the writer was ended. The reader comes back in every case.
+pub(crate) fn view(
     reader: MapReader,
     pool: &Name,
-    epoch: Epoch,
 ) -> (Option<Result<PoolView, MapFault>>, MapReader)
-    ensures later { SeesNoLess (known result.1.place).seen (known reader.place).seen }
-    ensures found { AnswersBy (λ map answer. RefusedFirst (tests.view_refusal map pool.now epoch) MapFault.OutOfMemory answer × IfOk answer (λ view. view_at map pool.now epoch ≡ Some view)) result.0 (known reader.place) (known result.1.place) }
+    ensures { AnswersBy (λ map answer. RefusedFirst (tests.view_refusal map pool.now (epoch_of map)) MapFault.OutOfMemory answer × IfOk answer (λ view. view_at map pool.now (epoch_of map) ≡ Some view)) result.0 (known reader.place) (known result.1.place) }
 {
     match reader.enter_as::<Sees>() {
         Ok(reading) => {
-            let found = reading.get().map.view(pool, epoch);
+            let found = view_in(&reading.get().map, pool);
             (Some(found), reading.leave())
         }
         Err(reader) => (None, reader),

@@ -1,8 +1,9 @@
 //! The users under a turn lock, with the number of sessions, and the steps on them.
 
 ghost use Rattle.std.specs.Prelude.{◌≡◌, OnOk, OnErr, IfOk};
-ghost use Rattle.auth_db.specs.Refusals.{auth_refusal, RefusedOrMemory};
-ghost use Rattle.auth_db.specs.Users.{after, user_at, GetOrCreate};
+ghost use Rattle.cap_text.specs.Refused.{RefusedFirst};
+ghost use Rattle.auth_db.specs.Refusals.{auth_refusal, known_refusal, RefusedOrMemory};
+ghost use Rattle.auth_db.specs.Users.{after, user_at, GetOrCreate, HasTicket};
 ghost use Rattle.world_core.specs.Front.{command_of, told_auth, told_creation};
 ghost use Rattle.cluster.specs.Users.{table_after, open_entry, OpenTells, renew_entry, RenewTells, change_entry, ChangeTells};
 
@@ -10,7 +11,7 @@ use auth_db::{AuthDb, AuthFault, Caps, Creation};
 use cap_text::Name;
 use std::marker::Model;
 use turn_lock::{Recorded, Step};
-use verdict_core::Ticket;
+use verdict_core::SharedTicket;
 use world_core::{AuthCommand, Told};
 
 /// The most sessions that are opened, closed ones counted.
@@ -59,6 +60,18 @@ impl Recorded for UserTable {
     ghost after = { table_after };
 }
 
+// The present ticket of a user, until a tick or for ever, to be shared.
+fn shared_ticket(db: &AuthDb, name: &str, until: Option<u64>) -> Result<SharedTicket, AuthFault>
+    ensures refused { RefusedFirst (known_refusal db.now.users name.now) AuthFault.OutOfMemory result }
+    ensures ticket { IfOk result (λ ticket. HasTicket db.now name.now until ticket) }
+{
+    let ticket = db.ticket(name, until)?;
+    match SharedTicket::of(ticket) {
+        Ok(ticket) => Ok(ticket),
+        Err(_) => Err(AuthFault::OutOfMemory),
+    }
+}
+
 /// Opens a session of a user, whose ticket ends at a tick or never: the session's number, and the ticket.
 #[derive(Drop)]
 pub struct Open {
@@ -77,20 +90,20 @@ pub enum OpenFault {
 impl Step for Open {
     type Value = UserTable;
 
-    type Answer = Result<(u32, Ticket), OpenFault>;
+    type Answer = Result<(u32, SharedTicket), OpenFault>;
 
     ghost entry = { open_entry };
 
     ghost tells = { OpenTells };
 
-    fn run(&mut self, table: &mut UserTable) -> Result<(u32, Ticket), OpenFault> {
+    fn run(&mut self, table: &mut UserTable) -> Result<(u32, SharedTicket), OpenFault> {
         if let Err(fault) = table.db.get(self.name.as_str()) {
             return Err(OpenFault::User(fault));
         }
         if table.sessions >= MOST_SESSIONS {
             return Err(OpenFault::Limit);
         }
-        match table.db.ticket(self.name.as_str(), self.until) {
+        match shared_ticket(&table.db, self.name.as_str(), self.until) {
             Ok(ticket) => {
                 table.sessions += 1;
                 Ok((table.sessions, ticket))
@@ -110,14 +123,14 @@ pub struct Renew {
 impl Step for Renew {
     type Value = UserTable;
 
-    type Answer = Result<Ticket, AuthFault>;
+    type Answer = Result<SharedTicket, AuthFault>;
 
     ghost entry = { renew_entry };
 
     ghost tells = { RenewTells };
 
-    fn run(&mut self, table: &mut UserTable) -> Result<Ticket, AuthFault> {
-        table.db.ticket(self.name.as_str(), self.until)
+    fn run(&mut self, table: &mut UserTable) -> Result<SharedTicket, AuthFault> {
+        shared_ticket(&table.db, self.name.as_str(), self.until)
     }
 }
 

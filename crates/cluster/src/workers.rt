@@ -1,6 +1,6 @@
 //! Workers: a thread for each pass, which delivers messages round by round.
 
-ghost use Rattle.std.specs.Prelude.{◌≡◌, ◌≤◌, [], All, map as each, vec_len};
+ghost use Rattle.std.specs.Prelude.{◌≡◌, ◌<◌, ◌≤◌, ℕ, [], All, map as each, length, slice_index_or, vec_len};
 ghost use Rattle.std.specs.Vec.{vec_capacity};
 ghost use Rattle.cluster.specs.Places.{Beside};
 ghost use Rattle.cluster.specs.Asks.{IsPassOf};
@@ -95,7 +95,8 @@ fn work_all<R: Threads + Wait + Sync, G: Gate + Sync>(
     rounds: u32,
 )
     requires { AreAtWork cluster.now workers.old }
-    ensures { Beside (HasWorkedOf cluster.now rounds) workers.old workers.new }
+    ensures count { length workers.new ≡ length workers.old }
+    ensures each { (i : ℕ) (d : Worker) → i < length workers.old → HasWorkedOf cluster.now rounds (slice_index_or workers.old i d) (slice_index_or workers.new i d) }
 {
     let count = workers.len();
     if count == 0 {

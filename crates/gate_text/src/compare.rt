@@ -6,11 +6,12 @@ ghost use Rattle.gate_text.specs.Compared as spec;
 ghost use Rattle.gate_text.specs.Compared.{ComesTo, IsChange, IsCompareAnswer, IsFaultOf, refused_side};
 ghost use Rattle.gate_text.specs.Request.{example_line};
 
+use crate::expanded;
 use crate::printed::Printed;
 use crate::request::push_example;
 use cap_text::{CapFault, CapList, FaultKind, OutOfMemory, parse};
 use compare_core::{Example, widening};
-use grant_core::{ExpandFault, ProfileTable, expand};
+use grant_core::ExpandFault;
 use std::alloc::{AllocError, Global};
 use std::fmt;
 use verdict_core::Ticket;
@@ -145,8 +146,8 @@ fn ticket_of_list(alloc: Global, list: &CapList) -> Result<Ticket, TextFault>
     ensures ticket { IfOk result (λ ticket. spec.Expands list.now ticket.grants) }
     ensures refused { IfErr result (λ fault. spec.IsExpansionFault list.now fault) }
 {
-    match expand(alloc, &ProfileTable::builtin(alloc)?, list) {
-        Ok(tree) => Ok(Ticket::of(alloc, &tree, None)?),
+    match expanded::ticket_of(alloc, list, None) {
+        Ok(ticket) => Ok(ticket),
         Err(ExpandFault::OutOfMemory) => Err(TextFault::OutOfMemory),
         Err(fault) => Err(TextFault::Expansion(fault)),
     }

@@ -8,9 +8,10 @@ ghost use Rattle.grant_core.specs.Text as profiles;
 ghost use Rattle.gate_text.specs.Explain.{IsExplainText, explained_text, grant_line, list_text};
 ghost use Rattle.gate_text.specs.Text.{refused_text};
 
+use crate::expanded::ticket_of;
 use crate::printed::Printed;
 use cap_text::{AllowGrant, CapFault, CapList, FaultKind, OutOfMemory, parse, print, push_allow};
-use grant_core::{ExpandFault, Path, ProfileTable, expand};
+use grant_core::{ExpandFault, Path};
 use std::alloc::{AllocError, Global};
 use std::fmt::{Display, Write};
 
@@ -53,10 +54,9 @@ fn explained_list(alloc: Global, list: &CapList) -> Result<Printed, OutOfMemory>
     ensures text { IfOk result (λ printed. string_bytes printed.text ≡ list_text (expand_refusal built_in list.now) list.now) }
     ensures fails { IfOk result (λ printed. printed.fails ≡ is_some (expand_refusal built_in list.now)) }
 {
-    let table = ProfileTable::builtin(alloc)?;
-    match expand(alloc, &table, list) {
-        Ok(tree) => Ok(Printed {
-            text: explained_text(alloc, list, tree.flat(alloc)?.as_slice())?,
+    match ticket_of(alloc, list, None) {
+        Ok(ticket) => Ok(Printed {
+            text: explained_text(alloc, list, ticket.grants())?,
             fails: false,
         }),
         Err(ExpandFault::OutOfMemory) => Err(AllocError),

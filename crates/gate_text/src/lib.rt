@@ -9,6 +9,7 @@ mod caret;
 mod compare;
 mod compare_auth;
 mod entity;
+mod expanded;
 mod explain;
 mod printed;
 mod request;

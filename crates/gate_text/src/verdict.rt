@@ -7,8 +7,9 @@ ghost use Rattle.gate_text.specs.Answer as spec;
 ghost use Rattle.gate_text.specs.Answer.{IsAnswer, IsVerdictText, answer_of, needed, calls_fault};
 ghost use Rattle.gate_text.specs.Text as printed;
 
+use crate::expanded::ticket_of;
 use cap_text::{CapFault, CapList, FaultKind, OutOfMemory, parse};
-use grant_core::{ExpandFault, ProfileTable, expand};
+use grant_core::ExpandFault;
 use object_core::{NeedsFault, Op, needs_of};
 use std::alloc::{AllocError, Global};
 use std::fmt;
@@ -143,12 +144,8 @@ fn answer_list(
     ensures { IfOk result (λ answer. answer ≡ answer_of list.now
         (record { target = target.now; reads = reads; writes = writes; calls = calls.now; until = times.until; tick = times.tick })) }
 {
-    let table = ProfileTable::builtin(alloc)?;
-    match expand(alloc, &table, list) {
-        Ok(tree) => {
-            let ticket = Ticket::of(alloc, &tree, times.until)?;
-            answer_ticket(alloc, &ticket, target, reads, writes, calls, times)
-        }
+    match ticket_of(alloc, list, times.until) {
+        Ok(ticket) => answer_ticket(alloc, &ticket, target, reads, writes, calls, times),
         Err(ExpandFault::OutOfMemory) => Err(AllocError),
         Err(fault) => Ok(Err(VerdictFault::Profiles(fault))),
     }

@@ -58,6 +58,7 @@ loop-other-preserved g c = let inv = c.loop-other.invariant in let k = c.len-k.r
       heard = c.join.ensures.begins.1;
       share = c.join.ensures.share.0;
       joined = c.join.ensures.share.1;
+      made = c.join.ensures.own;
     } in
     let done : InStep TakesIn (drop k old) (drop k os) (drop k (set ps k c.join.new.self)) = one_put TakesIn old os ps k n before c.in-Some.other c.join.new.self next inside (rest_at old k n before next (omega arith) at_old) (rest_at os k n c.in-Some.other next (omega arith) is) took inv.done in
     record {

@@ -8,5 +8,5 @@ use Rattle.cluster.proofs.users.RenewStep.run.Goals as goal
 
 pub returns-clause-tells : goal.returns-clause-tells
 returns-clause-tells c = let t = c.args.table.now in let s = c.args.self.now in
-    subst (λ (n : List ℕ). RefusedFirst (known_refusal t.db.users n) auth.OutOfMemory c.ticket.result × IfOk c.ticket.result (λ ticket. HasTicket t.db n s.until ticket)) c.as_str.ensures
-    (c.ticket.ensures.refused, c.ticket.ensures.ticket)
+    subst (λ (n : List ℕ). RefusedFirst (known_refusal t.db.users n) auth.OutOfMemory c.shared_ticket.result × IfOk c.shared_ticket.result (λ ticket. HasTicket t.db n s.until ticket)) c.as_str.ensures
+    (c.shared_ticket.ensures.refused, c.shared_ticket.ensures.ticket)

@@ -1,0 +1,90 @@
+-- What a cluster begins with, and what fresh seats are to a pass.
+use Rattle.std.proofs.Common.{◌≡◌, ℕ, ◌<◌, ◌≤◌, true, List, [], ◌∷◌, ◌++◌, map, fold, append-nil, refl, sym, ap, ◌∙◌, subst, arith}
+use Rattle.std.specs.Prelude.{All, Option, None, Some, IsSome, IsNone}
+use Rattle.std.proofs.lemmas.List.Elements.{All-cons, All-nil}
+use Rattle.std.proofs.lemmas.List.Sums.{fold-append}
+use Rattle.grant_core.specs.Flat.{Table}
+use Rattle.turn_lock.specs.Seats.{Locked, Seated, HasItsOwn}
+use Rattle.turn_lock.specs.Turns.{made_by}
+use Rattle.map_core.specs.State.{History, GoesOn}
+use Rattle.map_core.specs.declared.command.MapCommand.{MapCommand}
+use Rattle.entry_core.specs.declared.sealed.GroupId.{GroupId}
+use Rattle.group_core.specs.Each.{Each}
+use Rattle.group_core.specs.Group.{Event, is_submitted}
+use Rattle.world_core.specs.declared.event.Event.{Event as WorldEvent}
+use Rattle.world_core.specs.World.{World}
+use Rattle.world_core.specs.Holds.{Holds}
+use Rattle.world_core.specs.Front.{Front, first_front, front_step, front_after, requests_of}
+use Rattle.cluster.specs.declared.cluster.Cluster.{Cluster}
+use Rattle.cluster.specs.declared.cluster.Seats.{Seats}
+use Rattle.cluster.specs.declared.monitor.Monitor.{Monitor}
+use Rattle.cluster.specs.declared.monitor.Unfinished.{Unfinished}
+use Rattle.cluster.specs.declared.pass.Pass.{Pass}
+use Rattle.cluster.specs.declared.starting.PoolSpec.{PoolSpec}
+use Rattle.cluster.specs.declared.starting.UserSpec.{UserSpec}
+use Rattle.cluster.specs.Places.{IsFreshRow}
+use Rattle.cluster.specs.Published.{GoesOnFrom, Covers}
+use Rattle.cluster.specs.Passes.{AreFreshOf, group_count, pass_share}
+use Rattle.cluster.specs.Change.{happened, happened_at}
+use Rattle.cluster.specs.Monitors.{StandsBy, IsMonitorOf, published_of, waiting_of}
+use Rattle.cluster.specs.Asks.{IsBegun, asked_of, IsOwnEvent, Asks, known_by, IsPassOf}
+use Rattle.cluster.specs.Starts.{creation_of, addition_of, events_of}
+use Rattle.cluster.proofs.Begun.{fresh_are}
+use Rattle.cluster.proofs.Following.{fresh_mine}
+
+-- ---- where pools are created and users added, nothing is asked
+
+after_pools : (f : Front) (pools : List PoolSpec) → (fold front_step f (map creation_of pools)).submissions ≡ f.submissions
+unfolding requests_of
+after_pools f [] = refl
+after_pools f (p ∷ ps) = after_pools (front_step f (creation_of p)) ps ∙ append-nil f.submissions
+
+after_users : (f : Front) (users : List UserSpec) → (fold front_step f (map addition_of users)).submissions ≡ f.submissions
+unfolding requests_of
+after_users f [] = refl
+after_users f (u ∷ us) = after_users (front_step f (addition_of u)) us ∙ append-nil f.submissions
+
+unasked : (table : Table) (daemons : ℕ) (pools : List PoolSpec) (users : List UserSpec) → (front_after table daemons (events_of pools users)).submissions ≡ []
+unasked table daemons pools users =
+    ap (λ (f : Front). f.submissions) (fold-append front_step (first_front table daemons) (map creation_of pools) (map addition_of users))
+    ∙ (after_users (fold front_step (first_front table daemons) (map creation_of pools)) users ∙ after_pools (first_front table daemons) pools)
+
+pub nothing_asked : (table : Table) (daemons : ℕ) (pools : List PoolSpec) (users : List UserSpec) (events : List WorldEvent) (w : World) → events ≡ events_of pools users → Holds table daemons events w → w.front.submissions ≡ []
+nothing_asked table daemons pools users events w are holds = ap (λ (f : Front). f.submissions) (holds.front ∙ ap (front_after table daemons) are) ∙ unasked table daemons pools users
+
+-- ---- fresh seats have made nothing
+
+row_own : {S E : Type 0} → (share : ℕ) (ls : List (Locked S)) (ss : List (Seated E)) → IsFreshRow share ls ss → All (HasItsOwn {E = E}) ss
+row_own share [] [] h = All-nil HasItsOwn
+row_own share [] (s ∷ ss) h = absurd h
+row_own share (l ∷ ls) [] h = absurd h
+row_own share (l ∷ ls) (s ∷ ss) h = All-cons HasItsOwn s ss (ap (made_by s.number) h.0.1 ∙ sym h.0.2) (row_own share ls ss h.2)
+
+asks_nothing : (c : Cluster) (share : ℕ) (p : Seats) → AreFreshOf c share p → Asks c [] p
+asks_nothing c share p h =
+    let none : (j : ℕ) → happened_at p j ≡ [] = λ j. ap happened (fresh_mine share c.groups.items p.groups.items j h.0) in record {
+      events = λ j g there. subst (λ (l : List Event). Each (IsOwnEvent c.start [] g.group) l) (sym (none j)) tt;
+      each = λ session number least below. absurd (omega arith);
+      once = λ j k id a b. let e : is_submitted [] id ≡ true = subst (λ (l : List Event). is_submitted (asked_of l) id ≡ true) (none j) a in absurd (cc);
+    }
+
+-- ---- a pass of fresh seats
+
+stands_whole : (u : Option Unfinished) (count : ℕ) (own : History) (shown : Option History) (waiting : List MapCommand) → IsNone u → StandsBy u count own shown waiting → shown ≡ Some own
+stands_whole None count own shown waiting none h = h.0
+stands_whole (Some x) count own shown waiting none h = absurd (cc)
+
+told_of_start : (start map : History) (told : Option History) → told ≡ Some start → GoesOnFrom map told → GoesOn map start
+told_of_start start map told is h = subst (GoesOnFrom map) is h
+
+pub first_pass : (c : Cluster) (m : Monitor) (p : Pass) → IsBegun c → AreFreshOf c (pass_share c.passes) p.seats → IsMonitorOf c m → IsNone m.unfinished → m.map ≡ c.start
+    → IsSome p.reader → (known_by p).told ≡ published_of m → p.sessions.items ≡ [] → IsPassOf c p
+first_pass c m p begun fresh own whole start reader told none = record {
+  begun = begun;
+  seats = fresh_are c (pass_share c.passes) p.seats fresh;
+  made = row_own (pass_share c.passes) c.groups.items p.seats.groups.items fresh.0;
+  reader = reader;
+  since = λ map covers. told_of_start c.start map (known_by p).told
+      (told ∙ (stands_whole m.unfinished (group_count c) m.map (published_of m) (waiting_of m) whole own.stands ∙ ap (λ (h : History). Some h) start)) covers.1;
+  asks = subst (λ l. Asks c l p.seats) (sym none) (asks_nothing c (pass_share c.passes) p.seats fresh);
+}

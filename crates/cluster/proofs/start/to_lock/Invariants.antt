@@ -1,6 +1,0 @@
-use Rattle.std.proofs.Common.{◌≡◌, map}
-use Rattle.cluster.specs.Passes.{group_in}
-use Rattle.cluster.proofs.start.to_lock.Given as goal
-
-abbrev pub invariant-loop-group : goal.invariant-loop-group
-invariant-loop-group l = map group_in l.locked.items ≡ l.yielded

@@ -1,0 +1,284 @@
+//! The words that each command takes.
+
+use clap::{Arg, ArgAction, Command};
+use std::alloc::{AllocError, Global};
+
+const VERSION: &str = "0.1.0";
+
+const VERDICT_EXAMPLE: &str =
+    "Example: osdgate verdict --caps 'allow rw pool=data' --pool data --object x --read --write";
+
+const EXPLAIN_EXAMPLE: &str = "Example: osdgate explain --caps 'profile rbd pool=vms'";
+
+const COMPARE_EXAMPLE: &str = "\
+Example: osdgate compare --old 'allow r' --new 'allow rw'
+Example: osdgate compare --auth now.json --auth planned.json --check";
+
+const WHO_EXAMPLE: &str =
+    "Example: ceph auth ls --format json | osdgate who --auth - --pool data --object x --read";
+
+const RUN_EXAMPLE: &str = "Example: osdgate run incident.txt";
+
+const THREADS_EXAMPLE: &str = "Example: osdgate threads 4";
+
+const WORKERS_HELP: &str = "How many workers there are, 1 to 8, each on a thread of its own";
+
+const SCRIPT_HELP: &str = "The script, standard input where it is `-` or not given";
+
+const AUTH_HELP: &str =
+    "What `ceph auth ls --format json` or `ceph auth get NAME --format json` prints, `-` for standard input";
+
+const AUTHS_HELP: &str =
+    "A file as `ceph auth ls --format json` prints it, the present one and then the one that is to take its place, `-` for standard input";
+
+/// What an option takes.
+#[derive(Clone, Copy)]
+enum Takes {
+    /// A value that must be given, under this name in help.
+    Needed(&'static str),
+    /// A value that may be given.
+    Value(&'static str),
+    /// Nothing.
+    Nothing,
+}
+
+use Takes::{Needed, Nothing, Value};
+
+/// An option's name, what it takes, and its help.
+type OptionRow = (&'static str, Takes, &'static str);
+
+const POOL: OptionRow = ("pool", Needed("POOL"), "The pool");
+
+const OBJECT: OptionRow = ("object", Needed("OBJECT"), "The object's name");
+
+const NAMESPACE: OptionRow = (
+    "namespace",
+    Value("NAMESPACE"),
+    "The object's namespace, the empty one where none is given",
+);
+
+const TAG: OptionRow = (
+    "tag",
+    Value("APP[:KEY=VALUE]"),
+    "An application of the pool, and a pair under it",
+);
+
+const READ: OptionRow = ("read", Nothing, "The request reads");
+
+const WRITE: OptionRow = ("write", Nothing, "The request writes");
+
+const CAPS: OptionRow = ("caps", Needed("TEXT"), "The capability text");
+
+/// The options of `osdgate verdict`.
+const VERDICT: [OptionRow; 9] = [
+    CAPS,
+    POOL,
+    OBJECT,
+    NAMESPACE,
+    TAG,
+    (
+        "until",
+        Value("TICK"),
+        "The first tick at which the grants hold no more",
+    ),
+    (
+        "tick",
+        Value("TICK"),
+        "When the request comes, 0 where none is given",
+    ),
+    READ,
+    WRITE,
+];
+
+/// The options of `osdgate who`, but for the last.
+const WHO: [OptionRow; 7] = [
+    ("auth", Needed("FILE"), AUTH_HELP),
+    POOL,
+    OBJECT,
+    NAMESPACE,
+    TAG,
+    READ,
+    WRITE,
+];
+
+/// An option whose value is taken as it is, also where it begins with a dash.
+fn text_option<'a>(alloc: Global, name: &'a str, value: &'a str, help: &'a str) -> Arg<'a> {
+    Arg::new(alloc, name)
+        .long(name)
+        .action(ArgAction::Set)
+        .allow_hyphen_values(true)
+        .value_name(value)
+        .help(help)
+}
+
+fn flag<'a>(alloc: Global, name: &'a str, help: &'a str) -> Arg<'a> {
+    Arg::new(alloc, name)
+        .long(name)
+        .action(ArgAction::SetTrue)
+        .help(help)
+}
+
+fn option<'a>(alloc: Global, (name, takes, help): OptionRow) -> Arg<'a> {
+    match takes {
+        Needed(value) => text_option(alloc, name, value, help).required(true),
+        Value(value) => text_option(alloc, name, value, help),
+        Nothing => flag(alloc, name, help),
+    }
+}
+
+fn with_options<'a>(
+    alloc: Global,
+    command: Command<'a>,
+    options: &[OptionRow],
+) -> Result<Command<'a>, AllocError> {
+    let mut command = command;
+    for row in options {
+        command = command.arg(option(alloc, *row))?;
+    }
+    Ok(command)
+}
+
+/// The calls of a request.
+fn calls<'a>(alloc: Global) -> Arg<'a> {
+    Arg::new(alloc, "calls")
+        .action(ArgAction::Append)
+        .value_name("CLASS.METHOD")
+        .help("A class method that the request calls")
+}
+
+fn verdict_command<'a>(alloc: Global) -> Result<Command<'a>, AllocError> {
+    let command = Command::new(alloc, "verdict")
+        .about("Tells whether a capability text allows a request, and why not")
+        .after_help(VERDICT_EXAMPLE);
+    with_options(alloc, command, &VERDICT)?.arg(calls(alloc))
+}
+
+fn who_command<'a>(alloc: Global) -> Result<Command<'a>, AllocError> {
+    let command = Command::new(alloc, "who")
+        .about("Tells which entities of a file may do what a request asks for")
+        .after_help(WHO_EXAMPLE);
+    let all = flag(alloc, "all", "Prints each entity with its answer");
+    with_options(alloc, command, &WHO)?
+        .arg(calls(alloc))?
+        .arg(all)
+}
+
+fn explain_command<'a>(alloc: Global) -> Result<Command<'a>, AllocError> {
+    let command = Command::new(alloc, "explain")
+        .about("Prints the canonical form of a capability text, and the grants that it comes to")
+        .after_help(EXPLAIN_EXAMPLE);
+    with_options(alloc, command, &[CAPS])
+}
+
+/// The present text, which comes with the new one, or else files do.
+fn old_option<'a>(alloc: Global) -> Result<Arg<'a>, AllocError> {
+    text_option(alloc, "old", "TEXT", "The present capability text")
+        .required_unless_present("auth")?
+        .requires_arg("new")
+}
+
+/// The files, in the place of both texts.
+fn files_option<'a>(alloc: Global) -> Result<Arg<'a>, AllocError> {
+    text_option(alloc, "auth", "FILE", AUTHS_HELP)
+        .action(ArgAction::Append)
+        .conflicts_with("old")?
+        .conflicts_with("new")
+}
+
+/// The two texts of a comparison.
+fn with_texts<'a>(alloc: Global, command: Command<'a>) -> Result<Command<'a>, AllocError> {
+    let new = text_option(alloc, "new", "TEXT", "The text that is to take its place");
+    command
+        .arg(old_option(alloc)?)?
+        .arg(new.requires_arg("old")?)
+}
+
+fn compare_command<'a>(alloc: Global) -> Result<Command<'a>, AllocError> {
+    let check = flag(
+        alloc,
+        "check",
+        "Ends with status 1 where the new text allows more",
+    );
+    let command = Command::new(alloc, "compare")
+        .about(
+            "Tells what a new capability text allows that the old one denies, and the other way round",
+        )
+        .after_help(COMPARE_EXAMPLE);
+    with_texts(alloc, command)?
+        .arg(files_option(alloc)?)?
+        .arg(check)
+}
+
+fn run_command<'a>(alloc: Global) -> Result<Command<'a>, AllocError> {
+    let script = Arg::new(alloc, "script")
+        .action(ArgAction::Set)
+        .value_name("FILE")
+        .help(SCRIPT_HELP);
+    Command::new(alloc, "run")
+        .about("Runs a script of events in a world of its own, and prints what happens")
+        .after_help(RUN_EXAMPLE)
+        .arg(script)
+}
+
+fn threads_command<'a>(alloc: Global) -> Result<Command<'a>, AllocError> {
+    let workers = Arg::new(alloc, "workers")
+        .action(ArgAction::Set)
+        .value_name("N")
+        .required(true)
+        .help(WORKERS_HELP);
+    let moves = flag(
+        alloc,
+        "moves",
+        "A daemon goes down and comes up 20 times meanwhile",
+    );
+    Command::new(alloc, "threads")
+        .about("Runs workers on threads over one cluster, and prints what became of their requests")
+        .after_help(THREADS_EXAMPLE)
+        .arg(workers)?
+        .arg(moves)
+}
+
+/// The commands, in the order of help.
+#[derive(Clone, Copy)]
+enum Kind {
+    Verdict,
+    Explain,
+    Compare,
+    Who,
+    Run,
+    Threads,
+}
+
+const KINDS: [Kind; 6] = [
+    Kind::Verdict,
+    Kind::Explain,
+    Kind::Compare,
+    Kind::Who,
+    Kind::Run,
+    Kind::Threads,
+];
+
+fn command_of<'a>(alloc: Global, kind: Kind) -> Result<Command<'a>, AllocError> {
+    match kind {
+        Kind::Verdict => verdict_command(alloc),
+        Kind::Explain => explain_command(alloc),
+        Kind::Compare => compare_command(alloc),
+        Kind::Who => who_command(alloc),
+        Kind::Run => run_command(alloc),
+        Kind::Threads => threads_command(alloc),
+    }
+}
+
+/// The program's command line.
+pub(crate) fn whole_command<'a>(alloc: Global) -> Result<Command<'a>, AllocError> {
+    let mut command = Command::new(alloc, "osdgate")
+        .about("The access gate of a replicated object store")
+        .version(VERSION)
+        .after_help(VERDICT_EXAMPLE)
+        .subcommand_required(true)
+        .disable_help_subcommand(true);
+    for kind in KINDS {
+        command = command.subcommand(command_of(alloc, kind)?)?;
+    }
+    Ok(command)
+}

@@ -1,0 +1,549 @@
+//! The command line: from words to what is written, and the status.
+
+ghost use Rattle.std.specs.Prelude.{◌≤◌};
+
+use crate::arguments::whole_command;
+use crate::auth_file::{AuthFault, InputFiles, entities_of};
+use crate::read_words::WordsFault;
+use crate::run::{RunFault, run_path};
+use cap_text::{AppTags, Name, OutOfMemory, Pairs, Tags};
+use clap::error::ErrorKind;
+use clap::{ArgMatches, Error};
+use gate_text::{
+    Answer, Entity, Printed, Times, answer, compare_entities, compare_text, explain_text,
+    point_at_fault, text_of, who_text,
+};
+use object_core::{Bytes, Op};
+use std::alloc::{AllocError, AllocFailed, Global};
+use std::convert::AsStr;
+use std::fmt;
+use std::io::{Read, Write};
+use verdict_core::Target;
+
+/// All is done.
+const DONE: u8 = 0;
+/// A fault was answered, or the answer could not be written.
+const FAULT: u8 = 1;
+/// The words are no command line of this program.
+const BAD_COMMAND_LINE: u8 = 2;
+
+const WANT_OF_MEMORY: &str = "refused OutOfMemory\n";
+
+/// Why words that clap takes are no command line.
+#[derive(Clone, Copy, Debug, PartialEq, Eq)]
+enum BadWords {
+    /// A tag with a `:` has no `=` behind it.
+    Tag,
+    /// A time is no decimal number below 2 to the power of 64.
+    Time,
+    /// A comparison of files has not two of them, or both are standard input.
+    Files,
+    /// A number of workers is not 1 to 8.
+    Workers,
+    /// There is no such command.
+    Command,
+}
+
+impl BadWords {
+    fn text(self) -> &'static str {
+        match self {
+            BadWords::Tag => "osdgate: a tag with a `:` needs a `=` behind it\n",
+            BadWords::Time => "osdgate: a time is a decimal number below 2^64, without a sign\n",
+            BadWords::Files => {
+                "osdgate: a comparison of files needs `--auth` twice, and standard input once at most\n"
+            }
+            BadWords::Workers => "osdgate: there are 1 to 8 workers\n",
+            BadWords::Command => "osdgate: there is no such command\n",
+        }
+    }
+}
+
+/// Why a file has no entities.
+#[derive(Drop)]
+struct FileFault {
+    /// What the file is called.
+    file: &'static str,
+    fault: AuthFault,
+}
+
+/// Why words have no answer.
+#[derive(Drop)]
+enum NoAnswer {
+    /// They are no command line, or ask for help: clap says it.
+    Clap(Error),
+    /// Clap takes them, and yet they are no command line.
+    Words(BadWords),
+    /// A file has no entities.
+    File(FileFault),
+    /// A growth was refused.
+    OutOfMemory,
+}
+
+impl From<Error> for NoAnswer {
+    fn from(error: Error) -> NoAnswer {
+        NoAnswer::Clap(error)
+    }
+}
+
+impl From<AllocError> for NoAnswer {
+    fn from(_error: AllocError) -> NoAnswer {
+        NoAnswer::OutOfMemory
+    }
+}
+
+impl<T: Drop> From<AllocFailed<T>> for NoAnswer {
+    fn from(_error: AllocFailed<T>) -> NoAnswer {
+        NoAnswer::OutOfMemory
+    }
+}
+
+/// What a command prints, and the capability text in which a fault is shown.
+#[derive(Drop)]
+struct Answered<'a> {
+    printed: Printed,
+    caps: &'a str,
+}
+
+/// What words come to.
+#[derive(Drop)]
+enum Done<'a> {
+    /// An answer, to be written.
+    Answer(Answered<'a>),
+    /// A script was run, and what it prints is written.
+    Script(Result<(), RunFault>),
+    /// So many workers are to run, with moves or without.
+    Workers { count: u32, moves: bool },
+}
+
+/// An application tag: a text is cut at its first `:`, and what is behind it at its first `=`. A text with a
+/// `:` and no `=` behind it is none.
+fn tags_of(alloc: Global, text: &str) -> Result<Option<Tags>, OutOfMemory> {
+    let mut pairs = Vec::new(alloc);
+    let application = match text.split_once(':') {
+        None => text,
+        Some((application, pair)) => match pair.split_once('=') {
+            None => return Ok(None),
+            Some((key, value)) => {
+                pairs.push((Name::new(alloc, key)?, Name::new(alloc, value)?))?;
+                application
+            }
+        },
+    };
+    let application = AppTags {
+        application: Name::new(alloc, application)?,
+        pairs: Pairs::from_vec(pairs),
+    };
+    Ok(Some(Tags::from_vec(vec![in alloc; application]?)))
+}
+
+/// A call without input: a word is cut at its first `.`, and one without it is a class with an empty method.
+fn call_of(alloc: Global, word: &str) -> Result<Op, OutOfMemory> {
+    let (class, method) = word.split_once('.').unwrap_or((word, ""));
+    Ok(Op::Call {
+        class: Name::new(alloc, class)?,
+        method: Name::new(alloc, method)?,
+        input: Bytes::from_vec(Vec::new(alloc)),
+    })
+}
+
+/// A number in decimal digits alone.
+fn number_of(text: &str) -> Option<u64> {
+    if !text.as_bytes().iter().all(|byte| byte.is_ascii_digit()) {
+        return None;
+    }
+    text.parse::<u64>().ok()
+}
+
+/// The times of `osdgate verdict`, or nothing where one is no number.
+fn times_of(matches: &ArgMatches<'_>) -> Option<Times> {
+    let until = match matches.get_str("until") {
+        None => None,
+        Some(text) => Some(number_of(text)?),
+    };
+    let tick = match matches.get_str("tick") {
+        None => 0,
+        Some(text) => number_of(text)?,
+    };
+    Some(Times { until, tick })
+}
+
+/// How many workers `osdgate threads` has, or nothing where they are not 1 to 8.
+fn workers_of(matches: &ArgMatches<'_>) -> Option<u32> {
+    let count = u32::try_from(number_of(value_of(matches, "workers"))?).ok()?;
+    if (1..=8).contains(&count) {
+        Some(count)
+    } else {
+        None
+    }
+}
+
+/// The value of an option, the empty text where it is not given.
+fn value_of<'a>(matches: &ArgMatches<'a>, name: &str) -> &'a str {
+    matches.get_str(name).unwrap_or("")
+}
+
+/// The calls that the words ask for.
+fn calls_of(alloc: Global, matches: &ArgMatches<'_>) -> Result<Vec<Op>, OutOfMemory> {
+    let mut calls = Vec::new(alloc);
+    if let Some(words) = matches.get_strs("calls") {
+        for word in words {
+            calls.push(call_of(alloc, word)?)?;
+        }
+    }
+    Ok(calls)
+}
+
+/// The tags of the option, none where it is not given.
+fn tags_asked(alloc: Global, matches: &ArgMatches<'_>) -> Result<Tags, NoAnswer> {
+    match matches.get_str("tag") {
+        None => Ok(Tags::from_vec(Vec::new(alloc))),
+        Some(text) => match tags_of(alloc, text)? {
+            None => Err(NoAnswer::Words(BadWords::Tag)),
+            Some(tags) => Ok(tags),
+        },
+    }
+}
+
+/// The answer of `osdgate verdict`.
+fn answer_verdict(alloc: Global, matches: &ArgMatches<'_>) -> Result<Answer, NoAnswer> {
+    let tags = tags_asked(alloc, matches)?;
+    let Some(times) = times_of(matches) else {
+        return Err(NoAnswer::Words(BadWords::Time));
+    };
+    let target = Target {
+        pool: value_of(matches, "pool"),
+        tags: &tags,
+        namespace: value_of(matches, "namespace"),
+        object: value_of(matches, "object"),
+    };
+    let calls = calls_of(alloc, matches)?;
+    let caps = value_of(matches, "caps");
+    let reads = matches.get_flag("read");
+    let writes = matches.get_flag("write");
+    Ok(answer(alloc, caps, &target, reads, writes, calls.as_slice(), times)?)
+}
+
+/// What `osdgate verdict` prints.
+fn printed_verdict(alloc: Global, matches: &ArgMatches<'_>) -> Result<Printed, NoAnswer> {
+    let answer = answer_verdict(alloc, matches)?;
+    Ok(Printed {
+        text: text_of(alloc, &answer)?,
+        fails: answer.is_err(),
+    })
+}
+
+/// The entities of a file, or of standard input where the path is `-`.
+fn read_entities<F: InputFiles, R: Read>(
+    alloc: Global,
+    files: &F,
+    reader: &mut R,
+    path: &str,
+) -> Result<Vec<Entity>, AuthFault> {
+    if path == "-" {
+        let mut text = String::new(alloc);
+        reader.read_to_string(&mut text)?;
+        return entities_of(alloc, text.as_str());
+    }
+    let text = files.read(path)?;
+    entities_of(alloc, text.as_str())
+}
+
+/// The entities of the file that is called so.
+fn entities_in<F: InputFiles, R: Read>(
+    alloc: Global,
+    files: &F,
+    reader: &mut R,
+    path: &str,
+    file: &'static str,
+) -> Result<Vec<Entity>, NoAnswer> {
+    match read_entities(alloc, files, reader, path) {
+        Ok(entities) => Ok(entities),
+        Err(AuthFault::OutOfMemory) => Err(NoAnswer::OutOfMemory),
+        Err(fault) => Err(NoAnswer::File(FileFault { file, fault })),
+    }
+}
+
+/// What `osdgate who` prints.
+fn printed_who<F: InputFiles, R: Read>(
+    alloc: Global,
+    files: &F,
+    reader: &mut R,
+    matches: &ArgMatches<'_>,
+) -> Result<Printed, NoAnswer> {
+    let tags = tags_asked(alloc, matches)?;
+    let target = Target {
+        pool: value_of(matches, "pool"),
+        tags: &tags,
+        namespace: value_of(matches, "namespace"),
+        object: value_of(matches, "object"),
+    };
+    let calls = calls_of(alloc, matches)?;
+    let path = value_of(matches, "auth");
+    let entities = entities_in(alloc, files, reader, path, "the file")?;
+    let reads = matches.get_flag("read");
+    let writes = matches.get_flag("write");
+    let all = matches.get_flag("all");
+    Ok(who_text(
+        alloc,
+        entities.as_slice(),
+        &target,
+        reads,
+        writes,
+        calls.as_slice(),
+        all,
+    )?)
+}
+
+/// What `osdgate compare` prints of two files.
+fn printed_files<F: InputFiles, R: Read>(
+    alloc: Global,
+    files: &F,
+    reader: &mut R,
+    paths: &[&str],
+    check: bool,
+) -> Result<Printed, NoAnswer> {
+    let (old, new) = match paths {
+        [old, new] if *old != "-" || *new != "-" => (*old, *new),
+        _ => return Err(NoAnswer::Words(BadWords::Files)),
+    };
+    let old = entities_in(alloc, files, reader, old, "the old file")?;
+    let new = entities_in(alloc, files, reader, new, "the new file")?;
+    Ok(compare_entities(alloc, old.as_slice(), new.as_slice(), check)?)
+}
+
+/// What `osdgate compare` prints.
+fn printed_comparison<F: InputFiles, R: Read>(
+    alloc: Global,
+    files: &F,
+    reader: &mut R,
+    matches: &ArgMatches<'_>,
+) -> Result<Printed, NoAnswer> {
+    let check = matches.get_flag("check");
+    if let Some(paths) = matches.get_strs("auth") {
+        return printed_files(alloc, files, reader, paths, check);
+    }
+    let old = value_of(matches, "old");
+    let new = value_of(matches, "new");
+    Ok(compare_text(alloc, old, new, check)?)
+}
+
+/// The text that is refused where a comparison of two texts is.
+fn refused_caps<'a>(matches: &ArgMatches<'a>, printed: &Printed) -> &'a str {
+    if printed.text.as_str().starts_with("refused new ") {
+        value_of(matches, "new")
+    } else {
+        value_of(matches, "old")
+    }
+}
+
+/// Tells how a script ended, and answers the status.
+fn finish_script<E: Write>(ended: Result<(), RunFault>, err: &mut E) -> u8
+    ensures { result ≤ 2 }
+{
+    match ended {
+        Ok(()) => return DONE,
+        Err(RunFault::Script(fault)) => {
+            let _ = write!(err, "osdgate: {fault}\n");
+        }
+        Err(RunFault::Unread(error)) => {
+            let _ = write!(err, "osdgate: the script cannot be read: {error}\n");
+        }
+        Err(RunFault::OutOfMemory) => {
+            let _ = write_out(err, "osdgate: S5 OutOfMemory 0\n");
+        }
+    }
+    FAULT
+}
+
+/// What the words ask for, other than a script.
+fn answer_matches<'a, F: InputFiles, R: Read>(
+    alloc: Global,
+    matches: &ArgMatches<'a>,
+    files: &F,
+    reader: &mut R,
+) -> Result<Answered<'a>, NoAnswer> {
+    match matches.subcommand() {
+        Some(("verdict", inner)) => Ok(Answered {
+            printed: printed_verdict(alloc, inner)?,
+            caps: value_of(inner, "caps"),
+        }),
+        Some(("explain", inner)) => {
+            let caps = value_of(inner, "caps");
+            Ok(Answered {
+                printed: explain_text(alloc, caps)?,
+                caps,
+            })
+        }
+        Some(("compare", inner)) => {
+            let printed = printed_comparison(alloc, files, reader, inner)?;
+            let caps = refused_caps(inner, &printed);
+            Ok(Answered { printed, caps })
+        }
+        Some(("who", inner)) => Ok(Answered {
+            printed: printed_who(alloc, files, reader, inner)?,
+            caps: "",
+        }),
+        _ => Err(NoAnswer::Words(BadWords::Command)),
+    }
+}
+
+/// What the words ask for. What a script prints is written as it runs.
+fn answer_words<'a, S: AsStr, F: InputFiles, R: Read, O: Write>(
+    alloc: Global,
+    words: &'a [S],
+    files: &F,
+    reader: &mut R,
+    out: &mut O,
+) -> Result<Done<'a>, NoAnswer> {
+    let matches = whole_command(alloc)?.try_get_matches_from(words)?;
+    match matches.subcommand() {
+        Some(("threads", inner)) => match workers_of(inner) {
+            Some(count) => Ok(Done::Workers {
+                count,
+                moves: inner.get_flag("moves"),
+            }),
+            None => Err(NoAnswer::Words(BadWords::Workers)),
+        },
+        Some(("run", inner)) => {
+            let path = inner.get_str("script").unwrap_or("-");
+            Ok(Done::Script(run_path(alloc, files, path, reader, out)))
+        }
+        _ => Ok(Done::Answer(answer_matches(alloc, &matches, files, reader)?)),
+    }
+}
+
+/// Writes a text and flushes.
+fn write_out<W: Write>(out: &mut W, text: &str) -> bool {
+    out.write_all(text.as_bytes()).is_ok() && out.flush().is_ok()
+}
+
+/// Writes an answer's text, and answers the status behind it.
+fn finish<O: Write, E: Write>(text: &str, status: u8, out: &mut O, err: &mut E) -> u8
+    requires { status ≤ 2 }
+    ensures { result ≤ 2 }
+{
+    if write_out(out, text) {
+        return status;
+    }
+    let _ = write_out(err, "osdgate: the answer could not be written\n");
+    FAULT
+}
+
+/// Writes an answer, and after a refusal where the fault of the capability text stands.
+fn finish_answer<O: Write, E: Write>(
+    alloc: Global,
+    answered: &Answered<'_>,
+    out: &mut O,
+    err: &mut E,
+) -> u8
+    ensures { result ≤ 2 }
+{
+    let status = if answered.printed.fails { FAULT } else { DONE };
+    let status = finish(answered.printed.text.as_str(), status, out, err);
+    if answered.printed.fails {
+        point_at_fault(alloc, answered.caps, err);
+    }
+    status
+}
+
+/// What clap says of words that it does not take, or the help that they ask for.
+fn finish_error<O: Write, E: Write>(error: &Error, out: &mut O, err: &mut E) -> u8
+    ensures { result ≤ 2 }
+{
+    if error.kind() == ErrorKind::OutOfMemory {
+        return finish(WANT_OF_MEMORY, FAULT, out, err);
+    }
+    if error.use_stderr() {
+        let _ = write!(err, "{error}");
+        return BAD_COMMAND_LINE;
+    }
+    if write!(out, "{error}").is_ok() {
+        DONE
+    } else {
+        FAULT
+    }
+}
+
+/// Tells why the words of the command line cannot be read, and answers the status.
+pub fn refuse_words<O: Write, E: Write>(fault: WordsFault, out: &mut O, err: &mut E) -> u8
+    ensures { result ≤ 2 }
+{
+    match fault {
+        WordsFault::OutOfMemory => finish(WANT_OF_MEMORY, FAULT, out, err),
+        WordsFault::NotText(number) => {
+            let _ = write!(
+                err,
+                "osdgate: word {number} of the command line is not UTF-8\n"
+            );
+            BAD_COMMAND_LINE
+        }
+    }
+}
+
+/// Writes what became of a workload, or why it has no end, and answers the status.
+fn finish_workload<T: fmt::Display, F: fmt::Display, O: Write, E: Write>(
+    ended: &Result<T, F>,
+    out: &mut O,
+    err: &mut E,
+) -> u8
+    ensures { result ≤ 2 }
+{
+    match ended {
+        Ok(tally) => {
+            if write!(out, "{tally}").is_ok() && out.flush().is_ok() {
+                return DONE;
+            }
+            let _ = write_out(err, "osdgate: the answer could not be written\n");
+        }
+        Err(fault) => {
+            let _ = write!(err, "osdgate: {fault}\n");
+        }
+    }
+    FAULT
+}
+
+/// Runs the program on the words of its command line, the first of which is the program's own name, and
+/// answers its exit status: 0 where it is done, 1 where a fault was answered, a file has no entities, a script did not
+/// run to its end, or the answer could not be written, 2 where the words are no command line.
+///
+/// `workload` runs so many workers on threads, with moves or without, where the words ask for them; what it gives is printed.
+///
+/// Answers, and the help that was asked for, go to `out`, and what is wrong with a command line to `err`. Where a
+/// capability text has a fault, the text and a caret under the fault's byte go to `err` as well.
+pub fn run_command<
+    S: AsStr,
+    F: InputFiles,
+    T: fmt::Display + Drop,
+    X: fmt::Display + Drop,
+    W: FnOnce(u32, bool) -> Result<T, X>,
+    R: Read,
+    O: Write,
+    E: Write,
+>(
+    alloc: Global,
+    words: &[S],
+    files: &F,
+    workload: W,
+    reader: &mut R,
+    out: &mut O,
+    err: &mut E,
+) -> u8
+    requires { W.IsAlwaysCallable workload }
+    ensures { result ≤ 2 }
+{
+    match answer_words(alloc, words, files, reader, out) {
+        Ok(Done::Answer(answered)) => finish_answer(alloc, &answered, out, err),
+        Ok(Done::Script(ended)) => finish_script(ended, err),
+        Ok(Done::Workers { count, moves }) => finish_workload(&workload(count, moves), out, err),
+        Err(NoAnswer::Words(bad)) => {
+            let _ = write_out(err, bad.text());
+            BAD_COMMAND_LINE
+        }
+        Err(NoAnswer::File(fault)) => {
+            let _ = write!(err, "osdgate: {} {}\n", fault.file, fault.fault);
+            FAULT
+        }
+        Err(NoAnswer::OutOfMemory) => finish(WANT_OF_MEMORY, FAULT, out, err),
+        Err(NoAnswer::Clap(error)) => finish_error(&error, out, err),
+    }
+}

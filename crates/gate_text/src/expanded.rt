@@ -1,0 +1,40 @@
+//! Lists of grants, expanded by the built-in profiles.
+
+ghost use Rattle.std.specs.Prelude.{◌≡◌, ◌≢◌, None, Some, IfOk, IfErr, OnOk};
+ghost use Rattle.cap_text.specs.Refused.{RefusedFirst};
+ghost use Rattle.grant_core.specs.BuiltIn.{built_in};
+ghost use Rattle.grant_core.specs.Flat.{flat};
+ghost use Rattle.grant_core.specs.Refusal.{expand_refusal};
+
+use cap_text::CapList;
+use grant_core::{ExpandFault, ProfileTable, expand};
+use std::alloc::Global;
+use verdict_core::Ticket;
+
+/// The ticket of a list that is expanded by the profiles of a table.
+fn ticket_by(
+    alloc: Global,
+    table: &ProfileTable,
+    list: &CapList,
+    until: Option<u64>,
+) -> Result<Ticket, ExpandFault>
+    ensures ticket { IfOk result (λ ticket. ticket ≡ record { grants = flat table.now list.now; until = until }) }
+    ensures refused { RefusedFirst (expand_refusal table.now list.now) ExpandFault.OutOfMemory result }
+{
+    let tree = expand(alloc, table, list)?;
+    Ok(Ticket::of(alloc, &tree, until)?)
+}
+
+/// The ticket of a list that is expanded by the built-in profiles.
+pub(crate) fn ticket_of(
+    alloc: Global,
+    list: &CapList,
+    until: Option<u64>,
+) -> Result<Ticket, ExpandFault>
+    ensures ticket { IfOk result (λ ticket. ticket ≡ record { grants = flat built_in list.now; until = until }) }
+    ensures accepted { OnOk result (expand_refusal built_in list.now ≡ None) }
+    ensures refused { IfErr result (λ fault. fault ≢ ExpandFault.OutOfMemory → expand_refusal built_in list.now ≡ Some fault) }
+{
+    let table = ProfileTable::builtin(alloc)?;
+    ticket_by(alloc, &table, list, until)
+}
