@@ -1,10 +1,12 @@
 -- The pieces of a list, one after another.
-use Rattle.std.proofs.Common.{◌≡◌, ◌∙◌, ◌⊎◌, inl, inr, ℕ, suc, ◌+◌, ◌<◌, ◌≤◌, List, [], ◌∷◌, ◌++◌, Bool, true, false, Option, Some, None, length, refl, sym, ap, subst, arith, add-zero}
+use Rattle.std.proofs.Common.{◌≡◌, ◌∙◌, ◌⊎◌, inl, inr, ℕ, suc, ◌+◌, ◌<◌, ◌≤◌, List, [], ◌∷◌, ◌++◌, Bool, true, false, Option, Some, None, length, map, refl, sym, ap, subst, arith, add-zero}
 use Rattle.std.specs.Prelude.{Result, Ok, Err, IfOk, IfErr, not}
+use Rattle.std.specs.List.{range_with_len}
 use Rattle.map_core.specs.State.{History}
 use Rattle.map_core.specs.declared.pool.PoolView.{PoolView}
 use Rattle.entry_core.specs.Request.{Sealed}
-use Rattle.world_core.specs.Front.{◌>>=◌, unless, error_of, Asker, is_namespace, asks_more}
+use Rattle.world_core.specs.Front.{◌>>=◌, unless, error_of, id_of, Asker, is_namespace, asks_more}
+use Rattle.world_core.specs.Stands.{next_in}
 use Rattle.world_core.specs.declared.event.Ask.{Ask}
 use Rattle.world_core.specs.declared.fault.WorldFault.{WorldFault as Fault}
 use Rattle.world_core.specs.declared.fault.WorldFault.TheVariants.{NoPool, BadObjectName}
@@ -16,10 +18,10 @@ use Rattle.cluster.specs.declared.fault.ClusterFault.{ClusterFault}
 use Rattle.cluster.specs.declared.fault.ClusterFault.TheVariants as faults
 use Rattle.cluster.specs.declared.pass.OwnSession.{OwnSession}
 use Rattle.cluster.specs.declared.pass.Pass.{Pass}
-use Rattle.cluster.specs.Sessions.{own_session, own_session_at}
+use Rattle.cluster.specs.Sessions.{own_session, own_session_at, next_of}
 use Rattle.cluster.specs.Reading.{KnowsTheSame, HasRead, view_by, HasSeen, IsUnseen}
-use Rattle.cluster.specs.Asking.{ask_by, session_by, asker_by, pool_by, piece_of, own_place, HasAsked, IsNotAsked, IsPiece, IsNoPiece, ArePieces, IsCutShort, IsListed, IsUnlistedBy, ListFails}
-use Rattle.cluster.proofs.OwnSessions.{place_stays}
+use Rattle.cluster.specs.Asking.{ask_by, session_by, asker_by, pool_by, piece_of, own_place, numbered_from, HasAsked, IsNotAsked, IsPiece, IsNoPiece, ArePieces, IsCutShort, IsListed, IsUnlistedBy, ListFails}
+use Rattle.cluster.proofs.OwnSessions.{place_stays, one_given}
 use Rattle.cluster.proofs.Vectors.{ok_so, err_so, session_given, asker_seen, asker_unseen}
 
 -- ---- one piece
@@ -61,6 +63,24 @@ module _ (c : Cluster) (ask : Ask) (view : PoolView) where
     fails = subst (λ (k : ℕ). IsNoPiece c ask view k fault at new) (sym count) fails;
   }
 
+-- ---- what they are told as
+
+abbrev told_at : (session first : ℕ) → List ℕ → ℕ → Asked
+told_at session first pool n = record { id = id_of session (first + n); group = record { pool = pool; number = n } }
+
+pieces_told : (c : Cluster) (ask : Ask) (view : PoolView) (first n : ℕ) (xs : List Asked) (old new : Pass) → next_of old.sessions.items ask.session ≡ first + n → ArePieces c ask view n xs old new
+    → xs ≡ map (told_at ask.session first view.pool) (range_with_len n (length xs))
+pieces_told c ask view first n [] old new next h = refl
+pieces_told c ask view first n (x ∷ xs) old new next h =
+    let p = h.1 in
+    let s : Session = p.session in
+    let here : s.next + 0 ≡ first + n = add-zero s.next ∙ (sym (ap next_in p.has) ∙ next) in
+    let is : x ≡ told_at ask.session first view.pool n = p.asks.told ∙ ap (λ (k : ℕ). record { id = id_of ask.session k; group = record { pool = view.pool; number = n } }) here in
+    let later : next_of h.0.sessions.items ask.session ≡ next_of old.sessions.items ask.session + 1 =
+    ap (λ (l : List OwnSession). next_of l ask.session) p.asks.sessions ∙ one_given old.sessions.items ask.session (asks_more ask 1) s p.has refl in
+    let on : next_of h.0.sessions.items ask.session ≡ first + (n + 1) = omega arith in
+    λ i. is i ∷ pieces_told c ask view first (n + 1) xs h.0 new on h.2 i
+
 -- ---- by the map that was read
 
 pub pool_as : (start map : History) (own : List OwnSession) (a : Asking) (who : Asker) → asker_by start map own a ≡ Ok who → is_namespace a.namespace ≡ true → pool_by start map own a ≡ Ok who.view
@@ -97,8 +117,12 @@ module _ (c : Cluster) (a : Asking) (old : Pass) (fine : error_of (session_by ol
     asks = asker_seen c.start seen.map old.sessions.items a s given view seen.is
 
     pub list_unnamed : is_namespace a.namespace ≡ false → ListFails c a (faults.World BadObjectName) old mid
-    list_unnamed bad = inr (inr (seen.map, mid, seen.read,
-      subst (λ (r : Result PoolView Fault). IsUnlistedBy c a r (faults.World BadObjectName) mid mid) (sym (pool_unnamed c.start seen.map old.sessions.items a (record { session = s; view = view }) asks bad)) (inl refl, refl)))
+    list_unnamed bad = inr (inr (
+      seen.map,
+      mid,
+      seen.read,
+      subst (λ (r : Result PoolView Fault). IsUnlistedBy c a r (faults.World BadObjectName) mid mid) (sym (pool_unnamed c.start seen.map old.sessions.items a (record { session = s; view = view }) asks bad)) (inl refl, refl),
+    ))
 
     module _ (new : Pass) (ask : Ask) (good : is_namespace a.namespace ≡ true) (is : ask ≡ ask_by a view) where
       pool : pool_by c.start seen.map old.sessions.items a ≡ Ok view
@@ -114,6 +138,12 @@ module _ (c : Cluster) (a : Asking) (old : Pass) (fine : error_of (session_by ol
         pieces = subst (λ (k : Ask). ArePieces c k view 0 all mid new) is h.0;
         every = h.1;
       }
+
+      pub told_by : (all : List Asked) → ArePieces c ask view 0 all mid new × (length all ≡ view.pg_num) → all ≡ numbered_from a.session (next_of old.sessions.items a.session) a.pool (length all)
+      told_by all h =
+          let next : next_of mid.sessions.items (ask_by a view).session ≡ next_of old.sessions.items a.session + 0 = ap (λ v. next_of v.items a.session) seen.read.sessions ∙ sym (add-zero (next_of old.sessions.items a.session)) in
+          pieces_told c (ask_by a view) view (next_of old.sessions.items a.session) 0 all mid new next (subst (λ (k : Ask). ArePieces c k view 0 all mid new) is h.0)
+          ∙ ap (λ (pool : List ℕ). numbered_from a.session (next_of old.sessions.items a.session) pool (length all)) seen.pool_is.named
 
       pub unlisted_by : (fault : ClusterFault) → IsCutShort c ask view fault mid new → ListFails c a fault old new
       unlisted_by fault h = inr (inr (seen.map, mid, seen.read, subst (λ (r : Result PoolView Fault). IsUnlistedBy c a r fault mid new) (sym pool) (inr (subst (λ (k : Ask). IsCutShort c k view fault mid new) is h))))

@@ -135,11 +135,11 @@ module _ (c : Cluster) (old : Pass) (pass : IsPassOf c old) (ask : Ask) (request
   given : (session number : ℕ) → 1 ≤ number → number < next_of later session → (number < next_of old.sessions.items session) ⊎ AsksNow (Some (Submit request)) (id_of session number)
   given session number first past = dite (ℕ_discrete session ask.session)
       (λ same.
-        let past' : number < next_of later ask.session = subst (λ (n : ℕ). number < next_of later n) same past in
-        let e = one_more in
-        dite (ℕ_discrete number (next_of old.sessions.items ask.session))
-        (λ last. inr (now_is (id_of session number) (asks.id ∙ λ i. id_of (sym same i) (sym last i))))
-        (λ before. inl (subst (λ (n : ℕ). number < next_of old.sessions.items n) (sym same) (omega arith))))
+      let past' : number < next_of later ask.session = subst (λ (n : ℕ). number < next_of later n) same past in
+      let e = one_more in
+      dite (ℕ_discrete number (next_of old.sessions.items ask.session))
+      (λ last. inr (now_is (id_of session number) (asks.id ∙ λ i. id_of (sym same i) (sym last i))))
+      (λ before. inl (subst (λ (n : ℕ). number < next_of old.sessions.items n) (sym same) (omega arith))))
       (λ apart. inl (subst (λ (n : ℕ). number < n) (none_given old.sessions.items ask.session session (asks_more ask 1) apart) past))
 
   -- its number was given to no request before

@@ -1,6 +1,7 @@
 -- Statement: contracts of public calls use it.
 -- What a pass asks of groups: requests sealed by its sessions and by the map that it reads, each submitted by one turn.
-use Rattle.std.specs.Prelude.{◌≡◌, ◌⊎◌, ℕ, ◌+◌, ◌<◌, ◌==◌, ◌&&◌, not, List, [], ◌∷◌, Option, Some, None, Result, Ok, Err, length, nat_lt, position}
+use Rattle.std.specs.Prelude.{◌≡◌, ◌⊎◌, ℕ, ◌+◌, ◌<◌, ◌==◌, ◌&&◌, not, List, [], ◌∷◌, Option, Some, None, Result, Ok, Err, length, map as each, nat_lt, position}
+use Rattle.std.specs.List.{range_with_len}
 use Rattle.map_core.specs.State.{History}
 use Rattle.map_core.specs.declared.pool.PoolView.{PoolView}
 use Rattle.object_core.specs.Needs.{needs_fault}
@@ -11,7 +12,7 @@ use Rattle.group_core.specs.declared.fault.GroupFault.{GroupFault}
 use Rattle.world_core.specs.declared.event.Ask.{Ask}
 use Rattle.world_core.specs.declared.fault.WorldFault.{WorldFault as Fault}
 use Rattle.world_core.specs.declared.fault.WorldFault.TheVariants.{NoSession, NoPool, BadObjectName, StaleTick, Needs as OfNeeds}
-use Rattle.world_core.specs.Front.{◌>>=◌, need, unless, lower, Asker, is_object_name, is_namespace, sealed_of, vector_of, asks_more}
+use Rattle.world_core.specs.Front.{◌>>=◌, need, unless, lower, Asker, is_object_name, is_namespace, sealed_of, vector_of, id_of, asks_more}
 use Rattle.world_core.specs.Moves.{IsAt}
 use Rattle.world_core.specs.declared.session.Session.{Session}
 use Rattle.cluster.specs.declared.asking.Asking.{Asking}
@@ -135,6 +136,10 @@ pub record IsPiece (c : Cluster) (ask : Ask) (view : PoolView) (group : ℕ) (as
 abbrev pub ArePieces : Cluster → Ask → PoolView → ℕ → List Asked → Pass → Pass → Type 0
 ArePieces c ask view group [] old new = new ≡ old
 ArePieces c ask view group (x ∷ xs) old new = (next : Pass) × IsPiece c ask view group x old next × ArePieces c ask view (group + 1) xs next new
+
+-- what a list answers: so many groups of a pool, in order, under consecutive numbers of the session
+abbrev pub numbered_from : (session first : ℕ) → List ℕ → ℕ → List Asked
+numbered_from session first pool count = each (λ n. record { id = id_of session (first + n); group = record { pool = pool; number = n } }) (range_with_len 0 count)
 
 -- a map was read, and by it a piece was submitted for each group of the pool
 pub record IsListed (c : Cluster) (a : Asking) (all : List Asked) (old new : Pass) : Type 0 where
