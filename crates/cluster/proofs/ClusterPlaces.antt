@@ -1,10 +1,9 @@
 -- Where a group of a cluster stands.
-use Rattle.std.proofs.Common.{◌≡◌, ◌∙◌, ℕ, ◌<◌, List, length, map, sym, ap, subst, arith}
+use Rattle.std.proofs.Common.{ℕ, ◌<◌, sym, subst}
 use Rattle.std.proofs.lemmas.List.{length-map}
-use Rattle.turn_lock.specs.Seats.{Locked, first_of}
+use Rattle.turn_lock.specs.Seats.{first_of}
 use Rattle.map_core.specs.State.{History}
 use Rattle.entry_core.specs.declared.sealed.GroupId.{GroupId}
-use Rattle.group_core.specs.Group.{Group}
 use Rattle.world_core.specs.Moves.{AreGroupsOf, IsAt}
 use Rattle.world_core.proofs.GroupsOf.{are_groups}
 use Rattle.cluster.specs.declared.cluster.Cluster.{Cluster}

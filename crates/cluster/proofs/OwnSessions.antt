@@ -1,16 +1,12 @@
 -- The sessions of a pass, where they stand, and the numbers that they give.
-use Rattle.std.proofs.Common.{◌≡◌, ◌≢◌, ◌∙◌, ℕ, zero, suc, ◌+◌, ◌<◌, ◌≤◌, ◌==◌, Bool, true, false, cond, List, [], ◌∷◌, Option, Some, None, length, get_or, refl, sym, ap, subst, arith, ltb}
-use Rattle.std.specs.Prelude.{slice_get, slice_set, position, if◌then◌else◌, nat_lt}
+use Rattle.std.proofs.Common.{◌≡◌, ◌≢◌, ◌∙◌, ℕ, suc, ◌+◌, ◌<◌, ◌==◌, Bool, true, false, cond, List, [], ◌∷◌, Option, Some, None, length, get_or, refl, sym, ap, subst, arith}
+use Rattle.std.specs.Prelude.{slice_get, slice_set, if◌then◌else◌}
 use Rattle.std.specs.Option.{option_map}
-use Rattle.std.specs.List.{position_from, position_or_len}
-use Rattle.std.specs.Cmp.{unsigned_Decides}
-use mathlib.Core.Logic.{dite}
-use native.Mathlib.Decide.{ℕ_discrete}
+use Rattle.std.specs.List.{position_from}
 use Rattle.std.proofs.lemmas.Iterator.Adapters.{position_from-zero}
 use Rattle.world_core.specs.Stands.{next_in}
 use Rattle.world_core.specs.declared.session.Session.{Session}
 use Rattle.world_core.proofs.Bytes.{number_same}
-use Rattle.world_core.proofs.Merge.{number_refl}
 use Rattle.cluster.specs.declared.pass.OwnSession.{OwnSession}
 use Rattle.cluster.specs.Sessions.{own_session, own_session_at, next_of}
 use Rattle.cluster.specs.Asking.{own_place}

@@ -1,5 +1,5 @@
 -- The pieces of a list, one after another.
-use Rattle.std.proofs.Common.{◌≡◌, ◌∙◌, ◌⊎◌, inl, inr, ℕ, suc, ◌+◌, ◌<◌, ◌≤◌, List, [], ◌∷◌, ◌++◌, Bool, true, false, Option, Some, None, length, map, refl, sym, ap, subst, arith, add-zero}
+use Rattle.std.proofs.Common.{◌≡◌, ◌∙◌, ◌⊎◌, inl, inr, ℕ, ◌+◌, ◌<◌, List, [], ◌∷◌, ◌++◌, true, false, Some, None, length, map, refl, sym, ap, subst, arith, add-zero}
 use Rattle.std.specs.Prelude.{Result, Ok, Err, IfOk, IfErr, not}
 use Rattle.std.specs.List.{range_with_len}
 use Rattle.map_core.specs.State.{History}
@@ -18,8 +18,8 @@ use Rattle.cluster.specs.declared.fault.ClusterFault.{ClusterFault}
 use Rattle.cluster.specs.declared.fault.ClusterFault.TheVariants as faults
 use Rattle.cluster.specs.declared.pass.OwnSession.{OwnSession}
 use Rattle.cluster.specs.declared.pass.Pass.{Pass}
-use Rattle.cluster.specs.Sessions.{own_session, own_session_at, next_of}
-use Rattle.cluster.specs.Reading.{KnowsTheSame, HasRead, view_by, HasSeen, IsUnseen}
+use Rattle.cluster.specs.Sessions.{own_session, next_of}
+use Rattle.cluster.specs.Reading.{view_by, HasSeen, IsUnseen}
 use Rattle.cluster.specs.Asking.{ask_by, session_by, asker_by, pool_by, piece_of, own_place, numbered_from, HasAsked, IsNotAsked, IsPiece, IsNoPiece, ArePieces, IsCutShort, IsListed, IsUnlistedBy, ListFails}
 use Rattle.cluster.proofs.OwnSessions.{place_stays, one_given}
 use Rattle.cluster.proofs.Vectors.{ok_so, err_so, session_given, asker_seen, asker_unseen}

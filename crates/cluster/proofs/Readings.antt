@@ -1,5 +1,5 @@
 -- A pass is a pass after a reading of the map, and what the map says of a pool.
-use Rattle.std.proofs.Common.{◌≡◌, ◌∙◌, ◌⊎◌, inl, inr, ℕ, ◌≤◌, ◌+◌, ◌==◌, ◌||◌, List, [], ◌∷◌, ◌++◌, Bool, true, false, Option, Some, None, is_some, cond, unwrap_or, refl, sym, ap, subst, arith}
+use Rattle.std.proofs.Common.{◌≡◌, ◌∙◌, ◌⊎◌, inl, inr, ℕ, ◌==◌, ◌||◌, List, [], ◌∷◌, ◌++◌, Bool, true, false, Option, Some, None, is_some, cond, refl, sym, ap, subst, arith}
 use Rattle.std.specs.Prelude.{Result, Ok, Err, IsSome, MatchOption, IfOk, if◌then◌else◌, not, nat_lt}
 use Rattle.std.specs.List.{find}
 use Rattle.std.specs.Global.{Global}
@@ -8,9 +8,8 @@ use Rattle.left_right.specs.declared.reader.Reader.{Reader}
 use Rattle.cap_text.specs.Refused.{RefusedFirst}
 use Rattle.map_core.specs.State.{History, GoesOn}
 use Rattle.map_core.specs.Map.{is_named, map_of, epoch_of, pool_in, view_at}
-use Rattle.map_core.specs.Refusal.{has_pool, is_word, first_of, view_refusal}
+use Rattle.map_core.specs.Refusal.{has_pool, is_word, view_refusal}
 use Rattle.map_core.specs.Limits.{IsAccepted, HasLimits}
-use Rattle.map_core.specs.Laws.{HasPool}
 use Rattle.map_core.specs.declared.pool.Pool.{Pool}
 use Rattle.map_core.specs.declared.pool.PoolView.{PoolView}
 use Rattle.map_core.specs.declared.fault.MapFault.{MapFault}
@@ -25,16 +24,14 @@ use Rattle.world_core.proofs.Bytes.{bytes_same}
 use Rattle.world_core.proofs.Pools.{InMap, in_later}
 use Rattle.world_core.proofs.Views.{view_refused}
 use Rattle.cluster.specs.declared.cluster.Cluster.{Cluster}
-use Rattle.cluster.specs.declared.cluster.Seats.{Seats}
 use Rattle.cluster.specs.declared.fault.ClusterFault.TheVariants as faults
-use Rattle.cluster.specs.declared.pass.OwnSession.{OwnSession}
 use Rattle.cluster.specs.declared.pass.Pass.{Pass}
 use Rattle.cluster.specs.declared.published.Knowledge.{Knowledge}
 use Rattle.cluster.specs.declared.published.PublishedMap.{PublishedMap}
 use Rattle.cluster.specs.declared.published.PublishedRule.{PublishedRule}
 use Rattle.cluster.specs.Published.{Covers, GoesOnFrom, Sees, AnswersBy}
 use Rattle.cluster.specs.Asks.{known_by, IsPassOf}
-use Rattle.cluster.specs.Reading.{KnowsTheSame, HasRead, view_by, IsPoolOf, HasSeen, IsUnseen}
+use Rattle.cluster.specs.Reading.{KnowsTheSame, view_by, IsPoolOf, HasSeen, IsUnseen}
 use Rattle.cluster.specs.ToAsk.{fault_of_view, HasAnswered}
 use Rattle.cluster.proofs.Grows.{goes_on_through}
 
@@ -61,7 +58,6 @@ module _ (c : Cluster) (old new : Pass) (pass : IsPassOf c old) (seats : new.sea
   -- reader and knowledge change, and nothing else
   pub read_pass : IsPassOf c new
   read_pass =
-      let Q : Pass → Type 0 = λ p. IsPassOf c (record new { seats = p.seats; sessions = p.sessions }) in
       let is : IsPassOf c (record old { reader = new.reader }) = record {
         begun = pass.begun;
         seats = pass.seats;

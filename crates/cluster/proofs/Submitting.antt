@@ -1,6 +1,6 @@
 -- A pass is a pass after a submission, and what is asked by sessions and views.
-use Rattle.std.proofs.Common.{◌≡◌, ◌≢◌, ◌∙◌, ◌⊎◌, inl, inr, ℕ, ◌+◌, ◌*◌, ◌<◌, ◌≤◌, ◌==◌, ◌||◌, ◌&&◌, Bool, true, false, List, [], ◌∷◌, Option, Some, None, length, map, refl, sym, ap, subst, arith}
-use Rattle.std.specs.Prelude.{Result, Ok, Err, is_some, slice_get, nat_le, nat_lt, not, if◌then◌else◌}
+use Rattle.std.proofs.Common.{◌≡◌, ◌∙◌, ◌⊎◌, inl, inr, ℕ, ◌+◌, ◌*◌, ◌<◌, ◌≤◌, ◌==◌, ◌||◌, Bool, true, false, List, [], ◌∷◌, Option, Some, None, length, refl, sym, ap, subst, arith}
+use Rattle.std.specs.Prelude.{Result, Ok, Err, is_some, slice_get, nat_le, nat_lt, not}
 use Rattle.std.specs.Option.{option_to_list, option_map, option_map_or}
 use mathlib.Core.Logic.{dite}
 use native.Mathlib.Decide.{ℕ_discrete}
@@ -16,30 +16,29 @@ use Rattle.entry_core.specs.Locality.{group_for}
 use Rattle.entry_core.specs.Request.{Sealed}
 use Rattle.entry_core.specs.declared.sealed.GroupId.{GroupId}
 use Rattle.group_core.specs.Each.{Each}
-use Rattle.group_core.specs.Group.{Group, Event, Submit, is_submitted}
+use Rattle.group_core.specs.Group.{Group, Submit}
 use Rattle.group_core.specs.declared.fault.GroupFault.{GroupFault}
-use Rattle.world_core.specs.Front.{◌>>=◌, need, unless, lower, error_of, id_of, asks_more}
+use Rattle.world_core.specs.Front.{◌>>=◌, need, unless, id_of, asks_more}
 use Rattle.world_core.specs.Moves.{IsAt}
 use Rattle.world_core.specs.Sound.{IsSealedFor}
 use Rattle.world_core.specs.declared.event.Ask.{Ask}
 use Rattle.world_core.proofs.Acting.{group_at_is}
 use Rattle.world_core.proofs.Bytes.{number_same}
 use Rattle.world_core.proofs.Merge.{number_refl}
-use Rattle.turn_lock.specs.Seats.{Locked, Seated, lock_of, first_of as began, seat_lock}
+use Rattle.turn_lock.specs.Seats.{lock_of, first_of as began, seat_lock}
 use Rattle.world_core.specs.declared.fault.WorldFault.{WorldFault as Fault}
 use Rattle.world_core.specs.declared.fault.WorldFault.TheVariants.{NoSession, StaleTick}
 use Rattle.world_core.specs.declared.session.Session.{Session}
 use Rattle.cluster.specs.declared.asking.Asking.{Asking}
 use Rattle.cluster.specs.declared.cluster.Cluster.{Cluster}
 use Rattle.cluster.specs.declared.cluster.Seats.{Seats}
-use Rattle.cluster.specs.declared.groups.GroupEntry.{GroupEntry}
 use Rattle.cluster.specs.declared.pass.OwnSession.{OwnSession}
 use Rattle.cluster.specs.declared.pass.Pass.{Pass}
 use Rattle.cluster.specs.Groups.{submission_entry, SubmissionTells}
 use Rattle.cluster.specs.Passes.{GroupTurn, AreSeatsOf, group_count, firsts_of}
 use Rattle.cluster.specs.Change.{happened_at, OneMoved}
 use Rattle.cluster.specs.Sessions.{own_session, own_session_at, next_of, IsNumbered}
-use Rattle.cluster.specs.Asks.{asked_of, IsOwnEvent, IsAskedAt, Asks, IsPassOf}
+use Rattle.cluster.specs.Asks.{IsOwnEvent, IsAskedAt, Asks, IsPassOf}
 use Rattle.cluster.specs.Asking.{session_by}
 use Rattle.cluster.specs.ToAsk.{IsToAsk}
 use Rattle.cluster.proofs.ClusterPlaces.{inside_count}
@@ -57,9 +56,6 @@ not_less_tells : (a b : ℕ) → b ≤ a → nat_lt a b ≡ false
 not_less_tells a b h = grind (arith, nat_tests)
 
 module _ (own : List OwnSession) (a : Asking) where
-  rest_of : Session → Result Session Fault
-  rest_of s = unless (nat_lt a.tick s.tick) StaleTick >>= λ _. Ok s
-
   pub session_none : own_session own a.session ≡ None → session_by own a ≡ Err NoSession
   session_none none = ap (λ (o : Option Session). need o NoSession >>= λ s. unless (nat_lt a.tick s.tick) StaleTick >>= λ _. Ok s) none
 
@@ -108,9 +104,6 @@ not_refused start s group fault wrap sealed word same is =
 
 module _ (c : Cluster) (old : Pass) (pass : IsPassOf c old) (ask : Ask) (request : Sealed) (asks : IsToAsk c.start old.sessions.items ask request) (s : Session) (has : own_session old.sessions.items ask.session ≡ Some s)
     (place : ℕ) (at : IsAt (firsts_of c) (group_for request) place) where
-  own : List OwnSession
-  own = old.sessions.items
-
   abbrev later : List OwnSession
   later = own_session_at old.sessions.items ask.session (asks_more ask 1)
 

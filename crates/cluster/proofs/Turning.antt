@@ -1,11 +1,10 @@
 -- A pass is a pass after one turn of its own on a group.
-use Rattle.std.proofs.Common.{◌≡◌, ◌≢◌, ◌∙◌, ◌⊎◌, inl, inr, ℕ, ◌+◌, ◌<◌, ◌≤◌, ◌==◌, ◌||◌, Bool, true, false, List, [], ◌∷◌, ◌++◌, map, length, get_or, refl, sym, ap, subst, Some, arith}
-use Rattle.std.specs.Prelude.{All, Option, None, IsSome, slice_get}
+use Rattle.std.proofs.Common.{◌≡◌, ◌∙◌, ◌⊎◌, inl, inr, ℕ, ◌<◌, ◌≤◌, ◌==◌, ◌||◌, Bool, true, false, List, [], ◌∷◌, ◌++◌, length, refl, sym, ap, subst, Some, arith}
+use Rattle.std.specs.Prelude.{All, Option, IsSome, slice_get}
 use Rattle.std.specs.Option.{option_to_list}
 use mathlib.Core.Logic.{dite}
 use native.Mathlib.Decide.{ℕ_discrete}
 use Rattle.std.proofs.lemmas.List.Elements.{All-set}
-use Rattle.left_right.specs.Sides.{view as known}
 use Rattle.turn_lock.specs.Seats.{HasItsOwn}
 use Rattle.turn_lock.specs.Turns.{made_by}
 use Rattle.map_core.specs.State.{History, GoesOn}
@@ -21,9 +20,9 @@ use Rattle.cluster.specs.declared.pass.OwnSession.{OwnSession}
 use Rattle.cluster.specs.declared.pass.Pass.{Pass}
 use Rattle.cluster.specs.declared.published.Knowledge.{Knowledge}
 use Rattle.cluster.specs.Published.{Covers}
-use Rattle.cluster.specs.Passes.{GroupTurn, AreSeatsOf, ArePassOf, pass_share, group_count, firsts_of}
+use Rattle.cluster.specs.Passes.{GroupTurn, AreSeatsOf, pass_share, group_count, firsts_of}
 use Rattle.cluster.specs.Change.{happened, happened_at, OneMoved}
-use Rattle.cluster.specs.Sessions.{next_of, IsNumbered}
+use Rattle.cluster.specs.Sessions.{next_of}
 use Rattle.cluster.specs.Asks.{asked_of, IsOwnEvent, IsAskedAt, Asks, known_by, IsPassOf}
 use Rattle.cluster.proofs.Moved.{inside_of, added, goes, still_share, still_alone}
 

@@ -1,6 +1,6 @@
 -- Requests that are sealed by a pool that was read, and what becomes of them.
 use Rattle.std.proofs.Common.{◌≡◌, ◌∙◌, ◌⊎◌, inl, inr, ℕ, ◌+◌, ◌%◌, ◌<◌, ◌≤◌, ◌&&◌, Bool, true, false, List, Option, Some, None, refl, sym, ap, subst, arith, add-zero}
-use Rattle.std.specs.Prelude.{Result, Ok, Err, IfOk, IfErr, not, nat_lt, if◌then◌else◌}
+use Rattle.std.specs.Prelude.{Result, Ok, Err, IfOk, IfErr, not, nat_lt}
 use Rattle.std.specs.Option.{option_map}
 use Rattle.place_core.specs.Placement.{group_of}
 use Rattle.map_core.specs.State.{History}
@@ -11,7 +11,7 @@ use Rattle.object_core.specs.declared.needs.NeedsFault.{NeedsFault}
 use Rattle.object_core.specs.declared.op.Op.{Op}
 use Rattle.entry_core.specs.Locality.{Hashes}
 use Rattle.entry_core.specs.Request.{Sealed, Work, Vector, Listing}
-use Rattle.world_core.specs.Front.{◌>>=◌, need, unless, lower, error_of, id_of, Asker, is_object_name, is_namespace, sealed_of, vector_of, asks_more}
+use Rattle.world_core.specs.Front.{◌>>=◌, need, unless, lower, error_of, id_of, Asker, is_object_name, is_namespace, sealed_of, vector_of}
 use Rattle.world_core.specs.Stands.{next_in}
 use Rattle.world_core.specs.declared.event.Ask.{Ask}
 use Rattle.world_core.specs.declared.fault.WorldFault.{WorldFault as Fault}
@@ -24,10 +24,10 @@ use Rattle.cluster.specs.declared.fault.ClusterFault.{ClusterFault}
 use Rattle.cluster.specs.declared.fault.ClusterFault.TheVariants as faults
 use Rattle.cluster.specs.declared.pass.OwnSession.{OwnSession}
 use Rattle.cluster.specs.declared.pass.Pass.{Pass}
-use Rattle.cluster.specs.Sessions.{own_session, next_of}
-use Rattle.cluster.specs.Reading.{KnowsTheSame, HasRead, view_by, IsPoolOf, HasSeen, IsUnseen}
-use Rattle.cluster.specs.Asking.{ask_by, session_by, asker_by, vector_by, request_by, pool_by, piece_of, HasAsked, IsNotAsked, IsSubmitted, IsRefusedBy, SubmitFails, IsPiece, IsNoPiece, ListFails, IsUnlistedBy}
-use Rattle.cluster.specs.ToAsk.{FitsOneMore, IsToAsk, IsVectorAsked, IsVectorRefused}
+use Rattle.cluster.specs.Sessions.{own_session}
+use Rattle.cluster.specs.Reading.{view_by, IsPoolOf, HasSeen, IsUnseen}
+use Rattle.cluster.specs.Asking.{ask_by, session_by, asker_by, vector_by, request_by, piece_of, HasAsked, IsNotAsked, IsSubmitted, IsRefusedBy, SubmitFails}
+use Rattle.cluster.specs.ToAsk.{IsToAsk, IsVectorAsked, IsVectorRefused}
 
 -- ---- ready to be submitted
 
@@ -35,9 +35,6 @@ rem_below : (x n : ℕ) → 1 ≤ n → x % n < n
 rem_below x n some = omega arith
 
 module _ (start : History) (own : List OwnSession) (ask : Ask) (view : PoolView) (session : Session) (is : IsPoolOf start ask.pool view) (has : own_session own ask.session ≡ Some session) (room : session.next + 1 < 4294967296) where
-  asker : Asker
-  asker = record { session = session; view = view }
-
   ready : (work : Work) (group : ℕ) → group < view.pg_num → Hashes view.pg_num ask.namespace group work → IsToAsk start own ask (sealed_of ask (record { session = session; view = view }) work group 0)
   ready work group below hashes = record {
     sealed = record { well = record { pool = is.there; hashes = hashes }; below = below };
@@ -62,9 +59,6 @@ memory_refuses c (Ok request) p = inl (refl, refl)
 memory_refuses c (Err why) p = (inr refl, refl)
 
 module _ (a : Asking) (asker : Asker) (object : List ℕ) (ops : List Op) where
-  after_names : Result Sealed Fault
-  after_names = lower OfNeeds (needs_fault ops) >>= λ _. Ok (vector_of (ask_by a asker.view) asker object ops)
-
   pub vector_named : (is_object_name object && is_namespace a.namespace) ≡ false → vector_by a asker object ops ≡ Err BadObjectName
   vector_named bad = ap (λ b. unless (not b) BadObjectName >>= λ _. lower OfNeeds (needs_fault ops) >>= λ _. Ok (vector_of (ask_by a asker.view) asker object ops)) bad
 

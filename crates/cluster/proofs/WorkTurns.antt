@@ -1,12 +1,12 @@
 -- A pass is a pass after a delivery, and after a look for an answer.
-use Rattle.std.proofs.Common.{◌≡◌, ℕ, ◌<◌, true, List, [], ◌∷◌, refl, Some}
+use Rattle.std.proofs.Common.{◌≡◌, ℕ, ◌<◌, List, [], ◌∷◌, refl, Some}
 use Rattle.std.specs.Prelude.{Option, None, Result, Ok, Err}
 use Rattle.std.specs.Option.{option_to_list}
 use Rattle.map_core.specs.State.{History}
 use Rattle.entry_core.specs.declared.reply.Reply.{Reply}
 use Rattle.entry_core.specs.declared.sealed.GroupId.{GroupId}
 use Rattle.group_core.specs.Each.{Each}
-use Rattle.group_core.specs.Group.{Group, Event, Deliver, is_submitted}
+use Rattle.group_core.specs.Group.{Group, Event, Deliver}
 use Rattle.group_core.specs.declared.fault.GroupFault.{GroupFault}
 use Rattle.group_core.specs.declared.fault.GroupFault.TheVariants.{NoMessage, Unreachable, Full, OutOfMemory, Doubled}
 use Rattle.cluster.specs.declared.cluster.Cluster.{Cluster}
@@ -20,7 +20,7 @@ use Rattle.cluster.specs.declared.pass.Pass.{Pass}
 use Rattle.cluster.specs.Groups.{work_entry, WorkTells, answer_entry, AnswerTells}
 use Rattle.cluster.specs.Passes.{GroupTurn, AreSeatsOf, group_count}
 use Rattle.cluster.specs.Change.{happened, OneMoved}
-use Rattle.cluster.specs.Asks.{asked_of, IsOwnEvent, IsPassOf}
+use Rattle.cluster.specs.Asks.{IsOwnEvent, IsPassOf}
 use Rattle.cluster.proofs.Turning.{AsksNow, asks_still, one_made, turned_pass}
 
 -- what a delivery is among the seat's events

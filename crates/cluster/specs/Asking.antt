@@ -1,6 +1,6 @@
 -- Statement: contracts of public calls use it.
 -- What a pass asks of groups: requests sealed by its sessions and by the map that it reads, each submitted by one turn.
-use Rattle.std.specs.Prelude.{◌≡◌, ◌⊎◌, ℕ, ◌+◌, ◌<◌, ◌==◌, ◌&&◌, not, List, [], ◌∷◌, Option, Some, None, Result, Ok, Err, length, map as each, nat_lt, position}
+use Rattle.std.specs.Prelude.{◌≡◌, ◌⊎◌, ℕ, ◌+◌, ◌<◌, ◌==◌, ◌&&◌, not, List, [], ◌∷◌, Option, Some, Result, Ok, Err, length, map as each, nat_lt, position}
 use Rattle.std.specs.List.{range_with_len}
 use Rattle.map_core.specs.State.{History}
 use Rattle.map_core.specs.declared.pool.PoolView.{PoolView}

@@ -1,9 +1,7 @@
-use Rattle.std.proofs.Common.{◌≡◌, ◌∙◌, get_or, sym, ap, Some}
+use Rattle.std.proofs.Common.{get_or, sym, ap}
 use Rattle.world_core.specs.Front.{error_of}
-use Rattle.cluster.specs.declared.pass.OwnSession.{OwnSession}
-use Rattle.cluster.specs.Sessions.{own_session}
 use Rattle.cluster.proofs.Places.{at_read}
-use Rattle.cluster.proofs.OwnSessions.{stands_at, no_session, read_session}
+use Rattle.cluster.proofs.OwnSessions.{no_session, read_session}
 use Rattle.cluster.proofs.Submitting.{session_none, session_stale, session_fine}
 use Rattle.cluster.proofs.asking.asking_session.Goals as goal
 

@@ -1,6 +1,4 @@
-use Rattle.std.proofs.Common.{◌≡◌, ◌∙◌, inr, refl, sym, ap, subst}
-use Rattle.std.specs.Prelude.{Err}
-use Rattle.entry_core.specs.Locality.{group_for}
+use Rattle.std.proofs.Common.{inr, refl, subst}
 use Rattle.entry_core.specs.declared.sealed.GroupId.{GroupId}
 use Rattle.world_core.specs.Moves.{IsAt}
 use Rattle.world_core.specs.declared.fault.WorldFault.TheVariants.{Map as OfMap}

@@ -1,4 +1,4 @@
-use Rattle.std.proofs.Common.{◌≡◌, ◌∙◌, refl, sym, subst, Some}
+use Rattle.std.proofs.Common.{◌≡◌, refl, sym, subst, Some}
 use Rattle.left_right.specs.Sides.{view as known}
 use Rattle.cluster.specs.declared.pass.Pass.{Pass}
 use Rattle.cluster.specs.declared.published.Knowledge.{Knowledge}

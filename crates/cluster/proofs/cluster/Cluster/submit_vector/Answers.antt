@@ -1,4 +1,4 @@
-use Rattle.std.proofs.Common.{◌≡◌, ◌∙◌, sym, subst, Some}
+use Rattle.std.proofs.Common.{◌≡◌, sym, subst, Some}
 use Rattle.entry_core.specs.Request.{Sealed}
 use Rattle.world_core.specs.Front.{vector_of}
 use Rattle.world_core.specs.declared.event.Ask.{Ask}
