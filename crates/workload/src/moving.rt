@@ -1,6 +1,5 @@
 //! Moving the groups meanwhile.
 
-ghost use Rattle.std.specs.Prelude.{◌×◌};
 ghost use Rattle.cluster.specs.Monitors.{IsMonitorOf, Follows};
 
 use cluster::{ChangeFault, Cluster, Monitor};
