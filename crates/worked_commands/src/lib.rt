@@ -19,5 +19,3 @@ mod no_texts;
 mod scripts;
 #[cfg(test)]
 mod verdicts;
-#[cfg(test)]
-mod workers;
