@@ -144,7 +144,8 @@ fn all_passes(
     requires fresh { All (AreFreshOf cluster.now (pass_share cluster.now.passes)) seats.items }
     ensures monitor { IsMonitorOf cluster.now monitor.new × IsNone monitor.new.unfinished }
     ensures follows { (monitor.new.map ≡ cluster.now.start) × Follows cluster.now.start monitor.new }
-    ensures passes { IfOk result (λ passes. (vec_len passes ≡ vec_len seats) × All (λ pass. IsPassOf cluster.now pass × (pass.sessions.items ≡ [])) passes.items) }
+    ensures passes { IfOk result (λ passes. (vec_len passes ≡ vec_len seats) × All (IsPassOf cluster.now) passes.items) }
+    ensures idle { IfOk result (λ passes. All (λ pass. pass.sessions.items ≡ []) passes.items) }
     ensures err { IfErr result IsWant }
 {
     let mut passes = Vec::new(alloc);
@@ -167,7 +168,8 @@ fn cluster_of<R: Wait>(
     ensures cluster { IfOk result (λ r. (r.0.start ≡ parts.map) × (firsts_of r.0 ≡ parts.groups.items) × (r.0.users.first.db ≡ parts.users) × (r.0.users.first.sessions ≡ 0)) }
     ensures monitor { IfOk result (λ r. IsMonitorOf r.0 r.1 × Follows r.0.start r.1) }
     ensures whole { IfOk result (λ r. IsNone r.1.unfinished × (r.1.map ≡ parts.map)) }
-    ensures passes { IfOk result (λ r. (vec_len r.2 ≡ passes) × All (λ pass. IsPassOf r.0 pass × (pass.sessions.items ≡ [])) r.2.items) }
+    ensures passes { IfOk result (λ r. (vec_len r.2 ≡ passes) × All (IsPassOf r.0) r.2.items) }
+    ensures idle { IfOk result (λ r. All (λ pass. pass.sessions.items ≡ []) r.2.items) }
     ensures err { IfErr result IsWant }
 {
     let WorldParts {
@@ -208,7 +210,8 @@ fn with_passes<R: Wait>(
     ensures cluster { IfOk result (λ r. r.0 ≡ cluster) }
     ensures monitor { IfOk result (λ r. IsMonitorOf cluster r.1 × Follows cluster.start r.1) }
     ensures whole { IfOk result (λ r. IsNone r.1.unfinished × (r.1.map ≡ cluster.start)) }
-    ensures passes { IfOk result (λ r. (vec_len r.2 ≡ vec_len seats) × All (λ pass. IsPassOf cluster pass × (pass.sessions.items ≡ [])) r.2.items) }
+    ensures passes { IfOk result (λ r. (vec_len r.2 ≡ vec_len seats) × All (IsPassOf cluster) r.2.items) }
+    ensures idle { IfOk result (λ r. All (λ pass. pass.sessions.items ≡ []) r.2.items) }
     ensures err { IfErr result IsWant }
 {
     match all_passes(alloc, &cluster, &mut monitor, seats) {
@@ -241,7 +244,8 @@ pub fn start<R: Wait>(
     ensures cluster { IfOk result (λ r. IsStartOf table daemons (events_of pools.items users.items) r.0) }
     ensures monitor { IfOk result (λ r. IsMonitorOf r.0 r.1 × Follows r.0.start r.1) }
     ensures whole { IfOk result (λ r. IsNone r.1.unfinished × (r.1.map ≡ r.0.start)) }
-    ensures passes { IfOk result (λ r. (vec_len r.2 ≡ passes) × All (λ pass. IsPassOf r.0 pass × (pass.sessions.items ≡ [])) r.2.items) }
+    ensures passes { IfOk result (λ r. (vec_len r.2 ≡ passes) × All (IsPassOf r.0) r.2.items) }
+    ensures idle { IfOk result (λ r. All (λ pass. pass.sessions.items ≡ []) r.2.items) }
     ensures err { IfErr result (λ fault. StartFails table daemons (events_of pools.items users.items) fault) }
 {
     let events = with_users(creations(alloc, pools)?, users)?;

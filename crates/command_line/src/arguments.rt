@@ -19,6 +19,10 @@ const WHO_EXAMPLE: &str =
 
 const RUN_EXAMPLE: &str = "Example: osdgate run incident.txt";
 
+const THREADS_EXAMPLE: &str = "Example: osdgate threads 4";
+
+const WORKERS_HELP: &str = "How many workers there are, 1 to 8, each on a thread of its own";
+
 const SCRIPT_HELP: &str = "The script, standard input where it is `-` or not given";
 
 const AUTH_HELP: &str =
@@ -216,6 +220,24 @@ fn run_command<'a>(alloc: Global) -> Result<Command<'a>, AllocError> {
         .arg(script)
 }
 
+fn threads_command<'a>(alloc: Global) -> Result<Command<'a>, AllocError> {
+    let workers = Arg::new(alloc, "workers")
+        .action(ArgAction::Set)
+        .value_name("N")
+        .required(true)
+        .help(WORKERS_HELP);
+    let moves = flag(
+        alloc,
+        "moves",
+        "A daemon goes down and comes up 20 times meanwhile",
+    );
+    Command::new(alloc, "threads")
+        .about("Runs workers on threads over one cluster, and prints what became of their requests")
+        .after_help(THREADS_EXAMPLE)
+        .arg(workers)?
+        .arg(moves)
+}
+
 /// The commands, in the order of help.
 #[derive(Clone, Copy)]
 enum Kind {
@@ -224,14 +246,16 @@ enum Kind {
     Compare,
     Who,
     Run,
+    Threads,
 }
 
-const KINDS: [Kind; 5] = [
+const KINDS: [Kind; 6] = [
     Kind::Verdict,
     Kind::Explain,
     Kind::Compare,
     Kind::Who,
     Kind::Run,
+    Kind::Threads,
 ];
 
 fn command_of<'a>(alloc: Global, kind: Kind) -> Result<Command<'a>, AllocError> {
@@ -241,6 +265,7 @@ fn command_of<'a>(alloc: Global, kind: Kind) -> Result<Command<'a>, AllocError> 
         Kind::Compare => compare_command(alloc),
         Kind::Who => who_command(alloc),
         Kind::Run => run_command(alloc),
+        Kind::Threads => threads_command(alloc),
     }
 }
 

@@ -16,6 +16,7 @@ use gate_text::{
 use object_core::{Bytes, Op};
 use std::alloc::{AllocError, AllocFailed, Global};
 use std::convert::AsStr;
+use std::fmt;
 use std::io::{Read, Write};
 use verdict_core::Target;
 
@@ -37,6 +38,8 @@ enum BadWords {
     Time,
     /// A comparison of files has not two of them, or both are standard input.
     Files,
+    /// A number of workers is not 1 to 8.
+    Workers,
     /// There is no such command.
     Command,
 }
@@ -49,6 +52,7 @@ impl BadWords {
             BadWords::Files => {
                 "osdgate: a comparison of files needs `--auth` twice, and standard input once at most\n"
             }
+            BadWords::Workers => "osdgate: there are 1 to 8 workers\n",
             BadWords::Command => "osdgate: there is no such command\n",
         }
     }
@@ -107,6 +111,8 @@ enum Done<'a> {
     Answer(Answered<'a>),
     /// A script was run, and what it prints is written.
     Script(Result<(), RunFault>),
+    /// So many workers are to run, with moves or without.
+    Workers { count: u32, moves: bool },
 }
 
 /// An application tag: a text is cut at its first `:`, and what is behind it at its first `=`. A text with a
@@ -159,6 +165,16 @@ fn times_of(matches: &ArgMatches<'_>) -> Option<Times> {
         Some(text) => number_of(text)?,
     };
     Some(Times { until, tick })
+}
+
+/// How many workers `osdgate threads` has, or nothing where they are not 1 to 8.
+fn workers_of(matches: &ArgMatches<'_>) -> Option<u32> {
+    let count = u32::try_from(number_of(value_of(matches, "workers"))?).ok()?;
+    if (1..=8).contains(&count) {
+        Some(count)
+    } else {
+        None
+    }
 }
 
 /// The value of an option, the empty text where it is not given.
@@ -381,6 +397,13 @@ fn answer_words<'a, S: AsStr, F: InputFiles, R: Read, O: Write>(
 ) -> Result<Done<'a>, NoAnswer> {
     let matches = whole_command(alloc)?.try_get_matches_from(words)?;
     match matches.subcommand() {
+        Some(("threads", inner)) => match workers_of(inner) {
+            Some(count) => Ok(Done::Workers {
+                count,
+                moves: inner.get_flag("moves"),
+            }),
+            None => Err(NoAnswer::Words(BadWords::Workers)),
+        },
         Some(("run", inner)) => {
             let path = inner.get_str("script").unwrap_or("-");
             Ok(Done::Script(run_path(alloc, files, path, reader, out)))
@@ -457,25 +480,61 @@ pub fn refuse_words<O: Write, E: Write>(fault: WordsFault, out: &mut O, err: &mu
     }
 }
 
-/// Runs the program on the words of its command line, the first of which is the program's own name, and
-/// answers its exit status: 0 where it is done, 1 where a fault was answered, a file has no entities, a script did not
-/// run to its end, or the answer could not be written, 2 where the words are no command line.
-///
-/// Answers, and the help that was asked for, go to `out`, and what is wrong with a command line to `err`. Where a
-/// capability text has a fault, the text and a caret under the fault's byte go to `err` as well.
-pub fn run_command<S: AsStr, F: InputFiles, R: Read, O: Write, E: Write>(
-    alloc: Global,
-    words: &[S],
-    files: &F,
-    reader: &mut R,
+/// Writes what became of a workload, or why it has no end, and answers the status.
+fn finish_workload<T: fmt::Display, F: fmt::Display, O: Write, E: Write>(
+    ended: &Result<T, F>,
     out: &mut O,
     err: &mut E,
 ) -> u8
     ensures { result ≤ 2 }
 {
+    match ended {
+        Ok(tally) => {
+            if write!(out, "{tally}").is_ok() && out.flush().is_ok() {
+                return DONE;
+            }
+            let _ = write_out(err, "osdgate: the answer could not be written\n");
+        }
+        Err(fault) => {
+            let _ = write!(err, "osdgate: {fault}\n");
+        }
+    }
+    FAULT
+}
+
+/// Runs the program on the words of its command line, the first of which is the program's own name, and
+/// answers its exit status: 0 where it is done, 1 where a fault was answered, a file has no entities, a script did not
+/// run to its end, or the answer could not be written, 2 where the words are no command line.
+///
+/// `workload` runs so many workers on threads, with moves or without, where the words ask for them; what it gives is printed.
+///
+/// Answers, and the help that was asked for, go to `out`, and what is wrong with a command line to `err`. Where a
+/// capability text has a fault, the text and a caret under the fault's byte go to `err` as well.
+pub fn run_command<
+    S: AsStr,
+    F: InputFiles,
+    T: fmt::Display + Drop,
+    X: fmt::Display + Drop,
+    W: FnOnce(u32, bool) -> Result<T, X>,
+    R: Read,
+    O: Write,
+    E: Write,
+>(
+    alloc: Global,
+    words: &[S],
+    files: &F,
+    workload: W,
+    reader: &mut R,
+    out: &mut O,
+    err: &mut E,
+) -> u8
+    requires { W.IsAlwaysCallable workload }
+    ensures { result ≤ 2 }
+{
     match answer_words(alloc, words, files, reader, out) {
         Ok(Done::Answer(answered)) => finish_answer(alloc, &answered, out, err),
         Ok(Done::Script(ended)) => finish_script(ended, err),
+        Ok(Done::Workers { count, moves }) => finish_workload(&workload(count, moves), out, err),
         Err(NoAnswer::Words(bad)) => {
             let _ = write_out(err, bad.text());
             BAD_COMMAND_LINE

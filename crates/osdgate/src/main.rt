@@ -3,6 +3,7 @@
 
 use command_line::{refuse_words, run_command, words};
 use std::process::ExitCode;
+use workload::run_workload;
 
 fn main(rt: HostRuntime) -> ExitCode {
     let alloc = rt.alloc();
@@ -11,6 +12,7 @@ fn main(rt: HostRuntime) -> ExitCode {
             alloc,
             words.as_slice(),
             &rt,
+            |workers, moves| run_workload(&rt, alloc, workers, moves),
             &mut rt.stdin(),
             &mut rt.stdout(),
             &mut rt.stderr(),

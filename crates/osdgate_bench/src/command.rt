@@ -6,6 +6,7 @@ use crate::compare::add_comparisons;
 use crate::expand::add_expansions;
 use crate::fault::Fault;
 use crate::group::add_groups;
+use crate::loads::add_clusters;
 use crate::parse::add_parses;
 use crate::script::add_scripts;
 use crate::table::{Mode, Table};
@@ -14,6 +15,8 @@ use crate::verdict::add_verdicts;
 use std::alloc::Global;
 use std::convert::AsStr;
 use std::io::Write;
+use std::sync::Wait;
+use std::thread::Threads;
 use std::time::Clock;
 
 /// All is done.
@@ -37,6 +40,7 @@ PART is one of
   vector    running a vector of operations on an object
   group     a request through a group of three daemons, of 1,000 and of 8,000
   script    a script's lines: comments, ticks, requests, moves of 2,048 groups, restarts
+  cluster   requests, verdicts and views on one, two and four threads of one cluster
   check     nothing: the work of each row is done once, and its answer printed
 ";
 
@@ -50,6 +54,7 @@ enum Part {
     Vector,
     Group,
     Script,
+    Cluster,
     Check,
 }
 
@@ -62,24 +67,36 @@ fn part_of(word: &str) -> Option<Part> {
         "vector" => Some(Part::Vector),
         "group" => Some(Part::Group),
         "script" => Some(Part::Script),
+        "cluster" => Some(Part::Cluster),
         "check" => Some(Part::Check),
         _ => None,
     }
 }
 
 /// Adds the rows of all parts.
-fn add_all<C: Clock>(table: &mut Table<'_, C>, name: &str) -> Result<(), Fault> {
+fn add_all<C: Clock, R: Threads + Wait + Sync>(
+    table: &mut Table<'_, C>,
+    rt: &R,
+    name: &str,
+) -> Result<(), Fault> {
     add_verdicts(table, name)?;
     add_parses(table, name)?;
     add_expansions(table, name)?;
     add_comparisons(table, name)?;
     add_vectors(table, name)?;
     add_groups(table, name)?;
-    add_scripts(table, name)
+    add_scripts(table, name)?;
+    add_clusters(table, rt)
 }
 
 /// The table of a part.
-fn table_of<C: Clock>(alloc: Global, clock: &C, part: Part, name: &str) -> Result<String, Fault> {
+fn table_of<C: Clock, R: Threads + Wait + Sync>(
+    alloc: Global,
+    clock: &C,
+    rt: &R,
+    part: Part,
+    name: &str,
+) -> Result<String, Fault> {
     let mode = match part {
         Part::Check => Mode::Once,
         _ => Mode::Timed,
@@ -93,7 +110,8 @@ fn table_of<C: Clock>(alloc: Global, clock: &C, part: Part, name: &str) -> Resul
         Part::Vector => add_vectors(&mut table, name)?,
         Part::Group => add_groups(&mut table, name)?,
         Part::Script => add_scripts(&mut table, name)?,
-        Part::Check => add_all(&mut table, name)?,
+        Part::Cluster => add_clusters(&mut table, rt)?,
+        Part::Check => add_all(&mut table, rt, name)?,
     }
     Ok(table.into_text()?)
 }
@@ -112,9 +130,10 @@ fn write_out<W: Write>(out: &mut W, text: &str) -> u8
 /// Runs the program on the words of its command line, the first of which is the program's own name, and
 /// answers its exit status: 0 where it is done, 1 where the table could not be made or written, 2 where the
 /// words are no command line. Without further words it prints its usage.
-pub(crate) fn run_command<S: AsStr, C: Clock, O: Write, E: Write>(
+pub(crate) fn run_command<S: AsStr, C: Clock, R: Threads + Wait + Sync, O: Write, E: Write>(
     alloc: Global,
     clock: &C,
+    rt: &R,
     words: &[S],
     out: &mut O,
     err: &mut E,
@@ -130,7 +149,7 @@ pub(crate) fn run_command<S: AsStr, C: Clock, O: Write, E: Write>(
         "data"
     };
     match part_of(words[1].as_str()) {
-        Some(part) if words.len() <= 3 => match table_of(alloc, clock, part, name) {
+        Some(part) if words.len() <= 3 => match table_of(alloc, clock, rt, part, name) {
             Ok(text) => write_out(out, text.as_str()),
             Err(fault) => {
                 let _ = write!(err, "osdgate_bench: {fault}\n");

@@ -1,5 +1,5 @@
 //! The program `osdgate_bench`: what verdicts, capability texts, expansions, comparisons, vectors of operations,
-//! groups and scripts cost, in nanoseconds a call.
+//! groups, scripts and clusters cost, in nanoseconds a call.
 //!
 //! Only this crate reads a clock.
 #![tactic(auto)]
@@ -10,6 +10,7 @@ mod expand;
 mod fault;
 mod grants;
 mod group;
+mod loads;
 mod measure;
 mod parse;
 mod script;
@@ -36,6 +37,7 @@ fn main(rt: HostRuntime) -> ExitCode {
     };
     let status = run_command(
         alloc,
+        &rt,
         &rt,
         words.as_slice(),
         &mut rt.stdout(),

@@ -5,7 +5,9 @@ use crate::script_lines::{Script, Settling, comments, moves, requests, restarts,
 use crate::text::push_line;
 use std::alloc::Global;
 use std::io;
+use std::sync::Wait;
 use std::test::Fail;
+use std::thread::Threads;
 use std::time::{Clock, Duration};
 use world_core::run_script;
 
@@ -23,10 +25,14 @@ impl Clock for Broken {
 }
 
 /// What the program prints on these words, and its status.
-fn run(alloc: Global, words: &[&str]) -> Result<(String, u8), Fail> {
+fn run<R: Threads + Wait + Sync>(
+    alloc: Global,
+    rt: &R,
+    words: &[&str],
+) -> Result<(String, u8), Fail> {
     let mut out: Vec<u8> = Vec::new(alloc);
     let mut err: Vec<u8> = Vec::new(alloc);
-    let status = run_command(alloc, &Broken, words, &mut out, &mut err);
+    let status = run_command(alloc, &Broken, rt, words, &mut out, &mut err);
     let text = String::from_utf8(err).map_err(|_| "printed bytes that are no text")?;
     Ok((text, status))
 }
@@ -34,25 +40,25 @@ fn run(alloc: Global, words: &[&str]) -> Result<(String, u8), Fail> {
 #[test]
 fn command_lines(rt: HostRuntime) -> Result<(), Fail> {
     let alloc = rt.alloc();
-    assert_eq!(rt; run(alloc, ["osdgate_bench"].as_slice())?.1, 0);
-    assert_eq!(rt; run(alloc, ["osdgate_bench", "fly"].as_slice())?.1, 2);
+    assert_eq!(rt; run(alloc, &rt, ["osdgate_bench"].as_slice())?.1, 0);
+    assert_eq!(rt; run(alloc, &rt, ["osdgate_bench", "fly"].as_slice())?.1, 2);
     assert_eq!(rt;
-        run(alloc, ["osdgate_bench", "parse", "a", "b"].as_slice())?.1,
+        run(alloc, &rt, ["osdgate_bench", "parse", "a", "b"].as_slice())?.1,
         2
     );
-    let (text, status) = run(alloc, ["osdgate_bench", "parse"].as_slice())?;
+    let (text, status) = run(alloc, &rt, ["osdgate_bench", "parse"].as_slice())?;
     assert_eq!(rt; status, 1);
     assert_eq!(rt;
         text.as_str(),
         "osdgate_bench: the clock could not be read\n"
     );
-    let (text, status) = run(alloc, ["osdgate_bench", "verdict", "'"].as_slice())?;
+    let (text, status) = run(alloc, &rt, ["osdgate_bench", "verdict", "'"].as_slice())?;
     assert_eq!(rt; status, 1);
     assert_eq!(rt;
         text.as_str(),
         "osdgate_bench: a text is refused: C6 BadWord at 14\n"
     );
-    let (text, status) = run(alloc, ["osdgate_bench", "script", "a\nb"].as_slice())?;
+    let (text, status) = run(alloc, &rt, ["osdgate_bench", "script", "a\nb"].as_slice())?;
     assert_eq!(rt; status, 1);
     assert_eq!(rt;
         text.as_str(),

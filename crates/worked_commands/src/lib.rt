@@ -19,3 +19,5 @@ mod no_texts;
 mod scripts;
 #[cfg(test)]
 mod verdicts;
+#[cfg(test)]
+mod workers;

@@ -51,13 +51,29 @@ fn text_of(bytes: Vec<u8>) -> Result<String, Fail> {
     Ok(String::from_utf8(bytes).map_err(|_| "bytes that are no text")?)
 }
 
+/// What stands for workers on threads: a line with their number where groups stay, and no thread where they move.
+fn count_workers(workers: u32, moves: bool) -> Result<u32, &'static str> {
+    if moves {
+        return Err("K2 NoThread");
+    }
+    Ok(workers)
+}
+
 /// What the program writes on these words and this standard input.
 pub(super) fn run_words(alloc: Global, words: &[String], input: &str) -> Result<Ran, Fail> {
     let mut out: Vec<u8> = Vec::new(alloc);
     let mut err: Vec<u8> = Vec::new(alloc);
     let mut reader = input.as_bytes();
     let files = TestFiles { alloc };
-    let status = run_command(alloc, words, &files, &mut reader, &mut out, &mut err);
+    let status = run_command(
+        alloc,
+        words,
+        &files,
+        count_workers,
+        &mut reader,
+        &mut out,
+        &mut err,
+    );
     Ok(Ran {
         out: text_of(out)?,
         err: text_of(err)?,

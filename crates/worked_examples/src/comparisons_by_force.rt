@@ -1,6 +1,6 @@
 //! Random pairs of texts, compared with all requests over small alphabets.
 
-use crate::comparisons::ticket;
+use crate::tickets::ticket;
 use cap_text::{AllowGrant, AppTags, Name, Pairs, Tags, TryCopy};
 use compare_core::widening;
 use grant_core::Path;
@@ -178,7 +178,7 @@ fn found_by_looking(alloc: Global, old: &Ticket, new: &Ticket) -> Result<String,
 }
 
 fn found_by_widening(alloc: Global, old: &str, new: &Ticket) -> Result<String, Fail> {
-    let old = ticket(alloc, old)?;
+    let old = ticket(alloc, old, None)?;
     let mut paths = String::new(alloc);
     for example in &widening(alloc, &old, new)? {
         write!(paths, "{} ", example.path)?;
@@ -193,8 +193,8 @@ fn widening_finds_what_looking_finds(rt: HostRuntime) -> Result<(), Fail> {
     for _ in 0..60 {
         let old_text = draw_text(alloc, &mut row)?;
         let new_text = draw_text(alloc, &mut row)?;
-        let old = ticket(alloc, old_text.as_str())?;
-        let new = ticket(alloc, new_text.as_str())?;
+        let old = ticket(alloc, old_text.as_str(), None)?;
+        let new = ticket(alloc, new_text.as_str(), None)?;
         let looked = found_by_looking(alloc, &old, &new)?;
         let found = found_by_widening(alloc, old_text.as_str(), &new)?;
         assert_eq!(rt; found.as_str(), looked.as_str(), "{old_text} to {new_text}");

@@ -18,6 +18,8 @@ mod printed_texts;
 #[cfg(test)]
 mod profiles;
 #[cfg(test)]
+mod tickets;
+#[cfg(test)]
 mod users;
 #[cfg(test)]
 mod verdicts;

@@ -12,8 +12,10 @@ use std::test::Fail;
 // What vectors come to. Each row has the operations that make the object first (`missing` for none), the vector,
 // and its outcome as `shown` writes it; `*n` stands for so many bytes.
 
+type Row = (&'static str, &'static str, &'static str);
+
 /// Operations on an object that is there.
-const OPERATIONS: [(&str, &str, &str); 8] = [
+const OPERATIONS: &[Row; 8] = &[
     (
         "append hello",
         "read 3 0;read 9 5;stat",
@@ -33,7 +35,7 @@ const OPERATIONS: [(&str, &str, &str); 8] = [
 ];
 
 /// Objects that are made, and attributes.
-const MAKINGS: [(&str, &str, &str); 8] = [
+const MAKINGS: &[Row; 8] = &[
     ("append hello", "create", ", kept hello"),
     ("append hello", "", " kept hello"),
     ("missing", "", " kept missing"),
@@ -57,7 +59,7 @@ const MAKINGS: [(&str, &str, &str); 8] = [
 ];
 
 /// A failure leaves the object as it was.
-const FAILURES: [(&str, &str, &str); 7] = [
+const FAILURES: &[Row; 7] = &[
     (
         "append a;setxattr k v",
         "remove;append b;getxattr k",
@@ -72,7 +74,7 @@ const FAILURES: [(&str, &str, &str); 7] = [
 ];
 
 /// What a missing object refuses.
-const MISSING: [&str; 8] = [
+const MISSING: &[&str; 8] = &[
     "read 0 0",
     "stat",
     "truncate 65537",
@@ -84,7 +86,7 @@ const MISSING: [&str; 8] = [
 ];
 
 /// Objects end at 65,536 bytes.
-const SIZES: [(&str, &str, &str); 8] = [
+const SIZES: &[Row; 8] = &[
     ("write 65535 x", "stat", "65536, kept #65536"),
     ("write 65535 x", "append b", "failed 1 27 #65536"),
     ("write 65535 x", "truncate 65537", "failed 1 27 #65536"),
@@ -96,7 +98,7 @@ const SIZES: [(&str, &str, &str); 8] = [
 ];
 
 /// Attributes end at their limits.
-const ATTRIBUTES: [(&str, &str, &str); 6] = [
+const ATTRIBUTES: &[Row; 6] = &[
     ("create", "setxattr k *1024", ", now  k=#1024"),
     ("create", "setxattr k *1025", "failed 1 34 "),
     (
@@ -118,7 +120,7 @@ const ATTRIBUTES: [(&str, &str, &str); 6] = [
 ];
 
 /// Counters and vaults.
-const CLASSES: [(&str, &str, &str); 9] = [
+const CLASSES: &[Row; 9] = &[
     (
         "missing",
         "counter add 18446744073709551615;counter get q",
@@ -159,7 +161,7 @@ const SIXTEEN: &str =
     "setxattr a;setxattr b;setxattr c;setxattr d;setxattr e;setxattr f;setxattr g;setxattr h;setxattr i;setxattr j;setxattr k;setxattr l;setxattr m;setxattr n;setxattr o;setxattr 0";
 
 /// What vectors ask for: the vector, and its needs as `needs_shown` writes them.
-const NEEDS: [(&str, &str); 11] = [
+const NEEDS: &[(&str, &str); 11] = &[
     ("", "N1 EmptyVector 22"),
     (
         "vault drop;stat;stat;stat;stat;stat;stat;stat;stat;stat;stat;stat;stat;stat;stat;stat;stat",
@@ -372,100 +374,94 @@ fn ask(alloc: Global, text: &str) -> Result<String, OutOfMemory> {
     needs_shown(alloc, ops.as_slice())
 }
 
-/// Compares what a vector comes to.
-fn expect(
-    rt: &impl Abort,
-    alloc: Global,
-    made_by: &str,
-    text: &str,
-    want: &str,
-) -> Result<(), OutOfMemory> {
-    let outcome = run(alloc, made_by, text)?;
-    assert_eq!(rt; outcome.as_str(), want, "{text}");
+/// Compares what vectors come to.
+fn expect(rt: &impl Abort, alloc: Global, rows: &[Row]) -> Result<(), OutOfMemory> {
+    for (made_by, text, want) in rows {
+        let outcome = run(alloc, made_by, text)?;
+        assert_eq!(rt; outcome.as_str(), *want, "{text}");
+    }
     Ok(())
 }
 
 #[test]
 fn operations_see_the_ones_before_them(rt: HostRuntime) -> Result<(), Fail> {
-    for (made_by, text, want) in OPERATIONS {
-        expect(&rt, rt.alloc(), made_by, text, want)?;
-    }
-    Ok(())
+    Ok(expect(&rt, rt.alloc(), OPERATIONS)?)
 }
 
 #[test]
 fn operations_make_objects_and_attributes(rt: HostRuntime) -> Result<(), Fail> {
-    for (made_by, text, want) in MAKINGS {
-        expect(&rt, rt.alloc(), made_by, text, want)?;
-    }
-    Ok(())
+    Ok(expect(&rt, rt.alloc(), MAKINGS)?)
 }
 
 #[test]
 fn failures_tell_place_and_number_and_change_nothing(rt: HostRuntime) -> Result<(), Fail> {
-    for (made_by, text, want) in FAILURES {
-        expect(&rt, rt.alloc(), made_by, text, want)?;
-    }
-    Ok(())
+    Ok(expect(&rt, rt.alloc(), FAILURES)?)
 }
 
 #[test]
 fn objects_end_at_their_size(rt: HostRuntime) -> Result<(), Fail> {
-    for (made_by, text, want) in SIZES {
-        expect(&rt, rt.alloc(), made_by, text, want)?;
-    }
-    Ok(())
+    Ok(expect(&rt, rt.alloc(), SIZES)?)
 }
 
 #[test]
 fn attributes_end_at_their_limits(rt: HostRuntime) -> Result<(), Fail> {
-    for (made_by, text, want) in ATTRIBUTES {
-        expect(&rt, rt.alloc(), made_by, text, want)?;
-    }
-    Ok(())
+    Ok(expect(&rt, rt.alloc(), ATTRIBUTES)?)
 }
 
 #[test]
 fn classes_count_and_keep_secrets(rt: HostRuntime) -> Result<(), Fail> {
-    for (made_by, text, want) in CLASSES {
-        expect(&rt, rt.alloc(), made_by, text, want)?;
+    Ok(expect(&rt, rt.alloc(), CLASSES)?)
+}
+
+fn expect_missing(rt: &impl Abort, alloc: Global, texts: &[&str]) -> Result<(), OutOfMemory> {
+    for text in texts {
+        let outcome = run(alloc, "missing", text)?;
+        assert_eq!(rt; outcome.as_str(), "failed 1 2 missing", "{text}");
     }
     Ok(())
 }
 
 #[test]
 fn missing_objects_are_told(rt: HostRuntime) -> Result<(), Fail> {
-    for text in MISSING {
-        expect(&rt, rt.alloc(), "missing", text, "failed 1 2 missing")?;
+    Ok(expect_missing(&rt, rt.alloc(), MISSING)?)
+}
+
+fn expect_needs(rt: &impl Abort, alloc: Global, rows: &[(&str, &str)]) -> Result<(), OutOfMemory> {
+    for (text, want) in rows {
+        let needs = ask(alloc, text)?;
+        assert_eq!(rt; needs.as_str(), *want, "{text}");
     }
     Ok(())
 }
 
 #[test]
 fn needs_follow_the_vector_and_refusals_their_order(rt: HostRuntime) -> Result<(), Fail> {
-    for (text, want) in NEEDS {
-        let needs = ask(rt.alloc(), text)?;
-        assert_eq!(rt; needs.as_str(), want, "{text}");
-    }
+    expect_needs(&rt, rt.alloc(), NEEDS)?;
     let memory = NeedsFault::OutOfMemory.to_string(rt.alloc())?;
     assert_eq!(rt; memory.as_str(), "N4 OutOfMemory");
     Ok(())
 }
 
+/// Whether an object made of bytes comes apart into them, and into no attributes.
+fn comes_apart(alloc: Global) -> Result<(bool, bool), OutOfMemory> {
+    let bytes = Bytes::from_slice(alloc, b"a")?;
+    let (bytes, attributes) = Object::new(bytes, Attributes::new(alloc)).into_parts();
+    let empty = attributes.copy()?.as_slice().is_empty();
+    Ok((bytes.into_vec().as_slice() == b"a".as_slice(), empty))
+}
+
+/// Whether the empty object has no bytes and not this attribute.
+fn has_nothing(alloc: Global, name: &str) -> Result<(bool, bool), OutOfMemory> {
+    let empty = Object::empty(alloc).copy()?;
+    let name = Name::new(alloc, name)?;
+    let absent = empty.attributes().get(&name).is_none();
+    Ok((empty.bytes().as_slice().is_empty(), absent))
+}
+
 #[test]
 fn objects_are_made_of_their_parts(rt: HostRuntime) -> Result<(), Fail> {
-    let bytes = Bytes::from_slice(rt.alloc(), b"a")?;
-    let (bytes, attributes) = Object::new(bytes, Attributes::new(rt.alloc())).into_parts();
-    assert_eq!(rt; bytes.into_vec().as_slice(), b"a".as_slice());
-    assert!(rt; attributes.copy()?.as_slice().is_empty());
-    let empty = Object::empty(rt.alloc()).copy()?;
-    assert!(rt; empty.bytes().as_slice().is_empty());
+    assert_eq!(rt; comes_apart(rt.alloc())?, (true, true));
+    assert_eq!(rt; has_nothing(rt.alloc(), "k")?, (true, true));
     assert!(rt; Bytes::new(rt.alloc()).as_slice().is_empty());
-    assert!(rt;
-        empty
-            .attributes()
-            .get(&Name::new(rt.alloc(), "k")?)
-            .is_none()
-    );
     Ok(())
 }

@@ -1,20 +1,20 @@
 //! Worked examples.
 
-use cap_text::{Access, AllowGrant, CapList, NsMatch, parse};
+use cap_text::{Access, AllowGrant, CapList, NsMatch, OutOfMemory, parse};
 use grant_core::{ExpandFault, GrantTree, Path, ProfileTable, expand};
 use std::alloc::Global;
 use std::fmt::Write;
+use std::process::Abort;
 use std::test::Fail;
 
-fn write_namespace(shown: &mut String, namespace: &NsMatch) -> Result<(), Fail> {
+fn write_namespace(shown: &mut String, namespace: &NsMatch) -> Result<(), OutOfMemory> {
     match namespace {
-        NsMatch::Exact(name) => write!(shown, " namespace={}", name.as_str())?,
-        NsMatch::Prefix(name) => write!(shown, " namespace={}*", name.as_str())?,
+        NsMatch::Exact(name) => write!(shown, " namespace={}", name.as_str()),
+        NsMatch::Prefix(name) => write!(shown, " namespace={}*", name.as_str()),
     }
-    Ok(())
 }
 
-fn write_grant(shown: &mut String, grant: &AllowGrant) -> Result<(), Fail> {
+fn write_grant(shown: &mut String, grant: &AllowGrant) -> Result<(), OutOfMemory> {
     if let Access::Flags(flags) = &grant.access {
         let word = match (flags.read, flags.write, flags.class_read, flags.class_write) {
             (true, false, false, false) => "r",
@@ -38,7 +38,7 @@ fn write_grant(shown: &mut String, grant: &AllowGrant) -> Result<(), Fail> {
 }
 
 // The paths and the grants of a tree.
-fn show(alloc: Global, tree: &GrantTree) -> Result<String, Fail> {
+fn show(alloc: Global, tree: &GrantTree) -> Result<String, OutOfMemory> {
     let mut shown = String::new(alloc);
     for (path, grant) in &tree.flat(alloc)? {
         if !shown.is_empty() {
@@ -51,7 +51,7 @@ fn show(alloc: Global, tree: &GrantTree) -> Result<String, Fail> {
 }
 
 // A list of so many uses of the profile of this name.
-fn uses(alloc: Global, name: &str, count: usize) -> Result<String, Fail> {
+fn uses(alloc: Global, name: &str, count: usize) -> Result<String, OutOfMemory> {
     let mut text = String::new(alloc);
     for _ in 0..count {
         if !text.is_empty() {
@@ -62,137 +62,228 @@ fn uses(alloc: Global, name: &str, count: usize) -> Result<String, Fail> {
     Ok(text)
 }
 
+/// The tree that a text comes to.
+fn expanded(alloc: Global, table: &ProfileTable, text: &str) -> Result<GrantTree, Fail> {
+    let list = parse(alloc, text)?;
+    Ok(expand(alloc, table, &list)?)
+}
+
+/// The same tree, as `show` writes it.
+fn shown(alloc: Global, table: &ProfileTable, text: &str) -> Result<String, Fail> {
+    let tree = expanded(alloc, table, text)?;
+    Ok(show(alloc, &tree)?)
+}
+
+/// Adds a profile, and says `added` or the refusal.
+fn added(alloc: Global, table: &mut ProfileTable, name: &str, body: &str) -> Result<String, Fail> {
+    let list = parse(alloc, body)?;
+    Ok(match table.add(name, list) {
+        Ok(()) => format!(in alloc; "added")?,
+        Err(fault) => fault.to_string(alloc)?,
+    })
+}
+
+/// Adds profiles, each of which must be answered as its row says.
+fn expect_added(
+    rt: &impl Abort,
+    alloc: Global,
+    table: &mut ProfileTable,
+    rows: &[(&str, &str, &str)],
+) -> Result<(), Fail> {
+    for (name, body, want) in rows {
+        let answer = added(alloc, table, name, body)?;
+        assert_eq!(rt; answer.as_str(), *want, "{name} {body}");
+    }
+    Ok(())
+}
+
+/// How many grants a text comes to, or the refusal.
+fn count(alloc: Global, table: &ProfileTable, text: &str) -> Result<String, Fail> {
+    let list = parse(alloc, text)?;
+    Ok(match expand(alloc, table, &list) {
+        Ok(tree) => format!(in alloc; "{}", tree.flat(alloc)?.len())?,
+        Err(fault) => fault.to_string(alloc)?,
+    })
+}
+
+const OWN: &[(&str, &str, &str); 1] = &[(
+    "own",
+    "allow r pool=own, allow rw namespace=n, allow rwx, profile read-only pool=p",
+    "added",
+)];
+
+const USES: &[(&str, &str); 6] = &[
+    ("", ""),
+    ("allow r", "1 allow r"),
+    (
+        "profile read-only, profile read-write",
+        "1.1 allow r; 2.1 allow rw",
+    ),
+    (
+        "profile rbd pool=vms namespace=a",
+        "1.1.1 allow r class-read pool=vms namespace=a; 1.2 allow rwx pool=vms namespace=a",
+    ),
+    (
+        "profile own pool=q namespace=m",
+        "1.1 allow r pool=own; 1.2 allow rw pool=q namespace=n; 1.3 allow rwx pool=q namespace=m; 1.4.1 allow r pool=p",
+    ),
+    (
+        "allow r tag a b=c, profile own namespace=m",
+        "1 allow r tag a b=c; 2.1 allow r pool=own; 2.2 allow rw namespace=n; 2.3 allow rwx namespace=m; 2.4.1 allow r pool=p",
+    ),
+];
+
+fn expect_uses(rt: &impl Abort, alloc: Global, table: &ProfileTable) -> Result<(), Fail> {
+    for (text, want) in USES {
+        let shown = shown(alloc, table, text)?;
+        assert_eq!(rt; shown.as_str(), *want, "{text}");
+    }
+    Ok(())
+}
+
 #[test]
 fn uses_are_replaced_by_filled_grants(rt: HostRuntime) -> Result<(), Fail> {
-    let alloc = rt.alloc();
-    let mut table = ProfileTable::builtin(alloc)?;
-    let own = parse(
-        alloc,
-        "allow r pool=own, allow rw namespace=n, allow rwx, profile read-only pool=p",
-    )?;
-    table.add("own", own)?;
-    for (text, want) in [
-        ("", ""),
-        ("allow r", "1 allow r"),
-        (
-            "profile read-only, profile read-write",
-            "1.1 allow r; 2.1 allow rw",
-        ),
-        (
-            "profile rbd pool=vms namespace=a",
-            "1.1.1 allow r class-read pool=vms namespace=a; 1.2 allow rwx pool=vms namespace=a",
-        ),
-        (
-            "profile own pool=q namespace=m",
-            "1.1 allow r pool=own; 1.2 allow rw pool=q namespace=n; 1.3 allow rwx pool=q namespace=m; 1.4.1 allow r pool=p",
-        ),
-        (
-            "allow r tag a b=c, profile own namespace=m",
-            "1 allow r tag a b=c; 2.1 allow r pool=own; 2.2 allow rw namespace=n; 2.3 allow rwx namespace=m; 2.4.1 allow r pool=p",
-        ),
-    ] {
-        let tree = expand(alloc, &table, &parse(alloc, text)?)?;
-        assert_eq!(rt; show(alloc, &tree)?.as_str(), want, "{text}");
+    let mut table = ProfileTable::builtin(rt.alloc())?;
+    expect_added(&rt, rt.alloc(), &mut table, OWN)?;
+    expect_uses(&rt, rt.alloc(), &table)
+}
+
+const REFUSALS: &[(&str, &str, &str); 7] = &[
+    ("t", "allow r tag a b=c", "G3 TagInProfile 1"),
+    (
+        "t",
+        "allow r, profile osd, allow r tag a b=c",
+        "G1 UnknownProfile 2",
+    ),
+    (
+        "t",
+        "allow r, allow r tag a b=c, profile osd",
+        "G3 TagInProfile 2",
+    ),
+    ("t", "profile t", "G1 UnknownProfile 1"),
+    ("rbd", "allow r tag a b=c", "G2 DuplicateProfile"),
+    (
+        "five",
+        "allow r, allow r, allow r, allow r, allow r",
+        "added",
+    ),
+    ("five", "allow r", "G2 DuplicateProfile"),
+];
+
+/// What stands behind 51 uses of a profile of five grants, and what that comes to.
+const FULL: &[(&str, &str); 4] = &[
+    ("", "255"),
+    (", allow r", "256"),
+    (", profile five", "G5 TooLarge"),
+    (", profile five, profile osd", "G1 UnknownProfile 53"),
+];
+
+fn expect_full(
+    rt: &impl Abort,
+    alloc: Global,
+    table: &ProfileTable,
+    many: &str,
+) -> Result<(), Fail> {
+    for (more, want) in FULL {
+        let text = format!(in alloc; "{many}{more}")?;
+        let count = count(alloc, table, text.as_str())?;
+        assert_eq!(rt; count.as_str(), *want, "{more}");
+    }
+    Ok(())
+}
+
+/// Profiles whose bodies are 51 uses and more, and how they are answered.
+const FULL_BODIES: &[(&str, &str, &str); 2] = &[
+    ("most", ", allow r", "added"),
+    ("more", ", profile five", "G5 TooLarge"),
+];
+
+fn expect_full_bodies(
+    rt: &impl Abort,
+    alloc: Global,
+    table: &mut ProfileTable,
+    many: &str,
+) -> Result<(), Fail> {
+    for (name, more, want) in FULL_BODIES {
+        let body = format!(in alloc; "{many}{more}")?;
+        let answer = added(alloc, table, name, body.as_str())?;
+        assert_eq!(rt; answer.as_str(), *want, "{name}");
     }
     Ok(())
 }
 
 #[test]
 fn refusals_come_in_their_order(rt: HostRuntime) -> Result<(), Fail> {
-    let alloc = rt.alloc();
-    let mut table = ProfileTable::builtin(alloc)?;
-    for (name, body, want) in [
-        ("t", "allow r tag a b=c", Err(ExpandFault::TagInProfile(1))),
-        (
-            "t",
-            "allow r, profile osd, allow r tag a b=c",
-            Err(ExpandFault::UnknownProfile(2)),
-        ),
-        (
-            "t",
-            "allow r, allow r tag a b=c, profile osd",
-            Err(ExpandFault::TagInProfile(2)),
-        ),
-        ("t", "profile t", Err(ExpandFault::UnknownProfile(1))),
-        (
-            "rbd",
-            "allow r tag a b=c",
-            Err(ExpandFault::DuplicateProfile),
-        ),
-        (
-            "five",
-            "allow r, allow r, allow r, allow r, allow r",
-            Ok(()),
-        ),
-        ("five", "allow r", Err(ExpandFault::DuplicateProfile)),
-    ] {
-        assert_eq!(rt; table.add(name, parse(alloc, body)?), want, "{name} {body}");
+    let many = uses(rt.alloc(), "five", 51)?;
+    let mut table = ProfileTable::builtin(rt.alloc())?;
+    expect_added(&rt, rt.alloc(), &mut table, REFUSALS)?;
+    expect_full(&rt, rt.alloc(), &table, many.as_str())?;
+    expect_full_bodies(&rt, rt.alloc(), &mut table, many.as_str())
+}
+
+/// The profile `p0` is empty, and each of 27 more uses the one before 64 times.
+fn add_chain(alloc: Global, table: &mut ProfileTable) -> Result<(), Fail> {
+    table.add("p0", CapList::empty(alloc))?;
+    for i in 1..28_usize {
+        add_link(alloc, table, i)?;
     }
-    let many = uses(alloc, "five", 51)?;
-    let tree = expand(alloc, &table, &parse(alloc, many.as_str())?)?;
-    assert_eq!(rt; tree.flat(alloc)?.len(), 255);
-    let exact = format!(in alloc; "{many}, allow r")?;
-    let tree = expand(alloc, &table, &parse(alloc, exact.as_str())?)?;
-    assert_eq!(rt; tree.flat(alloc)?.len(), 256);
-    table.add("most", parse(alloc, exact.as_str())?)?;
-    let more = format!(in alloc; "{many}, profile five")?;
-    assert_eq!(rt;
-        expand(alloc, &table, &parse(alloc, more.as_str())?).err(),
-        Some(ExpandFault::TooLarge)
-    );
-    assert_eq!(rt;
-        table.add("more", parse(alloc, more.as_str())?),
-        Err(ExpandFault::TooLarge)
-    );
-    let unknown = format!(in alloc; "{many}, profile five, profile osd")?;
-    assert_eq!(rt;
-        expand(alloc, &table, &parse(alloc, unknown.as_str())?).err(),
-        Some(ExpandFault::UnknownProfile(53))
-    );
     Ok(())
 }
 
+fn add_link(alloc: Global, table: &mut ProfileTable, number: usize) -> Result<(), Fail> {
+    let before = format!(in alloc; "p{}", number.saturating_sub(1))?;
+    let body = uses(alloc, before.as_str(), 64)?;
+    let name = format!(in alloc; "p{number}")?;
+    let list = parse(alloc, body.as_str())?;
+    Ok(table.add(name.as_str(), list)?)
+}
+
+const BEHIND_THE_CHAIN: &[(&str, &str, &str); 2] = &[
+    ("p28", "profile osd", "G4 TooManyProfiles"),
+    ("p27", "profile osd", "G2 DuplicateProfile"),
+];
+
 #[test]
 fn a_chain_of_empty_profiles_is_expanded_at_once(rt: HostRuntime) -> Result<(), Fail> {
-    let alloc = rt.alloc();
-    let mut table = ProfileTable::builtin(alloc)?;
-    table.add("p0", CapList::empty(alloc))?;
-    for i in 1..28_usize {
-        let before = format!(in alloc; "p{}", i - 1)?;
-        let body = uses(alloc, before.as_str(), 64)?;
-        let name = format!(in alloc; "p{i}")?;
-        table.add(name.as_str(), parse(alloc, body.as_str())?)?;
+    let all = uses(rt.alloc(), "p27", 64)?;
+    let mut table = ProfileTable::builtin(rt.alloc())?;
+    add_chain(rt.alloc(), &mut table)?;
+    let grants = count(rt.alloc(), &table, all.as_str())?;
+    assert_eq!(rt; grants.as_str(), "0");
+    expect_added(&rt, rt.alloc(), &mut table, BEHIND_THE_CHAIN)
+}
+
+/// All faults, in a line each.
+fn faults_shown(alloc: Global) -> Result<String, OutOfMemory> {
+    let mut lines = String::new(alloc);
+    for fault in [
+        ExpandFault::UnknownProfile(1),
+        ExpandFault::DuplicateProfile,
+        ExpandFault::TagInProfile(64),
+        ExpandFault::TooManyProfiles,
+        ExpandFault::TooLarge,
+        ExpandFault::OutOfMemory,
+    ] {
+        writeln!(lines, "{fault}")?;
     }
-    let all = uses(alloc, "p27", 64)?;
-    let tree = expand(alloc, &table, &parse(alloc, all.as_str())?)?;
-    assert_eq!(rt; tree.flat(alloc)?.len(), 0);
-    assert_eq!(rt;
-        table.add("p28", parse(alloc, "profile osd")?),
-        Err(ExpandFault::TooManyProfiles)
-    );
-    assert_eq!(rt;
-        table.add("p27", parse(alloc, "profile osd")?),
-        Err(ExpandFault::DuplicateProfile)
-    );
-    Ok(())
+    Ok(lines)
+}
+
+const FAULTS: &str = "G1 UnknownProfile 1\nG2 DuplicateProfile\nG3 TagInProfile 64\n\
+G4 TooManyProfiles\nG5 TooLarge\nG6 OutOfMemory\n";
+
+/// A copy of a path, and that it has the same numbers.
+fn path_shown(alloc: Global, numbers: &[usize]) -> Result<(String, bool), OutOfMemory> {
+    let path = Path::of(alloc, numbers)?.copy()?;
+    Ok((path.to_string(alloc)?, path.as_slice() == numbers))
 }
 
 #[test]
 fn faults_and_paths_print_their_texts(rt: HostRuntime) -> Result<(), Fail> {
-    let alloc = rt.alloc();
-    for (fault, want) in [
-        (ExpandFault::UnknownProfile(1), "G1 UnknownProfile 1"),
-        (ExpandFault::DuplicateProfile, "G2 DuplicateProfile"),
-        (ExpandFault::TagInProfile(64), "G3 TagInProfile 64"),
-        (ExpandFault::TooManyProfiles, "G4 TooManyProfiles"),
-        (ExpandFault::TooLarge, "G5 TooLarge"),
-        (ExpandFault::OutOfMemory, "G6 OutOfMemory"),
-    ] {
-        assert_eq!(rt; fault.to_string(alloc)?.as_str(), want);
-    }
-    let path = Path::of(alloc, &[2, 1, 10])?.copy()?;
-    assert_eq!(rt; path.as_slice(), [2, 1, 10].as_slice());
-    assert_eq!(rt; path.to_string(alloc)?.as_str(), "2.1.10");
-    assert_eq!(rt; Path::of(alloc, &[])?.to_string(alloc)?.as_str(), "");
+    assert_eq!(rt; faults_shown(rt.alloc())?.as_str(), FAULTS);
+    let (text, same) = path_shown(rt.alloc(), &[2, 1, 10])?;
+    assert!(rt; same);
+    assert_eq!(rt; text.as_str(), "2.1.10");
+    assert_eq!(rt; path_shown(rt.alloc(), &[])?.0.as_str(), "");
     Ok(())
 }

@@ -1,27 +1,66 @@
-use cap_text::{AppTags, Name, OutOfMemory, Pairs, Tags, parse};
-use grant_core::{ProfileTable, expand};
+use crate::tickets::ticket;
+use cap_text::{AppTags, Name, OutOfMemory, Pairs, Tags};
 use std::alloc::Global;
 use std::fmt::Write;
+use std::process::Abort;
 use std::test::Fail;
 use verdict_core::{
     Calls, ClassCall, Condition, IndexedTicket, Needs, Target, Ticket, judge, report,
 };
 
-/// The ticket of a capability text.
-fn ticket(alloc: Global, text: &str, until: Option<u64>) -> Result<Ticket, Fail> {
-    let list = parse(alloc, text).map_err(|_| "a text that spells no list")?;
-    let tree = expand(alloc, &ProfileTable::builtin(alloc)?, &list).map_err(
-        |_| "a list that is not expanded",
-    )?;
-    Ok(Ticket::of(alloc, &tree, until)?)
+/// The same ticket with an index.
+fn indexed(ticket: &Ticket) -> Result<IndexedTicket, OutOfMemory> {
+    match IndexedTicket::of(ticket.copy()?) {
+        Ok(indexed) => indexed.copy(),
+        Err((_, fault)) => Err(fault),
+    }
 }
 
-fn needs(reads: bool, writes: bool, calls: Vec<ClassCall>) -> Needs {
-    Needs {
-        reads,
-        writes,
-        calls: Calls::from_vec(calls),
+/// What a ticket answers: nothing where it allows the request, else the report's text behind a word.
+fn plain_answer(
+    alloc: Global,
+    ticket: &Ticket,
+    target: &Target<'_>,
+    needs: &Needs,
+    tick: u64,
+) -> Result<String, OutOfMemory> {
+    if judge(ticket, target, needs, tick) {
+        return Ok(String::new(alloc));
     }
+    let lines = report(alloc, ticket, target, needs, tick)?.copy()?;
+    format!(in alloc; "deny\n{lines}")
+}
+
+/// The same of a ticket with an index.
+fn indexed_answer(
+    alloc: Global,
+    ticket: &IndexedTicket,
+    target: &Target<'_>,
+    needs: &Needs,
+    tick: u64,
+) -> Result<String, OutOfMemory> {
+    if ticket.judge(target, needs, tick) {
+        return Ok(String::new(alloc));
+    }
+    let lines = ticket.report(alloc, target, needs, tick)?;
+    format!(in alloc; "deny\n{lines}")
+}
+
+/// What a ticket answers, which must be the same with an index.
+fn answer(
+    alloc: Global,
+    ticket: &Ticket,
+    target: &Target<'_>,
+    needs: &Needs,
+    tick: u64,
+) -> Result<String, Fail> {
+    let indexed = indexed(ticket)?;
+    let text = plain_answer(alloc, ticket, target, needs, tick)?;
+    let other = indexed_answer(alloc, &indexed, target, needs, tick)?;
+    if other.as_str() != text.as_str() {
+        return Err(Fail::from("the types differ"));
+    }
+    Ok(text)
 }
 
 /// A call of a method that reads alone.
@@ -40,214 +79,293 @@ fn reading_call(
     })
 }
 
-/// The same ticket with an index.
-fn indexed(ticket: &Ticket) -> Result<IndexedTicket, Fail> {
-    Ok(IndexedTicket::of(ticket.copy()?).map_err(|_| "no room for an index")?)
+/// The calls among words, each of which must be `read`, `write` or a call.
+fn calls(alloc: Global, words: &str) -> Result<Calls, Fail> {
+    let mut calls = Vec::new(alloc);
+    for word in words.split(' ') {
+        match word {
+            "read" | "write" => {}
+            "counter.get" => calls.push(reading_call(alloc, "counter", "get", true)?)?,
+            "vault.peek" => calls.push(reading_call(alloc, "vault", "peek", false)?)?,
+            _ => return Err(Fail::from("no need")),
+        }
+    }
+    Ok(Calls::from_vec(calls))
 }
 
-/// What a ticket answers, and the same with an index: nothing where it allows the request, else the report's text behind a word.
-fn answer(
-    alloc: Global,
-    ticket: &Ticket,
-    target: &Target<'_>,
-    needs: &Needs,
+fn needs(alloc: Global, words: &str) -> Result<Needs, Fail> {
+    Ok(Needs {
+        reads: words.split(' ').any(|word| word == "read"),
+        writes: words.split(' ').any(|word| word == "write"),
+        calls: calls(alloc, words)?,
+    })
+}
+
+/// A pool's application without pairs, or no tags where it has no name.
+fn tags(alloc: Global, application: &str) -> Result<Tags, OutOfMemory> {
+    let mut tags = Vec::new(alloc);
+    if !application.is_empty() {
+        tags.push(AppTags {
+            application: Name::new(alloc, application)?,
+            pairs: Pairs::from_vec(Vec::new(alloc)),
+        })?;
+    }
+    Ok(Tags::from_vec(tags))
+}
+
+/// The pool's application, the ticket's end and the time.
+#[derive(Clone, Copy)]
+struct Setting {
+    application: &'static str,
+    until: Option<u64>,
     tick: u64,
-) -> Result<String, Fail> {
-    let indexed = indexed(ticket)?.copy()?;
-    let allowed = judge(ticket, target, needs, tick);
-    if indexed.judge(target, needs, tick) != allowed {
-        return Err(Fail::from("the types differ in the verdict"));
-    }
-    if allowed {
-        return Ok(String::new(alloc));
-    }
-    let lines = report(alloc, ticket, target, needs, tick)?.copy()?;
-    let text = format!(in alloc; "deny\n{lines}")?;
-    let lines = indexed.report(alloc, target, needs, tick)?;
-    let other = format!(in alloc; "deny\n{lines}")?;
-    if other.as_str() != text.as_str() {
-        return Err(Fail::from("the types differ in the report"));
-    }
-    Ok(text)
 }
 
-/// The object x of a pool.
-fn object<'a>(pool: &'a str, namespace: &'a str, tags: &'a Tags) -> Target<'a> {
-    Target {
-        pool,
-        tags,
-        namespace,
-        object: "x",
-    }
+const PLAIN: Setting = Setting {
+    application: "",
+    until: None,
+    tick: 0,
+};
+
+/// A text; a pool, a namespace and an object; what is needed; and the answer.
+type Row = (&'static str, [&'static str; 3], &'static str, &'static str);
+
+/// What a ticket answers to the request of a row.
+fn asked(alloc: Global, ticket: &Ticket, setting: Setting, row: &Row) -> Result<String, Fail> {
+    let tags = tags(alloc, setting.application)?;
+    let needs = needs(alloc, row.2)?;
+    let target = Target {
+        pool: row.1[0],
+        tags: &tags,
+        namespace: row.1[1],
+        object: row.1[2],
+    };
+    answer(alloc, ticket, &target, &needs, setting.tick)
 }
+
+/// The same of the ticket of the row's text.
+fn found(alloc: Global, setting: Setting, row: &Row) -> Result<String, Fail> {
+    let ticket = ticket(alloc, row.0, setting.until)?;
+    asked(alloc, &ticket, setting, row)
+}
+
+fn expect(rt: &impl Abort, alloc: Global, setting: Setting, rows: &[Row]) -> Result<(), Fail> {
+    for row in rows {
+        let found = found(alloc, setting, row)?;
+        assert_eq!(rt; found.as_str(), row.3, "{} {}", row.0, row.2);
+    }
+    Ok(())
+}
+
+const X: [&str; 3] = ["data", "", "x"];
+
+const READS_AND_WRITES: &[Row; 1] = &[(
+    "allow r, allow w",
+    X,
+    "read write",
+    "deny\n1 write\n2 read\n",
+)];
+
+const READS: &[Row; 1] = &[("allow r, allow w", X, "read", "")];
 
 #[test]
 fn no_single_grant_reads_and_writes(rt: HostRuntime) -> Result<(), Fail> {
-    let alloc = rt.alloc();
-    let tags = Tags::from_vec(Vec::new(alloc));
-    let target = object("data", "", &tags);
-    let two = ticket(alloc, "allow r, allow w", None)?;
-    let both = needs(true, true, Vec::new(alloc));
-    let text = answer(alloc, &two, &target, &both, 0)?;
-    assert_eq!(rt; text.as_str(), "deny\n1 write\n2 read\n");
-    let reads = needs(true, false, Vec::new(alloc));
-    assert!(rt; judge(&two, &target, &reads, u64::MAX));
-    Ok(())
+    expect(&rt, rt.alloc(), PLAIN, READS_AND_WRITES)?;
+    let last = Setting {
+        tick: u64::MAX,
+        ..PLAIN
+    };
+    expect(&rt, rt.alloc(), last, READS)
 }
+
+const BOTH_CLASSES: &str = "counter.get vault.peek";
+
+const CALLS: &[Row; 5] = &[
+    (
+        "allow class counter, allow class vault",
+        X,
+        BOTH_CLASSES,
+        "",
+    ),
+    ("allow class counter", X, BOTH_CLASSES, "deny\n1 call 2\n"),
+    ("allow x", X, BOTH_CLASSES, "deny\n1 call 2\n"),
+    ("allow class counter get, allow *", X, BOTH_CLASSES, ""),
+    (
+        "allow class counter reset, allow x",
+        X,
+        BOTH_CLASSES,
+        "deny\n1 call 1\n2 call 2\n",
+    ),
+];
 
 #[test]
 fn calls_of_two_classes(rt: HostRuntime) -> Result<(), Fail> {
-    let alloc = rt.alloc();
-    let tags = Tags::from_vec(Vec::new(alloc));
-    let target = object("data", "", &tags);
-    let get = reading_call(alloc, "counter", "get", true)?;
-    let peek = reading_call(alloc, "vault", "peek", false)?;
-    let calls = needs(false, false, vec![in alloc; get, peek]?);
-    for (caps, text) in [
-        ("allow class counter, allow class vault", ""),
-        ("allow class counter", "deny\n1 call 2\n"),
-        ("allow x", "deny\n1 call 2\n"),
-        ("allow class counter get, allow *", ""),
-        (
-            "allow class counter reset, allow x",
-            "deny\n1 call 1\n2 call 2\n",
-        ),
-    ] {
-        let found = answer(alloc, &ticket(alloc, caps, None)?, &target, &calls, 0)?;
-        assert_eq!(rt; found.as_str(), text, "{caps}");
-    }
-    Ok(())
+    expect(&rt, rt.alloc(), PLAIN, CALLS)
 }
+
+const EMPTY_OR_AB: &str = "allow r namespace='', allow r namespace=ab*";
+
+const NAMESPACES: &[Row; 4] = &[
+    (EMPTY_OR_AB, ["data", "", "x"], "read", ""),
+    (EMPTY_OR_AB, ["data", "ab", "x"], "read", ""),
+    (EMPTY_OR_AB, ["data", "abc", "x"], "read", ""),
+    (
+        EMPTY_OR_AB,
+        ["data", "a", "x"],
+        "read",
+        "deny\n1 namespace\n2 namespace\n",
+    ),
+];
 
 #[test]
 fn namespaces_exact_and_by_prefix(rt: HostRuntime) -> Result<(), Fail> {
-    let alloc = rt.alloc();
-    let tags = Tags::from_vec(Vec::new(alloc));
-    let two = ticket(alloc, "allow r namespace='', allow r namespace=ab*", None)?;
-    let reads = needs(true, false, Vec::new(alloc));
-    for (namespace, text) in [
-        ("", ""),
-        ("ab", ""),
-        ("abc", ""),
-        ("a", "deny\n1 namespace\n2 namespace\n"),
-    ] {
-        let found = answer(alloc, &two, &object("data", namespace, &tags), &reads, 0)?;
-        assert_eq!(rt; found.as_str(), text, "{namespace}");
-    }
-    Ok(())
+    expect(&rt, rt.alloc(), PLAIN, NAMESPACES)
 }
+
+const TAGS: &[Row; 2] = &[
+    ("allow rw tag cephfs *=*", X, "read write", ""),
+    (
+        "allow rw tag cephfs data=*",
+        X,
+        "read write",
+        "deny\n1 tag\n",
+    ),
+];
 
 #[test]
 fn tags_without_pairs(rt: HostRuntime) -> Result<(), Fail> {
-    let alloc = rt.alloc();
-    let application = AppTags {
-        application: Name::new(alloc, "cephfs")?,
-        pairs: Pairs::from_vec(Vec::new(alloc)),
+    let tagged = Setting {
+        application: "cephfs",
+        ..PLAIN
     };
-    let tags = Tags::from_vec(vec![in alloc; application]?);
-    let target = object("data", "", &tags);
-    let both = needs(true, true, Vec::new(alloc));
-    for (caps, text) in [
-        ("allow rw tag cephfs *=*", ""),
-        ("allow rw tag cephfs data=*", "deny\n1 tag\n"),
-    ] {
-        let found = answer(alloc, &ticket(alloc, caps, None)?, &target, &both, 0)?;
-        assert_eq!(rt; found.as_str(), text, "{caps}");
-    }
-    Ok(())
+    expect(&rt, rt.alloc(), tagged, TAGS)
 }
+
+const CHILDREN: &str = "allow class-read object_prefix rbd_children, allow rwx pool=images";
+
+const PREFIXES: &[Row; 3] = &[
+    (CHILDREN, ["vms", "", "rbd_children"], "counter.get", ""),
+    (
+        CHILDREN,
+        ["vms", "", "rbd_children"],
+        "read",
+        "deny\n1 read\n2 pool\n",
+    ),
+    (CHILDREN, ["images", "", "x"], "write", ""),
+];
 
 #[test]
 fn class_read_by_prefix(rt: HostRuntime) -> Result<(), Fail> {
-    let alloc = rt.alloc();
-    let tags = Tags::from_vec(Vec::new(alloc));
-    let caps = "allow class-read object_prefix rbd_children, allow rwx pool=images";
-    let both = ticket(alloc, caps, None)?;
-    let children = Target {
-        pool: "vms",
-        tags: &tags,
-        namespace: "",
-        object: "rbd_children",
-    };
-    let get = reading_call(alloc, "counter", "get", true)?;
-    let call = needs(false, false, vec![in alloc; get]?);
-    assert!(rt; judge(&both, &children, &call, 0));
-    let reads = needs(true, false, Vec::new(alloc));
-    let text = answer(alloc, &both, &children, &reads, 0)?;
-    assert_eq!(rt; text.as_str(), "deny\n1 read\n2 pool\n");
-    let writes = needs(false, true, Vec::new(alloc));
-    assert!(rt; judge(&both, &object("images", "", &tags), &writes, 0));
-    Ok(())
+    expect(&rt, rt.alloc(), PLAIN, PREFIXES)
+}
+
+/// The paths of a ticket's grants and when it ends.
+fn paths(alloc: Global, ticket: &Ticket) -> Result<(String, Option<u64>), OutOfMemory> {
+    let copy = ticket.copy()?;
+    let mut paths = String::new(alloc);
+    for entry in copy.grants() {
+        write!(paths, "{} ", entry.0)?;
+    }
+    Ok((paths, copy.until()))
 }
 
 #[test]
 fn tickets_of_expanded_lists(rt: HostRuntime) -> Result<(), Fail> {
-    let alloc = rt.alloc();
-    let both = ticket(alloc, "allow r, profile rbd pool=vms", Some(7))?.copy()?;
-    let mut paths = String::new(alloc);
-    for entry in both.grants() {
-        write!(paths, "{} ", entry.0)?;
-    }
+    let both = ticket(rt.alloc(), "allow r, profile rbd pool=vms", Some(7))?;
+    let (paths, until) = paths(rt.alloc(), &both)?;
     assert_eq!(rt; paths.as_str(), "1 2.1.1 2.2 ");
-    assert_eq!(rt; both.until(), Some(7));
+    assert_eq!(rt; until, Some(7));
     Ok(())
+}
+
+const BEFORE_THE_END: &[Row; 2] = &[
+    ("allow r pool=data", ["data", "", "x"], "read", ""),
+    (
+        "allow r pool=data",
+        ["other", "", "x"],
+        "read",
+        "deny\n1 pool\n",
+    ),
+];
+
+const AT_THE_END: &[Row; 2] = &[
+    (
+        "allow r pool=data",
+        ["data", "", "x"],
+        "read",
+        "deny\n1 expired\n",
+    ),
+    (
+        "allow r pool=data",
+        ["other", "", "x"],
+        "read",
+        "deny\n1 expired\n",
+    ),
+];
+
+const LAST_OF_ALL: &[Row; 1] = &[("allow r pool=data", X, "read", "deny\n1 expired\n")];
+
+/// A ticket that ends at 10.
+fn at(tick: u64) -> Setting {
+    Setting {
+        application: "",
+        until: Some(10),
+        tick,
+    }
+}
+
+/// What a ticket without grants that ends at 0 answers.
+fn empty_answer(alloc: Global) -> Result<String, Fail> {
+    let none = Ticket::empty(alloc, Some(0));
+    asked(alloc, &none, PLAIN, &("", X, "read", ""))
 }
 
 #[test]
 fn tickets_expire(rt: HostRuntime) -> Result<(), Fail> {
-    let alloc = rt.alloc();
-    let tags = Tags::from_vec(Vec::new(alloc));
-    let reads = needs(true, false, Vec::new(alloc));
-    let one = ticket(alloc, "allow r pool=data", Some(10))?;
-    for (pool, tick, text) in [
-        ("data", 9, ""),
-        ("data", 10, "deny\n1 expired\n"),
-        ("data", u64::MAX, "deny\n1 expired\n"),
-        ("other", 9, "deny\n1 pool\n"),
-        ("other", 10, "deny\n1 expired\n"),
-    ] {
-        let found = answer(alloc, &one, &object(pool, "", &tags), &reads, tick)?;
-        assert_eq!(rt; found.as_str(), text, "{pool} {tick}");
-    }
-    let none = Ticket::empty(alloc, Some(0));
-    let found = answer(alloc, &none, &object("data", "", &tags), &reads, 0)?;
-    assert_eq!(rt; found.as_str(), "deny\n");
+    expect(&rt, rt.alloc(), at(9), BEFORE_THE_END)?;
+    expect(&rt, rt.alloc(), at(10), AT_THE_END)?;
+    expect(&rt, rt.alloc(), at(u64::MAX), LAST_OF_ALL)?;
+    assert_eq!(rt; empty_answer(rt.alloc())?.as_str(), "deny\n");
     Ok(())
 }
 
+const FOUR: &str = "allow r pool=a, allow class counter, allow r pool=b, allow w";
+
+const FIVE: &str = "allow r pool=a, allow class counter, allow r pool=b, allow w, allow r pool=c";
+
+const IN_ORDER: &[Row; 14] = &[
+    (
+        FOUR,
+        ["b", "", "x"],
+        "read counter.get",
+        "deny\n1 pool\n2 read\n3 call 1\n4 read\n",
+    ),
+    (
+        FIVE,
+        ["b", "", "x"],
+        "read counter.get",
+        "deny\n1 pool\n2 read\n3 call 1\n4 read\n5 pool\n",
+    ),
+    (FIVE, ["a", "", "x"], "read", ""),
+    (FIVE, ["b", "", "x"], "read", ""),
+    (FIVE, ["c", "", "x"], "read", ""),
+    (
+        FIVE,
+        ["d", "", "x"],
+        "read",
+        "deny\n1 pool\n2 read\n3 pool\n4 read\n5 pool\n",
+    ),
+    (FIVE, ["a", "", "x"], "counter.get", ""),
+    (FIVE, ["b", "", "x"], "counter.get", ""),
+    (FIVE, ["c", "", "x"], "counter.get", ""),
+    (FIVE, ["d", "", "x"], "counter.get", ""),
+    (FIVE, ["a", "", "x"], "write", ""),
+    (FIVE, ["b", "", "x"], "write", ""),
+    (FIVE, ["c", "", "x"], "write", ""),
+    (FIVE, ["d", "", "x"], "write", ""),
+];
+
 #[test]
 fn the_index_keeps_the_order_of_the_ticket(rt: HostRuntime) -> Result<(), Fail> {
-    let alloc = rt.alloc();
-    let tags = Tags::from_vec(Vec::new(alloc));
-    let get = reading_call(alloc, "counter", "get", true)?;
-    let both = needs(true, false, vec![in alloc; get]?);
-    let caps = "allow r pool=a, allow class counter, allow r pool=b, allow w";
-    let four = ticket(alloc, caps, None)?;
-    let text = answer(alloc, &four, &object("b", "", &tags), &both, 0)?;
-    assert_eq!(rt; text.as_str(), "deny\n1 pool\n2 read\n3 call 1\n4 read\n");
-    let caps = "allow r pool=a, allow class counter, allow r pool=b, allow w, allow r pool=c";
-    let five = ticket(alloc, caps, None)?;
-    let text = answer(alloc, &five, &object("b", "", &tags), &both, 0)?;
-    let wanted = "deny\n1 pool\n2 read\n3 call 1\n4 read\n5 pool\n";
-    assert_eq!(rt; text.as_str(), wanted);
-    let get = reading_call(alloc, "counter", "get", true)?;
-    let call = needs(false, false, vec![in alloc; get]?);
-    let reads = needs(true, false, Vec::new(alloc));
-    let writes = needs(false, true, Vec::new(alloc));
-    for (pool, read) in [
-        ("a", ""),
-        ("b", ""),
-        ("c", ""),
-        ("d", "deny\n1 pool\n2 read\n3 pool\n4 read\n5 pool\n"),
-    ] {
-        let here = object(pool, "", &tags);
-        let text = answer(alloc, &five, &here, &reads, 0)?;
-        assert_eq!(rt; text.as_str(), read, "{pool}");
-        assert!(rt; answer(alloc, &five, &here, &call, 0)?.is_empty(), "{pool}");
-        assert!(rt;
-            answer(alloc, &five, &here, &writes, 0)?.is_empty(),
-            "{pool}"
-        );
-    }
-    Ok(())
+    expect(&rt, rt.alloc(), PLAIN, IN_ORDER)
 }

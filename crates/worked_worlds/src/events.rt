@@ -1,65 +1,16 @@
-//! Events, in short.
+//! Events, read from the words of a line.
 
+use super::words::{not_understood, number_of, three_of, words_of};
 use auth_db::Caps;
 use cap_text::Name;
 use entry_core::{GroupId, OutOfMemory};
-use map_core::{Epoch, MapCommand};
+use map_core::MapCommand;
 use object_core::{Bytes, Op};
 use std::alloc::Global;
+use std::test::Fail;
 use world_core::{Ask, AuthCommand, Event, Ops};
 
-// The operations of a vector: one, or as many as the name says.
-#[derive(Clone, Copy)]
-pub(super) enum Work {
-    Append(&'static str),
-    Read,
-    Stat,
-    Remove,
-    Add,
-    UnknownMethod,
-    Nothing,
-    Seventeen,
-}
-
-// Who asks, by which epoch, and when.
-pub(super) type Asker = (u32, Epoch, u64);
-
-// A pool, a namespace, and an object of them.
-pub(super) type Target = (&'static str, &'static str, &'static str);
-
-// The object `x` of the pool `data`, in the namespace without a name.
-pub(super) const X: Target = ("data", "", "x");
-
-// What happens to a world. Texts are those of osd.
-#[derive(Clone, Copy)]
-pub(super) enum Does {
-    AddUser(&'static str, &'static str),
-    MakeUser(&'static str, &'static str),
-    SetCaps(&'static str, &'static str),
-    DeleteUser(&'static str),
-    Create(&'static str, u32, u32, u32),
-    Enable(&'static str),
-    Set(&'static str, &'static str, &'static str),
-    Unset(&'static str, &'static str),
-    Up(u8),
-    Down(u8),
-    Restart(u8),
-    Open(&'static str, Option<u64>),
-    Renew(u32, Option<u64>),
-    Close(u32),
-    Submit(Asker, Target, Work),
-    List(Asker, &'static str, &'static str),
-    Deliver(&'static str, u32, usize),
-    Lose(&'static str, u32, usize),
-    Repeat(&'static str, u32, usize),
-    Kick(&'static str, u32),
-}
-
-use Does::{
-    AddUser, Close, Create, DeleteUser, Deliver, Down, Enable, Kick, List, Lose, MakeUser, Open,
-    Renew, Repeat, Restart, Set, SetCaps, Submit, Unset, Up,
-};
-
+// Texts of users are those of osd.
 fn osd(alloc: Global, text: &str) -> Result<Caps, OutOfMemory> {
     Ok(Caps {
         mon: None,
@@ -67,6 +18,139 @@ fn osd(alloc: Global, text: &str) -> Result<Caps, OutOfMemory> {
         mds: None,
         osd: Some(Name::new(alloc, text)?),
     })
+}
+
+// The command of this word on a user and his texts.
+fn with_caps(word: &str, name: Name, caps: Caps) -> Result<AuthCommand, Fail> {
+    match word {
+        "add" => Ok(AuthCommand::Add { name, caps }),
+        "make" => Ok(AuthCommand::GetOrCreate { name, caps }),
+        "caps" => Ok(AuthCommand::SetCaps { name, caps }),
+        _ => Err(Fail::new("no command on a user")),
+    }
+}
+
+// A command on the users.
+fn auth(alloc: Global, words: &[&str]) -> Result<AuthCommand, Fail> {
+    match words {
+        ["delete", name] => Ok(AuthCommand::Delete {
+            name: Name::new(alloc, *name)?,
+        }),
+        [word, name, text] => with_caps(*word, Name::new(alloc, *name)?, osd(alloc, *text)?),
+        _ => Err(not_understood(words)),
+    }
+}
+
+// A new pool: how many groups it has, its size and its least size.
+fn pool(alloc: Global, words: &[&str]) -> Result<MapCommand, Fail> {
+    let [name, groups, size, least] = words else {
+        return Err(not_understood(words));
+    };
+    let (pg_num, size, min_size) = three_of(*groups, *size, *least)?;
+    Ok(MapCommand::PoolCreate {
+        name: Name::new(alloc, *name)?,
+        pg_num,
+        size,
+        min_size,
+    })
+}
+
+// An application's key gets a value.
+fn set(alloc: Global, app: &str, key: &str, value: &str) -> Result<MapCommand, OutOfMemory> {
+    Ok(MapCommand::AppSet {
+        pool: Name::new(alloc, "data")?,
+        app: Name::new(alloc, app)?,
+        key: Name::new(alloc, key)?,
+        value: Name::new(alloc, value)?,
+    })
+}
+
+// An application's key goes.
+fn unset(alloc: Global, app: &str, key: &str) -> Result<MapCommand, OutOfMemory> {
+    Ok(MapCommand::AppRm {
+        pool: Name::new(alloc, "data")?,
+        app: Name::new(alloc, app)?,
+        key: Name::new(alloc, key)?,
+    })
+}
+
+// A pool has an application.
+fn enable(alloc: Global, app: &str) -> Result<MapCommand, OutOfMemory> {
+    Ok(MapCommand::AppEnable {
+        pool: Name::new(alloc, "data")?,
+        app: Name::new(alloc, app)?,
+    })
+}
+
+// A command on the applications of the pool `data`.
+fn applications(alloc: Global, words: &[&str]) -> Result<MapCommand, Fail> {
+    match words {
+        ["enable", app] => Ok(enable(alloc, *app)?),
+        ["set", app, key, value] => Ok(set(alloc, *app, *key, *value)?),
+        ["unset", app, key] => Ok(unset(alloc, *app, *key)?),
+        _ => Err(not_understood(words)),
+    }
+}
+
+// A daemon's number.
+fn daemon(word: &str) -> Result<u8, Fail> {
+    Ok(word.parse::<u8>()?)
+}
+
+// A command on a daemon.
+fn on_daemon(words: &[&str]) -> Result<MapCommand, Fail> {
+    let [word, number] = words else {
+        return Err(not_understood(words));
+    };
+    let number = daemon(*number)?;
+    match *word {
+        "up" => Ok(MapCommand::OsdUp(number)),
+        "down" => Ok(MapCommand::OsdDown(number)),
+        "restart" => Ok(MapCommand::OsdRestart(number)),
+        _ => Err(not_understood(words)),
+    }
+}
+
+// The tick at which a ticket ends, where it does.
+fn until(words: &[&str]) -> Result<Option<u64>, Fail> {
+    match words {
+        [] => Ok(None),
+        ["until", tick] => Ok(Some(u64::from(number_of(*tick)?))),
+        _ => Err(not_understood(words)),
+    }
+}
+
+fn open(alloc: Global, name: &str, when: &[&str]) -> Result<Event, Fail> {
+    Ok(Event::Open {
+        until: until(when)?,
+        entity: Name::new(alloc, name)?,
+    })
+}
+
+fn renew(session: &str, when: &[&str]) -> Result<Event, Fail> {
+    Ok(Event::Renew {
+        session: number_of(session)?,
+        until: until(when)?,
+    })
+}
+
+// Who asks, by which epoch and when, and where: in a namespace of a pool.
+fn ask(alloc: Global, words: &[&str]) -> Result<Ask, Fail> {
+    let [session, epoch, tick, pool, namespace] = words else {
+        return Err(not_understood(words));
+    };
+    let (session, epoch, tick) = three_of(*session, *epoch, *tick)?;
+    Ok(Ask {
+        session,
+        epoch,
+        tick: u64::from(tick),
+        pool: Name::new(alloc, *pool)?,
+        namespace: Name::new(alloc, *namespace)?,
+    })
+}
+
+fn append(alloc: Global, text: &str) -> Result<Op, OutOfMemory> {
+    Ok(Op::Append(Bytes::from_slice(alloc, text.as_bytes())?))
 }
 
 fn call(alloc: Global, method: &str, input: &str) -> Result<Op, OutOfMemory> {
@@ -77,168 +161,109 @@ fn call(alloc: Global, method: &str, input: &str) -> Result<Op, OutOfMemory> {
     })
 }
 
-fn op(alloc: Global, work: Work) -> Result<Op, OutOfMemory> {
+fn op(alloc: Global, work: &[&str]) -> Result<Op, Fail> {
     match work {
-        Work::Append(text) => Ok(Op::Append(Bytes::from_slice(alloc, text.as_bytes())?)),
-        Work::Read => Ok(Op::Read {
+        ["append", text] => Ok(append(alloc, *text)?),
+        ["read"] => Ok(Op::Read {
             offset: 0,
             length: 0,
         }),
-        Work::Remove => Ok(Op::Remove),
-        Work::Add => call(alloc, "add", "1"),
-        Work::UnknownMethod => call(alloc, "drop", ""),
-        Work::Stat | Work::Nothing | Work::Seventeen => Ok(Op::Stat),
+        ["remove"] => Ok(Op::Remove),
+        ["add"] => Ok(call(alloc, "add", "1")?),
+        ["unknown_method"] => Ok(call(alloc, "drop", "")?),
+        ["stat"] | ["nothing"] | ["seventeen"] => Ok(Op::Stat),
+        _ => Err(not_understood(work)),
     }
 }
 
-fn ops(alloc: Global, work: Work) -> Result<Ops, OutOfMemory> {
-    let count = match work {
-        Work::Nothing => 0,
-        Work::Seventeen => 17,
+// How many operations a vector has: one, or as many as the word says.
+fn how_many(work: &[&str]) -> usize {
+    match work {
+        ["nothing"] => 0,
+        ["seventeen"] => 17,
         _ => 1,
-    };
+    }
+}
+
+fn ops(alloc: Global, work: &[&str]) -> Result<Ops, Fail> {
     let mut ops = Vec::new(alloc);
-    for _ in 0..count {
+    for _ in 0..how_many(work) {
         ops.push(op(alloc, work)?)?;
     }
     Ok(Ops::from_vec(ops))
 }
 
-fn ask(alloc: Global, asker: Asker, pool: &str, namespace: &str) -> Result<Ask, OutOfMemory> {
-    let (session, epoch, tick) = asker;
-    Ok(Ask {
-        session,
-        epoch,
-        tick,
-        pool: Name::new(alloc, pool)?,
-        namespace: Name::new(alloc, namespace)?,
+// A request: who asks and where, of which object, and what.
+fn submit(alloc: Global, words: &[&str]) -> Result<Event, Fail> {
+    let [session, epoch, tick, pool, namespace, object, work @ ..] = words else {
+        return Err(not_understood(words));
+    };
+    Ok(Event::Submit {
+        ask: ask(alloc, &[*session, *epoch, *tick, *pool, *namespace])?,
+        object: Name::new(alloc, *object)?,
+        ops: ops(alloc, work)?,
     })
 }
 
-pub(super) fn group(alloc: Global, pool: &str, number: u32) -> Result<GroupId, OutOfMemory> {
+// The group of a pool, by its number.
+pub(super) fn group_of(alloc: Global, pool: &str, number: &str) -> Result<GroupId, Fail> {
     Ok(GroupId {
+        number: number_of(number)?,
         pool: Name::new(alloc, pool)?,
-        number,
     })
 }
 
-// A command on the users.
-fn auth(alloc: Global, does: Does) -> Result<Option<AuthCommand>, OutOfMemory> {
-    Ok(match does {
-        AddUser(name, text) => Some(AuthCommand::Add {
-            name: Name::new(alloc, name)?,
-            caps: osd(alloc, text)?,
-        }),
-        MakeUser(name, text) => Some(AuthCommand::GetOrCreate {
-            name: Name::new(alloc, name)?,
-            caps: osd(alloc, text)?,
-        }),
-        SetCaps(name, text) => Some(AuthCommand::SetCaps {
-            name: Name::new(alloc, name)?,
-            caps: osd(alloc, text)?,
-        }),
-        DeleteUser(name) => Some(AuthCommand::Delete {
-            name: Name::new(alloc, name)?,
-        }),
-        _ => None,
-    })
-}
-
-// A command on the map. Those on applications are on the pool `data`.
-fn map(alloc: Global, does: Does) -> Result<Option<MapCommand>, OutOfMemory> {
-    let pool = Name::new(alloc, "data")?;
-    Ok(match does {
-        Create(name, pg_num, size, min_size) => Some(MapCommand::PoolCreate {
-            name: Name::new(alloc, name)?,
-            pg_num,
-            size,
-            min_size,
-        }),
-        Enable(app) => Some(MapCommand::AppEnable {
-            pool,
-            app: Name::new(alloc, app)?,
-        }),
-        Set(app, key, value) => Some(MapCommand::AppSet {
-            pool,
-            app: Name::new(alloc, app)?,
-            key: Name::new(alloc, key)?,
-            value: Name::new(alloc, value)?,
-        }),
-        Unset(app, key) => Some(MapCommand::AppRm {
-            pool,
-            app: Name::new(alloc, app)?,
-            key: Name::new(alloc, key)?,
-        }),
-        Up(daemon) => Some(MapCommand::OsdUp(daemon)),
-        Down(daemon) => Some(MapCommand::OsdDown(daemon)),
-        Restart(daemon) => Some(MapCommand::OsdRestart(daemon)),
-        _ => None,
-    })
-}
-
-// What a session does.
-fn of_session(alloc: Global, does: Does) -> Result<Option<Event>, OutOfMemory> {
-    Ok(match does {
-        Open(name, until) => Some(Event::Open {
-            entity: Name::new(alloc, name)?,
-            until,
-        }),
-        Renew(session, until) => Some(Event::Renew { session, until }),
-        Close(session) => Some(Event::Close { session }),
-        Submit(asker, (pool, namespace, object), work) => Some(Event::Submit {
-            ask: ask(alloc, asker, pool, namespace)?,
-            object: Name::new(alloc, object)?,
-            ops: ops(alloc, work)?,
-        }),
-        List(asker, pool, namespace) => Some(Event::List(ask(alloc, asker, pool, namespace)?)),
-        _ => None,
-    })
+// What happens to a message of a group.
+fn message(word: &str, group: GroupId, place: usize) -> Result<Event, Fail> {
+    match word {
+        "deliver" => Ok(Event::Deliver { group, place }),
+        "lose" => Ok(Event::Lose { group, place }),
+        "repeat" => Ok(Event::Repeat { group, place }),
+        _ => Err(Fail::new("no event of a message")),
+    }
 }
 
 // What happens to a group's messages.
-fn of_group(alloc: Global, does: Does) -> Result<Option<Event>, OutOfMemory> {
-    Ok(match does {
-        Deliver(pool, number, place) => Some(Event::Deliver {
-            group: group(alloc, pool, number)?,
-            place,
+fn of_group(alloc: Global, words: &[&str]) -> Result<Event, Fail> {
+    match words {
+        ["kick", pool, group] => Ok(Event::Kick {
+            group: group_of(alloc, *pool, *group)?,
         }),
-        Lose(pool, number, place) => Some(Event::Lose {
-            group: group(alloc, pool, number)?,
-            place,
-        }),
-        Repeat(pool, number, place) => Some(Event::Repeat {
-            group: group(alloc, pool, number)?,
-            place,
-        }),
-        Kick(pool, number) => Some(Event::Kick {
-            group: group(alloc, pool, number)?,
-        }),
-        _ => None,
-    })
-}
-
-// The event of this kind.
-pub(super) fn event(alloc: Global, does: Does) -> Result<Event, OutOfMemory> {
-    if let Some(command) = auth(alloc, does)? {
-        return Ok(Event::Auth(command));
-    }
-    if let Some(command) = map(alloc, does)? {
-        return Ok(Event::Map(command));
-    }
-    if let Some(event) = of_session(alloc, does)? {
-        return Ok(event);
-    }
-    match of_group(alloc, does)? {
-        Some(event) => Ok(event),
-        None => Ok(Event::Close { session: 0 }),
+        [word, pool, group, place] => {
+            let place = number_of(*place)? as usize;
+            message(*word, group_of(alloc, *pool, *group)?, place)
+        }
+        _ => Err(not_understood(words)),
     }
 }
 
-// The events of these kinds, in order.
-pub(super) fn events(alloc: Global, all: &[Does]) -> Result<Vec<Event>, OutOfMemory> {
-    let mut events = Vec::new(alloc);
-    for does in all {
-        events.push(event(alloc, *does)?)?;
+// What a session does, or what happens to a group's messages.
+fn of_session(alloc: Global, words: &[&str]) -> Result<Event, Fail> {
+    match words {
+        ["open", name, when @ ..] => open(alloc, *name, when),
+        ["renew", session, when @ ..] => renew(*session, when),
+        ["close", session] => Ok(Event::Close {
+            session: number_of(*session)?,
+        }),
+        ["submit", rest @ ..] => submit(alloc, rest),
+        ["list", rest @ ..] => Ok(Event::List(ask(alloc, rest)?)),
+        _ => of_group(alloc, words),
     }
-    Ok(events)
+}
+
+// The event of these words.
+pub(super) fn event_of(alloc: Global, words: &[&str]) -> Result<Event, Fail> {
+    match words {
+        ["auth", rest @ ..] => Ok(Event::Auth(auth(alloc, rest)?)),
+        ["pool", rest @ ..] => Ok(Event::Map(pool(alloc, rest)?)),
+        ["app", rest @ ..] => Ok(Event::Map(applications(alloc, rest)?)),
+        ["osd", rest @ ..] => Ok(Event::Map(on_daemon(rest)?)),
+        _ => of_session(alloc, words),
+    }
+}
+
+// The event of a line.
+pub(super) fn read_event(alloc: Global, line: &str) -> Result<Event, Fail> {
+    let words = words_of(alloc, line)?;
+    event_of(alloc, words.as_slice())
 }

@@ -14,6 +14,10 @@ mod group_refusals;
 #[cfg(test)]
 mod limits;
 #[cfg(test)]
+mod lines;
+#[cfg(test)]
+mod looks;
+#[cfg(test)]
 mod names;
 #[cfg(test)]
 mod refusals;
@@ -24,6 +28,6 @@ mod schedules;
 #[cfg(test)]
 mod sessions;
 #[cfg(test)]
-mod steps;
-#[cfg(test)]
 mod telling;
+#[cfg(test)]
+mod words;

@@ -1,32 +1,12 @@
 //! What a world tells of an event, or the number of its refusal.
 
+use super::words::{is_id, is_number};
 use auth_db::AuthFault;
 use entry_core::Id;
 use group_core::GroupFault;
-use map_core::{Epoch, MapFault};
+use map_core::MapFault;
 use object_core::NeedsFault;
 use world_core::{Told, WorldFault};
-
-// What an event tells: ids by session and number.
-#[derive(Clone, Copy, Debug, PartialEq, Eq)]
-pub(super) enum Tells {
-    Done,
-    Made,
-    There,
-    Epoch(Epoch),
-    Session(u32),
-    Request(u32, u32),
-    List(u32, u32, u32),
-    Refused(&'static str),
-    // P1, and the message's number.
-    NoMessage(usize),
-}
-
-impl Tells {
-    pub(super) fn is_refused(self) -> bool {
-        matches!(self, Tells::Refused(_) | Tells::NoMessage(_))
-    }
-}
 
 fn of_users(fault: AuthFault) -> &'static str {
     match fault {
@@ -94,34 +74,84 @@ pub(super) fn number(fault: WorldFault) -> &'static str {
     }
 }
 
-// The number of a request.
-fn request(id: Id) -> Tells {
-    Tells::Request(id.session(), id.number())
-}
-
-// The first number of a list, and how many pieces it has.
-fn list(first: Id, count: u32) -> Tells {
-    Tells::List(first.session(), first.number(), count)
-}
-
-// What an accepted event told.
-fn told_by(told: Told) -> Tells {
+// What an accepted event told, without its numbers.
+fn word_of(told: &Told) -> &'static str {
     match told {
-        Told::Done => Tells::Done,
-        Told::Made => Tells::Made,
-        Told::There => Tells::There,
-        Told::Epoch(epoch) => Tells::Epoch(epoch),
-        Told::Session(session) => Tells::Session(session),
-        Told::Request(id) => request(id),
-        Told::List { first, count } => list(first, count),
+        Told::Done => "done",
+        Told::Made => "made",
+        Told::There => "there",
+        Told::Epoch(_) => "epoch",
+        Told::Session(_) => "session",
+        Told::Request(_) => "request",
+        Told::List { .. } => "list",
     }
 }
 
-// What an event told.
-pub(super) fn answered(told: Result<Told, WorldFault>) -> Tells {
+// Whether the words are this number alone.
+fn are_number(number: u32, words: &[&str]) -> bool {
+    match words {
+        [word] => is_number(u64::from(number), *word),
+        _ => false,
+    }
+}
+
+// Whether the words are this id alone.
+fn are_id(id: Id, words: &[&str]) -> bool {
+    match words {
+        [word] => is_id(id, *word),
+        _ => false,
+    }
+}
+
+// Whether the words are the id of a list's first piece, and how many pieces it has.
+fn are_list(first: Id, count: u32, words: &[&str]) -> bool {
+    match words {
+        [word, pieces] => is_id(first, *word) && is_number(u64::from(count), *pieces),
+        _ => false,
+    }
+}
+
+// Whether its numbers are these.
+fn has_numbers(told: &Told, words: &[&str]) -> bool {
     match told {
-        Ok(told) => told_by(told),
-        Err(WorldFault::Group(GroupFault::NoMessage(place))) => Tells::NoMessage(place),
-        Err(fault) => Tells::Refused(number(fault)),
+        Told::Done | Told::Made | Told::There => words.is_empty(),
+        Told::Epoch(number) | Told::Session(number) => are_number(*number, words),
+        Told::Request(id) => are_id(*id, words),
+        Told::List { first, count } => are_list(*first, *count, words),
+    }
+}
+
+// Whether these words are a refusal for want of this message.
+fn is_no_message(place: usize, words: &[&str]) -> bool {
+    match words {
+        ["refused", "P1", word] => is_number(place as u64, *word),
+        _ => false,
+    }
+}
+
+// Whether these words are a refusal by this fault: its number, and behind P1 the message's.
+pub(super) fn is_refused(fault: WorldFault, words: &[&str]) -> bool {
+    if let WorldFault::Group(GroupFault::NoMessage(place)) = fault {
+        return is_no_message(place, words);
+    }
+    match words {
+        ["refused", word] => number(fault) == *word,
+        _ => false,
+    }
+}
+
+// Whether an accepted event told just this.
+fn is_accepted(told: Told, words: &[&str]) -> bool {
+    match words {
+        [word, numbers @ ..] => word_of(&told) == *word && has_numbers(&told, numbers),
+        [] => false,
+    }
+}
+
+// Whether an event told just this.
+pub(super) fn is_told(told: Result<Told, WorldFault>, words: &[&str]) -> bool {
+    match told {
+        Ok(told) => is_accepted(told, words),
+        Err(fault) => is_refused(fault, words),
     }
 }

@@ -1,8 +1,24 @@
+use cap_text::OutOfMemory;
 use gate_text::compare_text;
+use std::alloc::Global;
+use std::process::Abort;
 use std::test::Fail;
 
+/// An old text, a new one, and what is printed.
+type Row = (&'static str, &'static str, &'static str);
+
+/// Compares what is printed of pairs of texts, and whether the program fails.
+fn expect(rt: &impl Abort, alloc: Global, rows: &[Row], fails: bool) -> Result<(), OutOfMemory> {
+    for (old, new, text) in rows {
+        let printed = compare_text(alloc, old, new, false)?;
+        assert_eq!(rt; printed.text.as_str(), *text, "{old} to {new}");
+        assert_eq!(rt; printed.fails, fails, "{old} to {new}");
+    }
+    Ok(())
+}
+
 /// Pairs of texts, and what is printed of them.
-const CHANGES: &[(&str, &str, &str)] = &[
+const CHANGES: &[Row; 8] = &[
     (
         "allow r",
         "allow rw",
@@ -47,73 +63,75 @@ const CHANGES: &[(&str, &str, &str)] = &[
 
 #[test]
 fn changes_print_their_texts(rt: HostRuntime) -> Result<(), Fail> {
-    for (old, new, text) in CHANGES {
-        let printed = compare_text(rt.alloc(), old, new, false)?;
-        assert_eq!(rt; printed.text.as_str(), *text, "{old} to {new}");
-        assert!(rt; !printed.fails, "{old} to {new}");
-    }
-    Ok(())
+    Ok(expect(&rt, rt.alloc(), CHANGES, false)?)
 }
+
+const SAME: &[Row; 6] = &[
+    ("allow rwx", "allow rw class-read class-write", "same\n"),
+    ("allow x", "allow class counter", "same\n"),
+    (
+        "allow class counter",
+        "allow class counter get, allow class counter add",
+        "same\n",
+    ),
+    (
+        "profile rbd pool=vms",
+        "allow r class-read pool=vms, allow rwx pool=vms",
+        "same\n",
+    ),
+    (
+        "allow r pool=a, allow w",
+        "allow w, allow r pool=a",
+        "same\n",
+    ),
+    ("", "", "same\n"),
+];
 
 #[test]
 fn texts_that_are_the_same(rt: HostRuntime) -> Result<(), Fail> {
-    for (old, new) in [
-        ("allow rwx", "allow rw class-read class-write"),
-        ("allow x", "allow class counter"),
-        (
-            "allow class counter",
-            "allow class counter get, allow class counter add",
-        ),
-        (
-            "profile rbd pool=vms",
-            "allow r class-read pool=vms, allow rwx pool=vms",
-        ),
-        ("allow r pool=a, allow w", "allow w, allow r pool=a"),
-        ("", ""),
-    ] {
-        let printed = compare_text(rt.alloc(), old, new, false)?;
-        assert_eq!(rt; printed.text.as_str(), "same\n", "{old} to {new}");
-        assert!(rt; !printed.fails, "{old} to {new}");
-    }
-    Ok(())
+    Ok(expect(&rt, rt.alloc(), SAME, false)?)
 }
+
+const REFUSED: &[Row; 3] = &[
+    (
+        "allow rw network 10.0.0.0/8",
+        "profile osd",
+        "refused old C7 NetworkClause at 9\n",
+    ),
+    (
+        "allow r",
+        "profile osd",
+        "refused new G1 UnknownProfile 1\n",
+    ),
+    (
+        "profile osd",
+        "allow r",
+        "refused old G1 UnknownProfile 1\n",
+    ),
+];
 
 #[test]
 fn refused_sides(rt: HostRuntime) -> Result<(), Fail> {
-    for (old, new, text) in [
-        (
-            "allow rw network 10.0.0.0/8",
-            "profile osd",
-            "refused old C7 NetworkClause at 9\n",
-        ),
-        (
-            "allow r",
-            "profile osd",
-            "refused new G1 UnknownProfile 1\n",
-        ),
-        (
-            "profile osd",
-            "allow r",
-            "refused old G1 UnknownProfile 1\n",
-        ),
-    ] {
-        let printed = compare_text(rt.alloc(), old, new, false)?;
-        assert_eq!(rt; printed.text.as_str(), text, "{old} to {new}");
-        assert!(rt; printed.fails, "{old} to {new}");
+    Ok(expect(&rt, rt.alloc(), REFUSED, true)?)
+}
+
+/// Pairs of texts, and whether a check of them fails.
+const CHECKS: &[(&str, &str, bool); 4] = &[
+    ("allow r", "allow rw", true),
+    ("allow r", "allow w", true),
+    ("allow rw", "allow r", false),
+    ("allow rw", "allow w, allow rw", false),
+];
+
+fn expect_checks(rt: &impl Abort, alloc: Global) -> Result<(), OutOfMemory> {
+    for (old, new, fails) in CHECKS {
+        let printed = compare_text(alloc, old, new, true)?;
+        assert_eq!(rt; printed.fails, *fails, "{old} to {new}");
     }
     Ok(())
 }
 
 #[test]
 fn checks_fail_where_more_is_allowed(rt: HostRuntime) -> Result<(), Fail> {
-    for (old, new, fails) in [
-        ("allow r", "allow rw", true),
-        ("allow r", "allow w", true),
-        ("allow rw", "allow r", false),
-        ("allow rw", "allow w, allow rw", false),
-    ] {
-        let printed = compare_text(rt.alloc(), old, new, true)?;
-        assert_eq!(rt; printed.fails, fails, "{old} to {new}");
-    }
-    Ok(())
+    Ok(expect_checks(&rt, rt.alloc())?)
 }

@@ -10,7 +10,8 @@ pub loop-own-preserved : goal.loop-own-preserved
 loop-own-preserved c =
     let inv = c.loop-own.invariant in
     let made = c.in_ok-pass_with.field-0 in
-    let P : Pass → Type 0 = λ pass. IsPassOf c.args.cluster.now pass × (pass.sessions.items ≡ []) in
+    let P : Pass → Type 0 = IsPassOf c.args.cluster.now in
+    let Idle : Pass → Type 0 = λ pass. pass.sessions.items ≡ [] in
     let given = c.in_ok-pass_with.ensures.pass in
     let items : c.push_reserved.new.self.items ≡ c.loop-own.passes.items ++ made ∷ [] = c.push_reserved.ensures.items ∙ ap (λ l. l ++ made ∷ []) c.reserve.ensures.items in
     let longer = length_push c.loop-own.yielded c.in-Some.own in
@@ -22,5 +23,6 @@ loop-own-preserved c =
       map_is = c.pass_with.ensures.follows.0;
       follows = c.pass_with.ensures.follows.1;
       count = omega arith;
-      passes = subst (All P) (sym items) (All-push P c.loop-own.passes.items made inv.passes (given.0, given.2));
+      passes = subst (All P) (sym items) (All-push P c.loop-own.passes.items made inv.passes given.0);
+      idle = subst (All Idle) (sym items) (All-push Idle c.loop-own.passes.items made inv.idle given.2);
     }

@@ -11,5 +11,6 @@ invariant-loop-own l = record {
   map_is : l.monitor.map ≡ l.cluster.start;
   follows : Follows l.cluster.start l.monitor;
   count : vec_len l.passes ≡ length l.yielded;
-  passes : All (λ pass. IsPassOf l.cluster pass × (pass.sessions.items ≡ [])) l.passes.items;
+  passes : All (IsPassOf l.cluster) l.passes.items;
+  idle : All (λ pass. pass.sessions.items ≡ []) l.passes.items;
 }

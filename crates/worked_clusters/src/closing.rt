@@ -1,0 +1,84 @@
+//! That a cluster is closed with all its passes, and not before.
+
+ghost use Rattle.std.specs.Prelude.{All, IfSome};
+ghost use Rattle.cluster.specs.Asks.{IsBegun, IsPassOf};
+ghost use Rattle.cluster.specs.Monitors.{IsMonitorOf, Follows};
+
+use crate::begun::{begun, take_pass};
+use cluster::{CloseFault, Cluster, Monitor, Pass};
+use std::alloc::Global;
+use std::sync::Wait;
+use std::test::Fail;
+use world_core::World;
+
+// The pass is put back, where there is memory.
+fn put_pass(cluster: &Cluster, passes: &mut Vec<Pass>, pass: Option<Pass>)
+    requires rest { All (IsPassOf cluster.now) passes.old.items }
+    requires pass { IfSome pass (IsPassOf cluster.now) }
+    ensures { All (IsPassOf cluster.now) passes.new.items }
+{
+    let _count = cluster.group_count();
+    if let Some(pass) = pass {
+        let _put = passes.push(pass);
+    }
+}
+
+// The world of a cluster that is closed.
+fn close_whole<R: Wait>(
+    rt: &R,
+    alloc: Global,
+    cluster: Cluster,
+    monitor: Monitor,
+    passes: Vec<Pass>,
+) -> Option<World>
+    requires begun { IsBegun cluster }
+    requires monitor { IsMonitorOf cluster monitor × Follows cluster.start monitor }
+    requires passes { All (IsPassOf cluster) passes.items }
+{
+    match cluster.close(rt, alloc, monitor, passes) {
+        Ok(parts) => World::of(parts).ok(),
+        Err((_, _cluster, monitor, _passes)) => {
+            monitor.end(rt);
+            None
+        }
+    }
+}
+
+// Without one pass a cluster is not closed, and all comes back; then it is closed with all.
+fn close_late<R: Wait>(
+    rt: &R,
+    alloc: Global,
+    cluster: Cluster,
+    monitor: Monitor,
+    mut passes: Vec<Pass>,
+) -> Option<World>
+    requires begun { IsBegun cluster }
+    requires monitor { IsMonitorOf cluster monitor × Follows cluster.start monitor }
+    requires passes { All (IsPassOf cluster) passes.items }
+{
+    let last = take_pass(&cluster, &mut passes);
+    match cluster.close(rt, alloc, monitor, passes) {
+        Err((CloseFault::MissingPass, cluster, monitor, mut passes)) => {
+            put_pass(&cluster, &mut passes, last);
+            close_whole(rt, alloc, cluster, monitor, passes)
+        }
+        Err((_, _cluster, monitor, _passes)) => {
+            monitor.end(rt);
+            None
+        }
+        Ok(_parts) => None,
+    }
+}
+
+#[test]
+fn a_cluster_is_closed_with_all_its_passes(rt: HostRuntime) -> Result<(), Fail> {
+    let alloc = rt.alloc();
+    let (cluster, monitor, passes) = begun(&rt, alloc, 1, "client.w", "allow rwx", 2)?;
+    match close_late(&rt, alloc, cluster, monitor, passes) {
+        None => Err(Fail::from("no world")),
+        Some(world) => {
+            assert_eq!(&rt; world.map().epoch(), 2);
+            Ok(())
+        }
+    }
+}

@@ -1,0 +1,156 @@
+//! What waits for nobody, and for no other group, while a turn holds the lock of one group.
+
+ghost use Rattle.std.specs.Prelude.{All, ◌<◌};
+ghost use Rattle.cluster.specs.Asks.{IsPassOf};
+ghost use Rattle.cluster.specs.Passes.{AreSeatsOf, group_count};
+
+use crate::begun::{begun, take_pass};
+use cap_text::Name;
+use cluster::{Cluster, ClusterFault, LockedGroup, Pass, Seats, Worked};
+use entry_core::GroupId;
+use std::alloc::Global;
+use std::sync::Wait;
+use std::sync::atomic::{AtomicU64, Ordering};
+use std::test::Fail;
+use std::thread::{Threads, join_mut};
+use turn_lock::Step;
+use verdict_core::{Calls, Needs};
+
+/// How many turns one waits at most for the other.
+const MOST_TURNS: u32 = 10_000_000;
+
+/// How far the two have come: 1 once the lock is held, 2 once all was answered meanwhile.
+#[derive(Drop)]
+struct Progress {
+    stage: AtomicU64,
+}
+
+impl Progress {
+    // Waits until this stage has come, for so many turns: whether it has.
+    fn has_come(&self, stage: u64) -> bool {
+        for _turn in 0..MOST_TURNS {
+            if self.stage.load(Ordering::SeqCst) >= stage {
+                return true;
+            }
+        }
+        false
+    }
+}
+
+/// Holds a group's lock until all was answered meanwhile: whether it was.
+#[derive(Drop)]
+struct Hold<'a> {
+    progress: &'a Progress,
+}
+
+impl<'a> Step for Hold<'a> {
+    ghost use Rattle.worked_clusters.specs.Held.{hold_entry, HoldTells};
+
+    type Value = LockedGroup;
+
+    type Answer = bool;
+
+    ghost entry = { hold_entry };
+
+    ghost tells = { HoldTells };
+
+    fn run(&mut self, _locked: &mut LockedGroup) -> bool {
+        self.progress.stage.store(1, Ordering::SeqCst);
+        self.progress.has_come(2)
+    }
+}
+
+// Holds the lock of group 0: whether all was answered meanwhile.
+fn hold_group<R: Wait>(rt: &R, cluster: &Cluster, seats: &mut Seats, progress: &Progress) -> bool
+    requires seats { AreSeatsOf cluster.now seats.old }
+    requires group { 0 < group_count cluster.now }
+{
+    cluster.turn(rt, seats, 0, Hold { progress })
+}
+
+// Looks at the map, judges, and works on group 1: whether all is answered.
+fn look<R: Wait>(
+    rt: &R,
+    alloc: Global,
+    cluster: &Cluster,
+    pass: &mut Pass,
+    session: u32,
+) -> Result<bool, ClusterFault>
+    requires { IsPassOf cluster.now pass.old }
+{
+    let pool = Name::new(alloc, "data")?;
+    let namespace = Name::new(alloc, "")?;
+    let object = Name::new(alloc, "x")?;
+    let view = cluster.view(pass, &pool)?;
+    let located = cluster.locate(pass, &pool, &namespace, &object)?;
+    let needs = Needs {
+        reads: true,
+        writes: false,
+        calls: Calls::new(alloc),
+    };
+    let allowed = cluster.judge(pass, session, &view, "", "x", &needs, 0)?;
+    let group = GroupId { pool, number: 1 };
+    let worked = cluster.work(rt, pass, &group)?;
+    Ok(view.pg_num == 2 && located.group < 2 && allowed && worked == Worked::Delivered)
+}
+
+// The same once the lock is held, and tells that it is answered.
+fn look_meanwhile<R: Wait>(
+    rt: &R,
+    alloc: Global,
+    cluster: &Cluster,
+    pass: &mut Pass,
+    session: u32,
+    progress: &Progress,
+) -> bool
+    requires { IsPassOf cluster.now pass.old }
+{
+    let held = progress.has_come(1);
+    let right = matches!(look(rt, alloc, cluster, pass, session), Ok(true));
+    progress.stage.store(2, Ordering::SeqCst);
+    held && right
+}
+
+// One pass holds a lock while the other looks.
+fn both<R: Threads + Wait + Sync>(
+    rt: &R,
+    alloc: Global,
+    cluster: &Cluster,
+    passes: Vec<Pass>,
+) -> bool
+    requires passes { All (IsPassOf cluster.now) passes.items }
+    requires groups { 0 < group_count cluster.now }
+{
+    let mut passes = passes;
+    let Some(mut holder) = take_pass(cluster, &mut passes) else {
+        return false;
+    };
+    let Some(mut looker) = take_pass(cluster, &mut passes) else {
+        return false;
+    };
+    let Ok(name) = Name::new(alloc, "client.a") else {
+        return false;
+    };
+    let Ok(session) = cluster.open(rt, &mut looker, name, None) else {
+        return false;
+    };
+    let progress = Progress {
+        stage: AtomicU64::new(0),
+    };
+    let (held, looked) = join_mut(
+        rt,
+        &mut || hold_group(rt, cluster, &mut holder.seats, &progress),
+        &mut || look_meanwhile(rt, alloc, cluster, &mut looker, session, &progress),
+    );
+    held && looked
+}
+
+#[test]
+fn judge_while_a_step_is_held(rt: HostRuntime) -> Result<(), Fail> {
+    let alloc = rt.alloc();
+    let (cluster, monitor, passes) = begun(&rt, alloc, 2, "client.a", "allow r pool=data", 2)?;
+    let right = cluster.group_count() == 2 && both(&rt, alloc, &cluster, passes);
+    monitor.end(&rt);
+    assert!(&rt; right);
+    Ok(())
+}

@@ -1,0 +1,70 @@
+//! Moving the groups meanwhile.
+
+ghost use Rattle.cluster.specs.Monitors.{IsMonitorOf, Follows};
+
+use cluster::{ChangeFault, Cluster, Monitor};
+use map_core::MapCommand;
+use std::sync::Wait;
+use std::sync::atomic::{AtomicU64, Ordering};
+
+/// How often the daemon goes down and comes up.
+const TIMES: u32 = 20;
+
+/// How often it does at most where that goes on until something ends.
+const MOST_TIMES: u32 = 500;
+
+/// The daemon that goes down and comes up.
+const DAEMON: u8 = 2;
+
+// Changes the map, and finishes the change.
+fn change<R: Wait>(
+    rt: &R,
+    cluster: &Cluster,
+    monitor: &mut Monitor,
+    command: MapCommand,
+) -> Result<(), ChangeFault>
+    requires { IsMonitorOf cluster.now monitor.old × Follows cluster.now.start monitor.old }
+    ensures { IsMonitorOf cluster.now monitor.new × Follows cluster.now.start monitor.new }
+{
+    match monitor.change_map(rt, cluster, command) {
+        Ok(_) => Ok(()),
+        Err(ChangeFault::Unfinished(_)) => monitor.finish(rt, cluster),
+        Err(fault) => Err(fault),
+    }
+}
+
+// Takes the daemon down and up, so many times, and tells how many changes there were.
+pub(crate) fn move_often<R: Wait>(
+    rt: &R,
+    cluster: &Cluster,
+    monitor: &mut Monitor,
+) -> Result<u32, ChangeFault>
+    requires { IsMonitorOf cluster.now monitor.old × Follows cluster.now.start monitor.old }
+    ensures { IsMonitorOf cluster.now monitor.new × Follows cluster.now.start monitor.new }
+{
+    for _time in 0..TIMES {
+        change(rt, cluster, monitor, MapCommand::OsdDown(DAEMON))?;
+        change(rt, cluster, monitor, MapCommand::OsdUp(DAEMON))?;
+    }
+    Ok(TIMES * 2)
+}
+
+// Takes the daemon down and up, until something ends, which is told by a number above 0, or 500 times.
+pub(crate) fn move_until<R: Wait>(
+    rt: &R,
+    cluster: &Cluster,
+    monitor: &mut Monitor,
+    ended: &AtomicU64,
+) -> Result<(), ChangeFault>
+    requires { IsMonitorOf cluster.now monitor.old × Follows cluster.now.start monitor.old }
+    ensures { IsMonitorOf cluster.now monitor.new × Follows cluster.now.start monitor.new }
+{
+    for _time in 0..MOST_TIMES {
+        if ended.load(Ordering::SeqCst) > 0 {
+            return Ok(());
+        }
+        change(rt, cluster, monitor, MapCommand::OsdDown(DAEMON))?;
+        change(rt, cluster, monitor, MapCommand::OsdUp(DAEMON))?;
+    }
+    Ok(())
+}
