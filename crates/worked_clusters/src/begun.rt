@@ -69,6 +69,15 @@ pub(crate) fn take_pass(cluster: &Cluster, passes: &mut Vec<Pass>) -> Option<Pas
     passes.pop()
 }
 
+// Puts the pass behind the others: whether there was memory.
+pub(crate) fn put_pass(cluster: &Cluster, passes: &mut Vec<Pass>, pass: Pass) -> bool
+    requires rest { All (IsPassOf cluster.now) passes.old.items }
+    requires pass { IsPassOf cluster.now pass }
+    ensures { All (IsPassOf cluster.now) passes.new.items }
+{
+    passes.push(pass).is_ok()
+}
+
 // Who asks, in a namespace of the pool `data`.
 pub(crate) fn asking(alloc: Global, session: u32, namespace: &str) -> Result<Asking, ClusterFault> {
     Ok(Asking {

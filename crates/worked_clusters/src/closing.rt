@@ -1,27 +1,15 @@
 //! That a cluster is closed with all its passes, and not before.
 
-ghost use Rattle.std.specs.Prelude.{All, IfSome};
+ghost use Rattle.std.specs.Prelude.{All};
 ghost use Rattle.cluster.specs.Asks.{IsBegun, IsPassOf};
 ghost use Rattle.cluster.specs.Monitors.{IsMonitorOf, Follows};
 
-use crate::begun::{begun, take_pass};
+use crate::begun::{begun, put_pass, take_pass};
 use cluster::{CloseFault, Cluster, Monitor, Pass};
 use std::alloc::Global;
 use std::sync::Wait;
 use std::test::Fail;
 use world_core::World;
-
-// The pass is put back, where there is memory.
-fn put_pass(cluster: &Cluster, passes: &mut Vec<Pass>, pass: Option<Pass>)
-    requires rest { All (IsPassOf cluster.now) passes.old.items }
-    requires pass { IfSome pass (IsPassOf cluster.now) }
-    ensures { All (IsPassOf cluster.now) passes.new.items }
-{
-    let _count = cluster.group_count();
-    if let Some(pass) = pass {
-        let _put = passes.push(pass);
-    }
-}
 
 // The world of a cluster that is closed.
 fn close_whole<R: Wait>(
@@ -56,10 +44,16 @@ fn close_late<R: Wait>(
     requires monitor { IsMonitorOf cluster monitor × Follows cluster.start monitor }
     requires passes { All (IsPassOf cluster) passes.items }
 {
-    let last = take_pass(&cluster, &mut passes);
+    let Some(last) = take_pass(&cluster, &mut passes) else {
+        monitor.end(rt);
+        return None;
+    };
     match cluster.close(rt, alloc, monitor, passes) {
         Err((CloseFault::MissingPass, cluster, monitor, mut passes)) => {
-            put_pass(&cluster, &mut passes, last);
+            if !put_pass(&cluster, &mut passes, last) {
+                monitor.end(rt);
+                return None;
+            }
             close_whole(rt, alloc, cluster, monitor, passes)
         }
         Err((_, _cluster, monitor, _passes)) => {

@@ -3,7 +3,7 @@
 ghost use Rattle.std.specs.Prelude.{All};
 ghost use Rattle.cluster.specs.Asks.{IsPassOf};
 
-use crate::begun::{Wish, begun, is_output, submit, take_pass};
+use crate::begun::{Wish, begun, is_output, put_pass, submit, take_pass};
 use cap_text::Name;
 use cluster::{Asked, Cluster, ClusterFault, Gate, Pass, run_workers};
 use std::alloc::Global;
@@ -91,7 +91,9 @@ fn two_work<R: Threads + Wait + Sync>(
     let Ok(asked) = first_request(rt, alloc, cluster, &mut last) else {
         return Ok(false);
     };
-    passes.push(last)?;
+    if !put_pass(cluster, &mut passes, last) {
+        return Ok(false);
+    }
     let meeting = Meeting {
         came: AtomicU64::new(0),
         seen: AtomicU64::new(0),
