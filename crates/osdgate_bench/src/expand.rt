@@ -77,7 +77,9 @@ fn add_row<C: Clock, W: Work>(
     times: usize,
     what: &str,
     work: &W,
-) -> Result<(), Fault> {
+) -> Result<(), Fault>
+    requires { W.ready work.now }
+{
     let row = format!(in table.alloc(); "{call}, {times} of {what}")?;
     table.row(row.as_str(), work)
 }

@@ -42,6 +42,11 @@ fn is_full(done: Result<u64, WorkloadFault>, size: u64) -> Result<bool, OutOfMem
 }
 
 impl<R: Threads + Wait + Sync> Work for Loaded<'_, R> {
+    ghost use Rattle.std.specs.Thread.{IsSync};
+
+    // the threads share the runtime
+    ghost ready = { λ _. IsSync R.row };
+
     fn once(&self, _turn: usize) -> Result<bool, OutOfMemory> {
         let done = run_load(
             self.rt,

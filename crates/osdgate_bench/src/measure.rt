@@ -18,9 +18,13 @@ const DOUBLINGS: u32 = 30;
 
 /// What is measured.
 pub(crate) trait Work {
+    // what has to hold for the work to be done
+    ghost ready: { Self → Type 0 } = { λ _. Unit {0} };
+
     /// Does the work once. The turn picks among the values at hand, so that no call can stand for the next.
     /// The answer is counted.
-    fn once(&self, turn: usize) -> Result<bool, OutOfMemory>;
+    fn once(&self, turn: usize) -> Result<bool, OutOfMemory>
+        requires { ready self.now };
 
     /// How many calls the work stands for.
     fn size(&self) -> u64
@@ -38,6 +42,7 @@ pub(crate) struct Timing {
 
 /// Does the work so often, and counts the calls that answer yes.
 fn run<W: Work>(work: &W, calls: usize) -> Result<usize, OutOfMemory>
+    requires { W.ready work.now }
     ensures { IfOk result (λ yes. yes ≤ calls) }
 {
     let mut yes = 0;
@@ -51,6 +56,7 @@ fn run<W: Work>(work: &W, calls: usize) -> Result<usize, OutOfMemory>
 
 /// The nanoseconds that a run takes, and how many of its calls answered yes.
 fn timed_run<C: Clock, W: Work>(clock: &C, work: &W, calls: usize) -> Result<(u64, usize), Fault>
+    requires { W.ready work.now }
     ensures { IfOk result (λ r. r.1 ≤ calls) }
 {
     let start = Instant::now(clock)?;
@@ -61,6 +67,7 @@ fn timed_run<C: Clock, W: Work>(clock: &C, work: &W, calls: usize) -> Result<(u6
 
 /// A number of calls that take long enough, or the most calls where none does.
 fn enough_calls<C: Clock, W: Work>(clock: &C, work: &W) -> Result<usize, Fault>
+    requires { W.ready work.now }
     ensures { IfOk result (λ calls. 0 < calls) }
 {
     let mut calls: usize = 1;
@@ -91,7 +98,9 @@ fn least_and_middle(times: &mut [u64]) -> (u64, u64)
 }
 
 /// Measures a piece of work: 15 runs, after some that find how many calls make a run long enough.
-pub(crate) fn measure<C: Clock, W: Work>(clock: &C, work: &W) -> Result<Timing, Fault> {
+pub(crate) fn measure<C: Clock, W: Work>(clock: &C, work: &W) -> Result<Timing, Fault>
+    requires { W.ready work.now }
+{
     let calls = enough_calls(clock, work)?;
     let mut times = [0; RUNS];
     let mut all: usize = 0;

@@ -65,7 +65,9 @@ impl<'a, C: Clock> Table<'a, C> {
     }
 
     /// Adds the line of a piece of work.
-    pub(crate) fn row<W: Work>(&mut self, name: &str, work: &W) -> Result<(), Fault> {
+    pub(crate) fn row<W: Work>(&mut self, name: &str, work: &W) -> Result<(), Fault>
+        requires { W.ready work.now }
+    {
         match self.mode {
             Mode::Timed => self.measured(name, work),
             Mode::Once => self.tried(name, work),
@@ -73,7 +75,9 @@ impl<'a, C: Clock> Table<'a, C> {
     }
 
     /// Does a piece of work once and adds its answer.
-    fn tried<W: Work>(&mut self, name: &str, work: &W) -> Result<(), Fault> {
+    fn tried<W: Work>(&mut self, name: &str, work: &W) -> Result<(), Fault>
+        requires { W.ready work.now }
+    {
         let answer = work.once(0)?;
         self.calls = self.calls.saturating_add(1);
         self.yes = self.yes.saturating_add(usize::from(answer));
@@ -84,7 +88,9 @@ impl<'a, C: Clock> Table<'a, C> {
     }
 
     /// Measures a piece of work and adds its times.
-    fn measured<W: Work>(&mut self, name: &str, work: &W) -> Result<(), Fault> {
+    fn measured<W: Work>(&mut self, name: &str, work: &W) -> Result<(), Fault>
+        requires { W.ready work.now }
+    {
         let timing = measure(self.clock, work)?;
         self.calls = self.calls.saturating_add(timing.calls);
         self.yes = self.yes.saturating_add(timing.yes);

@@ -314,7 +314,9 @@ impl Rows {
         call: &str,
         which: &str,
         work: &W,
-    ) -> Result<(), Fault> {
+    ) -> Result<(), Fault>
+        requires { W.ready work.now }
+    {
         let by = self.shape.name();
         let row = format!(in table.alloc(); "{call}, {by}, {which} {}", self.grants)?;
         table.row(row.as_str(), work)
