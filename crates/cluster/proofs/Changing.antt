@@ -1,5 +1,5 @@
 -- A change that goes on from some group goes on from where it began.
-use Rattle.std.proofs.Common.{◌≡◌, ℕ, ◌<◌, ◌≤◌, List, [], ◌∷◌, ◌++◌, refl, sym, ap, ◌∙◌, subst, arith}
+use Rattle.std.proofs.Common.{◌≡◌, ℕ, ◌≤◌, List, [], ◌∷◌, ◌++◌, refl, sym, ap, ◌∙◌, subst, arith}
 use Rattle.std.specs.Prelude.{Result, Ok, Err, Option, Some, None, IsNone, IfErr, MatchResult}
 use Rattle.std.specs.Option.{option_to_list}
 use mathlib.Core.Logic.{inl, inr}
@@ -11,7 +11,7 @@ use Rattle.map_core.specs.Map.{map_of, after, initial}
 use Rattle.map_core.specs.declared.command.MapCommand.{MapCommand}
 use Rattle.map_core.specs.declared.command.MapCommand.TheVariants.{PoolCreate, AppEnable, AppSet, AppRm, OsdUp, OsdDown, OsdRestart}
 use Rattle.entry_core.specs.declared.sealed.GroupId.{GroupId}
-use Rattle.group_core.specs.Group.{Event, NewInterval, Restart}
+use Rattle.group_core.specs.Group.{Event, NewInterval}
 use Rattle.world_core.specs.World.{members_of}
 use Rattle.cluster.specs.declared.cluster.Cluster.{Cluster}
 use Rattle.cluster.specs.declared.cluster.Seats.{Seats}
@@ -21,7 +21,7 @@ use Rattle.cluster.specs.declared.monitor.Unfinished.TheVariants.{Laid}
 use Rattle.cluster.specs.Published.{with_command}
 use Rattle.cluster.specs.Passes.{group_count}
 use Rattle.cluster.specs.Moves.{move_in, move_by}
-use Rattle.cluster.specs.Change.{happened_at, HaveMoved, HaveLooked, event_at}
+use Rattle.cluster.specs.Change.{HaveMoved, HaveLooked, event_at}
 use Rattle.cluster.specs.Monitors.{StandsBy, WhereLeft, HasBegun, IsLeftBy}
 use Rattle.cluster.proofs.Moved.{goes_through, after_looks, none_moved}
 

@@ -1,13 +1,13 @@
 -- The monitor's seats make the events of the commands that its map has since a first one.
-use Rattle.std.proofs.Common.{◌≡◌, ℕ, zero, suc, ◌<◌, ◌≤◌, Bool, true, false, List, [], ◌∷◌, ◌++◌, map, length, get_or, refl, sym, ap, ◌∙◌, subst, arith}
-use Rattle.std.specs.Prelude.{All, Result, Ok, Err, Option, Some, None, IsNone, OnOk, IfErr, slice_get, if◌then◌else◌}
+use Rattle.std.proofs.Common.{◌≡◌, ℕ, zero, suc, ◌≤◌, Bool, true, false, List, [], ◌∷◌, ◌++◌, map, length, get_or, refl, sym, ap, ◌∙◌, subst, arith}
+use Rattle.std.specs.Prelude.{All, Result, Ok, Err, Option, Some, None, IsNone, OnOk, IfErr, if◌then◌else◌}
 use Rattle.std.specs.Option.{option_to_list}
 use mathlib.Core.Logic.{inl, inr}
 use Rattle.std.proofs.lemmas.Bool.Decides.{leb_tells}
 use Rattle.std.proofs.lemmas.List.{append_assoc, append-nil, length-map}
 use Rattle.turn_lock.specs.Seats.{Locked, Seated, first_of, mine_of}
 use Rattle.std.proofs.lemmas.List.Elements.{All-head, All-tail, All-cons, All-nil}
-use Rattle.map_core.specs.State.{MapState, History}
+use Rattle.map_core.specs.State.{History}
 use Rattle.map_core.specs.Map.{map_of, epoch_of}
 use Rattle.map_core.specs.Refusal.{refusal}
 use Rattle.map_core.specs.declared.command.MapCommand.{MapCommand}
@@ -25,7 +25,7 @@ use Rattle.cluster.specs.Places.{IsFreshRow}
 use Rattle.cluster.specs.Published.{with_command, with_commands}
 use Rattle.cluster.specs.Passes.{AreFreshOf, group_count, firsts_of}
 use Rattle.cluster.specs.Moves.{move_in, move_by, is_creation}
-use Rattle.cluster.specs.Change.{happened, happened_at, HaveMoved, HaveLooked, event_at}
+use Rattle.cluster.specs.Change.{happened, HaveMoved, HaveLooked, event_at}
 use Rattle.cluster.specs.Monitors.{IsMonitorOf, IsLeftBy, moves_from, AllFollow, SomeFollow, FollowBy, Follows, left_with, change_refusal}
 use Rattle.cluster.proofs.Moved.{at_place, looked_nowhere}
 use Rattle.cluster.proofs.Changing.{events_same}

@@ -1,16 +1,15 @@
 -- One group more has moved, or was looked at.
 use Rattle.std.proofs.Common.{◌≡◌, ◌≢◌, ℕ, ◌+◌, ◌<◌, ◌≤◌, List, [], ◌∷◌, ◌++◌, map, length, get_or, refl, sym, ap, ◌∙◌, subst, Some, arith}
-use Rattle.std.specs.Prelude.{All, Bool, true, false, Option, None, Result, Ok, Err, slice_get}
-use Rattle.std.specs.Option.{option_to_list, option_map}
+use Rattle.std.specs.Prelude.{All, Bool, true, false, Option, None, Ok, Err, slice_get}
+use Rattle.std.specs.Option.{option_to_list}
 use mathlib.Core.Logic.{dite}
 use native.Mathlib.Decide.{ℕ_discrete}
 use Rattle.std.proofs.lemmas.List.{append_assoc, append-nil}
-use Rattle.std.proofs.lemmas.List.Elements.{All-head, All-tail, All-cons, All-nil}
+use Rattle.std.proofs.lemmas.List.Elements.{All-head, All-tail, All-cons}
 use Rattle.atomic_table.specs.Seated.{TableId}
 use Rattle.turn_lock.specs.declared.rule.Joined.{Joined}
 use Rattle.std.proofs.lemmas.Option.{slice_get-get_or}
-use Rattle.turn_lock.specs.declared.rule.Made.{Made}
-use Rattle.turn_lock.specs.Seats.{Locked, Seated, seen_by, mine_of, lock_of, seat_lock}
+use Rattle.turn_lock.specs.Seats.{Seated, seen_by, mine_of, lock_of, seat_lock}
 use Rattle.turn_lock.specs.Turns.{StartsWith, made, state_after}
 use Rattle.map_core.specs.State.{History}
 use Rattle.map_core.specs.declared.command.MapCommand.{MapCommand}
@@ -23,12 +22,10 @@ use Rattle.cluster.specs.declared.groups.GroupEntry.{GroupEntry}
 use Rattle.cluster.specs.declared.groups.GroupEntry.TheVariants.{Happened, Looked, Idle}
 use Rattle.cluster.specs.declared.cluster.Cluster.{Cluster}
 use Rattle.cluster.specs.declared.cluster.Seats.{Seats}
-use Rattle.cluster.specs.declared.moves.Move.{Move}
-use Rattle.cluster.specs.declared.moves.IsFull.{IsFull}
 use Rattle.cluster.specs.Groups.{group_after}
 use Rattle.cluster.specs.Passes.{GroupTurn, AreSeatsOf, HaveShare, AreAlone, AreMonitorOf, monitor_share, group_count}
 use Rattle.cluster.specs.Moves.{begins_interval, move_entry, MoveTells, full_entry, FullTells}
-use Rattle.cluster.specs.Change.{happened, happened_at, seen_at, standing, Goes, OneMoved, HaveMoved, HaveLooked, Found, FullAt, NoneFull, SomeFull, BeginsAt, event_at}
+use Rattle.cluster.specs.Change.{happened, happened_at, seen_at, standing, Goes, OneMoved, HaveMoved, HaveLooked, Found, FullAt, NoneFull, BeginsAt, event_at}
 use Rattle.cluster.proofs.Places.{read_at, read_put, read_other, put_same, same_length, starts_whole}
 
 pub starts_through : {X : Type 0} → (xs ys zs : List X) → StartsWith xs ys → StartsWith ys zs → StartsWith xs zs

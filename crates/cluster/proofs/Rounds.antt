@@ -10,12 +10,10 @@ use Rattle.group_core.specs.Group.{Group, Event, Deliver}
 use Rattle.group_core.specs.declared.fault.GroupFault.{GroupFault}
 use Rattle.group_core.specs.declared.fault.GroupFault.TheVariants.{NoMessage, Unreachable, Full, OutOfMemory, Doubled}
 use Rattle.cluster.specs.declared.cluster.Cluster.{Cluster}
-use Rattle.cluster.specs.declared.cluster.Seats.{Seats}
 use Rattle.cluster.specs.declared.pass.Pass.{Pass}
 use Rattle.cluster.specs.declared.groups.Worked.{Worked}
 use Rattle.cluster.specs.declared.groups.Worked.TheVariants as worked
 use Rattle.cluster.specs.Groups.{work_entry, WorkTells}
-use Rattle.cluster.specs.Passes.{GroupTurn}
 use Rattle.cluster.specs.Change.{happened, happened_at, Goes, OneMoved}
 use Rattle.cluster.specs.declared.workers.Worker.{Worker}
 use Rattle.cluster.specs.Places.{Beside}

@@ -1,6 +1,6 @@
 -- A pass is a pass after a submission, and what is asked by sessions and views.
 use Rattle.std.proofs.Common.{◌≡◌, ◌∙◌, ◌⊎◌, inl, inr, ℕ, ◌+◌, ◌*◌, ◌<◌, ◌≤◌, ◌==◌, ◌||◌, Bool, true, false, List, [], ◌∷◌, Option, Some, None, length, refl, sym, ap, subst, arith}
-use Rattle.std.specs.Prelude.{Result, Ok, Err, is_some, slice_get, nat_le, nat_lt, not}
+use Rattle.std.specs.Prelude.{Ok, Err, is_some, slice_get, nat_le, nat_lt, not}
 use Rattle.std.specs.Option.{option_to_list, option_map, option_map_or}
 use mathlib.Core.Logic.{dite}
 use native.Mathlib.Decide.{ℕ_discrete}

@@ -1,5 +1,5 @@
 -- What answers tell, in the words of the steps.
-use Rattle.std.proofs.Common.{◌≡◌, ℕ, Bool, true, false, List, [], ◌∷◌, refl, subst}
+use Rattle.std.proofs.Common.{◌≡◌, ℕ, Bool, true, false, List, [], ◌∷◌, refl}
 use Rattle.std.specs.Prelude.{Option, Some, None, if◌then◌else◌, slice_get}
 use Rattle.entry_core.specs.Log.{is_in}
 use Rattle.group_core.specs.Types.{Party, Client, Osd, Sent}

@@ -1,6 +1,6 @@
 -- Statement: contracts of public calls use it.
 -- What the turns on a group stand for, and what their answers tell.
-use Rattle.std.specs.Prelude.{◌≡◌, ℕ, true, false, List, [], Option, Some, None, Result, Ok, Err}
+use Rattle.std.specs.Prelude.{◌≡◌, true, false, [], Option, Some, None, Result, Ok, Err}
 use Rattle.entry_core.specs.Request.{Sealed}
 use Rattle.entry_core.specs.declared.reply.Reply.{Reply}
 use Rattle.group_core.specs.Group.{Group, Event, Submit, Deliver, Lose, Repeat, NewInterval, Restart, Kick, group_step, refusal_of, answer_of, is_submitted}

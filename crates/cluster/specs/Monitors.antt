@@ -1,6 +1,6 @@
 -- Statement: contracts of public calls use it.
 -- What a change of the map does.
-use Rattle.std.specs.Prelude.{◌≡◌, ℕ, ◌<◌, ◌≤◌, Bool, true, false, List, [], ◌∷◌, ◌++◌, All, map, length, drop, slice_get, Option, Some, None, Result, Ok, Err, IsSome, IsNone, if◌then◌else◌, unwrap_or}
+use Rattle.std.specs.Prelude.{◌≡◌, ℕ, ◌<◌, ◌≤◌, false, List, [], ◌∷◌, ◌++◌, All, map, length, drop, slice_get, Option, Some, None, Result, Ok, Err, IsSome, IsNone, if◌then◌else◌, unwrap_or}
 use Rattle.std.specs.Option.{option_to_list}
 use Rattle.left_right.specs.Sides.{view as known}
 use Rattle.map_core.specs.State.{History}

@@ -1,6 +1,6 @@
 -- Statement: contracts of public calls use it.
 -- What the monitor's turns on a group stand for, and which event a command on the map is for a group.
-use Rattle.std.specs.Prelude.{◌≡◌, ℕ, Bool, true, false, List, Option, Some, None, Result, if◌then◌else◌, length, nat_lt}
+use Rattle.std.specs.Prelude.{◌≡◌, Bool, true, false, Option, Some, None, Result, if◌then◌else◌, length, nat_lt}
 use Rattle.place_core.specs.Placement.{numbers_of}
 use Rattle.map_core.specs.State.{MapState, History}
 use Rattle.map_core.specs.Intervals.{intervals_of}

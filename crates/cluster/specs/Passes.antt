@@ -3,7 +3,7 @@
 use Rattle.std.specs.Prelude.{◌≡◌, ℕ, zero, suc, ◌+◌, ◌-◌, ◌*◌, ◌/◌, List, [], ◌∷◌, ◌++◌, All, map, length}
 use Rattle.turn_lock.specs.declared.rule.Made.{Made}
 use Rattle.turn_lock.specs.Turns.{last_word}
-use Rattle.turn_lock.specs.Seats.{lock_of, first_of, seat_lock, seat_number, seen_by, mine_of, IsSeatOf, IsFresh, IsSameSeat, HasSameShare}
+use Rattle.turn_lock.specs.Seats.{lock_of, first_of, seat_lock, seen_by, IsSeatOf, IsFresh, IsSameSeat, HasSameShare}
 use Rattle.turn_lock.specs.Turned.{Turned, Closes}
 use Rattle.group_core.specs.Group.{Group}
 use Rattle.cluster.specs.declared.groups.GroupEntry.{GroupEntry}

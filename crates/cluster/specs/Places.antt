@@ -1,6 +1,6 @@
 -- Statement: contracts of public calls use it.
 -- A turn on one of a list of locks, each of which a seat of a list is of; what a list of seats takes in; and the end of such a list of locks.
-use Rattle.std.specs.Prelude.{◌≡◌, ℕ, ◌+◌, List, [], ◌∷◌, ◌++◌, Option, Some, slice_get, slice_set}
+use Rattle.std.specs.Prelude.{◌≡◌, ℕ, ◌+◌, List, [], ◌∷◌, Some, slice_get, slice_set}
 use Rattle.turn_lock.specs.Seats.{Locked, Seated, IsFresh, IsSameSeat, HasSameShare, HasItsOwn, joined_after}
 use Rattle.turn_lock.specs.Turns.{StartsWith}
 use Rattle.turn_lock.specs.Turned.{Turned, Closes}

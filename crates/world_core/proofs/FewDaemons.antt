@@ -1,5 +1,5 @@
 -- The number of daemons that a line says is 1 to 16.
-use Rattle.std.proofs.Common.{◌≡◌, ℕ, ◌≤◌, ◌&&◌, List, [], ◌∷◌, Bool, true, false, if◌then◌else◌, Option, Some, None, refl, subst, arith, codes}
+use Rattle.std.proofs.Common.{◌≡◌, ℕ, ◌&&◌, List, [], ◌∷◌, Bool, true, false, if◌then◌else◌, Option, Some, None, refl, subst, arith, codes}
 use Rattle.std.specs.Prelude.{nat_le}
 use Rattle.std.specs.Option.{option_and_then}
 use Rattle.std.specs.Str.{bytes_eq}
@@ -7,7 +7,7 @@ use Rattle.std.proofs.lemmas.Bool.Decides.{nat_tests}
 use Rattle.script_text.specs.Words.{words_of}
 use Rattle.map_core.specs.declared.command.MapCommand.{MapCommand}
 use Rattle.world_core.specs.Event.{AuthCommand}
-use Rattle.world_core.specs.Command.{Command, Osds, Word, Reads, and_then, a_word, a_number, an_id, a_group, an_end, ops, pool, up, down, restart, locate, osd, osd_named, change, add_user, set_caps, get_or_create, delete_user, show_user, auth, auth_named, change_users, open_session, renew_session, submit, list_names, close_session, set_tick, a_message, deliver, lose, send_again, answer, listing, ready, daemons, command_named, command, whole, command_of, read_line}
+use Rattle.world_core.specs.Command.{Command, Osds, Word, Reads, and_then, a_word, a_number, an_id, a_group, an_end, ops, pool, up, down, restart, locate, osd_named, change, add_user, set_caps, get_or_create, delete_user, auth_named, change_users, open_session, renew_session, submit, list_names, a_message, daemons, command_named, command, whole, command_of, read_line}
 use Rattle.world_core.specs.Steps.{HasFewDaemons}
 
 abbrev Few : Option (Command × List Word) → Type 0

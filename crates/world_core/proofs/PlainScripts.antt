@@ -1,6 +1,6 @@
 -- What a plain script prints, line by line.
 use Rattle.std.proofs.Common.{◌≡◌, ◌∙◌, ℕ, ◌+◌, ◌-◌, ◌<◌, ◌≤◌, ◌==◌, ◌&&◌, List, [], ◌∷◌, ◌++◌, Bool, true, false, not, if◌then◌else◌, Option, Some, None, map, length, fold, take, refl, sym, ap, subst, arith, append_assoc}
-use Rattle.std.specs.Prelude.{nat_le, nat_lt, codes, decimal}
+use Rattle.std.specs.Prelude.{nat_le, nat_lt, codes}
 use Rattle.std.specs.List.{filter}
 use Rattle.std.specs.Option.{option_map, option_or}
 use Rattle.std.proofs.lemmas.Bool.Decides.{nat_tests}

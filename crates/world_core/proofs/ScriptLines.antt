@@ -1,7 +1,7 @@
 -- The lines of a script, one after another.
 use Rattle.std.proofs.Common.{◌≡◌, ◌∙◌, ℕ, ◌+◌, List, [], ◌∷◌, ◌++◌, Bool, true, false, Option, Some, None, Result, Ok, Err, OnOk, IfErr, ◌≤◌, refl, sym, ap, subst, arith, fold, append-nil, append_assoc, if◌then◌else◌}
 use Rattle.std.specs.Prelude.{codes}
-use Rattle.std.specs.Io.KnownBytes.{Appends, Keeps}
+use Rattle.std.specs.Io.KnownBytes.{Appends}
 use Rattle.script_text.specs.Streams.{AppendsPart}
 use Rattle.script_text.specs.Text.{line, numeral}
 use Rattle.script_text.specs.declared.fault.ScriptFault.{ScriptFault}
@@ -14,7 +14,7 @@ use Rattle.world_core.specs.Event as happens
 use Rattle.world_core.specs.World.{World, world_step, refusal_of, is_drop}
 use Rattle.world_core.specs.Command.{Command, Osds, Submit, ListNames, Ready}
 use Rattle.world_core.specs.Text.{refused_text}
-use Rattle.world_core.specs.Script.{Step, Goes, IsBad, IsOther, Ending, Whole, BadAt, Output, Machine, event_told, event_line, after_line, line_step, script_step, onward, behind, outputs, script_output, WroteOf, ask_now, ready_line_text, unrefused, settle_events, settle_line}
+use Rattle.world_core.specs.Script.{Step, Goes, IsBad, IsOther, Whole, BadAt, Output, Machine, event_told, event_line, line_step, script_step, onward, behind, outputs, script_output, WroteOf, ask_now, ready_line_text, unrefused, settle_events, settle_line}
 use Rattle.world_core.specs.Steps.{Does, at, GoesTo, LineWrote, IsOfLines}
 
 pub on_ok : {A E : Type 0} {P Q : Type 0} (r : Result A E) → (P → Q) → OnOk r P → OnOk r Q

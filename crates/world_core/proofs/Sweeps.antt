@@ -12,7 +12,6 @@ use Rattle.group_core.specs.Group.{Group, group_step, refusal_to, refusal_at}
 use Rattle.group_core.specs.Group as group
 use Rattle.entry_core.specs.Log.{is_in}
 use Rattle.group_core.specs.Budget.{budget}
-use Rattle.group_core.specs.declared.fault.GroupFault.{GroupFault}
 use Rattle.group_core.specs.declared.fault.GroupFault.TheVariants.{Unreachable}
 use Rattle.group_core.proofs.Statements.{settling}
 use Rattle.world_core.specs.Event.{Event, Fault, OutOfMemory, OfGroup, OfMap}

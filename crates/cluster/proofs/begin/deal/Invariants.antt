@@ -1,4 +1,4 @@
-use Rattle.std.proofs.Common.{◌≡◌, ◌+◌, ◌≤◌, [], ◌∷◌, ◌++◌, take, drop, length, vec_len}
+use Rattle.std.proofs.Common.{◌≡◌, ◌≤◌, [], ◌∷◌, ◌++◌, take, drop, length, vec_len}
 use Rattle.std.specs.Prelude.{reverse}
 use Rattle.cluster.specs.Places.{InStep}
 use Rattle.cluster.proofs.begin.deal.Given as goal

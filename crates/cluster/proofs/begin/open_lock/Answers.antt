@@ -1,4 +1,4 @@
-use Rattle.std.proofs.Common.{◌≡◌, ◌+◌, sym, subst, ◌∙◌}
+use Rattle.std.proofs.Common.{sym, subst, ◌∙◌}
 use Rattle.turn_lock.specs.Seats.{AreShared}
 use Rattle.cluster.proofs.Begun.{shares_are}
 use Rattle.cluster.proofs.begin.open_lock.Goals as goal

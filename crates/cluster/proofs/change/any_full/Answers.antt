@@ -1,7 +1,5 @@
-use Rattle.std.proofs.Common.{◌≡◌, ◌<◌, length, refl, sym, ◌∙◌, Some, arith}
+use Rattle.std.proofs.Common.{◌≡◌, Some, arith}
 use Rattle.std.specs.Prelude.{slice_get}
-use Rattle.cluster.specs.Passes.{group_count}
-use Rattle.cluster.specs.Change.{NoneFull}
 use Rattle.cluster.proofs.Places.{get_at}
 use Rattle.cluster.proofs.Moved.{looked_nowhere, looked_through, none_full, none_more, found_through, goes_nowhere, begins_there}
 use Rattle.cluster.proofs.change.any_full.Goals as goal

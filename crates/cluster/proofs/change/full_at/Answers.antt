@@ -1,4 +1,4 @@
-use Rattle.std.proofs.Common.{rules, sym, ◌∙◌}
+use Rattle.std.proofs.Common.{rules}
 use Rattle.cluster.proofs.Moved.{full_either, looked_nowhere}
 use Rattle.cluster.specs.Moves.{begins_interval}
 use Rattle.cluster.proofs.change.full_at.Goals as goal

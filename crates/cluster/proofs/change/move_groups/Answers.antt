@@ -1,8 +1,7 @@
-use Rattle.std.proofs.Common.{◌≡◌, ◌∙◌, ◌<◌, ◌≤◌, length, sym, subst, Some, arith}
+use Rattle.std.proofs.Common.{◌≡◌, ◌∙◌, sym, subst, Some, arith}
 use Rattle.std.specs.Prelude.{Option, slice_get}
 use Rattle.map_core.specs.Map.{map_of}
 use Rattle.group_core.specs.Group.{Event}
-use Rattle.cluster.specs.Passes.{group_count}
 use Rattle.cluster.specs.Moves.{move_in}
 use Rattle.cluster.specs.Change.{OneMoved, event_at}
 use Rattle.cluster.proofs.Places.{get_at}

@@ -1,4 +1,4 @@
-use Rattle.std.proofs.Common.{◌≡◌, ◌<◌, List, map, length, arith, refl, sym, ◌∙◌, subst}
+use Rattle.std.proofs.Common.{◌<◌, map, arith, refl, subst}
 use Rattle.map_core.specs.Limits.{IsAccepted}
 use Rattle.world_core.specs.declared.world.parts.WorldParts.{WorldParts}
 use Rattle.world_core.proofs.Together.{fit_together}

@@ -1,4 +1,4 @@
-use Rattle.std.proofs.Common.{◌≡◌, length, rules, ◌∙◌}
+use Rattle.std.proofs.Common.{rules, ◌∙◌}
 use Rattle.cluster.proofs.Numbers.{are_all}
 use Rattle.cluster.proofs.closing.prepare.Goals as goal
 

@@ -1,4 +1,4 @@
-use Rattle.std.proofs.Common.{◌≡◌, ◌≤◌, map, length, vec_len}
+use Rattle.std.proofs.Common.{◌≡◌, ◌≤◌, map, vec_len}
 use Rattle.std.specs.Vec.{vec_capacity}
 use Rattle.cluster.specs.Passes.{group_in}
 use Rattle.cluster.proofs.closing.unlock.Given as goal

@@ -1,4 +1,4 @@
-use Rattle.std.proofs.Common.{◌≡◌, ◌+◌, ◌≤◌, map, vec_len, length}
+use Rattle.std.proofs.Common.{◌≡◌, ◌≤◌, map, vec_len}
 use Rattle.std.specs.Vec.{vec_capacity}
 use Rattle.cluster.specs.Works.{pass_of}
 use Rattle.cluster.proofs.workers.enlist.Given as goal

@@ -1,4 +1,4 @@
-use Rattle.std.proofs.Common.{rules, sym, ap, subst, ◌∙◌, ◌≡◌, map, length}
+use Rattle.std.proofs.Common.{sym, ap, subst, ◌∙◌, ◌≡◌, map, length}
 use Rattle.std.specs.Prelude.{All}
 use Rattle.cluster.specs.Places.{Beside}
 use Rattle.cluster.specs.Asks.{IsPassOf}

@@ -1,4 +1,4 @@
-use Rattle.std.proofs.Common.{◌<◌, length, arith}
+use Rattle.std.proofs.Common.{◌<◌, arith}
 use Rattle.cluster.specs.Passes.{group_count}
 use Rattle.cluster.proofs.Moved.{inside_of}
 use Rattle.cluster.proofs.Rounds.{come_further, came}

@@ -1,5 +1,5 @@
-use Rattle.std.proofs.Common.{◌<◌, ◌≤◌, ◌+◌, arith}
-use Rattle.cluster.proofs.Rounds.{worked_nothing, worked_through, worked_more}
+use Rattle.std.proofs.Common.{◌≤◌, ◌+◌, arith}
+use Rattle.cluster.proofs.Rounds.{worked_through, worked_more}
 use Rattle.cluster.proofs.workers.work_rounds.Goals as goal
 
 pub returns-then-not-enter-clause-worked : goal.returns-then-not-enter-clause-worked

@@ -1,4 +1,4 @@
-use Rattle.std.proofs.Common.{◌≡◌, ◌∙◌, IfOk, ap, subst}
+use Rattle.std.proofs.Common.{◌≡◌, IfOk, ap, subst}
 use Rattle.place_core.specs.Placement.{numbers_of}
 use Rattle.group_core.specs.Group.{Group}
 use Rattle.world_core.proofs.NewGroups.{begun_is}

@@ -1,4 +1,3 @@
-use Rattle.group_core.specs.Group.{Deliver}
 use Rattle.cluster.proofs.Telling.{none_left}
 use Rattle.cluster.proofs.groups.WorkStep.run.Goals as goal
 

@@ -1,4 +1,4 @@
-use Rattle.std.proofs.Common.{◌≡◌, ℕ, ◌≤◌, List, refl, sym, subst, arith}
+use Rattle.std.proofs.Common.{◌≡◌, ◌≤◌, List, refl, sym, subst}
 use Rattle.map_core.specs.Map.{map_of}
 use Rattle.entry_core.specs.declared.sealed.GroupId.{GroupId}
 use Rattle.cluster.specs.Passes.{group_count}

@@ -1,4 +1,4 @@
-use Rattle.std.proofs.Common.{◌≡◌, ◌∙◌, ◌+◌, ◌<◌, refl, sym, ap, subst, arith, length}
+use Rattle.std.proofs.Common.{◌∙◌, ◌+◌, ◌<◌, refl, ap, arith, length}
 use Rattle.world_core.specs.World.{World}
 use Rattle.world_core.specs.Script.{kicked, unrefused}
 use Rattle.world_core.proofs.Sweeps.{each_on}

@@ -1,6 +1,5 @@
 use Rattle.std.proofs.Common.{◌≡◌, ◌++◌, map}
 use Rattle.std.specs.List.{range_with_len}
-use Rattle.entry_core.specs.declared.sealed.GroupId.{GroupId}
 use Rattle.world_core.specs.Script.{place}
 use Rattle.world_core.proofs.script.groups.push_groups.Given as goal
 

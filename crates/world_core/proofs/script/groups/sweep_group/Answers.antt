@@ -1,4 +1,4 @@
-use Rattle.std.proofs.Common.{◌≡◌, ◌∙◌, ◌+◌, if◌then◌else◌, sym, ap, arith}
+use Rattle.std.proofs.Common.{◌∙◌, ◌+◌, if◌then◌else◌, sym, ap, arith}
 use Rattle.world_core.proofs.Sweeps.{begun, swept_count, swept_on}
 use Rattle.world_core.proofs.script.groups.sweep_group.Goals as goal
 

@@ -1,4 +1,4 @@
-use Rattle.std.proofs.Common.{◌≡◌, ◌∙◌, ◌+◌, ◌<◌, refl, sym, ap, subst, arith, length}
+use Rattle.std.proofs.Common.{◌∙◌, ◌+◌, ◌<◌, refl, sym, ap, subst, arith, length}
 use Rattle.world_core.specs.World.{World, group_at}
 use Rattle.world_core.specs.Script.{emptied, budget_in, unrefused}
 use Rattle.world_core.specs.Sweeping.{event_at}

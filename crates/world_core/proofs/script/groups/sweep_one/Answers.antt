@@ -1,5 +1,5 @@
-use Rattle.std.proofs.Common.{◌≡◌, ◌∙◌, ◌<◌, true, false, Some, None, Err, refl, sym, ap, subst}
-use Rattle.world_core.specs.Event.{Event, Fault, OutOfMemory}
+use Rattle.std.proofs.Common.{◌≡◌, ◌∙◌, ◌<◌, true, Some, refl, sym, ap, subst}
+use Rattle.world_core.specs.Event.{Event, Fault}
 use Rattle.world_core.specs.World.{World, group_at, world_step, refusal_of, is_drop}
 use Rattle.world_core.specs.Script.{budget_in, one_if_none}
 use Rattle.world_core.specs.Sweeping.{event_at}

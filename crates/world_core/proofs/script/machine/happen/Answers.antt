@@ -1,4 +1,4 @@
-use Rattle.std.proofs.Common.{◌≡◌, ◌++◌, string_bytes}
+use Rattle.std.proofs.Common.{string_bytes}
 use Rattle.world_core.specs.World.{refusal_of}
 use Rattle.world_core.proofs.Sweeps.{not_memory}
 use Rattle.world_core.proofs.ScriptLines.{on_ok, refused_does}

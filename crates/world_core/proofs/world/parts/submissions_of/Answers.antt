@@ -1,4 +1,4 @@
-use Rattle.std.proofs.Common.{◌≡◌, ◌∙◌, ◌+◌, ◌++◌, drop, sym, ap, subst}
+use Rattle.std.proofs.Common.{◌∙◌, ◌+◌, ◌++◌, drop, sym, ap, subst}
 use Rattle.world_core.specs.Parts.{requests_of}
 use Rattle.world_core.specs.Submitting.{AreNew}
 use Rattle.world_core.proofs.Parts.{new_here, new_later, requests_next}

@@ -1,4 +1,4 @@
-use Rattle.std.proofs.Common.{◌≡◌, OnOk, string_bytes, subst}
+use Rattle.std.proofs.Common.{OnOk, string_bytes, subst}
 use Rattle.world_core.specs.Script.{Machine, event_line}
 use Rattle.world_core.specs.Steps.{Does, at}
 use Rattle.world_core.proofs.script.machine.Machine.happen.Goals as goal
