@@ -62,9 +62,8 @@ fn sets(alloc: Global, count: usize, members: &[u8]) -> Result<IntervalSets, Out
     Ok(sets)
 }
 
-// The log of entries that these requests became.
-fn log(alloc: Global, numbers: &[u32]) -> Result<BoxedLog, OutOfMemory> {
-    let mut one = Daemon::new(alloc, 9, 1);
+// A daemon alone in its set decides these requests.
+fn decide(alloc: Global, one: &mut Daemon, numbers: &[u32]) -> Result<(), OutOfMemory> {
     one.on(Message {
         from: CLIENT,
         body: Body::Interval(sets(alloc, 1, &[9])?),
@@ -75,6 +74,13 @@ fn log(alloc: Global, numbers: &[u32]) -> Result<BoxedLog, OutOfMemory> {
             body: Body::Request(request(alloc, *n)?),
         })?;
     }
+    Ok(())
+}
+
+// The log of entries that these requests became.
+fn log(alloc: Global, numbers: &[u32]) -> Result<BoxedLog, OutOfMemory> {
+    let mut one = Daemon::new(alloc, 9, 1);
+    decide(alloc, &mut one, numbers)?;
     BoxedLog::new(one.log().copy()?)
 }
 
@@ -193,25 +199,24 @@ fn a_set_of_one_answers_at_once(rt: HostRuntime) -> Result<(), Fail> {
     Ok(())
 }
 
-#[test]
-fn a_set_of_three_appends(rt: HostRuntime) -> Result<(), Fail> {
-    let mut leader = Daemon::new(rt.alloc(), 0, 2);
-    run(&rt, rt.alloc(), &mut leader, &LEADS)?;
-    assert!(&rt; matches!(leader.role(), Role::Active(None)));
+// A request that comes to a leader of three is appended once, and answered when two have it.
+fn expect_appends(rt: &impl Abort, alloc: Global, leader: &mut Daemon) -> Result<(), Fail> {
+    run(rt, alloc, leader, &LEADS)?;
+    assert!(rt; matches!(leader.role(), Role::Active(None)));
     let lines: [Line; 3] = [
         (CLIENT, Request(7), APPENDS),
         (CLIENT, Request(7), &[]),
         (ONE, Appended(1, 1), &[]),
     ];
-    run(&rt, rt.alloc(), &mut leader, &lines)?;
-    expect_counts(&rt, &leader, 1, 0, 0);
+    run(rt, alloc, leader, &lines)?;
+    expect_counts(rt, leader, 1, 0, 0);
     let lines: [Line; 2] = [
         (TWO, Appended(1, 1), &[(CLIENT, "reply")]),
         (CLIENT, Request(7), &[(CLIENT, "reply")]),
     ];
-    run(&rt, rt.alloc(), &mut leader, &lines)?;
-    expect_counts(&rt, &leader, 1, 1, 0);
-    assert_eq!(&rt;
+    run(rt, alloc, leader, &lines)?;
+    expect_counts(rt, leader, 1, 1, 0);
+    assert_eq!(rt;
         (leader.number(), leader.promise(), leader.base()),
         (0, 1, 1)
     );
@@ -219,21 +224,32 @@ fn a_set_of_three_appends(rt: HostRuntime) -> Result<(), Fail> {
 }
 
 #[test]
-fn requests_wait_for_their_turn(rt: HostRuntime) -> Result<(), Fail> {
+fn a_set_of_three_appends(rt: HostRuntime) -> Result<(), Fail> {
     let mut leader = Daemon::new(rt.alloc(), 0, 2);
-    run(&rt, rt.alloc(), &mut leader, &LEADS)?;
+    expect_appends(&rt, rt.alloc(), &mut leader)
+}
+
+// A second request waits until the first is decided, and is then appended.
+fn expect_turns(rt: &impl Abort, alloc: Global, leader: &mut Daemon) -> Result<(), Fail> {
+    run(rt, alloc, leader, &LEADS)?;
     let lines: [Line; 4] = [
         (CLIENT, Request(7), APPENDS),
         (CLIENT, Request(8), &[]),
         (CLIENT, Request(8), &[]),
         (TWO, Appended(1, 1), &[]),
     ];
-    run(&rt, rt.alloc(), &mut leader, &lines)?;
-    expect_counts(&rt, &leader, 1, 0, 1);
+    run(rt, alloc, leader, &lines)?;
+    expect_counts(rt, leader, 1, 0, 1);
     let want = &[(CLIENT, "reply"), (ONE, "append"), (TWO, "append")];
-    step(&rt, rt.alloc(), &mut leader, (ONE, Appended(1, 1), want))?;
-    expect_counts(&rt, &leader, 2, 1, 0);
+    step(rt, alloc, leader, (ONE, Appended(1, 1), want))?;
+    expect_counts(rt, leader, 2, 1, 0);
     Ok(())
+}
+
+#[test]
+fn requests_wait_for_their_turn(rt: HostRuntime) -> Result<(), Fail> {
+    let mut leader = Daemon::new(rt.alloc(), 0, 2);
+    expect_turns(&rt, rt.alloc(), &mut leader)
 }
 
 #[test]
@@ -274,20 +290,14 @@ fn the_greatest_base_is_chosen(rt: HostRuntime) -> Result<(), Fail> {
     Ok(())
 }
 
-#[test]
-fn a_restart_keeps_promise_base_and_log(rt: HostRuntime) -> Result<(), Fail> {
-    let mut leader = Daemon::new(rt.alloc(), 0, 2);
-    run(&rt, rt.alloc(), &mut leader, &LEADS)?;
-    step(&rt, rt.alloc(), &mut leader, (CLIENT, Request(7), APPENDS))?;
+// A leader that restarts leads no more, and has what it had.
+fn expect_kept(rt: &impl Abort, alloc: Global, leader: &mut Daemon) -> Result<(), Fail> {
+    run(rt, alloc, leader, &LEADS)?;
+    step(rt, alloc, leader, (CLIENT, Request(7), APPENDS))?;
     leader.restart();
-    step(
-        &rt,
-        rt.alloc(),
-        &mut leader,
-        (CLIENT, Sets(1, &[0, 1, 2]), &[]),
-    )?;
-    assert!(&rt; matches!(leader.role(), Role::Idle));
-    assert_eq!(&rt;
+    step(rt, alloc, leader, (CLIENT, Sets(1, &[0, 1, 2]), &[]))?;
+    assert!(rt; matches!(leader.role(), Role::Idle));
+    assert_eq!(rt;
         (leader.promise(), leader.base(), leader.log().len()),
         (1, 1, 1)
     );
@@ -295,30 +305,64 @@ fn a_restart_keeps_promise_base_and_log(rt: HostRuntime) -> Result<(), Fail> {
 }
 
 #[test]
+fn a_restart_keeps_promise_base_and_log(rt: HostRuntime) -> Result<(), Fail> {
+    let mut leader = Daemon::new(rt.alloc(), 0, 2);
+    expect_kept(&rt, rt.alloc(), &mut leader)
+}
+
+// After each message a kick sends again what was not answered.
+fn expect_kicks(rt: &impl Abort, alloc: Global, leader: &mut Daemon) -> Result<(), Fail> {
+    expect_kick(rt, leader, &[])?;
+    for (line, kick) in LEADS.iter().zip(&KICKS) {
+        step(rt, alloc, leader, *line)?;
+        expect_kick(rt, leader, *kick)?;
+    }
+    step(rt, alloc, leader, (CLIENT, Request(7), APPENDS))?;
+    step(rt, alloc, leader, (TWO, Appended(1, 1), &[]))?;
+    expect_kick(rt, leader, &[(ONE, "append")])
+}
+
+#[test]
 fn a_kick_sends_again_what_was_not_answered(rt: HostRuntime) -> Result<(), Fail> {
     let mut leader = Daemon::new(rt.alloc(), 0, 2);
-    expect_kick(&rt, &leader, &[])?;
-    for k in 0..5 {
-        step(&rt, rt.alloc(), &mut leader, LEADS[k])?;
-        expect_kick(&rt, &leader, KICKS[k])?;
-    }
-    step(&rt, rt.alloc(), &mut leader, (CLIENT, Request(7), APPENDS))?;
-    step(&rt, rt.alloc(), &mut leader, (TWO, Appended(1, 1), &[]))?;
-    expect_kick(&rt, &leader, &[(ONE, "append")])
+    expect_kicks(&rt, rt.alloc(), &mut leader)
+}
+
+// The daemon sends what it is to send at a message, and says so in a copy of what it sends.
+fn expect_appends_in_copy(
+    rt: &impl Abort,
+    daemon: &mut Daemon,
+    message: Message,
+) -> Result<(), Fail> {
+    let sent = daemon.on(message)?;
+    expect_sent(rt, &sent.copy()?, APPENDS);
+    Ok(())
+}
+
+// Two daemons do the same at a message and its copy.
+fn expect_same(
+    rt: &impl Abort,
+    alloc: Global,
+    leader: &mut Daemon,
+    copy: &mut Daemon,
+) -> Result<(), Fail> {
+    let message = Message {
+        from: CLIENT,
+        body: Body::Request(request(alloc, 7)?),
+    };
+    expect_appends_in_copy(rt, copy, message.copy()?)?;
+    expect_appends_in_copy(rt, leader, message)
+}
+
+// A copy of a leader does as the leader does.
+fn expect_equal(rt: &impl Abort, alloc: Global, leader: &mut Daemon) -> Result<(), Fail> {
+    run(rt, alloc, leader, &LEADS)?;
+    let mut copy = leader.copy()?;
+    expect_same(rt, alloc, leader, &mut copy)
 }
 
 #[test]
 fn copies_are_equal(rt: HostRuntime) -> Result<(), Fail> {
     let mut leader = Daemon::new(rt.alloc(), 0, 2);
-    run(&rt, rt.alloc(), &mut leader, &LEADS)?;
-    let mut copy = leader.copy()?;
-    let message = Message {
-        from: CLIENT,
-        body: Body::Request(request(rt.alloc(), 7)?),
-    };
-    let sent = copy.on(message.copy()?)?;
-    expect_sent(&rt, &sent.copy()?, APPENDS);
-    let again = leader.on(message)?;
-    expect_sent(&rt, &again, APPENDS);
-    Ok(())
+    expect_equal(&rt, rt.alloc(), &mut leader)
 }

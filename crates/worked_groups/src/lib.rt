@@ -9,3 +9,5 @@ mod copies;
 mod groups;
 #[cfg(test)]
 mod logs;
+#[cfg(test)]
+mod tickets;

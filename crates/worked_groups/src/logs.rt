@@ -2,17 +2,17 @@
 
 ghost use Rattle.std.specs.Prelude.{◌≤◌, IfOk};
 
-use cap_text::{Name, Tags, parse};
+use crate::tickets::ticket_of;
+use cap_text::{Name, Tags};
 use entry_core::{
     BoxedLog, Entry, Id, Items, Log, OutOfMemory, Reply, Sealed, TryCopy, reply_number,
 };
-use grant_core::{ProfileTable, expand};
 use map_core::PoolView;
 use object_core::{Bytes, NeedsFault, Op};
 use std::alloc::Global;
 use std::process::Abort;
 use std::test::Fail;
-use verdict_core::{Condition, SharedTicket, Ticket};
+use verdict_core::{Condition, SharedTicket};
 
 /// When each request is submitted.
 const TICK: u64 = 9;
@@ -39,12 +39,7 @@ fn ticket_until(
     text.push_str(if read { "r" } else { "" })?;
     text.push_str(if write { "w" } else { "" })?;
     text.push_str(if class { "x" } else { "" })?;
-    let list = parse(alloc, text.as_str()).map_err(|_| "a text that spells no list")?;
-    let tree = expand(alloc, &ProfileTable::builtin(alloc)?, &list).map_err(
-        |_| "a list that is not expanded",
-    )?;
-    let ticket = Ticket::of(alloc, &tree, until)?;
-    Ok(SharedTicket::of(ticket)?)
+    Ok(ticket_of(alloc, text.as_str(), until)?)
 }
 
 /// The same for ever.
@@ -248,28 +243,32 @@ fn a_counter_counts(rt: HostRuntime) -> Result<(), Fail> {
     Ok(())
 }
 
+/// Adds an append to each of the names.
+fn add_names(alloc: Global, log: &mut Log) -> Result<(), Fail> {
+    let mut count = 0u32;
+    for name in NAMES {
+        count = count.saturating_add(1);
+        let all = ticket(alloc, true, true, false)?;
+        add(log, &one(alloc, count, all, name, append(alloc, "a")?)?)?;
+    }
+    Ok(())
+}
+
+/// Adds a listing of each group.
+fn add_listings(alloc: Global, log: &mut Log) -> Result<(), Fail> {
+    for group in 0..4u32 {
+        let reader = ticket(alloc, true, false, false)?;
+        add(log, &listing(alloc, group, group, reader)?)?;
+    }
+    Ok(())
+}
+
 #[test]
 fn names_are_listed_by_group_in_order(rt: HostRuntime) -> Result<(), Fail> {
     let alloc = rt.alloc();
     let mut log = Log::new(alloc);
-    let mut count = 0u32;
-    for name in NAMES {
-        count = count.saturating_add(1);
-        let sealed = one(
-            alloc,
-            count,
-            ticket(alloc, true, true, false)?,
-            name,
-            append(alloc, "a")?,
-        )?;
-        add(&mut log, &sealed)?;
-    }
-    for group in 0..4u32 {
-        add(
-            &mut log,
-            &listing(alloc, group, group, ticket(alloc, true, false, false)?)?,
-        )?;
-    }
+    add_names(alloc, &mut log)?;
+    add_listings(alloc, &mut log)?;
     for (group, names) in LISTED.iter().enumerate() {
         assert!(rt;
             lists(log.find(Id::new(2, group as u32)), *names),
