@@ -81,7 +81,7 @@ prove() {
         what="proving $crate, crate $number of $count"
         say "$what, $(((SECONDS - begun) / 60)) minutes so far"
         command=(rt lib)
-        if [ "$crate" = "$name" ]; then command=(rt run -- --help); fi
+        if [ "$crate" = "$name" ]; then command=(rt check); fi
         if ! run_with_minutes "$log" "$what" "$begun" in_crate "$crate" "${command[@]}"; then
             cat "$log" >&2
             rm -f "$log" "$stamp"
@@ -89,6 +89,14 @@ prove() {
             return 3
         fi
     done
+    # What is proved is built and run once. The status that it ends with says nothing of the proof.
+    command=(rt run -- --help)
+    if ! run_with_minutes "$log" "building $name" "$begun" in_crate "$name" "${command[@]}" && ! is_proved; then
+        cat "$log" >&2
+        rm -f "$log" "$stamp"
+        say "$name is proved, and could not be built"
+        return 3
+    fi
     touch -r "$stamp" "$proved"
     rm -f "$log" "$stamp"
     say "proved and built in $(((SECONDS - begun) / 60)) minutes"
@@ -118,6 +126,17 @@ try_once() {
     grep -v -e '^interpreter: ' -e '^checked: ' -e '^races: ' -e '^run=[a-z]* ' "$said" >&2 || true
     rm -f "$said"
     return "$status"
+}
+
+# The path of the build that answers. Where there is none, the quick one is made.
+build_that_answers() {
+    if is_proved; then
+        echo "$proved"
+    elif has_quick || build_quick; then
+        echo "$quick"
+    else
+        return 1
+    fi
 }
 
 # The program's answer on these words, or with the one word --prove its proof.

@@ -3,7 +3,7 @@
 // This is a library that the loader puts before the program ceph-osd. It has no code of Ceph: the functions that it
 // measures are those of the program, which exports them. Instead of the program's main, the library's runs.
 //
-// The texts, targets, loops and runs are those of crates/osdgate_bench (verdict.rt, parse.rt, grants.rt, measure.rt).
+// The texts, targets, loops and runs are those of crates/osdgate_bench (verdict.rt, parse.rt, grants.rt) and crates/stopwatch (measure.rt).
 
 #include <dlfcn.h>
 #include <netinet/in.h>

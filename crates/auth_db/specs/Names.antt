@@ -3,7 +3,7 @@
 use Rattle.std.specs.Prelude.{ℕ, List, Bool, ◌&&◌, ◌||◌, nat_le, length, take, drop, codes}
 use Rattle.std.specs.List.{list_all}
 use Rattle.std.specs.Str.{bytes_eq}
-use Rattle.cap_text.specs.Bytes.{is_word_byte}
+use Rattle.common_types.specs.WordBytes.{is_word_byte}
 
 -- 1 to 64 word bytes
 abbrev pub is_id : List ℕ → Bool

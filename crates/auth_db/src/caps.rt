@@ -3,7 +3,7 @@
 ghost use Rattle.std.specs.Prelude.{◌≡◌};
 ghost use Rattle.auth_db.specs.Texts as spec;
 
-use cap_text::{Name, OutOfMemory, copy_name};
+use common_types::{Name, OutOfMemory, copy_name};
 
 /// The most bytes that a text may have.
 const LONGEST: usize = 4096;

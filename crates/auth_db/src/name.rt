@@ -3,7 +3,7 @@
 ghost use Rattle.std.specs.Prelude.{◌≡◌};
 ghost use Rattle.auth_db.specs.Names as spec;
 
-use cap_text::are_word_bytes;
+use common_types::are_word_bytes;
 
 /// Whether a name is a type, a dot and an ID. It is cut at its first dot.
 pub(crate) fn is_user_name(name: &str) -> bool

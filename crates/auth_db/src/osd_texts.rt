@@ -7,7 +7,8 @@ ghost use Rattle.auth_db.specs.Refusals.{TextRefuses, OsdRefuses, RefusedOrMemor
 ghost use Rattle.cap_text.specs.ReadText.{read_text};
 
 use crate::fault::AuthFault;
-use cap_text::{CapFault, FaultKind, Name, OutOfMemory, parse};
+use cap_text::{CapFault, FaultKind, parse};
+use common_types::{Name, OutOfMemory};
 use grant_core::{ExpandFault, GrantTree, ProfileTable, expand};
 use std::alloc::{AllocError, Global};
 use verdict_core::Ticket;

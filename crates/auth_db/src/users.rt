@@ -11,7 +11,7 @@ ghost use Rattle.auth_db.specs.Users.{user_at, with_user, without_user};
 ghost use Rattle.auth_db.specs.Users as spec;
 
 use crate::caps::Caps;
-use cap_text::{Name, OutOfMemory};
+use common_types::{Name, OutOfMemory};
 use std::alloc::Global;
 use std::collections::BTreeMap;
 

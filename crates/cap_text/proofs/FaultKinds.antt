@@ -269,15 +269,7 @@ module _ (p : List Token) (n : Next) (ws : Words p n) where
   no_bad any quoted b = elim (ws.from b) [ inl h ↦ any h.1 | inr h ↦ quoted h.1 ]
 
   bad_kind : IsBadWord p n → IsKind p n BadWord
-  bad_kind b = record {
-    word = λ _. refl;
-    grant = λ none m. absurd (none b);
-    equals = λ none m. absurd (none b);
-    network = λ none m q e. absurd (none b);
-    clause = λ none m q e c. absurd (none b);
-    access = λ none q c a. absurd (none b);
-    other = λ none q c a. absurd (none b);
-  }
+  bad_kind b = (λ _. refl, λ none. absurd (none b))
 
   value_kind : AnyWordMayFollow p → QuotedMayFollow p → IsKind p n BadWord
   value_kind any quoted = cases (is_empty_quote n) refl where
@@ -286,60 +278,59 @@ module _ (p : List Token) (n : Next) (ws : Words p n) where
     cases false e = bad_kind (ws.by_word e any)
 
   grant_kind : (IsBadWord p n → ⊥) → MayFollow p (Word (codes "allow")) → (MayFollow p (Word (codes "all")) → ⊥) → (MayFollow p Equals → ⊥) → IsKind p n UnknownWord
-  grant_kind bad allow all equals = record {
-    word = λ b. absurd (bad b);
-    grant = λ none m. refl;
-    equals = λ none m. absurd (equals m.0);
-    network = λ none m q e. absurd (m (allow, all));
-    clause = λ none m q e c. absurd (m (allow, all));
-    access = λ none q c a. absurd (all a.0);
-    other = λ none q c a. refl;
-  }
+  grant_kind bad allow all equals = (λ b. absurd (bad b), λ _. (λ m. refl, λ m. absurd (m (allow, all))))
 
   equals_kind : (IsBadWord p n → ⊥) → MayFollow p Equals → ((w : List ℕ) → MayFollow p (Word w) → ⊥) → IsKind p n BadMatch
-  equals_kind bad equals words = record {
-    word = λ b. absurd (bad b);
-    grant = λ none m. absurd (words (codes "allow") m.0);
-    equals = λ none m. refl;
-    network = λ none m q e. absurd (q (equals, words));
-    clause = λ none m q e c. refl;
-    access = λ none q c a. absurd (q (equals, words));
-    other = λ none q c a. absurd (q (equals, words));
-  }
+  equals_kind bad equals words = (λ b. absurd (bad b), λ _. (λ m. absurd (words (codes "allow") m.0), λ _. (λ m. refl, λ q. absurd (q (equals, words)))))
 
   access_kind : (IsBadWord p n → ⊥) → (MayFollow p (Word (codes "allow")) → ⊥) → MayFollow p (Word (codes "all")) → (MayFollow p Equals → ⊥) → IsKind p n (clause_fault true (keyword_at n))
-  access_kind bad allow all equals = record {
-    word = λ b. absurd (bad b);
-    grant = λ none m. absurd (allow m.0);
-    equals = λ none m. absurd (equals m.0);
-    network = λ none m q e. ap (clause_fault true) e;
-    clause = λ none m q e c. clause_clause true (keyword_at n) e c;
-    access = λ none q c a. clause_other true (keyword_at n) c;
-    other = λ none q c a. absurd (a (all, allow));
-  }
+  access_kind bad allow all equals = (
+    λ b. absurd (bad b),
+    λ _. (
+      λ m. absurd (allow m.0),
+      λ _. (
+        λ m. absurd (equals m.0),
+        λ _. (
+          λ e. ap (clause_fault true) e,
+          λ e.
+              (λ c. clause_clause true (keyword_at n) e c, λ c. (λ a. clause_other true (keyword_at n) c, λ a. absurd (a (all, allow)))),
+        ),
+      ),
+    ),
+  )
 
   clause_kind : (IsBadWord p n → ⊥) → (MayFollow p (Word (codes "allow")) → ⊥) → (MayFollow p (Word (codes "all")) → ⊥) → (MayFollow p Equals → ⊥) → IsKind p n (clause_fault false (keyword_at n))
-  clause_kind bad allow all equals = record {
-    word = λ b. absurd (bad b);
-    grant = λ none m. absurd (allow m.0);
-    equals = λ none m. absurd (equals m.0);
-    network = λ none m q e. ap (clause_fault false) e;
-    clause = λ none m q e c. clause_clause false (keyword_at n) e c;
-    access = λ none q c a. absurd (all a.0);
-    other = λ none q c a. clause_other false (keyword_at n) c;
-  }
+  clause_kind bad allow all equals = (
+    λ b. absurd (bad b),
+    λ _. (
+      λ m. absurd (allow m.0),
+      λ _. (
+        λ m. absurd (equals m.0),
+        λ _. (
+          λ e. ap (clause_fault false) e,
+          λ e.
+              (λ c. clause_clause false (keyword_at n) e c, λ c. (λ a. absurd (all a.0), λ a. clause_other false (keyword_at n) c)),
+        ),
+      ),
+    ),
+  )
 
   -- a method's stage takes both words
   taken_kind : (IsBadWord p n → ⊥) → MayFollow p (Word (codes "allow")) → MayFollow p (Word (codes "all")) → (MayFollow p Equals → ⊥) → IsKind p n (clause_fault false (keyword_at n))
-  taken_kind bad allow all equals = record {
-    word = λ b. absurd (bad b);
-    grant = λ none m. absurd (m.1 all);
-    equals = λ none m. absurd (equals m.0);
-    network = λ none m q e. ap (clause_fault false) e;
-    clause = λ none m q e c. clause_clause false (keyword_at n) e c;
-    access = λ none q c a. absurd (a.1 allow);
-    other = λ none q c a. clause_other false (keyword_at n) c;
-  }
+  taken_kind bad allow all equals = (
+    λ b. absurd (bad b),
+    λ _. (
+      λ m. absurd (m.1 all),
+      λ _. (
+        λ m. absurd (equals m.0),
+        λ _. (
+          λ e. ap (clause_fault false) e,
+          λ e.
+              (λ c. clause_clause false (keyword_at n) e c, λ c. (λ a. absurd (a.1 allow), λ a. clause_other false (keyword_at n) c)),
+        ),
+      ),
+    ),
+  )
 
   module _ (done : List Grant) (q : Stage) (e : run origin p ≡ whole (at_stage done q)) where
     no : (k : FaultKind) (t : Token) → advance (at_stage done q) t ≡ Err k → MayFollow p t → ⊥

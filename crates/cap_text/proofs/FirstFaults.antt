@@ -3,7 +3,8 @@ use Prim.Native.Nat.{zero, suc}
 use Rattle.std.proofs.Common.{◌≡◌, ◌∙◌, ℕ, ◌<◌, ◌≤◌, ◌+◌, ◌-◌, inl, inr, Bool, true, false, ◌&&◌, ◌==◌, if◌then◌else◌, List, [], ◌∷◌, ◌++◌, Option, Some, None, Result, Ok, Err, refl, sym, ap, subst, arith, cond, append-nil, length, take, drop}
 use Rattle.std.specs.List.{prefix_len}
 use Rattle.std.specs.Cmp.{unsigned_Decides}
-use Rattle.cap_text.specs.Bytes.{is_space, is_word_byte, is_quote, is_quotable, SkipsSpaces, is_empty}
+use Rattle.cap_text.specs.Bytes.{is_space, is_quote, is_quotable, SkipsSpaces, is_empty}
+use Rattle.common_types.specs.WordBytes.{is_word_byte}
 use Rattle.cap_text.specs.Reads.{Stands, SaysBehind, is_word, ReadsOne, ends_in_word, IsUnreadable}
 use Rattle.cap_text.specs.Grammar.{Grants, GrantPhrase}
 use Rattle.cap_text.specs.Machine.{advance, finish, placed}
@@ -72,24 +73,27 @@ kinds_same j k h = go (number j == number k) refl
 -- a position has one kind, since each of its tests holds or fails
 kind_once : (p : List Token) (n : Next) (j k : FaultKind) → IsKind p n j → IsKind p n k → j ≡ k
 kind_once p n j k J K = kinds_same j k (λ differ.
-    let word : IsBadWord p n → ⊥ = λ h. differ (J.word h ∙ sym (K.word h)) in
-    let grant : IsGrantDue p → ⊥ = λ h. differ (J.grant word h ∙ sym (K.grant word h)) in
-    let equals : IsEqualsDue p → ⊥ = λ h. differ (J.equals word h ∙ sym (K.equals word h)) in
-    let network : keyword_at n ≡ kw.Network → ⊥ = λ h. differ (J.network word grant equals h ∙ sym (K.network word grant equals h)) in
-    let clause : IsClauseWord n → ⊥ = λ h. differ (J.clause word grant equals network h ∙ sym (K.clause word grant equals network h)) in
-    let access : IsAccessDue p → ⊥ = λ h. differ (J.access word equals clause h ∙ sym (K.access word equals clause h)) in
-    differ (J.other word equals clause access ∙ sym (K.other word equals clause access)))
+    let word : IsBadWord p n → ⊥ = λ h. differ (J.0 h ∙ sym (K.0 h)) in
+    let grant : IsGrantDue p → ⊥ = λ h. differ ((J.1 word).0 h ∙ sym ((K.1 word).0 h)) in
+    let equals : IsEqualsDue p → ⊥ = λ h. differ (((J.1 word).1 grant).0 h ∙ sym (((K.1 word).1 grant).0 h)) in
+    let mine = ((J.1 word).1 grant).1 equals in
+    let yours = ((K.1 word).1 grant).1 equals in
+    let network : keyword_at n ≡ kw.Network → ⊥ = λ h. differ (mine.0 h ∙ sym (yours.0 h)) in
+    let clause : IsClauseWord n → ⊥ = λ h. differ ((mine.1 network).0 h ∙ sym ((yours.1 network).0 h)) in
+    let access : IsAccessDue p → ⊥ = λ h. differ (((mine.1 network).1 clause).0 h ∙ sym (((yours.1 network).1 clause).0 h)) in
+    differ (((mine.1 network).1 clause).1 access ∙ sym (((yours.1 network).1 clause).1 access)))
 
 -- want of memory is no position kind
 never_memory : (p : List Token) (n : Next) → IsKind p n OutOfMemory → ⊥
 never_memory p n J =
-    let word : IsBadWord p n → ⊥ = λ h. let e : OutOfMemory ≡ BadWord = J.word h in cc in
-    let grant : IsGrantDue p → ⊥ = λ h. let e : OutOfMemory ≡ UnknownWord = J.grant word h in cc in
-    let equals : IsEqualsDue p → ⊥ = λ h. let e : OutOfMemory ≡ BadMatch = J.equals word h in cc in
-    let network : keyword_at n ≡ kw.Network → ⊥ = λ h. let e : OutOfMemory ≡ NetworkClause = J.network word grant equals h in cc in
-    let clause : IsClauseWord n → ⊥ = λ h. let e : OutOfMemory ≡ BadMatch = J.clause word grant equals network h in cc in
-    let access : IsAccessDue p → ⊥ = λ h. let e : OutOfMemory ≡ BadAccess = J.access word equals clause h in cc in
-    let e : OutOfMemory ≡ UnknownWord = J.other word equals clause access in
+    let word : IsBadWord p n → ⊥ = λ h. let e : OutOfMemory ≡ BadWord = J.0 h in cc in
+    let grant : IsGrantDue p → ⊥ = λ h. let e : OutOfMemory ≡ UnknownWord = (J.1 word).0 h in cc in
+    let equals : IsEqualsDue p → ⊥ = λ h. let e : OutOfMemory ≡ BadMatch = ((J.1 word).1 grant).0 h in cc in
+    let rest = ((J.1 word).1 grant).1 equals in
+    let network : keyword_at n ≡ kw.Network → ⊥ = λ h. let e : OutOfMemory ≡ NetworkClause = rest.0 h in cc in
+    let clause : IsClauseWord n → ⊥ = λ h. let e : OutOfMemory ≡ BadMatch = (rest.1 network).0 h in cc in
+    let access : IsAccessDue p → ⊥ = λ h. let e : OutOfMemory ≡ BadAccess = ((rest.1 network).1 clause).0 h in cc in
+    let e : OutOfMemory ≡ UnknownWord = ((rest.1 network).1 clause).1 access in
     cc
 
 placed_is : (k : FaultKind) (at : ℕ) → (k ≡ OutOfMemory → ⊥) → placed k at ≡ record { kind = k; at = at }
@@ -267,7 +271,7 @@ module _ (text : List ℕ) (fault : CapFault) (p : List Token) (next : Next) (mi
       ∙ told_end p u (length text - 0) fault is blocks kind (ap (λ r. length text - length r) (sym stands) ∙ at_fault)
   blocked_told (suc n) enough NoToken stands blocks kind few =
       at_unread n (length text) (ends_in_word false p) mid rest u skips stands (few tt)
-      ∙ ap Err (λ i. record { kind = sym (kind.word tt) i; at = at_fault i })
+      ∙ ap Err (λ i. record { kind = sym (kind.0 tt) i; at = at_fault i })
   blocked_told (suc n) enough (AToken t) stands blocks kind few =
       at_token n (length text) (ends_in_word false p) mid t stands.0 u stands.1 (few tt)
       ∙ told_token p t u (length text - length stands.1.1) fault (λ v. read_from n (length text) v (is_word t) stands.0) is blocks kind (ap (λ r. length text - length r) (starts_there (ends_in_word false p) mid rest t stands.0 skips stands.1) ∙ at_fault)

@@ -90,15 +90,7 @@ module _ (text rest : List ℕ) (behind : Bool) (state : State) (p : List Token)
         inr (
           not_past p state NoToken h.runs (few ne),
           tt,
-          record {
-            word = λ b. refl;
-            grant = λ none m. absurd (none tt);
-            equals = λ none m. absurd (none tt);
-            network = λ none m q e. absurd (none tt);
-            clause = λ none m q e c. absurd (none tt);
-            access = λ none q c a. absurd (none tt);
-            other = λ none q c a. absurd (none tt);
-          },
+          (λ b. refl, λ none. absurd (none tt)),
         ),
       )
 

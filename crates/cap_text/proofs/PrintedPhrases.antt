@@ -14,7 +14,8 @@ use Rattle.cap_text.specs.declared.grant.NsMatch.TheVariants.{Exact, Prefix}
 use Rattle.cap_text.specs.declared.grant.Part.{Part}
 use Rattle.cap_text.specs.declared.grant.Part.TheVariants.{Any, Is}
 use Rattle.cap_text.specs.declared.grant.Tag.{Tag}
-use Rattle.cap_text.specs.Bytes.{is_word_byte, is_quotable, is_empty}
+use Rattle.common_types.specs.WordBytes.{is_word_byte}
+use Rattle.cap_text.specs.Bytes.{is_quotable, is_empty}
 use Rattle.cap_text.specs.Reads.{is_word}
 use Rattle.cap_text.specs.Words.{keyword_of}
 use Rattle.cap_text.specs.Grammar.{Phrase, Optional, Value, matched, namespace_of, BeginsApart, Namespace, part_of, TagPart, PoolClause, NamespaceClause, PrefixClause, TagClause, begins_clause, Method, AccessPhrase}

@@ -5,7 +5,8 @@ use Rattle.std.specs.Prelude.{nat_lt}
 use Rattle.std.specs.List.{prefix_len}
 use Rattle.std.specs.Cmp.{unsigned_Decides}
 use Rattle.std.proofs.lemmas.Bool.{ltb-true}
-use Rattle.cap_text.specs.Bytes.{is_space, is_word_byte, is_quote, is_quotable, Each, StopsBefore, is_empty, SkipsSpaces}
+use Rattle.cap_text.specs.Bytes.{is_space, is_quote, is_quotable, Each, StopsBefore, is_empty, SkipsSpaces}
+use Rattle.common_types.specs.WordBytes.{is_word_byte}
 use Rattle.cap_text.specs.Reads.{Stands, SaysBehind, is_word, ReadsOne, Reads, ends_in_word}
 use Rattle.cap_text.specs.Grammar.{Grants, GrantPhrase}
 use Rattle.cap_text.specs.Machine.{advance, finish, placed}

@@ -12,7 +12,8 @@ use Rattle.cap_text.specs.declared.grant.Part.TheVariants.{Any, Is}
 use Rattle.cap_text.specs.declared.grant.AllowGrant.{AllowGrant}
 use Rattle.cap_text.specs.declared.grant.Grant.{Grant}
 use Rattle.cap_text.specs.declared.grant.Grant.TheVariants.{Allow, Profile}
-use Rattle.cap_text.specs.Bytes.{is_word_byte, is_empty}
+use Rattle.common_types.specs.WordBytes.{is_word_byte}
+use Rattle.cap_text.specs.Bytes.{is_empty}
 use Rattle.cap_text.specs.Reads.{IsText}
 use Rattle.cap_text.specs.Grammar.{Phrase, Optional, Assigned, Behind, Value, before_star, matched, namespace_of, Namespace, part_of, TagPart, PoolClause, NamespaceClause, PrefixClause, TagClause, Method, where_set, AccessPhrase, MatchPhrase, GrantPhrase, Separated, Followed, Grants, CanBeSpelled}
 use Rattle.cap_text.specs.Spellable.{can_be_quoted, is_value, none_or, is_access, ends_in_star, is_namespace, is_part, is_tag, is_alone, is_scope, is_spellable}

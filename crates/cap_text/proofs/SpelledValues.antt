@@ -4,7 +4,8 @@ use Rattle.std.specs.Prelude.{◌==◌, ◌&&◌, ◌||◌, ◌⊎◌}
 use Rattle.std.specs.List.{list_all}
 use Rattle.std.proofs.lemmas.Bool.{eqb-true}
 use Rattle.std.proofs.lemmas.Bool.Decides.{nat_tests}
-use Rattle.cap_text.specs.Bytes.{is_word_byte, is_quote, is_quotable, Each, is_empty}
+use Rattle.common_types.specs.WordBytes.{is_word_byte}
+use Rattle.cap_text.specs.Bytes.{is_quote, is_quotable, Each, is_empty}
 use Rattle.cap_text.specs.declared.token.Token.{Token}
 use Rattle.cap_text.specs.declared.token.Token.TheVariants.{Comma, Semicolon, Equals, Star, Word, Quoted}
 use Rattle.cap_text.specs.Reads.{Stands, is_word, Reads}

@@ -1,6 +1,6 @@
 -- Statement: contracts of public calls use it.
 -- The first fault of a text, by what may follow what stands before it. The rules and their order are this project's profile.
-use Rattle.std.specs.Prelude.{◌≡◌, ◌≢◌, ◌≤◌, ◌<◌, ◌+◌, ℕ, ◌⊎◌, Bool, true, false, List, [], ◌∷◌, ◌++◌, length, codes}
+use Rattle.std.specs.Prelude.{◌≡◌, ◌≤◌, ◌<◌, ◌+◌, ℕ, ◌⊎◌, Bool, true, false, List, [], ◌∷◌, ◌++◌, length, codes}
 use Rattle.cap_text.specs.declared.token.Token.{Token}
 use Rattle.cap_text.specs.declared.token.Token.TheVariants.{Comma, Semicolon, Equals, Word, Quoted}
 use Rattle.cap_text.specs.declared.grant.Grant.{Grant}
@@ -78,15 +78,20 @@ IsAccessDue p = MayFollow p (Word (codes "all")) × (MayFollow p (Word (codes "a
 abbrev pub IsEqualsDue : List Token → Type 0
 IsEqualsDue p = MayFollow p Equals × ((w : List ℕ) → MayFollow p (Word w) → ⊥)
 
--- the first of these that applies
-pub record IsKind (p : List Token) (n : Next) (kind : FaultKind) : Type 0 where
-  pub word : IsBadWord p n → kind ≡ BadWord
-  pub grant : (IsBadWord p n → ⊥) → IsGrantDue p → kind ≡ UnknownWord
-  pub equals : (IsBadWord p n → ⊥) → IsEqualsDue p → kind ≡ BadMatch
-  pub network : (IsBadWord p n → ⊥) → (IsGrantDue p → ⊥) → (IsEqualsDue p → ⊥) → keyword_at n ≡ kw.Network → kind ≡ NetworkClause
-  pub clause : (IsBadWord p n → ⊥) → (IsGrantDue p → ⊥) → (IsEqualsDue p → ⊥) → keyword_at n ≢ kw.Network → IsClauseWord n → kind ≡ BadMatch
-  pub access : (IsBadWord p n → ⊥) → (IsEqualsDue p → ⊥) → (IsClauseWord n → ⊥) → IsAccessDue p → kind ≡ BadAccess
-  pub other : (IsBadWord p n → ⊥) → (IsEqualsDue p → ⊥) → (IsClauseWord n → ⊥) → (IsAccessDue p → ⊥) → kind ≡ UnknownWord
+-- this kind where the rule applies, and where it does not, what the rest says
+abbrev pub Where : Type 0 → FaultKind → (FaultKind → Type 0) → FaultKind → Type 0
+Where Rule told rest kind = (Rule → kind ≡ told) × ((Rule → ⊥) → rest kind)
+
+-- the kind of the first rule that applies
+abbrev pub IsKind : List Token → Next → FaultKind → Type 0
+IsKind p n =
+    Where (IsBadWord p n) BadWord (
+    Where (IsGrantDue p) UnknownWord (
+    Where (IsEqualsDue p) BadMatch (
+    Where (keyword_at n ≡ kw.Network) NetworkClause (
+    Where (IsClauseWord n) BadMatch (
+    Where (IsAccessDue p) BadAccess (
+    λ kind. kind ≡ UnknownWord))))))
 
 -- ---- the limit of grants
 

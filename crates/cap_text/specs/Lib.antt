@@ -12,4 +12,3 @@ pub mod Machine
 pub mod FaultText
 pub mod Sheet
 pub mod ReadText
-pub mod Refused

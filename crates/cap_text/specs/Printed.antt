@@ -13,7 +13,7 @@ use Rattle.cap_text.specs.declared.grant.AllowGrant.{AllowGrant}
 use Rattle.cap_text.specs.declared.grant.ProfileUse.{ProfileUse}
 use Rattle.cap_text.specs.declared.grant.Grant.{Grant}
 use Rattle.cap_text.specs.declared.grant.Grant.TheVariants.{Allow, Profile}
-use Rattle.cap_text.specs.Bytes.{is_word_byte}
+use Rattle.common_types.specs.WordBytes.{is_word_byte}
 use Rattle.cap_text.specs.Words.{letters, keyword_of}
 use Rattle.cap_text.specs.Grammar.{begins_clause}
 

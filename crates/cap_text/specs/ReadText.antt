@@ -3,7 +3,8 @@
 use Prim.Native.Nat.{zero, suc}
 use Rattle.std.specs.Prelude.{◌≡◌, ℕ, ◌+◌, ◌-◌, Bool, false, ◌&&◌, ◌==◌, nat_lt, List, [], ◌∷◌, Option, Some, None, Result, Ok, Err, if◌then◌else◌, length, take, drop, MatchResult}
 use Rattle.std.specs.List.{prefix_len}
-use Rattle.cap_text.specs.Bytes.{is_space, is_word_byte, is_quote, is_quotable, is_empty}
+use Rattle.cap_text.specs.Bytes.{is_space, is_quote, is_quotable, is_empty}
+use Rattle.common_types.specs.WordBytes.{is_word_byte}
 use Rattle.cap_text.specs.Reads.{is_word}
 use Rattle.cap_text.specs.Machine.{advance, finish, placed}
 use Rattle.cap_text.specs.declared.token.Token.{Token}

@@ -4,9 +4,9 @@ ghost use Rattle.std.specs.Prelude.{◌≡◌, ◌≤◌, [], true, length, IfOk
 ghost use Rattle.std.specs.List.{list_all};
 ghost use Rattle.cap_text.specs.Spellable.{is_spellable};
 
-use crate::fault::OutOfMemory;
 use crate::grant::Grant;
 use crate::spelling::are_spellable;
+use common_types::OutOfMemory;
 use std::alloc::Global;
 use std::marker::Model;
 

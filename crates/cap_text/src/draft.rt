@@ -8,8 +8,8 @@ ghost use Rattle.cap_text.specs.Draft as heads;
 
 use crate::fault::FaultKind;
 use crate::grant::{Access, AllowGrant, Grant, NsMatch, Part, ProfileUse, Tag};
-use crate::name::Name;
 use crate::state::Grants;
+use common_types::Name;
 use std::alloc::Global;
 use std::marker::Model;
 use std::mem;

@@ -4,6 +4,7 @@ ghost use Rattle.std.specs.Prelude.{◌≡◌, Some};
 ghost use Rattle.cap_text.specs.FaultText.{kind_text, fault_text};
 
 use crate::fault::{CapFault, FaultKind};
+use std::error::Error;
 use std::fmt;
 
 /// The number and the name of a kind, as `C7 NetworkClause`.
@@ -32,3 +33,5 @@ impl fmt::Display for CapFault {
         write!(f, "{kind} at {at}")
     }
 }
+
+impl Error for CapFault {}

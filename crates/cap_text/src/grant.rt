@@ -4,8 +4,7 @@
 
 ghost use Rattle.std.specs.Prelude.{◌≡◌, IfOk};
 
-use crate::fault::OutOfMemory;
-use crate::name::{Name, copy_name};
+use common_types::{Name, OutOfMemory, copy_name};
 
 /// One grant of a capability text.
 #[derive(Debug, Drop)]

@@ -11,10 +11,10 @@ use crate::draft::Sheet;
 use crate::fault::FaultKind;
 use crate::grant::{Access, Flags, NsMatch, Part, Tag};
 use crate::keyword::{Keyword, keyword_of};
-use crate::name::Name;
 use crate::stage::{ClauseSet, Next, Slot};
 use crate::state::Grants;
 use crate::token::Token;
+use common_types::Name;
 use std::alloc::Global;
 
 const EVERY: ClauseSet = ClauseSet {

@@ -6,12 +6,10 @@ ghost use Rattle.cap_text.specs.Words.{keyword_of};
 ghost use Rattle.cap_text.specs.Grammar.{begins_clause, Spells};
 ghost use Rattle.cap_text.specs.Printed.{quote_for, quoted, printed_value, printed_method, printed_namespace, printed_part, printed_access, printed_pool, printed_namespaces, printed_prefix, printed_tag, printed_allow, printed_profile, printed_grant, printed};
 
-use crate::bytes::are_word_bytes;
 use crate::caps::CapList;
-use crate::fault::OutOfMemory;
 use crate::grant::{Access, AllowGrant, Flags, Grant, NsMatch, Part, ProfileUse, Tag};
 use crate::keyword::{Keyword, keyword_of};
-use crate::name::Name;
+use common_types::{Name, OutOfMemory, are_word_bytes};
 use std::alloc::Global;
 
 /// The list's printed form: grants joined by `, `, names bare where they can be.

@@ -7,7 +7,7 @@ ghost use Rattle.cap_text.specs.Spellable as spec;
 
 use crate::bytes::is_quotable;
 use crate::grant::{Access, AllowGrant, Grant, NsMatch, Part, Tag};
-use crate::name::Name;
+use common_types::Name;
 
 // Whether bytes may all stand between two of these quotes.
 fn are_quotable(quote: u8, bytes: &[u8]) -> bool

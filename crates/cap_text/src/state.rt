@@ -6,11 +6,12 @@ ghost use Rattle.cap_text.specs.Machine.{advance, finish};
 ghost use Rattle.cap_text.specs.Sheet.{nothing_read};
 
 use crate::draft::Sheet;
-use crate::fault::{FaultKind, OutOfMemory};
+use crate::fault::FaultKind;
 use crate::grant::Grant;
 use crate::machine::{close, step};
 use crate::stage::Next;
 use crate::token::Token;
+use common_types::OutOfMemory;
 use std::alloc::Global;
 use std::marker::Model;
 

@@ -4,8 +4,8 @@ use Rattle.std.specs.Prelude.{All, Option, None, Some, IfSome}
 use Rattle.std.specs.Option.{option_to_list}
 use Rattle.std.proofs.lemmas.List.{map-append, length-append, take_more}
 use Rattle.std.proofs.lemmas.List.Elements.{All-head, All-tail, All-cons, All-nil}
-use Rattle.turn_lock.specs.Turns.{last_word}
-use Rattle.turn_lock.specs.Seats.{Locked, Seated, lock_of, seat_lock, IsFresh, IsNewSeatOf, AreShared}
+use Rattle.turn_lock.specs.Turns.{last_word, made_by}
+use Rattle.turn_lock.specs.Seats.{Locked, Seated, lock_of, seat_lock, IsFresh, IsNewSeatOf, AreShared, HasItsOwn}
 use Rattle.cluster.specs.Places.{InStep, Beside, IsFreshRow, share_of}
 use Rattle.cluster.specs.Passes.{times, pass_share, monitor_share, shares_of, AreFreshOf, AreSeatsOf, HaveShare, AreAlone}
 use Rattle.cluster.specs.declared.groups.GroupEntry.{GroupEntry}
@@ -129,6 +129,13 @@ fresh_shares share [] [] h = (All-nil (λ s. s.share ≡ share), All-nil (λ s. 
 fresh_shares share [] (s ∷ ss) h = absurd h
 fresh_shares share (l ∷ ls) [] h = absurd h
 fresh_shares share (l ∷ ls) (s ∷ ss) h = let r = fresh_shares share ls ss h.2 in (All-cons (λ x. x.share ≡ share) s ss h.1 r.0, All-cons (λ x. x.joined ≡ []) s ss h.0.3 r.1)
+
+-- and have made nothing
+pub row_own : {S E : Type 0} → (share : ℕ) (ls : List (Locked S)) (ss : List (Seated E)) → IsFreshRow share ls ss → All (HasItsOwn {E = E}) ss
+row_own share [] [] h = All-nil HasItsOwn
+row_own share [] (s ∷ ss) h = absurd h
+row_own share (l ∷ ls) [] h = absurd h
+row_own share (l ∷ ls) (s ∷ ss) h = All-cons HasItsOwn s ss (ap (made_by s.number) h.0.1 ∙ sym h.0.2) (row_own share ls ss h.2)
 
 pub fresh_are : (c : Cluster) (share : ℕ) (p : Seats) → AreFreshOf c share p → AreSeatsOf c p × HaveShare share p × AreAlone p
 fresh_are c share p h = let r = fresh_shares share c.groups.items p.groups.items h.0 in

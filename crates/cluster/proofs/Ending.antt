@@ -28,8 +28,8 @@ use Rattle.world_core.proofs.Bytes.{number_same}
 use Rattle.world_core.proofs.Merge.{number_refl}
 use Rattle.world_core.proofs.Acting.{each_weaker}
 use Rattle.world_core.proofs.GroupsOf.{kept_at}
-use Rattle.world_core.proofs.Apart.{Turn, TakesTurns, commands_of, creates_pool}
-use Rattle.world_core.proofs.Together.{AreApart, RanApart, NumbersApart, TurnsOf, TookTurns, after_turns, apart_after, most_given, asked_in_one, each_joined, each_placed}
+use Rattle.world_laws.proofs.Apart.{Turn, TakesTurns, commands_of, creates_pool}
+use Rattle.world_laws.proofs.Together.{AreApart, RanApart, NumbersApart, TurnsOf, TookTurns, after_turns, apart_after, most_given, asked_in_one, each_joined, each_placed}
 use Rattle.cluster.specs.declared.groups.GroupEntry.{GroupEntry}
 use Rattle.cluster.specs.declared.groups.GroupEntry.TheVariants.{Happened, Looked, Idle}
 use Rattle.cluster.specs.declared.cluster.Cluster.{Cluster}
@@ -40,16 +40,16 @@ use Rattle.cluster.specs.declared.monitor.Unfinished.{Unfinished}
 use Rattle.cluster.specs.declared.pass.OwnSession.{OwnSession}
 use Rattle.cluster.specs.declared.pass.Pass.{Pass}
 use Rattle.cluster.specs.Groups.{group_after}
-use Rattle.cluster.specs.Published.{with_commands}
-use Rattle.cluster.specs.Moves.{is_creation}
+use Rattle.published_map.specs.Published.{with_commands}
+use Rattle.cluster.specs.MapCommands.{is_creation}
 use Rattle.cluster.specs.Passes.{firsts_of, group_in, AreMonitorOf, Closed}
-use Rattle.cluster.specs.Change.{happened, happened_at}
+use Rattle.cluster.specs.GroupMoves.{happened, happened_at}
 use Rattle.cluster.specs.Monitors.{moves_from, AllFollow, FollowBy, Follows}
 use Rattle.cluster.specs.Sessions.{own_session, next_of, IsNumbered, AreSessionsOf}
 use Rattle.cluster.specs.Asks.{IsBegun, asked_of, IsOwnEvent, IsAskedAt, IsPassOf}
-use Rattle.cluster.specs.Ends.{seats_of, sessions_of}
+use Rattle.cluster.specs.Asks.{seats_of, sessions_of}
 use Rattle.cluster.proofs.Makers.{at_mapped, mapped_at, mapped_beside, all_at, each_at, mine_at, MadeAt, AreMade, are_made}
-use Rattle.cluster.proofs.Turns.{IsPassEvent, Took, took_turns}
+use Rattle.cluster.proofs.GroupTurns.{IsPassEvent, Took, took_turns}
 use Rattle.cluster.proofs.Requested.{requests_after, asked_by_all, asked_by_one, moves_ask_none}
 
 -- ---- lists

@@ -1,6 +1,6 @@
 -- What a cluster begins with, and what fresh seats are to a pass.
 use Rattle.std.proofs.Common.{◌≡◌, ℕ, true, List, [], ◌∷◌, map, fold, append-nil, refl, sym, ap, ◌∙◌, subst, arith}
-use Rattle.std.specs.Prelude.{All, Option, None, Some, IsSome, IsNone}
+use Rattle.std.specs.Prelude.{All, Option, Some, IsNone}
 use Rattle.std.proofs.lemmas.List.Elements.{All-cons, All-nil}
 use Rattle.std.proofs.lemmas.List.Sums.{fold-append}
 use Rattle.grant_core.specs.Flat.{Table}
@@ -17,19 +17,19 @@ use Rattle.world_core.specs.Front.{Front, first_front, front_step, front_after, 
 use Rattle.cluster.specs.declared.cluster.Cluster.{Cluster}
 use Rattle.cluster.specs.declared.cluster.Seats.{Seats}
 use Rattle.cluster.specs.declared.monitor.Monitor.{Monitor}
-use Rattle.cluster.specs.declared.monitor.Unfinished.{Unfinished}
 use Rattle.cluster.specs.declared.pass.Pass.{Pass}
 use Rattle.cluster.specs.declared.starting.PoolSpec.{PoolSpec}
 use Rattle.cluster.specs.declared.starting.UserSpec.{UserSpec}
 use Rattle.cluster.specs.Places.{IsFreshRow}
-use Rattle.cluster.specs.Published.{GoesOnFrom}
+use Rattle.published_map.specs.Published.{GoesOnFrom}
 use Rattle.cluster.specs.Passes.{AreFreshOf, group_count, pass_share}
-use Rattle.cluster.specs.Change.{happened, happened_at}
-use Rattle.cluster.specs.Monitors.{StandsBy, IsMonitorOf, published_of, waiting_of}
+use Rattle.cluster.specs.GroupMoves.{happened, happened_at}
+use Rattle.cluster.specs.Monitors.{IsMonitorOf, published_of, waiting_of}
 use Rattle.cluster.specs.Asks.{IsBegun, asked_of, IsOwnEvent, Asks, known_by, IsPassOf}
 use Rattle.cluster.specs.Starts.{creation_of, addition_of, events_of}
-use Rattle.cluster.proofs.Begun.{fresh_are}
+use Rattle.cluster.proofs.Begun.{fresh_are, row_own}
 use Rattle.cluster.proofs.Following.{fresh_mine}
+use Rattle.cluster.proofs.GoingOn.{stands_whole}
 
 -- ---- where pools are created and users added, nothing is asked
 
@@ -53,12 +53,6 @@ nothing_asked table daemons pools users events w are holds = ap (λ (f : Front).
 
 -- ---- fresh seats have made nothing
 
-row_own : {S E : Type 0} → (share : ℕ) (ls : List (Locked S)) (ss : List (Seated E)) → IsFreshRow share ls ss → All (HasItsOwn {E = E}) ss
-row_own share [] [] h = All-nil HasItsOwn
-row_own share [] (s ∷ ss) h = absurd h
-row_own share (l ∷ ls) [] h = absurd h
-row_own share (l ∷ ls) (s ∷ ss) h = All-cons HasItsOwn s ss (ap (made_by s.number) h.0.1 ∙ sym h.0.2) (row_own share ls ss h.2)
-
 asks_nothing : (c : Cluster) (share : ℕ) (p : Seats) → AreFreshOf c share p → Asks c [] p
 asks_nothing c share p h =
     let none : (j : ℕ) → happened_at p j ≡ [] = λ j. ap happened (fresh_mine share c.groups.items p.groups.items j h.0) in record {
@@ -69,21 +63,16 @@ asks_nothing c share p h =
 
 -- ---- a pass of fresh seats
 
-stands_whole : (u : Option Unfinished) (count : ℕ) (own : History) (shown : Option History) (waiting : List MapCommand) → IsNone u → StandsBy u count own shown waiting → shown ≡ Some own
-stands_whole None count own shown waiting none h = h.0
-stands_whole (Some x) count own shown waiting none h = absurd (cc)
-
 told_of_start : (start map : History) (told : Option History) → told ≡ Some start → GoesOnFrom map told → GoesOn map start
 told_of_start start map told is h = subst (GoesOnFrom map) is h
 
 pub first_pass : (c : Cluster) (m : Monitor) (p : Pass) → IsBegun c → AreFreshOf c (pass_share c.passes) p.seats → IsMonitorOf c m → IsNone m.unfinished → m.map ≡ c.start
-    → IsSome p.reader → (known_by p).told ≡ published_of m → p.sessions.items ≡ [] → IsPassOf c p
-first_pass c m p begun fresh own whole start reader told none = record {
+    → (known_by p).told ≡ Some (published_of m) → p.sessions.items ≡ [] → IsPassOf c p
+first_pass c m p begun fresh own whole start told none = record {
   begun = begun;
   seats = fresh_are c (pass_share c.passes) p.seats fresh;
   made = row_own (pass_share c.passes) c.groups.items p.seats.groups.items fresh.0;
-  reader = reader;
   since = λ map covers. told_of_start c.start map (known_by p).told
-      (told ∙ (stands_whole m.unfinished (group_count c) m.map (published_of m) (waiting_of m) whole own.stands ∙ ap (λ (h : History). Some h) start)) covers.1;
+      (told ∙ ap (λ (h : History). Some h) (stands_whole m.unfinished (group_count c) m.map (published_of m) (waiting_of m) whole own.stands ∙ start)) covers.1;
   asks = subst (λ l. Asks c l p.seats) (sym none) (asks_nothing c (pass_share c.passes) p.seats fresh);
 }

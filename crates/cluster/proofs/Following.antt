@@ -22,13 +22,13 @@ use Rattle.cluster.specs.declared.monitor.Monitor.{Monitor}
 use Rattle.cluster.specs.declared.monitor.Unfinished.{Unfinished}
 use Rattle.cluster.specs.declared.monitor.Unfinished.TheVariants.{Left, Laid}
 use Rattle.cluster.specs.Places.{IsFreshRow}
-use Rattle.cluster.specs.Published.{with_command, with_commands}
+use Rattle.published_map.specs.Published.{with_command, with_commands}
 use Rattle.cluster.specs.Passes.{AreFreshOf, group_count, firsts_of}
-use Rattle.cluster.specs.Moves.{move_in, move_by, is_creation}
-use Rattle.cluster.specs.Change.{happened, HaveMoved, HaveLooked, event_at}
+use Rattle.cluster.specs.MapCommands.{move_in, move_by, is_creation}
+use Rattle.cluster.specs.GroupMoves.{happened, HaveMoved, HaveLooked, event_at}
 use Rattle.cluster.specs.Monitors.{IsMonitorOf, IsLeftBy, moves_from, AllFollow, SomeFollow, FollowBy, Follows, left_with, change_refusal}
 use Rattle.cluster.proofs.Moved.{at_place, looked_nowhere}
-use Rattle.cluster.proofs.Changing.{events_same}
+use Rattle.cluster.proofs.GoingOn.{events_same}
 
 -- ---- one command more
 

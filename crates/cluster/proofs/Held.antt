@@ -1,10 +1,10 @@
 -- A pass that looked, took a turn on the users, gave a note or heard one is still a pass of its cluster.
 use Rattle.std.proofs.Common.{◌≡◌, ℕ, ◌+◌, ◌<◌, ◌≤◌, ◌∙◌, List, [], ◌∷◌, ◌++◌, map, get_or, refl, sym, ap, subst, arith}
-use Rattle.std.specs.Prelude.{All, true, Some, IsSome}
+use Rattle.std.specs.Prelude.{All, true}
 use Rattle.std.proofs.lemmas.List.Elements.{All-head, All-tail, All-cons, All-nil}
 use Rattle.turn_lock.specs.Turns.{with_leaver}
 use Rattle.turn_lock.specs.Seats.{Seated, mine_of, seat_lock, IsSeatOf, HasItsOwn}
-use Rattle.map_core.specs.State.{History, GoesOn}
+use Rattle.map_core.specs.State.{History}
 use Rattle.entry_core.specs.declared.sealed.GroupId.{GroupId}
 use Rattle.group_core.specs.Each.{Each}
 use Rattle.group_core.specs.Group.{Event, Submit, Deliver, Lose, Repeat, NewInterval, Restart, Kick, is_submitted}
@@ -13,29 +13,20 @@ use Rattle.cluster.specs.declared.cluster.Cluster.{Cluster}
 use Rattle.cluster.specs.declared.cluster.Seats.{Seats}
 use Rattle.cluster.specs.declared.pass.OwnSession.{OwnSession}
 use Rattle.cluster.specs.declared.pass.Pass.{Pass}
-use Rattle.cluster.specs.declared.published.Knowledge.{Knowledge}
+use Rattle.published_map.specs.declared.published.Knowledge.{Knowledge}
 use Rattle.cluster.specs.declared.users.UserTable.{UserTable}
 use Rattle.cluster.specs.declared.users.UserEntry.{UserEntry}
 use Rattle.cluster.specs.Asks.{Asks, IsOwnEvent, IsPassOf, asked_of, known_by}
-use Rattle.cluster.specs.Change.{happened, happened_at}
+use Rattle.cluster.specs.GroupMoves.{happened, happened_at}
 use Rattle.world_core.specs.declared.session.Session.{Session}
 use Rattle.cluster.specs.Sessions.{own_session_at, next_of, IsNumbered}
 use Rattle.cluster.specs.Places.{InStep, TakesIn}
 use Rattle.cluster.specs.Passes.{ArePassOf, AreSeatsOf, HaveShare, TakeIn, UserTurn, pass_share}
-use Rattle.cluster.specs.Published.{Covers, GoesOnFrom, Sees}
-use Rattle.cluster.specs.Noted.{GaveNote, KnowsAll}
-use Rattle.cluster.specs.Looking.{OnlyLooked}
-use Rattle.cluster.proofs.Grows.{from_through}
-use Rattle.cluster.proofs.Own.{more_up, more_down, same_next}
-
--- ---- what is known of the map
-
--- who has seen a map that covers what was known knows all that was known
-pub seen_more : (m : History) (v w : Knowledge) → w.seen ≡ Some m → Covers m v → KnowsAll w v
-seen_more m v w is before x covers = let up : GoesOn x m = subst (GoesOnFrom x) is covers.0 in (from_through x m v.seen up before.0, from_through x m v.told up before.1)
-
-pub sees_more : (m : History) (v w : Knowledge) → Sees m v w → KnowsAll w v
-sees_more m v w s = seen_more m v w s.2 (s.0, s.1)
+use Rattle.published_map.specs.Published.{Covers, GoesOnFrom, Sees}
+use Rattle.cluster.specs.Noted.{GaveNote}
+use Rattle.published_map.specs.Published.{KnowsAll}
+use Rattle.cluster.specs.Views.{OnlyLooked}
+use Rattle.cluster.proofs.OwnNumbers.{more_up, more_down, same_next}
 
 -- ---- what a pass asked
 
@@ -83,30 +74,26 @@ asks_still c own new old later numbers same asks = record {
 -- ---- a pass stays one
 
 pub pass_still : (c : Cluster) (old new : Pass) → IsPassOf c old → ArePassOf c new.seats → All HasItsOwn new.seats.groups.items → ((j : ℕ) → happened_at new.seats j ≡ happened_at old.seats j)
-    → SameNumbers old.sessions.items new.sessions.items → IsSome new.reader → KnowsAll (known_by new) (known_by old) → IsPassOf c new
-pass_still c old new p seats made same numbers reader knows = record {
+    → SameNumbers old.sessions.items new.sessions.items → KnowsAll (known_by new) (known_by old) → IsPassOf c new
+pass_still c old new p seats made same numbers knows = record {
   begun = p.begun;
   seats = seats;
   made = made;
-  reader = reader;
-  since = λ m h. p.since m (knows m h);
+  since = λ m h. p.since m (knows.covers m h);
   asks = asks_still c old.sessions.items new.sessions.items old.seats new.seats numbers same p.asks;
 }
 
 same_reader : (old new : Pass) → new.reader ≡ old.reader → KnowsAll (known_by new) (known_by old)
-same_reader old new is m h = subst (λ o. Covers m (known_by (record old { reader = o }))) is h
-
-still_reader : (old new : Pass) → new.reader ≡ old.reader → IsSome old.reader → IsSome new.reader
-still_reader old new is h = subst (λ o. IsSome o) (sym is) h
+same_reader old new is = record { covers = λ m h. subst (λ o. Covers m (known_by (record old { reader = o }))) is h }
 
 -- it only looked
-pub pass_looked : (c : Cluster) (old new : Pass) → IsPassOf c old → OnlyLooked old new → (IsSome old.reader → IsSome new.reader) → KnowsAll (known_by new) (known_by old) → IsPassOf c new
-pass_looked c old new p same reader knows = pass_still c old new p
+pub pass_looked : (c : Cluster) (old new : Pass) → IsPassOf c old → OnlyLooked old new → KnowsAll (known_by new) (known_by old) → IsPassOf c new
+pass_looked c old new p same knows = pass_still c old new p
     (subst (ArePassOf c) (sym same.0) p.seats)
     (subst (λ (s : Seats). All HasItsOwn s.groups.items) (sym same.0) p.made)
     (λ j. ap (λ (s : Seats). happened_at s j) same.0)
     (same_numbers old.sessions.items new.sessions.items (ap (λ v. v.items) same.1))
-    (reader p.reader) knows
+    knows
 
 -- nothing changed but the room for sessions
 pub pass_same : (c : Cluster) (old new : Pass) → IsPassOf c old → new.seats ≡ old.seats → new.sessions.items ≡ old.sessions.items → new.reader ≡ old.reader → IsPassOf c new
@@ -115,7 +102,7 @@ pass_same c old new p seats sessions reader = pass_still c old new p
     (subst (λ (s : Seats). All HasItsOwn s.groups.items) (sym seats) p.made)
     (λ j. ap (λ (s : Seats). happened_at s j) seats)
     (same_numbers old.sessions.items new.sessions.items sessions)
-    (still_reader old new reader p.reader) (same_reader old new reader)
+    (same_reader old new reader)
 
 -- it took a turn on the users
 pub pass_turned : {A Step : Type 0} (entry : Step → UserTable → A → UserEntry) (tells : Step → UserTable → A → Type 0) (step : Step) (answer : A) (c : Cluster) (old new : Pass)
@@ -129,7 +116,7 @@ pass_turned entry tells step answer c old new p own turn numbers reader =
     )
     (subst (λ v. All HasItsOwn v.items) (sym groups) p.made)
     (λ j. ap (λ v. happened_at (record new.seats { groups = v }) j) groups)
-    numbers (still_reader old new reader p.reader) (same_reader old new reader)
+    numbers (same_reader old new reader)
 
 -- it gave a note
 pub pass_noted : (c : Cluster) (old new : Pass) → IsPassOf c old → GaveNote old new → IsPassOf c new
@@ -143,7 +130,7 @@ pass_noted c old new p gave =
     (subst (λ l. All HasItsOwn l) (sym groups) p.made)
     (λ j. ap (λ l. happened (get_or (map mine_of l) j [])) groups)
     (same_numbers old.sessions.items new.sessions.items (ap (λ v. v.items) gave.2))
-    (still_reader old new gave.1 p.reader) (same_reader old new gave.1)
+    (same_reader old new gave.1)
 
 -- ---- a note is heard
 
@@ -201,4 +188,4 @@ pass_heard c other old new p none own heard reader sessions =
     (made_row xs ys zs heard.0)
     (λ j. ap (λ l. happened (get_or l j [])) (mine_row xs ys zs heard.0))
     (same_numbers old.sessions.items new.sessions.items (ap (λ v. v.items) sessions))
-    (still_reader old new reader p.reader) (same_reader old new reader)
+    (same_reader old new reader)

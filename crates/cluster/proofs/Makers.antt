@@ -21,9 +21,9 @@ use Rattle.cluster.specs.declared.pass.Pass.{Pass}
 use Rattle.cluster.specs.Groups.{group_after, entry_fits}
 use Rattle.cluster.specs.Places.{InStep, Beside, TakesIn, share_of}
 use Rattle.cluster.specs.Passes.{Gathers, Closed, AreMonitorOf, group_in, group_count, firsts_of, pass_share, monitor_share}
-use Rattle.cluster.specs.Change.{happened, happened_at}
+use Rattle.cluster.specs.GroupMoves.{happened, happened_at}
 use Rattle.cluster.specs.Asks.{IsPassOf}
-use Rattle.cluster.specs.Ends.{seats_of}
+use Rattle.cluster.specs.Asks.{seats_of}
 use Rattle.cluster.proofs.Begun.{beside_long, in_step_long}
 
 -- ---- elements by their places

@@ -5,12 +5,12 @@ use Rattle.std.specs.Option.{option_to_list}
 use mathlib.Core.Logic.{dite}
 use native.Mathlib.Decide.{ℕ_discrete}
 use Rattle.std.proofs.lemmas.List.{append_assoc, append-nil}
-use Rattle.std.proofs.lemmas.List.Elements.{All-head, All-tail, All-cons}
+use Rattle.std.proofs.lemmas.List.Elements.{All-head, All-tail, All-cons, All-set}
 use Rattle.atomic_table.specs.Seated.{TableId}
 use Rattle.turn_lock.specs.declared.rule.Joined.{Joined}
 use Rattle.std.proofs.lemmas.Option.{slice_get-get_or}
-use Rattle.turn_lock.specs.Seats.{Seated, seen_by, mine_of, lock_of, seat_lock}
-use Rattle.turn_lock.specs.Turns.{StartsWith, made, state_after}
+use Rattle.turn_lock.specs.Seats.{Seated, HasItsOwn, seen_by, mine_of, lock_of, seat_lock}
+use Rattle.turn_lock.specs.Turns.{StartsWith, made, made_by, state_after}
 use Rattle.map_core.specs.State.{History}
 use Rattle.map_core.specs.declared.command.MapCommand.{MapCommand}
 use Rattle.entry_core.specs.declared.sealed.GroupId.{GroupId}
@@ -23,9 +23,9 @@ use Rattle.cluster.specs.declared.groups.GroupEntry.TheVariants.{Happened, Looke
 use Rattle.cluster.specs.declared.cluster.Cluster.{Cluster}
 use Rattle.cluster.specs.declared.cluster.Seats.{Seats}
 use Rattle.cluster.specs.Groups.{group_after}
-use Rattle.cluster.specs.Passes.{GroupTurn, AreSeatsOf, HaveShare, AreAlone, AreMonitorOf, monitor_share, group_count}
-use Rattle.cluster.specs.Moves.{begins_interval, move_entry, MoveTells, full_entry, FullTells}
-use Rattle.cluster.specs.Change.{happened, happened_at, seen_at, standing, Goes, OneMoved, HaveMoved, HaveLooked, Found, FullAt, NoneFull, BeginsAt, event_at}
+use Rattle.cluster.specs.Passes.{GroupTurn, AreSeatsOf, HaveShare, AreAlone, AreMonitorOf, HaveTheirOwn, monitor_share, group_count}
+use Rattle.cluster.specs.MapCommands.{begins_interval, move_entry, MoveTells, full_entry, FullTells}
+use Rattle.cluster.specs.GroupMoves.{happened, happened_at, seen_at, standing, Goes, OneMoved, HaveMoved, HaveLooked, Found, FullAt, NoneFull, BeginsAt, event_at}
 use Rattle.cluster.proofs.Places.{read_at, read_put, read_other, put_same, same_length, starts_whole}
 
 pub starts_through : {X : Type 0} → (xs ys zs : List X) → StartsWith xs ys → StartsWith ys zs → StartsWith xs zs
@@ -224,5 +224,15 @@ still_alone old new goes h = (
   ap (λ s. s.joined) goes.users ∙ h.1,
 )
 
-pub still_monitor : (c : Cluster) (old new : Seats) → AreMonitorOf c old → AreSeatsOf c new → Goes old new → AreMonitorOf c new
-still_monitor c old new own seats goes = (seats, still_share (monitor_share c.passes) old new goes own.1, still_alone old new goes own.2)
+-- a seat that took a turn knows all that it made
+pub still_own : {Step A : Type 0} → (entry : Step → Group → A → GroupEntry) (tells : Step → Group → A → Type 0) (c : Cluster) (old new : Seats) (k : ℕ) (step : Step) (answer : A)
+    → GroupTurn entry tells c old new k step answer → HaveTheirOwn old → HaveTheirOwn new
+still_own entry tells c old new k step answer turn made =
+    let t = turn.0 in
+    let own : HasItsOwn t.after = subst (λ n. made_by n t.after.seen ≡ t.after.mine) (sym t.same.1) t.turned.own in
+    subst (All HasItsOwn) (sym t.stays) (All-set HasItsOwn old.groups.items k t.after own made)
+
+pub still_monitor : {Step A : Type 0} → (entry : Step → Group → A → GroupEntry) (tells : Step → Group → A → Type 0) (c : Cluster) (old new : Seats) (k : ℕ) (step : Step) (answer : A)
+    → AreMonitorOf c old → AreSeatsOf c new → Goes old new → GroupTurn entry tells c old new k step answer → AreMonitorOf c new
+still_monitor entry tells c old new k step answer own seats goes turn =
+    (seats, still_share (monitor_share c.passes) old new goes own.1, still_alone old new goes own.2, still_own entry tells c old new k step answer turn own.3)

@@ -5,7 +5,7 @@ use Rattle.std.specs.List.{range_with_len}
 use Rattle.map_core.specs.State.{History}
 use Rattle.map_core.specs.declared.pool.PoolView.{PoolView}
 use Rattle.entry_core.specs.Request.{Sealed}
-use Rattle.world_core.specs.Front.{◌>>=◌, unless, error_of, id_of, Asker, is_namespace, asks_more}
+use Rattle.world_core.specs.Front.{◌>>=◌, refuse_if, error_of, id_of, Asker, is_namespace, asks_more}
 use Rattle.world_core.specs.Stands.{next_in}
 use Rattle.world_core.specs.declared.event.Ask.{Ask}
 use Rattle.world_core.specs.declared.fault.WorldFault.{WorldFault as Fault}
@@ -19,7 +19,7 @@ use Rattle.cluster.specs.declared.fault.ClusterFault.TheVariants as faults
 use Rattle.cluster.specs.declared.pass.OwnSession.{OwnSession}
 use Rattle.cluster.specs.declared.pass.Pass.{Pass}
 use Rattle.cluster.specs.Sessions.{own_session, next_of}
-use Rattle.cluster.specs.Reading.{view_by, HasSeen, IsUnseen}
+use Rattle.cluster.specs.Pools.{view_by, HasSeen, IsUnseen}
 use Rattle.cluster.specs.Asking.{ask_by, session_by, asker_by, pool_by, piece_of, own_place, numbered_from, HasAsked, IsNotAsked, IsPiece, IsNoPiece, ArePieces, IsCutShort, IsListed, IsUnlistedBy, ListFails}
 use Rattle.cluster.proofs.OwnSessions.{place_stays, one_given}
 use Rattle.cluster.proofs.Vectors.{ok_so, err_so, session_given, asker_seen, asker_unseen}
@@ -85,14 +85,14 @@ pieces_told c ask view first n (x ∷ xs) old new next h =
 
 pub pool_as : (start map : History) (own : List OwnSession) (a : Asking) (who : Asker) → asker_by start map own a ≡ Ok who → is_namespace a.namespace ≡ true → pool_by start map own a ≡ Ok who.view
 pool_as start map own a who is good =
-    ap (λ (r : Result Asker Fault). r >>= λ k. unless (not (is_namespace a.namespace)) BadObjectName >>= λ _. Ok k.view) is ∙ ap (λ b. unless (not b) BadObjectName >>= λ _. Ok who.view) good
+    ap (λ (r : Result Asker Fault). r >>= λ k. refuse_if (not (is_namespace a.namespace)) BadObjectName >>= λ _. Ok k.view) is ∙ ap (λ b. refuse_if (not b) BadObjectName >>= λ _. Ok who.view) good
 
 pub pool_unnamed : (start map : History) (own : List OwnSession) (a : Asking) (who : Asker) → asker_by start map own a ≡ Ok who → is_namespace a.namespace ≡ false → pool_by start map own a ≡ Err BadObjectName
 pool_unnamed start map own a who is bad =
-    ap (λ (r : Result Asker Fault). r >>= λ k. unless (not (is_namespace a.namespace)) BadObjectName >>= λ _. Ok k.view) is ∙ ap (λ b. unless (not b) BadObjectName >>= λ _. Ok who.view) bad
+    ap (λ (r : Result Asker Fault). r >>= λ k. refuse_if (not (is_namespace a.namespace)) BadObjectName >>= λ _. Ok k.view) is ∙ ap (λ b. refuse_if (not b) BadObjectName >>= λ _. Ok who.view) bad
 
 pub no_pool : (start map : History) (own : List OwnSession) (a : Asking) (fault : Fault) → asker_by start map own a ≡ Err fault → pool_by start map own a ≡ Err fault
-no_pool start map own a fault is = ap (λ (r : Result Asker Fault). r >>= λ k. unless (not (is_namespace a.namespace)) BadObjectName >>= λ _. Ok k.view) is
+no_pool start map own a fault is = ap (λ (r : Result Asker Fault). r >>= λ k. refuse_if (not (is_namespace a.namespace)) BadObjectName >>= λ _. Ok k.view) is
 
 memory_unlists : (c : Cluster) (a : Asking) (r : Result PoolView Fault) (p : Pass) → IsUnlistedBy c a r faults.OutOfMemory p p
 memory_unlists c a (Ok view) p = inl (refl, refl)

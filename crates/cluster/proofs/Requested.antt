@@ -12,11 +12,11 @@ use Rattle.world_core.proofs.Requests.{Facts, message_facts, submit_facts, inter
 use Rattle.cluster.specs.declared.groups.GroupEntry.{GroupEntry}
 use Rattle.cluster.specs.declared.groups.GroupEntry.TheVariants.{Happened, Looked, Idle}
 use Rattle.cluster.specs.Groups.{group_after, entry_fits, WasAccepted}
-use Rattle.cluster.specs.Published.{with_command}
-use Rattle.cluster.specs.Change.{happened}
+use Rattle.published_map.specs.Published.{with_command}
+use Rattle.cluster.specs.GroupMoves.{happened}
 use Rattle.cluster.specs.Monitors.{moves_from}
 use Rattle.cluster.specs.Asks.{asked_of}
-use Rattle.cluster.proofs.Turns.{fits_first, fits_rest}
+use Rattle.cluster.proofs.GroupTurns.{fits_first, fits_rest}
 
 -- ---- the requests of a group
 

@@ -1,5 +1,5 @@
 -- What workers leave, round by round.
-use Rattle.std.proofs.Common.{◌≡◌, ◌≢◌, ℕ, zero, suc, ◌+◌, ◌<◌, ◌≤◌, List, [], ◌∷◌, ◌++◌, map, get_or, length, refl, sym, ap, ◌∙◌, subst, Some, arith, zero-add}
+use Rattle.std.proofs.Common.{◌≡◌, ◌≢◌, ℕ, zero, suc, ◌+◌, ◌<◌, ◌≤◌, List, [], ◌∷◌, ◌++◌, map, get_or, drop, length, refl, sym, ap, ◌∙◌, subst, Some, arith, zero-add}
 use Rattle.std.specs.Prelude.{All, Option, None, Result, Ok, Err}
 use Rattle.std.proofs.lemmas.List.Elements.{All-head, All-tail, All-cons, All-nil}
 use Rattle.std.specs.Option.{option_to_list}
@@ -14,12 +14,12 @@ use Rattle.cluster.specs.declared.pass.Pass.{Pass}
 use Rattle.cluster.specs.declared.groups.Worked.{Worked}
 use Rattle.cluster.specs.declared.groups.Worked.TheVariants as worked
 use Rattle.cluster.specs.Groups.{work_entry, WorkTells}
-use Rattle.cluster.specs.Change.{happened, happened_at, Goes, OneMoved}
+use Rattle.cluster.specs.GroupMoves.{happened, happened_at, Goes, OneMoved}
 use Rattle.cluster.specs.declared.workers.Worker.{Worker}
 use Rattle.cluster.specs.Places.{Beside}
 use Rattle.cluster.specs.Asks.{IsPassOf}
-use Rattle.cluster.specs.Works.{HasWorked, HasWorkedOf, AreAtWork, pass_of, deliveries}
-use Rattle.cluster.specs.Working.{TurnsOn}
+use Rattle.cluster.specs.Workers.{HasWorked, HasWorkedOf, AreAtWork, pass_of, deliveries}
+use Rattle.cluster.specs.Deliveries.{TurnsOn}
 use Rattle.cluster.proofs.Moved.{added, goes_nowhere, goes_through}
 
 deliveries_joined : (n m : ℕ) → deliveries n ++ deliveries m ≡ deliveries (n + m)
@@ -129,10 +129,10 @@ beside_itself most (p ∷ ps) = (worked_more 0 most p p (omega arith) (worked_no
 
 pub at_work : (c : Cluster) (workers : List Worker) (passes : List Pass) → map pass_of workers ≡ passes → All (IsPassOf c) passes → AreAtWork c workers
 at_work c [] ps is h = All-nil (λ (w : Worker). IsPassOf c w.pass)
-at_work c (w ∷ ws) [] is h = absurd (cc)
+at_work c (w ∷ ws) [] is h = let long = ap length is in absurd (omega arith)
 at_work c (w ∷ ws) (p ∷ ps) is h =
-    let first : pass_of w ≡ p = cc in
-    let rest : map pass_of ws ≡ ps = cc in
+    let first : pass_of w ≡ p = ap (λ (l : List Pass). get_or l 0 p) is in
+    let rest : map pass_of ws ≡ ps = ap (λ (l : List Pass). drop 1 l) is in
     All-cons (λ (v : Worker). IsPassOf c v.pass) w ws (subst (IsPassOf c) (sym first) (All-head (IsPassOf c) p ps h)) (at_work c ws ps rest (All-tail (IsPassOf c) p ps h))
 
 abbrev AllWorked : Cluster → ℕ → List Worker → List Worker → Type 0

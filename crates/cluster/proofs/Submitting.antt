@@ -18,7 +18,7 @@ use Rattle.entry_core.specs.declared.sealed.GroupId.{GroupId}
 use Rattle.group_core.specs.Each.{Each}
 use Rattle.group_core.specs.Group.{Group, Submit}
 use Rattle.group_core.specs.declared.fault.GroupFault.{GroupFault}
-use Rattle.world_core.specs.Front.{◌>>=◌, need, unless, id_of, asks_more}
+use Rattle.world_core.specs.Front.{◌>>=◌, need, refuse_if, id_of, asks_more}
 use Rattle.world_core.specs.Moves.{IsAt}
 use Rattle.world_core.specs.Sound.{IsSealedFor}
 use Rattle.world_core.specs.declared.event.Ask.{Ask}
@@ -36,7 +36,7 @@ use Rattle.cluster.specs.declared.pass.OwnSession.{OwnSession}
 use Rattle.cluster.specs.declared.pass.Pass.{Pass}
 use Rattle.cluster.specs.Groups.{submission_entry, SubmissionTells}
 use Rattle.cluster.specs.Passes.{GroupTurn, AreSeatsOf, group_count, firsts_of}
-use Rattle.cluster.specs.Change.{happened_at, OneMoved}
+use Rattle.cluster.specs.GroupMoves.{happened_at, OneMoved}
 use Rattle.cluster.specs.Sessions.{own_session, own_session_at, next_of, IsNumbered}
 use Rattle.cluster.specs.Asks.{IsOwnEvent, IsAskedAt, Asks, IsPassOf}
 use Rattle.cluster.specs.Asking.{session_by}
@@ -45,7 +45,7 @@ use Rattle.cluster.proofs.ClusterPlaces.{inside_count}
 use Rattle.cluster.proofs.Ending.{beside_as_long, numbered_in, asked_inside, same_session}
 use Rattle.cluster.proofs.OwnSessions.{one_given, none_given}
 use Rattle.cluster.proofs.Places.{same_length}
-use Rattle.cluster.proofs.Turning.{AsksNow, asks_after, asks_still, one_made, turned_pass}
+use Rattle.cluster.proofs.PassTurns.{AsksNow, asks_after, asks_still, one_made, turned_pass}
 
 -- ---- the session that asks
 
@@ -57,15 +57,15 @@ not_less_tells a b h = grind (arith, nat_tests)
 
 module _ (own : List OwnSession) (a : Asking) where
   pub session_none : own_session own a.session ≡ None → session_by own a ≡ Err NoSession
-  session_none none = ap (λ (o : Option Session). need o NoSession >>= λ s. unless (nat_lt a.tick s.tick) StaleTick >>= λ _. Ok s) none
+  session_none none = ap (λ (o : Option Session). need o NoSession >>= λ s. refuse_if (nat_lt a.tick s.tick) StaleTick >>= λ _. Ok s) none
 
   pub session_stale : (s : Session) → own_session own a.session ≡ Some s → a.tick < s.tick → session_by own a ≡ Err StaleTick
-  session_stale s has less = ap (λ (o : Option Session). need o NoSession >>= λ s. unless (nat_lt a.tick s.tick) StaleTick >>= λ _. Ok s) has
-      ∙ ap (λ b. unless b StaleTick >>= λ _. Ok s) (less_tells a.tick s.tick less)
+  session_stale s has less = ap (λ (o : Option Session). need o NoSession >>= λ s. refuse_if (nat_lt a.tick s.tick) StaleTick >>= λ _. Ok s) has
+      ∙ ap (λ b. refuse_if b StaleTick >>= λ _. Ok s) (less_tells a.tick s.tick less)
 
   pub session_fine : (s : Session) → own_session own a.session ≡ Some s → s.tick ≤ a.tick → session_by own a ≡ Ok s
-  session_fine s has far = ap (λ (o : Option Session). need o NoSession >>= λ s. unless (nat_lt a.tick s.tick) StaleTick >>= λ _. Ok s) has
-      ∙ ap (λ b. unless b StaleTick >>= λ _. Ok s) (not_less_tells a.tick s.tick far)
+  session_fine s has far = ap (λ (o : Option Session). need o NoSession >>= λ s. refuse_if (nat_lt a.tick s.tick) StaleTick >>= λ _. Ok s) has
+      ∙ ap (λ b. refuse_if b StaleTick >>= λ _. Ok s) (not_less_tells a.tick s.tick far)
 
 -- ---- a group of the start
 

@@ -11,7 +11,7 @@ use Rattle.object_core.specs.declared.needs.NeedsFault.{NeedsFault}
 use Rattle.object_core.specs.declared.op.Op.{Op}
 use Rattle.entry_core.specs.Locality.{Hashes}
 use Rattle.entry_core.specs.Request.{Sealed, Work, Vector, Listing}
-use Rattle.world_core.specs.Front.{◌>>=◌, need, unless, lower, error_of, id_of, Asker, is_object_name, is_namespace, sealed_of, vector_of}
+use Rattle.world_core.specs.Front.{◌>>=◌, need, refuse_if, lower, error_of, id_of, Asker, is_object_name, is_namespace, sealed_of, vector_of}
 use Rattle.world_core.specs.Stands.{next_in}
 use Rattle.world_core.specs.declared.event.Ask.{Ask}
 use Rattle.world_core.specs.declared.fault.WorldFault.{WorldFault as Fault}
@@ -25,7 +25,7 @@ use Rattle.cluster.specs.declared.fault.ClusterFault.TheVariants as faults
 use Rattle.cluster.specs.declared.pass.OwnSession.{OwnSession}
 use Rattle.cluster.specs.declared.pass.Pass.{Pass}
 use Rattle.cluster.specs.Sessions.{own_session}
-use Rattle.cluster.specs.Reading.{view_by, IsPoolOf, HasSeen, IsUnseen}
+use Rattle.cluster.specs.Pools.{view_by, IsPoolOf, HasSeen, IsUnseen}
 use Rattle.cluster.specs.Asking.{ask_by, session_by, asker_by, vector_by, request_by, piece_of, HasAsked, IsNotAsked, IsSubmitted, IsRefusedBy, SubmitFails}
 use Rattle.cluster.specs.ToAsk.{IsToAsk, IsVectorAsked, IsVectorRefused}
 
@@ -60,10 +60,10 @@ memory_refuses c (Err why) p = (inr refl, refl)
 
 module _ (a : Asking) (asker : Asker) (object : List ℕ) (ops : List Op) where
   pub vector_named : (is_object_name object && is_namespace a.namespace) ≡ false → vector_by a asker object ops ≡ Err BadObjectName
-  vector_named bad = ap (λ b. unless (not b) BadObjectName >>= λ _. lower OfNeeds (needs_fault ops) >>= λ _. Ok (vector_of (ask_by a asker.view) asker object ops)) bad
+  vector_named bad = ap (λ b. refuse_if (not b) BadObjectName >>= λ _. lower OfNeeds (needs_fault ops) >>= λ _. Ok (vector_of (ask_by a asker.view) asker object ops)) bad
 
   vector_goes : (is_object_name object && is_namespace a.namespace) ≡ true → vector_by a asker object ops ≡ (lower OfNeeds (needs_fault ops) >>= λ _. Ok (vector_of (ask_by a asker.view) asker object ops))
-  vector_goes good = ap (λ b. unless (not b) BadObjectName >>= λ _. lower OfNeeds (needs_fault ops) >>= λ _. Ok (vector_of (ask_by a asker.view) asker object ops)) good
+  vector_goes good = ap (λ b. refuse_if (not b) BadObjectName >>= λ _. lower OfNeeds (needs_fault ops) >>= λ _. Ok (vector_of (ask_by a asker.view) asker object ops)) good
 
   pub vector_made : (is_object_name object && is_namespace a.namespace) ≡ true → needs_fault ops ≡ None → vector_by a asker object ops ≡ Ok (vector_of (ask_by a asker.view) asker object ops)
   vector_made good none = vector_goes good ∙ ap (λ (o : Option NeedsFault). lower OfNeeds o >>= λ _. Ok (vector_of (ask_by a asker.view) asker object ops)) none
@@ -133,10 +133,10 @@ vector_unnamed c a view object ops session p has bad = record {
 pub session_given : (own : List OwnSession) (a : Asking) (s : Session) → error_of (session_by own a) ≡ None → own_session own a.session ≡ Some s → session_by own a ≡ Ok s
 session_given own a s fine has = to ∙ by (nat_lt a.tick s.tick) (sym (ap error_of to) ∙ fine)
   where
-    to : session_by own a ≡ (unless (nat_lt a.tick s.tick) StaleTick >>= λ _. Ok s)
-    to = ap (λ (o : Option Session). need o NoSession >>= λ s. unless (nat_lt a.tick s.tick) StaleTick >>= λ _. Ok s) has
+    to : session_by own a ≡ (refuse_if (nat_lt a.tick s.tick) StaleTick >>= λ _. Ok s)
+    to = ap (λ (o : Option Session). need o NoSession >>= λ s. refuse_if (nat_lt a.tick s.tick) StaleTick >>= λ _. Ok s) has
 
-    by : (b : Bool) → error_of (unless b StaleTick >>= λ _. Ok s) ≡ None → (unless b StaleTick >>= λ _. Ok s) ≡ Ok s
+    by : (b : Bool) → error_of (refuse_if b StaleTick >>= λ _. Ok s) ≡ None → (refuse_if b StaleTick >>= λ _. Ok s) ≡ Ok s
     by true e = absurd (cc)
     by false e = refl
 

@@ -12,7 +12,7 @@ use Rattle.group_core.specs.declared.fault.GroupFault.{GroupFault}
 use Rattle.world_core.specs.declared.event.Ask.{Ask}
 use Rattle.world_core.specs.declared.fault.WorldFault.{WorldFault as Fault}
 use Rattle.world_core.specs.declared.fault.WorldFault.TheVariants.{NoSession, NoPool, BadObjectName, StaleTick, Needs as OfNeeds}
-use Rattle.world_core.specs.Front.{◌>>=◌, need, unless, lower, Asker, is_object_name, is_namespace, sealed_of, vector_of, id_of, asks_more}
+use Rattle.world_core.specs.Front.{◌>>=◌, need, refuse_if, lower, Asker, is_object_name, is_namespace, sealed_of, vector_of, id_of, asks_more}
 use Rattle.world_core.specs.Moves.{IsAt}
 use Rattle.world_core.specs.declared.session.Session.{Session}
 use Rattle.cluster.specs.declared.asking.Asking.{Asking}
@@ -25,8 +25,8 @@ use Rattle.cluster.specs.declared.pass.Pass.{Pass}
 use Rattle.cluster.specs.Groups.{submission_entry, SubmissionTells}
 use Rattle.cluster.specs.Passes.{GroupTurn, firsts_of}
 use Rattle.cluster.specs.Sessions.{own_session, own_session_at}
-use Rattle.cluster.specs.Working.{fault_of_group, TurnsOn}
-use Rattle.cluster.specs.Reading.{KnowsTheSame, HasRead, view_by}
+use Rattle.cluster.specs.Deliveries.{fault_of_group, TurnsOn}
+use Rattle.cluster.specs.Pools.{KnowsTheSame, HasRead, view_by}
 
 -- ---- what is asked
 
@@ -36,7 +36,7 @@ ask_by a view = record { session = a.session; epoch = view.epoch; tick = a.tick;
 
 -- the session that asks: W1 where the pass has none of this number, W9 for a tick before its last
 abbrev pub session_by : List OwnSession → Asking → Result Session Fault
-session_by own a = need (own_session own a.session) NoSession >>= λ s. unless (nat_lt a.tick s.tick) StaleTick >>= λ _. Ok s
+session_by own a = need (own_session own a.session) NoSession >>= λ s. refuse_if (nat_lt a.tick s.tick) StaleTick >>= λ _. Ok s
 
 -- who asks, and the pool by the map that was read
 abbrev pub asker_by : (start map : History) → List OwnSession → Asking → Result Asker Fault
@@ -47,7 +47,7 @@ asker_by start map own a =
 
 abbrev pub vector_by : Asking → Asker → List ℕ → List Op → Result Sealed Fault
 vector_by a asker object ops =
-    unless (not (is_object_name object && is_namespace a.namespace)) BadObjectName >>= λ _.
+    refuse_if (not (is_object_name object && is_namespace a.namespace)) BadObjectName >>= λ _.
     lower OfNeeds (needs_fault ops) >>= λ _.
     Ok (vector_of (ask_by a asker.view) asker object ops)
 
@@ -59,7 +59,7 @@ request_by start map own a object ops = asker_by start map own a >>= λ asker. v
 abbrev pub pool_by : (start map : History) → List OwnSession → Asking → Result PoolView Fault
 pool_by start map own a =
     asker_by start map own a >>= λ asker.
-    unless (not (is_namespace a.namespace)) BadObjectName >>= λ _.
+    refuse_if (not (is_namespace a.namespace)) BadObjectName >>= λ _.
     Ok asker.view
 
 -- the piece of a list for one group, under the next number of the session

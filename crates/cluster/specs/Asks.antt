@@ -1,8 +1,7 @@
 -- Statement: contracts of public calls use it.
 -- What a cluster began with, what a pass makes on its groups, and what a pass is.
-use Rattle.std.specs.Prelude.{◌≡◌, ℕ, ◌<◌, ◌≤◌, true, List, [], ◌∷◌, Some, None, IsSome, All, slice_get}
+use Rattle.std.specs.Prelude.{◌≡◌, ℕ, ◌<◌, ◌≤◌, true, List, [], ◌∷◌, Some, slice_get}
 use Rattle.left_right.specs.Sides.{view as known}
-use Rattle.turn_lock.specs.Seats.{HasItsOwn}
 use Rattle.map_core.specs.State.{History, GoesOn}
 use Rattle.entry_core.specs.Locality.{group_for}
 use Rattle.entry_core.specs.Request.{Sealed}
@@ -16,11 +15,11 @@ use Rattle.cluster.specs.declared.cluster.Cluster.{Cluster}
 use Rattle.cluster.specs.declared.cluster.Seats.{Seats}
 use Rattle.cluster.specs.declared.pass.OwnSession.{OwnSession}
 use Rattle.cluster.specs.declared.pass.Pass.{Pass}
-use Rattle.cluster.specs.declared.published.Knowledge.{Knowledge}
+use Rattle.published_map.specs.declared.published.Knowledge.{Knowledge}
 use Rattle.cluster.specs.Sessions.{next_of, IsNumbered}
-use Rattle.cluster.specs.Passes.{ArePassOf, firsts_of}
-use Rattle.cluster.specs.Published.{Covers, nothing_known}
-use Rattle.cluster.specs.Change.{happened_at}
+use Rattle.cluster.specs.Passes.{ArePassOf, HaveTheirOwn, firsts_of}
+use Rattle.published_map.specs.Published.{Covers}
+use Rattle.cluster.specs.GroupMoves.{happened_at}
 
 -- The cluster began with the users, the map and the groups of a world that holds, in which nothing was asked and no session opened
 pub record IsBegun (c : Cluster) : Type 0 where
@@ -65,13 +64,19 @@ pub record Asks (c : Cluster) (own : List OwnSession) (seats : Seats) : Type 0 w
 
 -- what a pass knows of the published map
 abbrev pub known_by : Pass → Knowledge
-known_by p = elim p.reader [ Some r ↦ known r.place | None ↦ nothing_known ]
+known_by p = known p.reader.place
 
--- A pass of a cluster that began so: it has a seat of each lock, each of which knows all that it made, and a reader, who was told of the map of the start at least
+-- its seats, and the sessions that it has opened
+abbrev pub seats_of : Pass → Seats
+seats_of p = p.seats
+
+abbrev pub sessions_of : Pass → List OwnSession
+sessions_of p = p.sessions.items
+
+-- A pass of a cluster that began so: it has a seat of each lock, each of which knows all that it made, and its reader was told of the map of the start at least
 pub record IsPassOf (c : Cluster) (p : Pass) : Type 0 where
   pub begun : IsBegun c
   pub seats : ArePassOf c p.seats
-  pub made : All HasItsOwn p.seats.groups.items
-  pub reader : IsSome p.reader
+  pub made : HaveTheirOwn p.seats
   pub since : (map : History) → Covers map (known_by p) → GoesOn map c.start
   pub asks : Asks c p.sessions.items p.seats

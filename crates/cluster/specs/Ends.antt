@@ -4,21 +4,14 @@ use Rattle.std.specs.Prelude.{◌≡◌, List, map, length, IsSome, IsNone}
 use Rattle.world_core.specs.declared.session.Session.{Session}
 use Rattle.world_core.specs.declared.world.parts.WorldParts.{WorldParts}
 use Rattle.cluster.specs.declared.cluster.Cluster.{Cluster}
-use Rattle.cluster.specs.declared.cluster.Seats.{Seats}
 use Rattle.cluster.specs.declared.cluster.Ended.{Ended}
 use Rattle.cluster.specs.declared.closing.CloseFault.{CloseFault}
 use Rattle.cluster.specs.declared.closing.CloseFault.TheVariants as faults
 use Rattle.cluster.specs.declared.monitor.Monitor.{Monitor}
-use Rattle.cluster.specs.declared.pass.OwnSession.{OwnSession}
 use Rattle.cluster.specs.declared.pass.Pass.{Pass}
+use Rattle.cluster.specs.Asks.{seats_of, sessions_of}
 use Rattle.cluster.specs.Sessions.{AreSessionsOf}
 use Rattle.cluster.specs.Passes.{Closed, group_in}
-
-abbrev pub seats_of : Pass → Seats
-seats_of p = p.seats
-
-abbrev pub sessions_of : Pass → List OwnSession
-sessions_of p = p.sessions.items
 
 -- Groups and users are the fold of lists which begin with what each pass and the monitor had seen, and which have no entries but theirs, each one's
 -- in its order. The map is the monitor's, and the sessions are those of the passes

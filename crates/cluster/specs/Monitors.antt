@@ -21,36 +21,51 @@ use Rattle.cluster.specs.declared.monitor.ChangeFault.{ChangeFault}
 use Rattle.cluster.specs.declared.monitor.ChangeFault.TheVariants as faults
 use Rattle.cluster.specs.declared.monitor.TellFault.{TellFault}
 use Rattle.cluster.specs.declared.monitor.TellFault.TheVariants as tells
-use Rattle.cluster.specs.Published.{with_command, with_commands}
+use Rattle.published_map.specs.Published.{with_command, with_commands}
 use Rattle.cluster.specs.Passes.{AreMonitorOf, group_count, firsts_of}
-use Rattle.cluster.specs.Moves.{move_by, is_creation}
-use Rattle.cluster.specs.Change.{happened_at, HaveMoved, HaveLooked, SomeFull, NoneFull, event_at}
+use Rattle.cluster.specs.MapCommands.{move_by, is_creation}
+use Rattle.cluster.specs.GroupMoves.{happened_at, HaveMoved, HaveLooked, SomeFull, NoneFull, event_at}
+
+-- the monitor's own map
+abbrev pub own_map : Monitor → History
+own_map m = m.map
+
+abbrev pub monitor_seats : Monitor → Seats
+monitor_seats m = m.seats
+
+-- the change that is unfinished, if one is
+abbrev pub unfinished_of : Monitor → Option Unfinished
+unfinished_of m = m.unfinished
+
+-- no change is unfinished
+abbrev pub IsWhole : Monitor → Type 0
+IsWhole m = IsNone m.unfinished
 
 -- what is published
-abbrev pub published_of : Monitor → Option History
-published_of m = elim m.writer [ Some w ↦ Some w.desk.shown.value.map | None ↦ None ]
+abbrev pub published_of : Monitor → History
+published_of m = m.writer.desk.shown.value.map
 
 -- the commands that are laid down and not published
 abbrev pub waiting_of : Monitor → List MapCommand
-waiting_of m = elim m.writer [ Some w ↦ drop w.behind w.log.items | None ↦ [] ]
+waiting_of m = drop m.writer.behind m.writer.log.items
 
 -- what the monitor knows to be published
 abbrev pub known_of : Monitor → Option History
-known_of m = elim m.writer [ Some w ↦ (known w.desk.place).seen | None ↦ None ]
+known_of m = (known m.writer.desk.place).seen
 
 -- the monitor's map is the published one, with the command that is unfinished
-abbrev pub StandsBy : Option Unfinished → ℕ → History → Option History → List MapCommand → Type 0
-StandsBy None count own shown waiting = (shown ≡ Some own) × (waiting ≡ [])
-StandsBy (Some (Left command at)) count own shown waiting = (at ≤ count) × (waiting ≡ []) × ((s : History) × (shown ≡ Some s) × (own ≡ with_command s command))
-StandsBy (Some Laid) count own shown waiting = (s : History) × (shown ≡ Some s) × (own ≡ with_commands s waiting)
+abbrev pub StandsBy : Option Unfinished → ℕ → (own shown : History) → List MapCommand → Type 0
+StandsBy None count own shown waiting = (shown ≡ own) × (waiting ≡ [])
+StandsBy (Some (Left command at)) count own shown waiting = (at ≤ count) × (waiting ≡ []) × (own ≡ with_command shown command)
+StandsBy (Some Laid) count own shown waiting = own ≡ with_commands shown waiting
 
--- the monitor has the monitor's seats of the cluster, the places of its groups in order, and the writer; and what is published is its own map but for what is unfinished
+-- the monitor has the monitor's seats of the cluster, each of which knows all that it made, and the places of its groups in order; and what is published is its own
+-- map but for what is unfinished
 pub record IsMonitorOf (c : Cluster) (m : Monitor) : Type 0 where
   pub seats : AreMonitorOf c m.seats
   pub places : m.places.items ≡ map (λ g. g.group) (firsts_of c)
-  pub writer : IsSome m.writer
   pub stands : StandsBy m.unfinished (group_count c) m.map (published_of m) (waiting_of m)
-  pub knows : known_of m ≡ published_of m
+  pub knows : known_of m ≡ Some (published_of m)
 
 abbrev pub left_with : MapCommand → ℕ → Monitor → Monitor
 left_with command at m = record m { unfinished = Some (Left command at) }
@@ -89,16 +104,26 @@ pub record HasBegun (command : MapCommand) (to : ℕ) (first now : Monitor) : Ty
 -- the command is published, and each group has made its event, if it has one, once
 pub record Changed (c : Cluster) (command : MapCommand) (first now : Monitor) : Type 0 where
   pub begun : HasBegun command (group_count c) first now
-  pub before : published_of first ≡ Some first.map
-  pub shown : published_of now ≡ Some (with_command first.map command)
+  pub before : published_of first ≡ first.map
+  pub shown : published_of now ≡ with_command first.map command
   pub done : IsNone now.unfinished
 
 -- the same up to the group `at`, and nothing is published
 pub record IsLeft (c : Cluster) (command : MapCommand) (at : ℕ) (first now : Monitor) : Type 0 where
   pub begun : HasBegun command at first now
-  pub before : published_of first ≡ Some first.map
-  pub shown : published_of now ≡ Some first.map
+  pub before : published_of first ≡ first.map
+  pub shown : published_of now ≡ first.map
   pub left : IsLeftBy c command at now.unfinished
+
+-- the monitor has told what it has published, and else is as it was
+pub record HasOnlyTold (old new : Monitor) : Type 0 where
+  pub map_is : new.map ≡ old.map
+  pub places : new.places ≡ old.places
+  pub seats : new.seats ≡ old.seats
+  pub left : new.unfinished ≡ old.unfinished
+  pub shown : published_of new ≡ published_of old
+  pub waiting : waiting_of new ≡ waiting_of old
+  pub knows : known_of new ≡ known_of old
 
 -- nothing changed but that groups were looked at
 pub record OnlyLooked (old new : Monitor) : Type 0 where
@@ -173,3 +198,7 @@ pub record Follows (first : History) (m : Monitor) : Type 0 where
   pub map_is : m.map ≡ with_commands first commands
   pub pools : All (λ command. is_creation command ≡ false) commands
   pub events : FollowBy m.unfinished first commands m.places.items m.seats
+
+-- the same since the start of the cluster
+abbrev pub FollowsStart : Cluster → Monitor → Type 0
+FollowsStart c m = Follows c.start m

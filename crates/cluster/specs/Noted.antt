@@ -1,13 +1,10 @@
 -- Statement: contracts of public calls use it.
 -- Notes and news that passes are given.
 use Rattle.std.specs.Prelude.{◌≡◌}
-use Rattle.map_core.specs.State.{History}
 use Rattle.cluster.specs.declared.cluster.Cluster.{Cluster}
 use Rattle.cluster.specs.declared.pass.Pass.{Pass}
 use Rattle.cluster.specs.declared.notes.Note.{Note}
-use Rattle.cluster.specs.declared.published.Knowledge.{Knowledge}
-use Rattle.cluster.specs.Passes.{AreSeatsOf, HaveShare, SameSeats}
-use Rattle.cluster.specs.Published.{Covers}
+use Rattle.cluster.specs.Passes.{AreSeatsOf, HaveShare, SameSeats, TakeIn, heard_of}
 
 -- a note of this cluster: its seats take no turns
 abbrev pub IsNoteOf : Cluster → Note → Type 0
@@ -17,6 +14,10 @@ IsNoteOf c note = AreSeatsOf c note.seats × HaveShare 0 note.seats
 abbrev pub GaveNote : Pass → Pass → Type 0
 GaveNote old new = SameSeats old.seats new.seats × (new.reader ≡ old.reader) × (new.sessions ≡ old.sessions)
 
--- whoever knows `later` sees no less than who knew `before`
-abbrev pub KnowsAll : Knowledge → Knowledge → Type 0
-KnowsAll later before = (map : History) → Covers map later → Covers map before
+-- the note tells all that the pass has seen of groups and users
+abbrev pub TellsAllOf : Note → Pass → Type 0
+TellsAllOf note pass = heard_of note.seats ≡ heard_of pass.seats
+
+-- the pass has seen what it had seen and what the note tells; reader and sessions stay
+abbrev pub HasHeard : Note → Pass → Pass → Type 0
+HasHeard note old new = TakeIn old.seats note.seats new.seats × (new.reader ≡ old.reader) × (new.sessions ≡ old.sessions)

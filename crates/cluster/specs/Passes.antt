@@ -3,8 +3,9 @@
 use Rattle.std.specs.Prelude.{◌≡◌, ℕ, zero, suc, ◌+◌, ◌-◌, ◌*◌, ◌/◌, List, [], ◌∷◌, ◌++◌, All, map, length}
 use Rattle.turn_lock.specs.declared.rule.Made.{Made}
 use Rattle.turn_lock.specs.Turns.{last_word}
-use Rattle.turn_lock.specs.Seats.{lock_of, first_of, seat_lock, seen_by, IsSeatOf, IsFresh, IsSameSeat, HasSameShare}
+use Rattle.turn_lock.specs.Seats.{lock_of, first_of, seat_lock, seen_by, IsSeatOf, IsFresh, HasItsOwn, IsSameSeat, HasSameShare}
 use Rattle.turn_lock.specs.Turned.{Turned, Closes}
+use Rattle.map_core.specs.State.{History}
 use Rattle.group_core.specs.Group.{Group}
 use Rattle.cluster.specs.declared.groups.GroupEntry.{GroupEntry}
 use Rattle.cluster.specs.declared.users.UserTable.{UserTable}
@@ -20,6 +21,10 @@ use Rattle.cluster.specs.Places.{TurnsAt, TakesIn, InStep, IsFreshRow, ClosedAll
 -- there is a seat of each lock of the cluster
 abbrev pub AreSeatsOf : Cluster → Seats → Type 0
 AreSeatsOf c p = (map seat_lock p.groups.items ≡ map lock_of c.groups.items) × IsSeatOf c.users p.users
+
+-- the map that it began with
+abbrev pub start_of : Cluster → History
+start_of c = c.start
 
 abbrev pub group_count : Cluster → ℕ
 group_count c = length c.groups.items
@@ -84,12 +89,16 @@ AreAlone p = All (λ s. s.joined ≡ []) p.groups.items × (p.users.joined ≡ [
 abbrev pub AreFreshOf : Cluster → ℕ → Seats → Type 0
 AreFreshOf c share p = IsFreshRow share c.groups.items p.groups.items × IsFresh c.users.table p.users × (p.users.share ≡ share)
 
+-- each seat of a group knows all that it made
+abbrev pub HaveTheirOwn : Seats → Type 0
+HaveTheirOwn p = All HasItsOwn p.groups.items
+
 -- the seats of a pass, and those of the monitor
 abbrev pub ArePassOf : Cluster → Seats → Type 0
 ArePassOf c p = AreSeatsOf c p × HaveShare (pass_share c.passes) p × AreAlone p
 
 abbrev pub AreMonitorOf : Cluster → Seats → Type 0
-AreMonitorOf c p = AreSeatsOf c p × HaveShare (monitor_share c.passes) p × AreAlone p
+AreMonitorOf c p = AreSeatsOf c p × HaveShare (monitor_share c.passes) p × AreAlone p × HaveTheirOwn p
 
 -- ---- the end
 

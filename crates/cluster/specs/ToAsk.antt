@@ -1,7 +1,7 @@
 -- Refinement: only contracts inside the crate use it.
 -- What a reading answers, a request that is ready to be submitted, and what becomes of a vector on a pool that was read.
 use Rattle.std.specs.Prelude.{◌≡◌, ℕ, ◌+◌, ◌<◌, List, true, Some, Result, Ok, IfOk}
-use Rattle.cap_text.specs.Refused.{RefusedFirst}
+use Rattle.common_types.specs.Refused.{RefusedFirst}
 use Rattle.map_core.specs.State.{History, GoesOn}
 use Rattle.map_core.specs.Map.{epoch_of, view_at}
 use Rattle.map_core.specs.Limits.{IsAccepted, HasLimits}
@@ -24,7 +24,7 @@ use Rattle.cluster.specs.declared.cluster.Cluster.{Cluster}
 use Rattle.cluster.specs.declared.pass.OwnSession.{OwnSession}
 use Rattle.cluster.specs.declared.pass.Pass.{Pass}
 use Rattle.cluster.specs.Sessions.{own_session, next_of}
-use Rattle.cluster.specs.Reading.{HasRead}
+use Rattle.cluster.specs.Pools.{HasRead}
 use Rattle.cluster.specs.Asking.{ask_by, vector_by, HasAsked, IsRefusedBy}
 
 -- ---- a reading

@@ -1,7 +1,7 @@
 -- Statement: contracts of public calls use it.
 -- What the turns on the users stand for, and what their answers tell.
 use Rattle.std.specs.Prelude.{◌≡◌, ℕ, ◌+◌, List, Option, Some, None, Result, Ok, Err, IfOk, nat_le, if◌then◌else◌, unwrap_or}
-use Rattle.cap_text.specs.Refused.{RefusedFirst}
+use Rattle.common_types.specs.Refused.{RefusedFirst}
 use Rattle.verdict_core.specs.Ticket.{Ticket}
 use Rattle.auth_db.specs.declared.fault.AuthFault.{AuthFault}
 use Rattle.auth_db.specs.declared.fault.AuthFault.TheVariants as auth

@@ -6,21 +6,21 @@ ghost use Rattle.object_core.specs.Needs.{needs_fault};
 ghost use Rattle.world_core.specs.declared.fault.WorldFault.{WorldFault as Fault};
 ghost use Rattle.world_core.specs.declared.fault.WorldFault.TheVariants.{Needs as OfNeeds};
 ghost use Rattle.world_core.specs.Front.{error_of, vector_of, asks_more};
-ghost use Rattle.cap_text.specs.Refused.{RefusedExactly};
+ghost use Rattle.common_types.specs.Refused.{RefusedExactly};
 ghost use Rattle.cluster.specs.declared.fault.ClusterFault.TheVariants as faults;
 ghost use Rattle.cluster.specs.Sessions.{own_session_at, next_of};
-ghost use Rattle.cluster.specs.Asks.{IsPassOf};
-ghost use Rattle.cluster.specs.Reading.{IsPoolOf};
+ghost use Rattle.cluster.specs.Asks.{IsPassOf, sessions_of};
+ghost use Rattle.cluster.specs.Pools.{IsPoolOf};
 ghost use Rattle.cluster.specs.Asking as spec;
 ghost use Rattle.cluster.specs.Asking.{own_place, session_by, numbered_from, HasAsked, IsNotAsked, IsPiece, IsNoPiece, ArePieces, IsCutShort, IsSubmitted, SubmitFails, IsListed, ListFails};
 ghost use Rattle.cluster.specs.ToAsk.{IsToAsk, IsVectorAsked, IsVectorRefused, FitsOneMore};
 
 use crate::cluster::Cluster;
+use crate::deliveries::of_group;
 use crate::fault::ClusterFault;
 use crate::groups::Submission;
 use crate::pass::{OwnSession, Pass};
-use crate::working::of_group;
-use cap_text::Name;
+use common_types::Name;
 use entry_core::{GroupId, Id, Sealed};
 use map_core::PoolView;
 use std::alloc::Global;
@@ -295,7 +295,7 @@ impl Cluster {
         requires { IsPassOf self.now pass.old }
         ensures pass { IsPassOf self.now pass.new }
         ensures ok { IfOk result (λ all. IsListed self.now asking all.items pass.old pass.new) }
-        ensures told { IfOk result (λ all. all.items ≡ numbered_from asking.session (next_of pass.old.sessions.items asking.session) asking.pool (length all.items)) }
+        ensures told { IfOk result (λ all. all.items ≡ numbered_from asking.session (next_of (sessions_of pass.old) asking.session) asking.pool (length all.items)) }
         ensures err { IfErr result (λ fault. ListFails self.now asking fault pass.old pass.new) }
     {
         match asking_session(pass.sessions.as_slice(), &asking) {

@@ -4,9 +4,9 @@ ghost use Rattle.std.specs.Prelude.{◌≡◌, ◌≤◌, [], All, map as each, 
 ghost use Rattle.std.specs.Vec.{vec_capacity};
 ghost use Rattle.world_core.specs.Parts.{FitTogether};
 ghost use Rattle.cluster.specs.Passes.{AreSeatsOf, Gathers, group_in};
-ghost use Rattle.cluster.specs.Monitors.{IsMonitorOf, Follows};
-ghost use Rattle.cluster.specs.Asks.{IsBegun, IsPassOf};
-ghost use Rattle.cluster.specs.Ends.{seats_of, sessions_of, IsEndOf, AreAll, CloseFails};
+ghost use Rattle.cluster.specs.Monitors.{IsMonitorOf, IsWhole, Follows, FollowsStart};
+ghost use Rattle.cluster.specs.Asks.{IsBegun, IsPassOf, seats_of, sessions_of};
+ghost use Rattle.cluster.specs.Ends.{IsEndOf, AreAll, CloseFails};
 ghost use Rattle.cluster.specs.Numbering.{AreNumbered, HasRoom};
 
 use crate::cluster::{Cluster, Ended, Seats};
@@ -162,11 +162,11 @@ impl Cluster {
         passes: Vec<Pass>,
     ) -> Result<WorldParts, (CloseFault, Cluster, Monitor, Vec<Pass>)>
         requires begun { IsBegun self }
-        requires monitor { IsMonitorOf self monitor × Follows self.start monitor }
+        requires monitor { IsMonitorOf self monitor × FollowsStart self monitor }
         requires passes { All (IsPassOf self) passes.items }
         ensures end { IfOk result (IsEndOf self monitor passes.items) }
         ensures fits { IfOk result FitTogether }
-        ensures whole { OnOk result (AreAll self passes.items × IsNone monitor.unfinished) }
+        ensures whole { OnOk result (AreAll self passes.items × IsWhole monitor) }
         ensures fault { IfErr result (λ refused. CloseFails self monitor passes.items refused.0) }
         ensures back { IfErr result (λ refused. (refused.1 ≡ self) × (refused.2 ≡ monitor) × (refused.3 ≡ passes)) }
     {

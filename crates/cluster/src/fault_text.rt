@@ -3,6 +3,7 @@
 use crate::closing::CloseFault;
 use crate::fault::ClusterFault;
 use crate::monitor::{ChangeFault, TellFault};
+use std::error::Error;
 use std::fmt;
 
 /// As `K1 Unfinished 2`; a fault of a lower layer prints itself.
@@ -18,6 +19,8 @@ impl fmt::Display for ClusterFault {
     }
 }
 
+impl Error for ClusterFault {}
+
 /// As `K1 Unfinished 2`; a fault of the map or of a group prints itself.
 impl fmt::Display for ChangeFault {
     fn fmt<W: fmt::Write>(&self, f: &mut fmt::Formatter<W>) -> fmt::Result {
@@ -29,6 +32,8 @@ impl fmt::Display for ChangeFault {
     }
 }
 
+impl Error for ChangeFault {}
+
 /// As `K4 NoReader`.
 impl fmt::Display for TellFault {
     fn fmt<W: fmt::Write>(&self, f: &mut fmt::Formatter<W>) -> fmt::Result {
@@ -38,6 +43,8 @@ impl fmt::Display for TellFault {
         }
     }
 }
+
+impl Error for TellFault {}
 
 /// As `L1 MissingPass`.
 impl fmt::Display for CloseFault {
@@ -49,3 +56,5 @@ impl fmt::Display for CloseFault {
         }
     }
 }
+
+impl Error for CloseFault {}

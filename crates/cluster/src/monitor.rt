@@ -1,25 +1,23 @@
 //! The monitor, who changes the map.
 
-ghost use Rattle.std.specs.Prelude.{◌≡◌, ℕ, [], ◌∷◌, ◌++◌, ◌<◌, ◌≤◌, Option, Some, None, Ok, map, length, IfOk, IfErr, MatchResult, OnOk, OnErr, IsSome, IsNone};
+ghost use Rattle.std.specs.Prelude.{◌≡◌, ℕ, [], ◌∷◌, ◌++◌, ◌<◌, ◌≤◌, Option, Some, None, Ok, map, length, IfOk, IfErr, MatchResult, OnOk, OnErr, IsNone};
 ghost use Rattle.std.specs.Option.{option_map};
-ghost use Rattle.left_right.specs.Sides.{view as known};
 ghost use Rattle.map_core.specs.State.{History};
 ghost use Rattle.map_core.specs.Map.{epoch_of};
 ghost use Rattle.map_core.specs.declared.command.MapCommand.{MapCommand};
-ghost use Rattle.cluster.specs.Published.{with_commands};
-ghost use Rattle.cluster.specs.Change.{Goes};
+ghost use Rattle.published_map.specs.Published.{with_commands};
+ghost use Rattle.published_map.specs.Told.{HasToldOf};
+ghost use Rattle.cluster.specs.GroupMoves.{Goes};
 ghost use Rattle.cluster.specs.declared.monitor.Unfinished.TheVariants as left_by;
 
-use crate::change::{any_full, move_groups};
 use crate::cluster::{Cluster, Seats};
-use crate::moves::creates;
-use crate::news::{News, tell};
-use crate::published::{MapWriter, publish};
+use crate::group_moves::{any_full, move_groups};
+use crate::map_commands::creates;
 use entry_core::GroupId;
 use group_core::GroupFault;
 use map_core::{ClusterMap, Epoch, MapCommand, MapFault};
+use published_map::{MapWriter, News, publish, tell};
 use std::alloc::AllocError;
-use std::mem::replace;
 use std::sync::Wait;
 
 /// What is left of a change whose command stands in the monitor's map.
@@ -31,14 +29,14 @@ pub enum Unfinished {
     Laid,
 }
 
-/// The right to change the map: the monitor's own map, the places of the cluster's groups in order, seats of it, and the writer of
-/// the published map, which is there between calls. End the writer by its `take`.
+/// The right to change the map: the monitor's own map, the places of the cluster's groups in order, seats of it, the writer of the
+/// published map, and what is left of a change. It is not `Drop`: end it by `end`.
 pub struct Monitor {
-    pub map: ClusterMap,
-    pub places: Vec<GroupId>,
-    pub seats: Seats,
-    pub writer: Option<MapWriter>,
-    pub unfinished: Option<Unfinished>,
+    pub(crate) map: ClusterMap,
+    pub(crate) places: Vec<GroupId>,
+    pub(crate) seats: Seats,
+    pub(crate) writer: MapWriter,
+    pub(crate) unfinished: Option<Unfinished>,
 }
 
 /// Why the map is not changed, or not wholly.
@@ -63,7 +61,7 @@ pub enum TellFault {
 
 impl Monitor {
     ghost use Rattle.cluster.specs.Passes.{group_count};
-    ghost use Rattle.cluster.specs.Monitors.{IsMonitorOf, published_of, waiting_of, known_of, left_with, laid_with, left_at, IsLeftBy, HasBegun, Changed, IsAdmitted, ChangeFails, TellFails, Finishes, Follows, change_refusal};
+    ghost use Rattle.cluster.specs.Monitors.{IsMonitorOf, IsWhole, HasOnlyTold, own_map, monitor_seats, unfinished_of, published_of, waiting_of, known_of, left_with, laid_with, left_at, IsLeftBy, HasBegun, Changed, IsAdmitted, ChangeFails, TellFails, Finishes, Follows, change_refusal};
 
     // The group at which a change is left, if one is.
     fn left(&self, cluster: &Cluster) -> Option<usize>
@@ -88,7 +86,7 @@ impl Monitor {
 
     /// Ends the publication, and gives the map and the seats back. It waits until no reader is within a reading.
     pub fn end<R: Wait>(self, rt: &R) -> (ClusterMap, Seats)
-        ensures { (result.0 ≡ self.map) × (result.1 ≡ self.seats) }
+        ensures { (result.0 ≡ own_map self) × (result.1 ≡ monitor_seats self) }
     {
         let Monitor {
             map,
@@ -97,43 +95,27 @@ impl Monitor {
             writer,
             unfinished: _,
         } = self;
-        if let Some(writer) = writer {
-            drop(writer.take(rt));
-        }
+        drop(writer.take(rt));
         (map, seats)
     }
 
     // Publishes what waits.
     fn publish_all<R: Wait>(&mut self, rt: &R) -> Result<(), AllocError>
-        requires { IsSome self.old.writer }
-        ensures writer { IsSome self.new.writer }
         ensures rest { (self.new.map ≡ self.old.map) × (self.new.places ≡ self.old.places) × (self.new.seats ≡ self.old.seats) × (self.new.unfinished ≡ self.old.unfinished) }
-        ensures ok { OnOk result (option_map (λ shown. with_commands shown (waiting_of self.old)) (published_of self.old) ≡ published_of self.new) }
-        ensures none_left { OnOk result ((waiting_of self.new ≡ []) × (known_of self.new ≡ published_of self.new)) }
+        ensures ok { OnOk result (published_of self.new ≡ with_commands (published_of self.old) (waiting_of self.old)) }
+        ensures none_left { OnOk result ((waiting_of self.new ≡ []) × (known_of self.new ≡ Some (published_of self.new))) }
         ensures err { OnErr result ((published_of self.new ≡ published_of self.old) × (waiting_of self.new ≡ waiting_of self.old) × (known_of self.new ≡ known_of self.old)) }
     {
-        let Some(writer) = self.writer.take() else {
-            unreachable!()
-        };
-        let (writer, answer) = publish(rt, writer);
-        match replace(&mut self.writer, Some(writer)) {
-            None => answer,
-            Some(_) => unreachable!(),
-        }
+        publish(rt, &mut self.writer)
     }
 
     // Lays a command down to be published.
     fn append(&mut self, command: MapCommand) -> Result<(), MapCommand>
-        requires { IsSome self.old.writer }
-        ensures writer { IsSome self.new.writer }
         ensures rest { (self.new.map ≡ self.old.map) × (self.new.places ≡ self.old.places) × (self.new.seats ≡ self.old.seats) × (self.new.unfinished ≡ self.old.unfinished) }
         ensures shown { (published_of self.new ≡ published_of self.old) × (known_of self.new ≡ known_of self.old) }
         ensures waiting { MatchResult result (λ _. waiting_of self.new ≡ waiting_of self.old ++ command ∷ []) (λ back. (back ≡ command) × (waiting_of self.new ≡ waiting_of self.old)) }
     {
-        match &mut self.writer {
-            Some(writer) => writer.append(command),
-            None => unreachable!(),
-        }
+        self.writer.append(command)
     }
 
     /// The news of what the monitor has published. There is none while a change is unfinished. At `Err` nothing changed.
@@ -141,23 +123,19 @@ impl Monitor {
         requires { IsMonitorOf cluster.now self.old }
         ensures monitor { IsMonitorOf cluster.now self.new }
         ensures follows { (first : History) → Follows first self.old → Follows first self.new }
-        ensures told { IfOk result (λ news. (known news.reader.place).told ≡ published_of self.old) }
-        ensures ok { OnOk result (IsNone self.old.unfinished) }
-        ensures err { IfErr result (λ fault. TellFails cluster.now fault self.old.unfinished) }
-        ensures rest { (self.new.map ≡ self.old.map) × (self.new.places ≡ self.old.places) × (self.new.seats ≡ self.old.seats) × (self.new.unfinished ≡ self.old.unfinished) }
-        ensures shown { (published_of self.new ≡ published_of self.old) × (waiting_of self.new ≡ waiting_of self.old) × (known_of self.new ≡ known_of self.old) }
+        ensures told { IfOk result (λ news. HasToldOf news (published_of self.old)) }
+        ensures ok { OnOk result (IsWhole self.old) }
+        ensures err { IfErr result (λ fault. TellFails cluster.now fault (unfinished_of self.old)) }
+        ensures same { HasOnlyTold self.old self.new }
     {
         match &self.unfinished {
             None => (),
             Some(Unfinished::Left { command: _, at }) => return Err(TellFault::Unfinished(*at)),
             Some(Unfinished::Laid) => return Err(TellFault::Unfinished(cluster.group_count())),
         }
-        match &mut self.writer {
-            Some(writer) => match tell(writer) {
-                Some(news) => Ok(news),
-                None => Err(TellFault::NoReader),
-            },
-            None => unreachable!(),
+        match tell(&mut self.writer) {
+            Some(news) => Ok(news),
+            None => Err(TellFault::NoReader),
         }
     }
 
@@ -243,7 +221,7 @@ impl Monitor {
         ensures monitor { IsMonitorOf cluster.now self.new }
         ensures goes { Goes self.old.seats self.new.seats }
         ensures follows { (first : History) → Follows first self.old → Follows first self.new }
-        ensures nothing { IsNone self.old.unfinished → (self.new ≡ self.old) × (result ≡ Ok tt) }
+        ensures nothing { IsWhole self.old → (self.new ≡ self.old) × (result ≡ Ok tt) }
         ensures finished { Finishes cluster.now result self.old self.new }
     {
         match self.unfinished.take() {
@@ -275,7 +253,7 @@ impl Monitor {
         ensures goes { Goes self.old.seats self.new.seats }
         ensures follows { (first : History) → Follows first self.old → Follows first self.new }
         ensures ok { OnOk result (IsAdmitted cluster.now command self.old self.new × Changed cluster.now command self.old self.new) }
-        ensures epoch { IfOk result (λ epoch. epoch ≡ epoch_of self.new.map) }
+        ensures epoch { IfOk result (λ epoch. epoch ≡ epoch_of (own_map self.new)) }
         ensures err { IfErr result (λ fault. ChangeFails cluster.now command fault self.old self.new) }
     {
         let places = self.places.as_slice();
@@ -309,9 +287,9 @@ impl Monitor {
         ensures monitor { IsMonitorOf cluster.now self.new }
         ensures goes { Goes self.old.seats self.new.seats }
         ensures follows { (first : History) → Follows first self.old → Follows first self.new }
-        ensures whole { OnOk result (IsNone self.old.unfinished) }
+        ensures whole { OnOk result (IsWhole self.old) }
         ensures ok { OnOk result (IsAdmitted cluster.now command self.old self.new × Changed cluster.now command self.old self.new) }
-        ensures epoch { IfOk result (λ epoch. epoch ≡ epoch_of self.new.map) }
+        ensures epoch { IfOk result (λ epoch. epoch ≡ epoch_of (own_map self.new)) }
         ensures err { IfErr result (λ fault. ChangeFails cluster.now command fault self.old self.new) }
     {
         if let Some(at) = self.left(cluster) {

@@ -1,27 +1,26 @@
 //! Notes and news: what a pass hears from others.
 
 ghost use Rattle.std.specs.Prelude.{◌≡◌, Some, OnOk, IfOk, IfErr};
-ghost use Rattle.left_right.specs.Sides.{view as known};
 ghost use Rattle.map_core.specs.State.{History};
 ghost use Rattle.cluster.specs.declared.cluster.Cluster.{Cluster as ACluster};
 ghost use Rattle.cluster.specs.declared.fault.ClusterFault.TheVariants as faults;
 ghost use Rattle.cluster.specs.Asks.{IsPassOf, known_by};
-ghost use Rattle.cluster.specs.Looking.{OnlyLooked};
-ghost use Rattle.cluster.specs.Noted.{IsNoteOf, GaveNote, KnowsAll};
-ghost use Rattle.cluster.specs.Passes.{TakeIn, heard_of};
-ghost use Rattle.cluster.specs.Published.{Covers};
+ghost use Rattle.cluster.specs.Views.{OnlyLooked};
+ghost use Rattle.cluster.specs.Noted.{IsNoteOf, GaveNote, TellsAllOf, HasHeard};
+ghost use Rattle.published_map.specs.Published.{Covers, KnowsAll};
+ghost use Rattle.published_map.specs.Told.{knowledge_of};
 
 use crate::cluster::{Cluster, Seats};
 use crate::fault::ClusterFault;
-use crate::news::{News, learn};
 use crate::pass::Pass;
+use published_map::{News, learn};
 use std::alloc::Global;
 
 /// What a pass has seen of the groups and of the users, to be handed to another pass of the same cluster.
 #[derive(Drop)]
 pub struct Note {
     /// They have seen what the pass had seen, and take no turns.
-    pub seats: Seats,
+    pub(crate) seats: Seats,
 }
 
 impl Pass {
@@ -33,7 +32,7 @@ impl Pass {
         requires { IsPassOf cluster.now self.old }
         ensures pass { IsPassOf cluster.now self.new }
         ensures same { GaveNote self.old self.new }
-        ensures note { IfOk result (λ note. IsNoteOf cluster.now note × (heard_of note.seats ≡ heard_of self.old.seats)) }
+        ensures note { IfOk result (λ note. IsNoteOf cluster.now note × TellsAllOf note self.old) }
         ensures refused { IfErr result (λ fault. fault ≡ faults.OutOfMemory) }
     {
         let seats = cluster.split_off(alloc, &mut self.seats)?;
@@ -45,8 +44,7 @@ impl Pass {
         requires pass { IsPassOf cluster.now self.old }
         requires note { IsNoteOf cluster.now note }
         ensures pass { IsPassOf cluster.now self.new }
-        ensures heard { TakeIn self.old.seats note.seats self.new.seats }
-        ensures same { (self.new.reader ≡ self.old.reader) × (self.new.sessions ≡ self.old.sessions) }
+        ensures heard { HasHeard note self.old self.new }
     {
         cluster.absorb(&mut self.seats, note.seats);
     }
@@ -58,22 +56,13 @@ impl Pass {
     pub fn learn(&mut self, news: News) -> Result<(), (News, ClusterFault)>
         ensures pass { (c : ACluster) → IsPassOf c self.old → IsPassOf c self.new }
         ensures same { OnlyLooked self.old self.new }
-        ensures learned { OnOk result ((map : History) × ((known_by self.new).seen ≡ Some map) × Covers map (known_by self.old) × Covers map (known news.reader.place)) }
-        ensures kept { IfErr result (λ back. KnowsAll (known_by self.new) (known_by self.old) × KnowsAll (known back.0.reader.place) (known news.reader.place)) }
+        ensures learned { OnOk result ((map : History) × ((known_by self.new).seen ≡ Some map) × Covers map (known_by self.old) × Covers map (knowledge_of news)) }
+        ensures kept { IfErr result (λ back. KnowsAll (known_by self.new) (known_by self.old) × KnowsAll (knowledge_of back.0) (knowledge_of news)) }
         ensures refused { IfErr result (λ back. back.1 ≡ faults.NoReader) }
     {
-        let Some(reader) = self.reader.take() else {
-            return Err((news, ClusterFault::NoReader));
-        };
-        match learn(reader, news) {
-            Ok(reader) => {
-                self.reader = Some(reader);
-                Ok(())
-            }
-            Err((reader, news)) => {
-                self.reader = Some(reader);
-                Err((news, ClusterFault::NoReader))
-            }
+        match learn(&mut self.reader, news) {
+            Ok(()) => Ok(()),
+            Err(news) => Err((news, ClusterFault::NoReader)),
         }
     }
 }

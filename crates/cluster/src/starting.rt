@@ -1,26 +1,26 @@
 //! Starting a cluster.
 
-ghost use Rattle.std.specs.Prelude.{◌≡◌, ◌<◌, ◌≤◌, ◌^◌, ◌++◌, [], All, map as each, vec_len, IfOk, IfErr, IsNone};
+ghost use Rattle.std.specs.Prelude.{◌≡◌, ℕ, ◌<◌, ◌≤◌, ◌^◌, ◌++◌, [], All, map as each, vec_len, IfOk, IfErr, IsNone};
 ghost use Rattle.world_core.specs.Sound.{IsSound};
-ghost use Rattle.cluster.specs.Starts.{HasWorld};
-ghost use Rattle.cluster.specs.Passes.{AreFreshOf, firsts_of, group_in, pass_share};
-ghost use Rattle.cluster.specs.Monitors.{IsMonitorOf, Follows};
-ghost use Rattle.cluster.specs.Asks.{IsBegun, IsPassOf};
-ghost use Rattle.cluster.specs.Starts.{creation_of, addition_of, events_of, IsStartOf, IsWant, StartFails};
+ghost use Rattle.cluster.specs.Passes.{AreFreshOf, AreMonitorOf, firsts_of, group_in, pass_share, start_of};
+ghost use Rattle.cluster.specs.Monitors.{IsMonitorOf, Follows, FollowsStart, IsWhole, own_map};
+ghost use Rattle.cluster.specs.Asks.{IsBegun, IsPassOf, sessions_of};
+ghost use Rattle.cluster.specs.Starts.{HasWorld, creation_of, addition_of, events_of, IsStartOf, IsWant, StartFails};
 
-use crate::begin::open_cluster;
 use crate::cluster::{Cluster, Seats};
 use crate::fault::ClusterFault;
 use crate::groups::LockedGroup;
+use crate::locks::open_cluster;
 use crate::monitor::Monitor;
 use crate::pass::Pass;
 use crate::users::UserTable;
-use crate::watching::{places_of, watch};
 use auth_db::Caps;
-use cap_text::Name;
+use common_types::{Name, OutOfMemory};
+use entry_core::{GroupId, TryCopy};
 use grant_core::ProfileTable;
 use group_core::Group;
-use map_core::MapCommand;
+use map_core::{ClusterMap, MapCommand};
+use published_map::publish_first;
 use std::alloc::{AllocError, Global};
 use std::sync::Wait;
 use world_core::{AuthCommand, Event, WorldFault, WorldParts, run};
@@ -105,6 +105,45 @@ fn to_lock(alloc: Global, groups: Vec<Group>) -> Result<Vec<LockedGroup>, AllocE
     Ok(locked)
 }
 
+// Which groups these are, in order.
+fn places_of(alloc: Global, groups: &[LockedGroup]) -> Result<Vec<GroupId>, AllocError>
+    ensures { IfOk result (λ places. places.items ≡ each (λ g. g.group) (each group_in groups.now)) }
+{
+    let mut places = Vec::with_capacity(alloc, groups.len())?;
+    for placed in groups {
+        places.push(placed.group.group().copy()?)?;
+    }
+    Ok(places)
+}
+
+// A monitor of a cluster by its map, which is published for at most so many readers at once.
+fn watch<R: Wait>(
+    rt: &R,
+    alloc: Global,
+    cluster: &Cluster,
+    seats: Seats,
+    map: ClusterMap,
+    places: Vec<GroupId>,
+    readers: usize,
+) -> Result<Monitor, OutOfMemory>
+    requires seats { AreMonitorOf cluster.now seats }
+    requires places { places.items ≡ each (λ g. g.group) (firsts_of cluster.now) }
+    requires readers { (0 < readers) × (readers < 2 ^ 32) }
+    ensures monitor { IfOk result (IsMonitorOf cluster.now) }
+    ensures whole { IfOk result (λ monitor. IsNone monitor.unfinished × (monitor.seats ≡ seats) × (monitor.map ≡ map)) }
+    ensures follows { IfOk result (λ monitor. (share : ℕ) → AreFreshOf cluster.now share seats → Follows map monitor) }
+{
+    let _groups = cluster.group_count();
+    let writer = publish_first(rt, alloc, &map, readers)?;
+    Ok(Monitor {
+        map,
+        places,
+        seats,
+        writer,
+        unfinished: None,
+    })
+}
+
 // A pass of these seats, with a reader who is told of the monitor's map.
 fn pass_with(
     alloc: Global,
@@ -125,7 +164,7 @@ fn pass_with(
         Err(_) => Err(ClusterFault::NoReader),
         Ok(news) => Ok(Pass {
             seats,
-            reader: Some(news.reader),
+            reader: news.into_reader(),
             sessions: Vec::new(alloc),
         }),
     }
@@ -242,10 +281,10 @@ pub fn start<R: Wait>(
     requires pass { 1 ≤ passes }
     ensures begun { IfOk result (λ r. IsBegun r.0) }
     ensures cluster { IfOk result (λ r. IsStartOf table daemons (events_of pools.items users.items) r.0) }
-    ensures monitor { IfOk result (λ r. IsMonitorOf r.0 r.1 × Follows r.0.start r.1) }
-    ensures whole { IfOk result (λ r. IsNone r.1.unfinished × (r.1.map ≡ r.0.start)) }
+    ensures monitor { IfOk result (λ r. IsMonitorOf r.0 r.1 × FollowsStart r.0 r.1) }
+    ensures whole { IfOk result (λ r. IsWhole r.1 × (own_map r.1 ≡ start_of r.0)) }
     ensures passes { IfOk result (λ r. (vec_len r.2 ≡ passes) × All (IsPassOf r.0) r.2.items) }
-    ensures idle { IfOk result (λ r. All (λ pass. pass.sessions.items ≡ []) r.2.items) }
+    ensures idle { IfOk result (λ r. All (λ pass. sessions_of pass ≡ []) r.2.items) }
     ensures err { IfErr result (λ fault. StartFails table daemons (events_of pools.items users.items) fault) }
 {
     let events = with_users(creations(alloc, pools)?, users)?;

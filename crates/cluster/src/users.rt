@@ -1,14 +1,14 @@
 //! The users under a turn lock, with the number of sessions, and the steps on them.
 
 ghost use Rattle.std.specs.Prelude.{◌≡◌, OnOk, OnErr, IfOk};
-ghost use Rattle.cap_text.specs.Refused.{RefusedFirst};
+ghost use Rattle.common_types.specs.Refused.{RefusedFirst};
 ghost use Rattle.auth_db.specs.Refusals.{auth_refusal, known_refusal, RefusedOrMemory};
 ghost use Rattle.auth_db.specs.Users.{after, user_at, GetOrCreate, HasTicket};
 ghost use Rattle.world_core.specs.Front.{command_of, told_auth, told_creation};
 ghost use Rattle.cluster.specs.Users.{table_after, open_entry, OpenTells, renew_entry, RenewTells, change_entry, ChangeTells};
 
 use auth_db::{AuthDb, AuthFault, Caps, Creation};
-use cap_text::Name;
+use common_types::Name;
 use std::marker::Model;
 use turn_lock::{Recorded, Step};
 use verdict_core::SharedTicket;

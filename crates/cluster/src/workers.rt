@@ -1,10 +1,13 @@
 //! Workers: a thread for each pass, which delivers messages round by round.
 
-ghost use Rattle.std.specs.Prelude.{◌≡◌, ◌<◌, ◌≤◌, ℕ, [], All, map as each, length, slice_index_or, vec_len};
+ghost use Rattle.std.specs.Prelude.{◌≡◌, ◌↔◌, ◌<◌, ◌≤◌, ℕ, [], Some, Err, All, map as each, length, slice_index_or, vec_len, IsTrue, MatchResult, Result};
 ghost use Rattle.std.specs.Vec.{vec_capacity};
 ghost use Rattle.cluster.specs.Places.{Beside};
 ghost use Rattle.cluster.specs.Asks.{IsPassOf};
-ghost use Rattle.cluster.specs.Works.{HasWorked, HasWorkedOf, AreAtWork, pass_of};
+ghost use Rattle.cluster.specs.declared.fault.ClusterFault.{ClusterFault as Fault};
+ghost use Rattle.cluster.specs.Passes.{group_count};
+ghost use Rattle.cluster.specs.Deliveries.{WorksAt};
+ghost use Rattle.cluster.specs.Workers.{HasWorked, HasWorkedOf, HasGoneOn, EndsBy, IsPassedOver, GoesOnAfter, TellsFault, AreAtWork, first_fault, pass_of, fault_of};
 
 use crate::cluster::Cluster;
 use crate::fault::ClusterFault;
@@ -30,15 +33,51 @@ struct Worker {
     fault: Option<ClusterFault>,
 }
 
+// Whether a worker passes over a fault: the message was to a daemon that is down, and is dropped.
+fn is_passed_over(fault: &ClusterFault) -> bool
+    ensures { IsTrue result ↔ IsPassedOver fault.now }
+{
+    matches!(
+        fault,
+        ClusterFault::World(WorldFault::Group(GroupFault::Unreachable))
+    )
+}
+
+// Delivers message 0 of a group. `Ok` also where the fault is passed over.
+fn work_one<R: Wait>(
+    rt: &R,
+    cluster: &Cluster,
+    pass: &mut Pass,
+    place: usize,
+) -> Result<(), ClusterFault>
+    requires pass { IsPassOf cluster.now pass.old }
+    requires place { place < group_count cluster.now }
+    ensures pass { IsPassOf cluster.now pass.new }
+    ensures told { MatchResult result (λ _. (answer : Result Worked Fault) × WorksAt cluster.now place pass.old pass.new answer × GoesOnAfter answer)
+        (λ fault. WorksAt cluster.now place pass.old pass.new (Err fault) × (IsPassedOver fault → ⊥)) }
+{
+    match cluster.work_at(rt, pass, place) {
+        Ok(_) => Ok(()),
+        Err(fault) => {
+            if is_passed_over(&fault) {
+                Ok(())
+            } else {
+                Err(fault)
+            }
+        }
+    }
+}
+
 // Delivers message 0 of each group, in order, once, and passes over messages to daemons that are down.
 fn work_round<R: Wait>(rt: &R, cluster: &Cluster, pass: &mut Pass) -> Result<(), ClusterFault>
     requires { IsPassOf cluster.now pass.old }
     ensures pass { IsPassOf cluster.now pass.new }
     ensures worked { HasWorked 1 pass.old pass.new }
+    ensures told { MatchResult result (λ _. HasGoneOn cluster.now pass.old pass.new) (λ fault. EndsBy cluster.now (Some fault) pass.old pass.new) }
 {
     for place in 0..cluster.group_count() {
-        match cluster.work_at(rt, pass, place) {
-            Ok(_) | Err(ClusterFault::World(WorldFault::Group(GroupFault::Unreachable))) => {}
+        match work_one(rt, cluster, pass, place) {
+            Ok(()) => {}
             Err(fault) => return Err(fault),
         }
     }
@@ -57,13 +96,15 @@ fn work_rounds<R: Wait, G: Gate>(
     requires { IsPassOf cluster.now pass.old }
     ensures pass { IsPassOf cluster.now pass.new }
     ensures worked { HasWorked rounds pass.old pass.new }
+    ensures told { EndsBy cluster.now result pass.old pass.new }
 {
     for round in 0..rounds {
         if !gate.enter(number, round) {
             return None;
         }
-        if let Err(fault) = work_round(rt, cluster, pass) {
-            return Some(fault);
+        match work_round(rt, cluster, pass) {
+            Ok(()) => {}
+            Err(fault) => return Some(fault),
         }
     }
     None
@@ -81,9 +122,11 @@ fn work_on<R: Wait, G: Gate>(
     requires { IsPassOf cluster.now worker.old.pass }
     ensures { HasWorkedOf cluster.now rounds worker.old worker.new }
 {
-    if let Ok(number) = u32::try_from(number) {
-        worker.fault = work_rounds(rt, cluster, gate, number, &mut worker.pass, rounds);
-    }
+    let Ok(number) = u32::try_from(number) else {
+        worker.fault = None;
+        return;
+    };
+    worker.fault = work_rounds(rt, cluster, gate, number, &mut worker.pass, rounds);
 }
 
 // All workers' rounds, each on a thread of its own where there can be one.
@@ -127,13 +170,12 @@ fn enlist(passes: Vec<Pass>, mut workers: Vec<Worker>) -> Vec<Worker>
 // The passes of workers, and the first fault that ended one.
 fn dismiss(workers: Vec<Worker>, mut passes: Vec<Pass>) -> (Vec<Pass>, Option<ClusterFault>)
     requires { (passes.items ≡ []) × (vec_len workers ≤ vec_capacity passes) }
-    ensures { result.0.items ≡ each pass_of workers.items }
+    ensures passes { result.0.items ≡ each pass_of workers.items }
+    ensures fault { result.1 ≡ first_fault (each fault_of workers.items) }
 {
     let mut first = None;
     for worker in workers {
-        if first.is_none() {
-            first = worker.fault;
-        }
+        first = first.or(worker.fault);
         passes.push_reserved(worker.pass);
     }
     (passes, first)
@@ -143,7 +185,7 @@ fn dismiss(workers: Vec<Worker>, mut passes: Vec<Pass>) -> (Vec<Pass>, Option<Cl
 ///
 /// In each of so many rounds a worker asks the gate, and ends where it is not let in; then it delivers message 0 of each group once, in
 /// order, and passes over a message to a daemon that is down. Another fault ends that worker. The passes come back in order, also where a
-/// worker ended early, and with them the fault of the first worker that did, by number. K3 comes before any round. Where no thread can be
+/// worker ended early, and with them the fault of the first worker that did, by number: what its last turn told. K3 comes before any round. Where no thread can be
 /// made the workers run one after another, so a gate that waits for another worker may wait for ever.
 pub fn run_workers<R: Threads + Wait + Sync, G: Gate + Sync>(
     rt: &R,
@@ -156,6 +198,7 @@ pub fn run_workers<R: Threads + Wait + Sync, G: Gate + Sync>(
     requires { All (IsPassOf cluster.now) passes.items }
     ensures passes { All (IsPassOf cluster.now) result.0.items }
     ensures worked { Beside (HasWorked rounds) passes.items result.0.items }
+    ensures fault { TellsFault cluster.now passes.items result.0.items result.1 }
 {
     let Ok(workers) = Vec::with_capacity(alloc, passes.len()) else {
         return (passes, Some(ClusterFault::OutOfMemory));

@@ -31,6 +31,9 @@ const AUTH_HELP: &str =
 const AUTHS_HELP: &str =
     "A file as `ceph auth ls --format json` prints it, the present one and then the one that is to take its place, `-` for standard input";
 
+const REGISTRY_HELP: &str =
+    "Whose class methods requests call: those of `all` class registries, as where none is given, or this program's `own`";
+
 /// What an option takes.
 #[derive(Clone, Copy)]
 enum Takes {
@@ -38,11 +41,13 @@ enum Takes {
     Needed(&'static str),
     /// A value that may be given.
     Value(&'static str),
+    /// Values that may be given, each with the option's name.
+    Values(&'static str),
     /// Nothing.
     Nothing,
 }
 
-use Takes::{Needed, Nothing, Value};
+use Takes::{Needed, Nothing, Value, Values};
 
 /// An option's name, what it takes, and its help.
 type OptionRow = (&'static str, Takes, &'static str);
@@ -59,18 +64,21 @@ const NAMESPACE: OptionRow = (
 
 const TAG: OptionRow = (
     "tag",
-    Value("APP[:KEY=VALUE]"),
-    "An application of the pool, and a pair under it",
+    Values("APP[:KEY=VALUE]"),
+    "An application of the pool, and a pair under it; it may be given more than once",
 );
 
 const READ: OptionRow = ("read", Nothing, "The request reads");
 
 const WRITE: OptionRow = ("write", Nothing, "The request writes");
 
+const CALL_HELP: &str =
+    "A call of a class that is not in the class registry: what its method does, r, w or rw, and then `:listed` where the class is on the default list";
+
 const CAPS: OptionRow = ("caps", Needed("TEXT"), "The capability text");
 
 /// The options of `osdgate verdict`.
-const VERDICT: [OptionRow; 9] = [
+const VERDICT: [OptionRow; 10] = [
     CAPS,
     POOL,
     OBJECT,
@@ -88,10 +96,15 @@ const VERDICT: [OptionRow; 9] = [
     ),
     READ,
     WRITE,
+    (
+        "check",
+        Nothing,
+        "Ends with status 1 where the request is denied",
+    ),
 ];
 
 /// The options of `osdgate who`, but for the last.
-const WHO: [OptionRow; 7] = [
+const WHO: [OptionRow; 8] = [
     ("auth", Needed("FILE"), AUTH_HELP),
     POOL,
     OBJECT,
@@ -99,6 +112,11 @@ const WHO: [OptionRow; 7] = [
     TAG,
     READ,
     WRITE,
+    (
+        "known",
+        Nothing,
+        "Entities whose texts are refused are left out, and the status is 0",
+    ),
 ];
 
 /// An option whose value is taken as it is, also where it begins with a dash.
@@ -122,6 +140,7 @@ fn option<'a>(alloc: Global, (name, takes, help): OptionRow) -> Arg<'a> {
     match takes {
         Needed(value) => text_option(alloc, name, value, help).required(true),
         Value(value) => text_option(alloc, name, value, help),
+        Values(value) => text_option(alloc, name, value, help).action(ArgAction::Append),
         Nothing => flag(alloc, name, help),
     }
 }
@@ -138,19 +157,21 @@ fn with_options<'a>(
     Ok(command)
 }
 
-/// The calls of a request.
-fn calls<'a>(alloc: Global) -> Arg<'a> {
-    Arg::new(alloc, "calls")
+/// The calls of a request, by their names or with what they do.
+fn with_calls<'a>(alloc: Global, command: Command<'a>) -> Result<Command<'a>, AllocError> {
+    let calls = Arg::new(alloc, "calls")
         .action(ArgAction::Append)
         .value_name("CLASS.METHOD")
-        .help("A class method that the request calls")
+        .help("A class method that the request calls, of the class registry");
+    let stated = text_option(alloc, "call", "CLASS.METHOD:r", CALL_HELP).action(ArgAction::Append);
+    command.arg(stated)?.arg(calls)
 }
 
 fn verdict_command<'a>(alloc: Global) -> Result<Command<'a>, AllocError> {
     let command = Command::new(alloc, "verdict")
         .about("Tells whether a capability text allows a request, and why not")
         .after_help(VERDICT_EXAMPLE);
-    with_options(alloc, command, &VERDICT)?.arg(calls(alloc))
+    with_calls(alloc, with_options(alloc, command, &VERDICT)?)
 }
 
 fn who_command<'a>(alloc: Global) -> Result<Command<'a>, AllocError> {
@@ -158,9 +179,7 @@ fn who_command<'a>(alloc: Global) -> Result<Command<'a>, AllocError> {
         .about("Tells which entities of a file may do what a request asks for")
         .after_help(WHO_EXAMPLE);
     let all = flag(alloc, "all", "Prints each entity with its answer");
-    with_options(alloc, command, &WHO)?
-        .arg(calls(alloc))?
-        .arg(all)
+    with_calls(alloc, with_options(alloc, command, &WHO)?)?.arg(all)
 }
 
 fn explain_command<'a>(alloc: Global) -> Result<Command<'a>, AllocError> {
@@ -204,8 +223,10 @@ fn compare_command<'a>(alloc: Global) -> Result<Command<'a>, AllocError> {
             "Tells what a new capability text allows that the old one denies, and the other way round",
         )
         .after_help(COMPARE_EXAMPLE);
+    let registry = text_option(alloc, "registry", "all|own", REGISTRY_HELP);
     with_texts(alloc, command)?
         .arg(files_option(alloc)?)?
+        .arg(registry)?
         .arg(check)
 }
 

@@ -1,36 +1,66 @@
 //! Files of entities, as `ceph auth ls` and `ceph auth get` print them.
 
-use cap_text::OutOfMemory;
+use common_types::OutOfMemory;
 use gate_text::{Entity, find};
 use serde_json::Value;
 use std::alloc::{AllocFailed, Global};
+use std::io::Read;
 use std::{fmt, fs, io};
+
+/// The most bytes that a file of entities may have: 64 MiB.
+const MOST_BYTES: u64 = 67_108_864;
 
 /// Files by their paths.
 pub trait InputFiles {
-    /// The whole text of a file. It is an error where the file cannot be read, or is no UTF-8.
-    fn read(&self, path: &str) -> io::Result<String>;
-
-    /// All bytes of a file. It is an error where the file cannot be read.
-    fn read_bytes(&self, path: &str) -> io::Result<Vec<u8>>;
+    /// The bytes of a file: all of them, or one more than `most` where it has more. It is an error where the file cannot be read.
+    fn read_bytes(&self, path: &str, most: u64) -> io::Result<Vec<u8>>;
 }
 
 /// The files of the program's host.
 impl InputFiles for HostRuntime {
-    fn read(&self, path: &str) -> io::Result<String> {
-        fs::read_to_string(self, path)
+    fn read_bytes(&self, path: &str, most: u64) -> io::Result<Vec<u8>> {
+        read_most(self.alloc(), fs::open(self, path)?, most)
     }
+}
 
-    fn read_bytes(&self, path: &str) -> io::Result<Vec<u8>> {
-        fs::read(self, path)
+/// What a reader has left: all of it, or one byte more than `most` where it has more.
+fn read_most<R: Read + Drop>(alloc: Global, reader: R, most: u64) -> io::Result<Vec<u8>> {
+    let mut bytes = Vec::new(alloc);
+    let mut limited = reader.take(most.saturating_add(1));
+    limited.read_to_end(&mut bytes)?;
+    Ok(bytes)
+}
+
+/// The text of a file of entities, or of `reader` where the path is `-`.
+pub(crate) fn read_text<F: InputFiles, R: Read>(
+    alloc: Global,
+    files: &F,
+    reader: &mut R,
+    path: &str,
+) -> Result<String, AuthFault> {
+    let bytes = if path == "-" {
+        read_most(alloc, reader.by_ref(), MOST_BYTES)?
+    } else {
+        files.read_bytes(path, MOST_BYTES)?
+    };
+    if bytes.len() as u64 > MOST_BYTES {
+        return Err(AuthFault::TooLong);
+    }
+    match String::from_utf8(bytes) {
+        Ok(text) => Ok(text),
+        Err(_) => Err(AuthFault::NotUtf8),
     }
 }
 
 /// Why a text has no entities. None of the text stands in it.
 #[derive(Debug, Drop)]
 pub(crate) enum AuthFault {
-    /// It cannot be read, or is no UTF-8.
+    /// It cannot be read.
     Unread(io::Error),
+    /// It has more than 67,108,864 bytes.
+    TooLong,
+    /// It is no UTF-8.
+    NotUtf8,
     /// It is no JSON. Lines and columns count from 1; column 0 is the end of the line before.
     NotJson { line: usize, column: usize },
     /// It is neither an entry, nor a list of entries, nor an object with such a list under `auth_dump`.
@@ -84,6 +114,8 @@ impl fmt::Display for AuthFault {
     fn fmt<W: fmt::Write>(&self, f: &mut fmt::Formatter<W>) -> fmt::Result {
         match self {
             AuthFault::Unread(error) => write!(f, "cannot be read: {error}"),
+            AuthFault::TooLong => write!(f, "has more than 67108864 bytes"),
+            AuthFault::NotUtf8 => write!(f, "cannot be read: stream did not contain valid UTF-8"),
             AuthFault::NotJson { line, column } => {
                 write!(f, "is no JSON at line {line}, column {column}")
             }

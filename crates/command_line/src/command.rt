@@ -3,22 +3,23 @@
 ghost use Rattle.std.specs.Prelude.{◌≤◌};
 
 use crate::arguments::whole_command;
-use crate::auth_file::{AuthFault, InputFiles, entities_of};
+use crate::auth_file::{AuthFault, InputFiles, entities_of, read_text};
+use crate::notes::{note_of, unjudged_line};
 use crate::read_words::WordsFault;
+use crate::request_words::{BadWords, NoRequest, RequestWords, number_of, times_of, value_of};
 use crate::run::{RunFault, run_path};
-use cap_text::{AppTags, Name, OutOfMemory, Pairs, Tags};
 use clap::error::ErrorKind;
 use clap::{ArgMatches, Error};
+use common_types::OutOfMemory;
+use compare_core::Registry;
 use gate_text::{
-    Answer, Entity, Printed, Times, answer, compare_entities, compare_text, explain_text,
-    point_at_fault, text_of, who_text,
+    Answer, Comparison, Entity, Printed, Times, Verdict, answer, compare_entities, compare_text,
+    explain_text, point_at_fault, text_of, who_text,
 };
-use object_core::{Bytes, Op};
 use std::alloc::{AllocError, AllocFailed, Global};
 use std::convert::AsStr;
 use std::fmt;
 use std::io::{Read, Write};
-use verdict_core::Target;
 
 /// All is done.
 const DONE: u8 = 0;
@@ -29,34 +30,11 @@ const BAD_COMMAND_LINE: u8 = 2;
 
 const WANT_OF_MEMORY: &str = "refused OutOfMemory\n";
 
-/// Why words that clap takes are no command line.
-#[derive(Clone, Copy, Debug, PartialEq, Eq)]
-enum BadWords {
-    /// A tag with a `:` has no `=` behind it.
-    Tag,
-    /// A time is no decimal number below 2 to the power of 64.
-    Time,
-    /// A comparison of files has not two of them, or both are standard input.
-    Files,
-    /// A number of workers is not 1 to 8.
-    Workers,
-    /// There is no such command.
-    Command,
-}
-
-impl BadWords {
-    fn text(self) -> &'static str {
-        match self {
-            BadWords::Tag => "osdgate: a tag with a `:` needs a `=` behind it\n",
-            BadWords::Time => "osdgate: a time is a decimal number below 2^64, without a sign\n",
-            BadWords::Files => {
-                "osdgate: a comparison of files needs `--auth` twice, and standard input once at most\n"
-            }
-            BadWords::Workers => "osdgate: there are 1 to 8 workers\n",
-            BadWords::Command => "osdgate: there is no such command\n",
-        }
-    }
-}
+/// For ever, and at once.
+const ALWAYS: Times = Times {
+    until: None,
+    tick: 0,
+};
 
 /// Why a file has no entities.
 #[derive(Drop)]
@@ -85,6 +63,15 @@ impl From<Error> for NoAnswer {
     }
 }
 
+impl From<NoRequest> for NoAnswer {
+    fn from(why: NoRequest) -> NoAnswer {
+        match why {
+            NoRequest::Words(bad) => NoAnswer::Words(bad),
+            NoRequest::OutOfMemory => NoAnswer::OutOfMemory,
+        }
+    }
+}
+
 impl From<AllocError> for NoAnswer {
     fn from(_error: AllocError) -> NoAnswer {
         NoAnswer::OutOfMemory
@@ -97,11 +84,14 @@ impl<T: Drop> From<AllocFailed<T>> for NoAnswer {
     }
 }
 
-/// What a command prints, and the capability text in which a fault is shown.
+/// What a command prints, and beside it what standard error tells.
 #[derive(Drop)]
 struct Answered<'a> {
     printed: Printed,
+    /// The capability text in which a fault is shown.
     caps: &'a str,
+    /// What else is told, or nothing.
+    note: String,
 }
 
 /// What words come to.
@@ -115,58 +105,6 @@ enum Done<'a> {
     Workers { count: u32, moves: bool },
 }
 
-/// An application tag: a text is cut at its first `:`, and what is behind it at its first `=`. A text with a
-/// `:` and no `=` behind it is none.
-fn tags_of(alloc: Global, text: &str) -> Result<Option<Tags>, OutOfMemory> {
-    let mut pairs = Vec::new(alloc);
-    let application = match text.split_once(':') {
-        None => text,
-        Some((application, pair)) => match pair.split_once('=') {
-            None => return Ok(None),
-            Some((key, value)) => {
-                pairs.push((Name::new(alloc, key)?, Name::new(alloc, value)?))?;
-                application
-            }
-        },
-    };
-    let application = AppTags {
-        application: Name::new(alloc, application)?,
-        pairs: Pairs::from_vec(pairs),
-    };
-    Ok(Some(Tags::from_vec(vec![in alloc; application]?)))
-}
-
-/// A call without input: a word is cut at its first `.`, and one without it is a class with an empty method.
-fn call_of(alloc: Global, word: &str) -> Result<Op, OutOfMemory> {
-    let (class, method) = word.split_once('.').unwrap_or((word, ""));
-    Ok(Op::Call {
-        class: Name::new(alloc, class)?,
-        method: Name::new(alloc, method)?,
-        input: Bytes::from_vec(Vec::new(alloc)),
-    })
-}
-
-/// A number in decimal digits alone.
-fn number_of(text: &str) -> Option<u64> {
-    if !text.as_bytes().iter().all(|byte| byte.is_ascii_digit()) {
-        return None;
-    }
-    text.parse::<u64>().ok()
-}
-
-/// The times of `osdgate verdict`, or nothing where one is no number.
-fn times_of(matches: &ArgMatches<'_>) -> Option<Times> {
-    let until = match matches.get_str("until") {
-        None => None,
-        Some(text) => Some(number_of(text)?),
-    };
-    let tick = match matches.get_str("tick") {
-        None => 0,
-        Some(text) => number_of(text)?,
-    };
-    Some(Times { until, tick })
-}
-
 /// How many workers `osdgate threads` has, or nothing where they are not 1 to 8.
 fn workers_of(matches: &ArgMatches<'_>) -> Option<u32> {
     let count = u32::try_from(number_of(value_of(matches, "workers"))?).ok()?;
@@ -177,58 +115,23 @@ fn workers_of(matches: &ArgMatches<'_>) -> Option<u32> {
     }
 }
 
-/// The value of an option, the empty text where it is not given.
-fn value_of<'a>(matches: &ArgMatches<'a>, name: &str) -> &'a str {
-    matches.get_str(name).unwrap_or("")
-}
-
-/// The calls that the words ask for.
-fn calls_of(alloc: Global, matches: &ArgMatches<'_>) -> Result<Vec<Op>, OutOfMemory> {
-    let mut calls = Vec::new(alloc);
-    if let Some(words) = matches.get_strs("calls") {
-        for word in words {
-            calls.push(call_of(alloc, word)?)?;
-        }
-    }
-    Ok(calls)
-}
-
-/// The tags of the option, none where it is not given.
-fn tags_asked(alloc: Global, matches: &ArgMatches<'_>) -> Result<Tags, NoAnswer> {
-    match matches.get_str("tag") {
-        None => Ok(Tags::from_vec(Vec::new(alloc))),
-        Some(text) => match tags_of(alloc, text)? {
-            None => Err(NoAnswer::Words(BadWords::Tag)),
-            Some(tags) => Ok(tags),
-        },
-    }
-}
-
 /// The answer of `osdgate verdict`.
 fn answer_verdict(alloc: Global, matches: &ArgMatches<'_>) -> Result<Answer, NoAnswer> {
-    let tags = tags_asked(alloc, matches)?;
     let Some(times) = times_of(matches) else {
         return Err(NoAnswer::Words(BadWords::Time));
     };
-    let target = Target {
-        pool: value_of(matches, "pool"),
-        tags: &tags,
-        namespace: value_of(matches, "namespace"),
-        object: value_of(matches, "object"),
-    };
-    let calls = calls_of(alloc, matches)?;
+    let request = RequestWords::of(alloc, matches)?;
     let caps = value_of(matches, "caps");
-    let reads = matches.get_flag("read");
-    let writes = matches.get_flag("write");
-    Ok(answer(alloc, caps, &target, reads, writes, calls.as_slice(), times)?)
+    Ok(answer(alloc, caps, &request.asked(matches, times))?)
 }
 
-/// What `osdgate verdict` prints.
+/// What `osdgate verdict` prints. With a check a denial fails.
 fn printed_verdict(alloc: Global, matches: &ArgMatches<'_>) -> Result<Printed, NoAnswer> {
     let answer = answer_verdict(alloc, matches)?;
+    let denied = matches!(answer, Ok(Verdict::Denied(_)));
     Ok(Printed {
         text: text_of(alloc, &answer)?,
-        fails: answer.is_err(),
+        fails: answer.is_err() || (denied && matches.get_flag("check")),
     })
 }
 
@@ -239,12 +142,7 @@ fn read_entities<F: InputFiles, R: Read>(
     reader: &mut R,
     path: &str,
 ) -> Result<Vec<Entity>, AuthFault> {
-    if path == "-" {
-        let mut text = String::new(alloc);
-        reader.read_to_string(&mut text)?;
-        return entities_of(alloc, text.as_str());
-    }
-    let text = files.read(path)?;
+    let text = read_text(alloc, files, reader, path)?;
     entities_of(alloc, text.as_str())
 }
 
@@ -263,35 +161,40 @@ fn entities_in<F: InputFiles, R: Read>(
     }
 }
 
-/// What `osdgate who` prints.
-fn printed_who<F: InputFiles, R: Read>(
+/// What `osdgate who` prints. Where it leaves out entities without a verdict it tells which, and fails unless those that
+/// are known were asked for.
+fn answered_who<'a, F: InputFiles, R: Read>(
     alloc: Global,
     files: &F,
     reader: &mut R,
-    matches: &ArgMatches<'_>,
-) -> Result<Printed, NoAnswer> {
-    let tags = tags_asked(alloc, matches)?;
-    let target = Target {
-        pool: value_of(matches, "pool"),
-        tags: &tags,
-        namespace: value_of(matches, "namespace"),
-        object: value_of(matches, "object"),
-    };
-    let calls = calls_of(alloc, matches)?;
+    matches: &ArgMatches<'a>,
+) -> Result<Answered<'a>, NoAnswer> {
+    let request = RequestWords::of(alloc, matches)?;
     let path = value_of(matches, "auth");
     let entities = entities_in(alloc, files, reader, path, "the file")?;
-    let reads = matches.get_flag("read");
-    let writes = matches.get_flag("write");
+    let asked = request.asked(matches, ALWAYS);
     let all = matches.get_flag("all");
-    Ok(who_text(
-        alloc,
-        entities.as_slice(),
-        &target,
-        reads,
-        writes,
-        calls.as_slice(),
-        all,
-    )?)
+    let mut printed = who_text(alloc, entities.as_slice(), &asked, all)?;
+    let mut note = note_of(alloc, matches, &printed)?;
+    if !all && !printed.fails {
+        let unjudged = unjudged_line(alloc, entities.as_slice(), &asked)?;
+        printed.fails = !unjudged.is_empty() && !matches.get_flag("known");
+        note.push_str(unjudged.as_str())?;
+    }
+    Ok(Answered {
+        printed,
+        caps: "",
+        note,
+    })
+}
+
+/// The class registry of a comparison, every one where none is given, or nothing where there is none of this name.
+fn registry_of(matches: &ArgMatches<'_>) -> Option<Registry> {
+    match matches.get_str("registry") {
+        None | Some("all") => Some(Registry::Every),
+        Some("own") => Some(Registry::Own),
+        Some(_) => None,
+    }
 }
 
 /// What `osdgate compare` prints of two files.
@@ -300,7 +203,7 @@ fn printed_files<F: InputFiles, R: Read>(
     files: &F,
     reader: &mut R,
     paths: &[&str],
-    check: bool,
+    how: Comparison,
 ) -> Result<Printed, NoAnswer> {
     let (old, new) = match paths {
         [old, new] if *old != "-" || *new != "-" => (*old, *new),
@@ -308,7 +211,7 @@ fn printed_files<F: InputFiles, R: Read>(
     };
     let old = entities_in(alloc, files, reader, old, "the old file")?;
     let new = entities_in(alloc, files, reader, new, "the new file")?;
-    Ok(compare_entities(alloc, old.as_slice(), new.as_slice(), check)?)
+    Ok(compare_entities(alloc, old.as_slice(), new.as_slice(), how)?)
 }
 
 /// What `osdgate compare` prints.
@@ -318,13 +221,17 @@ fn printed_comparison<F: InputFiles, R: Read>(
     reader: &mut R,
     matches: &ArgMatches<'_>,
 ) -> Result<Printed, NoAnswer> {
+    let Some(registry) = registry_of(matches) else {
+        return Err(NoAnswer::Words(BadWords::Registry));
+    };
     let check = matches.get_flag("check");
+    let how = Comparison { registry, check };
     if let Some(paths) = matches.get_strs("auth") {
-        return printed_files(alloc, files, reader, paths, check);
+        return printed_files(alloc, files, reader, paths, how);
     }
     let old = value_of(matches, "old");
     let new = value_of(matches, "new");
-    Ok(compare_text(alloc, old, new, check)?)
+    Ok(compare_text(alloc, old, new, how)?)
 }
 
 /// The text that is refused where a comparison of two texts is.
@@ -363,26 +270,32 @@ fn answer_matches<'a, F: InputFiles, R: Read>(
     reader: &mut R,
 ) -> Result<Answered<'a>, NoAnswer> {
     match matches.subcommand() {
-        Some(("verdict", inner)) => Ok(Answered {
-            printed: printed_verdict(alloc, inner)?,
-            caps: value_of(inner, "caps"),
-        }),
+        Some(("verdict", inner)) => {
+            let printed = printed_verdict(alloc, inner)?;
+            Ok(Answered {
+                note: note_of(alloc, inner, &printed)?,
+                printed,
+                caps: value_of(inner, "caps"),
+            })
+        }
         Some(("explain", inner)) => {
             let caps = value_of(inner, "caps");
             Ok(Answered {
                 printed: explain_text(alloc, caps)?,
                 caps,
+                note: String::new(alloc),
             })
         }
         Some(("compare", inner)) => {
             let printed = printed_comparison(alloc, files, reader, inner)?;
             let caps = refused_caps(inner, &printed);
-            Ok(Answered { printed, caps })
+            Ok(Answered {
+                printed,
+                caps,
+                note: String::new(alloc),
+            })
         }
-        Some(("who", inner)) => Ok(Answered {
-            printed: printed_who(alloc, files, reader, inner)?,
-            caps: "",
-        }),
+        Some(("who", inner)) => answered_who(alloc, files, reader, inner),
         _ => Err(NoAnswer::Words(BadWords::Command)),
     }
 }
@@ -429,7 +342,7 @@ fn finish<O: Write, E: Write>(text: &str, status: u8, out: &mut O, err: &mut E) 
     FAULT
 }
 
-/// Writes an answer, and after a refusal where the fault of the capability text stands.
+/// Writes an answer, and then after a refusal where the fault of the capability text stands, and what else is told.
 fn finish_answer<O: Write, E: Write>(
     alloc: Global,
     answered: &Answered<'_>,
@@ -442,6 +355,9 @@ fn finish_answer<O: Write, E: Write>(
     let status = finish(answered.printed.text.as_str(), status, out, err);
     if answered.printed.fails {
         point_at_fault(alloc, answered.caps, err);
+    }
+    if !answered.note.is_empty() {
+        let _ = write_out(err, answered.note.as_str());
     }
     status
 }

@@ -7,7 +7,9 @@
 mod arguments;
 mod auth_file;
 mod command;
+mod notes;
 mod read_words;
+mod request_words;
 mod run;
 
 pub use auth_file::InputFiles;

@@ -4,7 +4,10 @@ use crate::auth_file::InputFiles;
 use std::alloc::Global;
 use std::io;
 use std::io::{ErrorKind, Read, Write};
-use world_core::{ScriptFault, run_script};
+use world_script::{ScriptFault, run_script};
+
+/// The most bytes that a script may have; one that has more is S2.
+const MOST_BYTES: u64 = 1_048_576;
 
 /// Why a script did not run to its end.
 #[derive(Drop)]
@@ -43,9 +46,11 @@ pub(crate) fn run_path<F: InputFiles, R: Read, O: Write>(
     if path == "-" {
         run_script(alloc, reader, out)?;
     } else {
-        let script = files.read_bytes(path)?;
+        let script = files.read_bytes(path, MOST_BYTES)?;
         run_script(alloc, &mut script.as_slice(), out)?;
     }
-    out.flush()?;
-    Ok(())
+    match out.flush() {
+        Ok(()) => Ok(()),
+        Err(_) => Err(RunFault::Script(ScriptFault::Write)),
+    }
 }

@@ -10,7 +10,7 @@ use Rattle.cap_text.specs.declared.grant.NsMatch.TheVariants.{Exact, Prefix}
 use Rattle.cap_text.specs.declared.grant.Part.{Part}
 use Rattle.cap_text.specs.declared.grant.Part.TheVariants.{Any, Is}
 use Rattle.cap_text.specs.declared.grant.Tag.{Tag}
-use Rattle.cap_text.specs.declared.tags.AppTags.{AppTags}
+use Rattle.common_types.specs.declared.tags.AppTags.{AppTags}
 use Rattle.verdict_core.specs.Target.{Target}
 use Rattle.verdict_core.specs.Verdict.{names, matches_namespace, matches_tag, matches_prefix, matches_part, matches_pairs, matches_application, matches}
 use Rattle.compare_core.specs.declared.field.Field.{Field}
@@ -34,7 +34,7 @@ front_at : (field : Field) (old : Grants) (base name : List ℕ) → IsFresh fie
 front_at field old base name fresh i entry at text is = no_further base name text (fresh_at field old base name fresh i entry at text is)
 
 -- and none is the fresh name itself
-differs_at : (field : Field) (old : Grants) (base name : List ℕ) → IsFresh field old base name → (i : ℕ) (entry : List ℕ × AllowGrant) → slice_get old i ≡ Some entry
+pub differs_at : (field : Field) (old : Grants) (base name : List ℕ) → IsFresh field old base name → (i : ℕ) (entry : List ℕ × AllowGrant) → slice_get old i ≡ Some entry
     → (text : List ℕ) → name_of field entry.1 ≡ Some text → bytes_eq text name ≡ true → ⊥
 differs_at field old base name fresh i entry at text is same =
     let e : text ≡ name = same_text text name same in

@@ -1,14 +1,15 @@
 -- Refinement: only contracts inside the crate use it.
 -- The needs that are tried at a target: at most one call.
-use Rattle.std.specs.Prelude.{◌≡◌, List, [], ◌∷◌, ◌++◌, map, Bool, true, false, not, ◌&&◌, Option, None, Some, option_to_list, ℕ}
+use Rattle.std.specs.Prelude.{◌≡◌, List, [], ◌∷◌, ◌++◌, map, Bool, true, false, not, ◌&&◌, Option, None, Some, ℕ}
 use Rattle.std.specs.List.{list_any, All, Contains}
 use Rattle.cap_text.specs.declared.grant.AllowGrant.{AllowGrant}
 use Rattle.verdict_core.specs.Target.{Target}
-use Rattle.verdict_core.specs.Verdict.{grants_allow}
 use Rattle.verdict_core.specs.declared.request.Needs.{Needs}
 use Rattle.verdict_core.specs.declared.request.ClassCall.{ClassCall}
-use Rattle.object_core.specs.Needs.{IsRegistered}
-use Rattle.compare_core.specs.Widening.{IsAsked}
+use Rattle.verdict_core.specs.Verdict.{covers, grants_allow}
+use Rattle.compare_core.specs.Calls.{StandsFor}
+use Rattle.compare_core.specs.Widening.{IsAskedBy, IsCallBy}
+use Rattle.compare_core.specs.declared.registry.Registry.{Registry}
 
 abbrev pub asks : Bool → Bool → List ClassCall → Needs
 asks reads writes calls = record { reads = reads; writes = writes; calls = calls }
@@ -22,10 +23,13 @@ questions calls =
     asks true false [] ∷ asks false true [] ∷ asks true true []
     ∷ (map (asks_one false false) calls ++ (map (asks_one true false) calls ++ (map (asks_one false true) calls ++ (map (asks_one true true) calls ++ asks false false [] ∷ []))))
 
--- needs that may all be asked, among which are all those with at most one call
-pub record AreEnough (questions : List Needs) : Type 0 where
-  pub asked : All IsAsked questions
-  pub whole : (reads writes : Bool) (call : Option ClassCall) → ((one : ClassCall) → call ≡ Some one → IsRegistered one) → Contains questions (asks reads writes (option_to_list call))
+-- Needs that may all be asked, among which are all those without a call, and for each call that the grant covers those with
+-- one that stands for it.
+pub record AreEnough (registry : Registry) (g : AllowGrant) (old : List (List ℕ × AllowGrant)) (questions : List Needs) : Type 0 where
+  pub asked : All (IsAskedBy registry) questions
+  pub bare : (reads writes : Bool) → Contains questions (asks reads writes [])
+  pub whole : (call : ClassCall) → IsCallBy registry call → covers g.access call ≡ true
+      → (stand : ClassCall) × StandsFor g old call stand × ((reads writes : Bool) → Contains questions (asks_one reads writes stand))
 
 -- new allows the needs at the target, and old denies them
 abbrev pub shows : List (List ℕ × AllowGrant) → List (List ℕ × AllowGrant) → Target → Needs → Bool

@@ -2,13 +2,14 @@
 
 ghost use Rattle.std.specs.Prelude.{◌≡◌, ◌≤◌, ◌↔◌, [], ◌∷◌, length, IfOk, MatchOption};
 ghost use Rattle.std.specs.List.{All};
-ghost use Rattle.compare_core.specs.Questions.{AreEnough};
-ghost use Rattle.compare_core.specs.Widening.{Answers, IsExampleOf, IsGained, Widens, request_of};
+ghost use Rattle.compare_core.specs.Widening.{Answers, AnswersBy, IsExampleBy, IsGained, IsGainedBy, Widens, WidensBy, request_of};
 
 use crate::best::best_target;
 use crate::owned_target::OwnedTarget;
 use crate::question::{questions, shown_needs};
-use cap_text::{AllowGrant, OutOfMemory};
+use crate::registry::Registry;
+use cap_text::AllowGrant;
+use common_types::OutOfMemory;
 use grant_core::Path;
 use std::alloc::Global;
 use verdict_core::{Needs, Ticket};
@@ -38,20 +39,20 @@ fn alone(
 /// An example of what a grant by itself allows and the old ticket denies, if there is anything.
 fn example_of(
     alloc: Global,
-    questions: &[Needs],
+    registry: Registry,
     old: &Ticket,
     path: &Path,
     grant: &AllowGrant,
 ) -> Result<Option<Example>, OutOfMemory>
-    requires few { length old.now.grants ≤ 256 }
-    requires questions { AreEnough questions.now }
+    requires { length old.now.grants ≤ 256 }
     ensures { IfOk result (λ found. MatchOption found
-        (¬ Widens old.now.grants ((path.now, grant.now) ∷ []))
-        (λ example. IsExampleOf old.now.grants (path.now, grant.now) example)) }
+        (¬ WidensBy registry old.now.grants ((path.now, grant.now) ∷ []))
+        (λ example. IsExampleBy registry old.now.grants (path.now, grant.now) example)) }
 {
+    let questions = questions(alloc, registry, grant, old)?;
     let target = best_target(alloc, grant, old)?;
     let new = alone(alloc, path, grant)?;
-    match shown_needs(questions, old, new.as_slice(), &target)? {
+    match shown_needs(&questions, old, new.as_slice(), &target)? {
         None => Ok(None),
         Some(needs) => Ok(Some(Example {
             path: path.copy()?,
@@ -64,20 +65,34 @@ fn example_of(
 /// For each grant of `new`, in order, that by itself allows some request which `old` denies, its path and one such
 /// request. Where there is none, `new` allows nothing that `old` denies.
 ///
-/// The requests are those of all targets and of all needs whose calls are methods of the class registry. When a ticket
-/// ends is not looked at. It has at most 256 grants, so that letters are left for names that `old` does not speak of.
+/// The requests are those of all targets and of all needs whose calls are of the registry. When a ticket ends is not
+/// looked at. It has at most 256 grants, so that letters are left for names that `old` does not speak of.
+pub fn widening_by(
+    alloc: Global,
+    registry: Registry,
+    old: &Ticket,
+    new: &Ticket,
+) -> Result<Vec<Example>, OutOfMemory>
+    ensures answers { IfOk result (λ examples. AnswersBy registry old.now.grants new.now.grants examples.items) }
+    ensures gained { IfOk result (λ examples. All (λ example. IsGainedBy registry old.now.grants new.now.grants (request_of example)) examples.items) }
+    ensures empty { IfOk result (λ examples. (examples.items ≡ []) ↔ ¬ WidensBy registry old.now.grants new.now.grants) }
+{
+    let _old_grants = old.grants();
+    let mut examples = Vec::new(alloc);
+    for entry in new.grants() {
+        if let Some(example) = example_of(alloc, registry, old, &entry.0, &entry.1)? {
+            examples.push(example)?;
+        }
+    }
+    Ok(examples)
+}
+
+/// The same over every class registry: the requests are those of all targets and all needs, with calls of any class and
+/// any method, on the default list or not, each of which reads, writes or both.
 pub fn widening(alloc: Global, old: &Ticket, new: &Ticket) -> Result<Vec<Example>, OutOfMemory>
     ensures answers { IfOk result (λ examples. Answers old.now.grants new.now.grants examples.items) }
     ensures gained { IfOk result (λ examples. All (λ example. IsGained old.now.grants new.now.grants (request_of example)) examples.items) }
     ensures empty { IfOk result (λ examples. (examples.items ≡ []) ↔ ¬ Widens old.now.grants new.now.grants) }
 {
-    let _old_grants = old.grants();
-    let questions = questions(alloc)?;
-    let mut examples = Vec::new(alloc);
-    for entry in new.grants() {
-        if let Some(example) = example_of(alloc, &questions, old, &entry.0, &entry.1)? {
-            examples.push(example)?;
-        }
-    }
-    Ok(examples)
+    widening_by(alloc, Registry::Every, old, new)
 }

@@ -2,7 +2,7 @@
 
 ghost use Rattle.std.specs.Prelude.{◌≡◌};
 
-use cap_text::{Name, Tags};
+use common_types::{Name, Tags};
 use std::marker::Model;
 use verdict_core::Target;
 

@@ -1,13 +1,15 @@
 //! The needs that are tried at a target.
 
-ghost use Rattle.std.specs.Prelude.{◌≡◌, ◌++◌, map, IfOk, OnOk};
+ghost use Rattle.std.specs.Prelude.{◌≡◌, ◌≤◌, ◌++◌, length, map, IfOk, OnOk};
 ghost use Rattle.compare_core.specs.Questions as spec;
 ghost use Rattle.compare_core.specs.Questions.{AreEnough, IsShownBy};
 
+use crate::calls::calls_for;
 use crate::owned_target::OwnedTarget;
-use cap_text::{AllowGrant, OutOfMemory, TryCopy};
+use crate::registry::Registry;
+use cap_text::AllowGrant;
+use common_types::{OutOfMemory, TryCopy};
 use grant_core::Path;
-use object_core::registry;
 use std::alloc::Global;
 use verdict_core::{Calls, ClassCall, Needs, Ticket, grants_allow};
 
@@ -68,11 +70,17 @@ fn needs_with(alloc: Global, calls: &[ClassCall]) -> Result<Vec<Needs>, OutOfMem
     Ok(questions)
 }
 
-/// All needs with at most one call of a method of the class registry.
-pub(crate) fn questions(alloc: Global) -> Result<Vec<Needs>, OutOfMemory>
-    ensures { IfOk result (λ questions. AreEnough questions.items) }
+/// Needs with at most one call, which are enough to try for a grant.
+pub(crate) fn questions(
+    alloc: Global,
+    registry: Registry,
+    grant: &AllowGrant,
+    old: &Ticket,
+) -> Result<Vec<Needs>, OutOfMemory>
+    requires { length old.now.grants ≤ 256 }
+    ensures { IfOk result (λ questions. AreEnough registry grant.now old.now.grants questions.items) }
 {
-    needs_with(alloc, registry(alloc)?.as_slice())
+    needs_with(alloc, calls_for(alloc, registry, grant, old)?.as_slice())
 }
 
 /// Whether the new grants allow the needs at a target where the old one denies them.

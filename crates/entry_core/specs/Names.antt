@@ -1,4 +1,4 @@
--- Refinement: only contracts inside the crate use it.
+-- Statement: contracts of public calls use it.
 -- The order of names is total, and tells different names apart.
 use Rattle.std.specs.Prelude.{◌≡◌, ℕ, Bool, true, ◌&&◌, ◌==◌, ◌++◌, T}
 use Rattle.std.proofs.Common.{refl, ap, sym, subst, ◌∙◌}

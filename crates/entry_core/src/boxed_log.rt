@@ -3,7 +3,7 @@
 ghost use Rattle.std.specs.Prelude.{◌≡◌, IfOk};
 
 use crate::log::Log;
-use cap_text::TryCopy;
+use common_types::TryCopy;
 use std::alloc::AllocError;
 use std::marker::Model;
 

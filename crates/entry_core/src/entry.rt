@@ -2,7 +2,7 @@
 
 use crate::reply::Reply;
 use crate::sealed::Sealed;
-use cap_text::TryCopy;
+use common_types::TryCopy;
 use std::alloc::AllocError;
 
 /// A request and the reply that was decided.

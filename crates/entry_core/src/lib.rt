@@ -20,7 +20,7 @@ mod sealed_parts;
 mod texts;
 
 pub use boxed_log::BoxedLog;
-pub use cap_text::{Items, OutOfMemory, TryCopy};
+pub use common_types::{Items, OutOfMemory, TryCopy};
 pub use decided::Decided;
 pub use entry::Entry;
 pub use id::Id;

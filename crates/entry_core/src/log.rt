@@ -14,7 +14,7 @@ use crate::id_hasher::IdHash;
 use crate::objects::Objects;
 use crate::reply::Reply;
 use crate::sealed::Sealed;
-use cap_text::TryCopy;
+use common_types::TryCopy;
 use std::alloc::{AllocError, Global};
 use std::collections::HashMap;
 use std::marker::Model;

@@ -4,7 +4,7 @@ ghost use Rattle.std.specs.Prelude.{◌≡◌};
 ghost use Rattle.std.specs.Cmp.{partial_equiv_from_equiv};
 ghost use Rattle.entry_core.specs.Names.{is_same, is_same_equiv, hash_of, hashes_alike};
 
-use cap_text::{Name, OutOfMemory};
+use common_types::{Name, OutOfMemory};
 use std::alloc::AllocError;
 use std::hash::{Hash, Hasher};
 use std::marker::Model;

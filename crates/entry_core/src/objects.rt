@@ -12,7 +12,7 @@ use crate::decided::ObjectChange;
 use crate::object_name::ObjectName;
 use crate::sealed::Sealed;
 use crate::texts::Texts;
-use cap_text::{Items, Name, OutOfMemory};
+use common_types::{Items, Name, OutOfMemory};
 use object_core::Object;
 use std::alloc::{AllocError, Global};
 use std::collections::HashMap;

@@ -3,7 +3,7 @@
 ghost use Rattle.std.specs.Prelude.{◌≡◌};
 ghost use Rattle.entry_core.specs.Replies.{number_of};
 
-use cap_text::{Items, Name, TryCopy};
+use common_types::{Items, Name, TryCopy};
 use object_core::Outputs;
 use std::alloc::AllocError;
 use verdict_core::Report;

@@ -2,7 +2,7 @@
 
 ghost use Rattle.std.specs.Prelude.{◌≡◌, ◌≤◌, false, IfOk, IfSome, None, option_copied};
 ghost use Rattle.verdict_core.specs.Verdict.{report_of};
-ghost use Rattle.cap_text.specs.Refused.{RefusedFirst};
+ghost use Rattle.common_types.specs.Refused.{RefusedFirst};
 ghost use Rattle.object_core.specs.Needs.{needs_fault};
 ghost use Rattle.entry_core.specs.Deciding.{is_allowed_sealed, is_listed, name_of};
 ghost use Rattle.entry_core.specs.Request.{Vector, Listing, target_of, needs_for};
@@ -11,7 +11,7 @@ ghost use Rattle.entry_core.specs.Sealing as sealing;
 use crate::id::Id;
 use crate::object_name::ObjectName;
 use crate::sealed_parts::{Parts, Task, ops_of, target_of};
-use cap_text::{Name, OutOfMemory, TryCopy};
+use common_types::{Name, OutOfMemory, TryCopy};
 use map_core::PoolView;
 use object_core::{NeedsFault, Op, needs_of};
 use place_core::group_of;

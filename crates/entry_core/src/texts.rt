@@ -4,7 +4,7 @@ ghost use Rattle.std.specs.Prelude.{◌≡◌, IfOk, OnOk};
 ghost use Rattle.std.specs.FinMap.{empty, keys};
 ghost use Rattle.entry_core.specs.Stored.{with_text};
 
-use cap_text::{Items, Name, OutOfMemory};
+use common_types::{Items, Name, OutOfMemory};
 use std::alloc::Global;
 use std::collections::BTreeSet;
 use std::marker::Model;

@@ -2,46 +2,48 @@
 use Rattle.std.proofs.Common.{◌≡◌, ◌↔◌, ℕ, List, [], ◌∷◌, ◌++◌, Bool, ◌&&◌, Result, Ok, Err, IfOk, codes, refl, arith}
 use Rattle.std.specs.List.{All}
 use Rattle.grant_core.specs.Flat.{Flat}
-use Rattle.compare_core.specs.Widening.{IsGained, Widens, request_of}
+use Rattle.compare_core.specs.Widening.{IsGainedBy, WidensBy, request_of}
 use Rattle.compare_core.specs.declared.comparing.Example.{Example}
 use Rattle.gate_text.specs.Entities.{IsChangeTold, change_lines, word_of}
+use Rattle.compare_core.specs.declared.registry.Registry.{Registry}
+use Rattle.gate_text.specs.declared.comparison.Comparison.{Comparison}
 use Rattle.gate_text.specs.declared.compare.Change.{Change}
 use Rattle.gate_text.specs.declared.compare_auth.Presence.{Presence}
 use Rattle.gate_text.specs.Compared.{IsRelation, IsChange, IsCompared, relation_of, relation_word, is_any, is_wider, example_lines}
 
 -- the first of some examples is gained
-first : (old new : Flat) (example : Example) (examples : List Example) → All (λ e. IsGained old new (request_of e)) (example ∷ examples) → Widens old new
-first old new example examples all = (request_of example, all 0 example (omega arith))
+first : (registry : Registry) (old new : Flat) (example : Example) (examples : List Example) → All (λ e. IsGainedBy registry old new (request_of e)) (example ∷ examples) → WidensBy registry old new
+first registry old new example examples all = (request_of example, all 0 example (omega arith))
 
-stands : (old new : Flat) (gained lost : List Example) → ((gained ≡ []) ↔ (¬ Widens old new)) → ((lost ≡ []) ↔ (¬ Widens new old))
-    → All (λ e. IsGained old new (request_of e)) gained → All (λ e. IsGained new old (request_of e)) lost → IsRelation old new (relation_of (is_any gained) (is_any lost))
-stands old new [] [] no_gain no_loss gains loses = (no_gain.0 refl, no_loss.0 refl)
-stands old new [] (e ∷ es) no_gain no_loss gains loses = (no_gain.0 refl, first new old e es loses)
-stands old new (e ∷ es) [] no_gain no_loss gains loses = (first old new e es gains, no_loss.0 refl)
-stands old new (e ∷ es) (d ∷ ds) no_gain no_loss gains loses = (first old new e es gains, first new old d ds loses)
+stands : (registry : Registry) (old new : Flat) (gained lost : List Example) → ((gained ≡ []) ↔ (¬ WidensBy registry old new)) → ((lost ≡ []) ↔ (¬ WidensBy registry new old))
+    → All (λ e. IsGainedBy registry old new (request_of e)) gained → All (λ e. IsGainedBy registry new old (request_of e)) lost → IsRelation registry old new (relation_of (is_any gained) (is_any lost))
+stands registry old new [] [] no_gain no_loss gains loses = (no_gain.0 refl, no_loss.0 refl)
+stands registry old new [] (e ∷ es) no_gain no_loss gains loses = (no_gain.0 refl, first registry new old e es loses)
+stands registry old new (e ∷ es) [] no_gain no_loss gains loses = (first registry old new e es gains, no_loss.0 refl)
+stands registry old new (e ∷ es) (d ∷ ds) no_gain no_loss gains loses = (first registry old new e es gains, first registry new old d ds loses)
 
-pub compared_lines : (old new : Flat) (change : Change) (check : Bool) (text : List ℕ) (fails : Bool) → IsChange old new change
+pub compared_lines : (how : Comparison) (old new : Flat) (change : Change) (text : List ℕ) (fails : Bool) → IsChange how.registry old new change
     → text ≡ relation_word (relation_of (is_any change.gained.items) (is_any change.lost.items)) ++ (codes "\n" ++ example_lines change.gained.items change.lost.items)
-    → fails ≡ (check && is_wider (relation_of (is_any change.gained.items) (is_any change.lost.items))) → IsCompared old new check text fails
-compared_lines old new change check text fails is printed ends = record {
+    → fails ≡ (how.check && is_wider (relation_of (is_any change.gained.items) (is_any change.lost.items))) → IsCompared how old new text fails
+compared_lines how old new change text fails is printed ends = record {
   relation = relation_of (is_any change.gained.items) (is_any change.lost.items);
   gained = change.gained.items;
   lost = change.lost.items;
-  stands = stands old new change.gained.items change.lost.items is.no_gain is.no_loss is.first_gain is.first_loss;
+  stands = stands how.registry old new change.gained.items change.lost.items is.no_gain is.no_loss is.first_gain is.first_loss;
   gains = is.gains;
   loses = is.loses;
   printed = printed;
   ends = ends;
 }
 
-pub change_told : (presence : Presence) (name : List ℕ) (old new : Flat) (change : Change) (check : Bool) (text : List ℕ) (fails : Bool) → IsChange old new change
+pub change_told : (how : Comparison) (presence : Presence) (name : List ℕ) (old new : Flat) (change : Change) (text : List ℕ) (fails : Bool) → IsChange how.registry old new change
     → text ≡ change_lines name (word_of presence (relation_of (is_any change.gained.items) (is_any change.lost.items))) change.gained.items change.lost.items
-    → fails ≡ (check && is_wider (relation_of (is_any change.gained.items) (is_any change.lost.items))) → IsChangeTold presence name old new check text fails
-change_told presence name old new change check text fails is printed ends = record {
+    → fails ≡ (how.check && is_wider (relation_of (is_any change.gained.items) (is_any change.lost.items))) → IsChangeTold how presence name old new text fails
+change_told how presence name old new change text fails is printed ends = record {
   relation = relation_of (is_any change.gained.items) (is_any change.lost.items);
   gained = change.gained.items;
   lost = change.lost.items;
-  stands = stands old new change.gained.items change.lost.items is.no_gain is.no_loss is.first_gain is.first_loss;
+  stands = stands how.registry old new change.gained.items change.lost.items is.no_gain is.no_loss is.first_gain is.first_loss;
   gains = is.gains;
   loses = is.loses;
   printed = printed;

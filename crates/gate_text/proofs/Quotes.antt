@@ -3,7 +3,8 @@ use Rattle.std.proofs.Common.{◌≡◌, ◌≢◌, ℕ, suc, ◌<◌, List, [],
 use Rattle.std.specs.List.{flat_map}
 use Rattle.std.proofs.lemmas.Str.Pattern.{IsSplitOnceResult, split_parts}
 use Rattle.std.proofs.lemmas.Bool.{false≢true}
-use Rattle.gate_text.specs.Request.{quoted_byte, namespace_words, shell_word}
+use Rattle.gate_text.specs.Request.{namespace_words}
+use Rattle.gate_text.specs.Words.{quoted_byte, shell_word}
 
 same_byte : (b : ℕ) → b ≢ 39 → quoted_byte b ≡ b ∷ []
 same_byte b differs = go (b == 39) refl
@@ -19,7 +20,7 @@ unquoted (b ∷ bs) none =
     ap (λ front. front ++ flat_map quoted_byte bs) (same_byte b (none 0 (omega arith)))
     ∙ ap (λ rest. b ∷ rest) (unquoted bs (λ i l. none (suc i) (omega arith)))
 
-both_parts : (xs ys : List ℕ) → flat_map quoted_byte (xs ++ ys) ≡ flat_map quoted_byte xs ++ flat_map quoted_byte ys
+pub both_parts : (xs ys : List ℕ) → flat_map quoted_byte (xs ++ ys) ≡ flat_map quoted_byte xs ++ flat_map quoted_byte ys
 both_parts [] ys = refl
 both_parts (x ∷ xs) ys = ap (λ rest. quoted_byte x ++ rest) (both_parts xs ys) ∙ sym (append_assoc (quoted_byte x) (flat_map quoted_byte xs) (flat_map quoted_byte ys))
 

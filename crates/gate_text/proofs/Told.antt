@@ -8,7 +8,8 @@ use Rattle.cap_text.proofs.Once.{at_most_one}
 use Rattle.object_core.specs.Faults.{text_of}
 use Rattle.object_core.specs.declared.needs.NeedsFault.{NeedsFault}
 use Rattle.object_core.specs.declared.needs.NeedsFault.TheVariants.{OutOfMemory}
-use Rattle.gate_text.specs.Answer.{Asked, IsAnswer, answer_of}
+use Rattle.gate_text.specs.Answer.{IsAnswer, answer_of}
+use Rattle.gate_text.specs.Asked.{Asked}
 use Rattle.gate_text.specs.Who.{AreTold, IsTold, IsWhoOf, May, told}
 use Rattle.gate_text.specs.Text.{refused_text}
 use Rattle.gate_text.specs.declared.entity.Entity.{Entity}

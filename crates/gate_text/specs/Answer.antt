@@ -1,6 +1,6 @@
 -- Statement: contracts of public calls use it.
 -- What a capability text and a request come to.
-use Rattle.std.specs.Prelude.{ℕ, ◌≡◌, ◌≢◌, ◌⊎◌, ◌||◌, Bool, List, [], ◌∷◌, Option, Some, None, Result, Ok, Err, if◌then◌else◌}
+use Rattle.std.specs.Prelude.{ℕ, ◌≡◌, ◌≢◌, ◌⊎◌, List, Option, Some, None, Result, Ok, Err, if◌then◌else◌}
 use Rattle.cap_text.specs.Faults.{IsFirstFault}
 use Rattle.cap_text.specs.Grammar.{Spells}
 use Rattle.cap_text.specs.declared.grant.Grant.{Grant}
@@ -14,34 +14,13 @@ use Rattle.verdict_core.specs.declared.request.Needs.{Needs}
 use Rattle.verdict_core.specs.Target.{Target}
 use Rattle.verdict_core.specs.Ticket.{Ticket}
 use Rattle.verdict_core.specs.Verdict.{is_allowed, report_of}
-use Rattle.object_core.specs.Needs.{needs_of, needs_fault}
 use Rattle.object_core.specs.declared.needs.NeedsFault.{NeedsFault}
-use Rattle.object_core.specs.declared.op.Op.{Op}
+use Rattle.gate_text.specs.Asked.{Asked, asked_needs, calls_fault}
 use Rattle.gate_text.specs.Text.{answer_text}
 use Rattle.gate_text.specs.declared.verdict.Verdict.{Verdict}
 use Rattle.gate_text.specs.declared.verdict.Verdict.TheVariants.{Allowed, Denied}
 use Rattle.gate_text.specs.declared.verdict.VerdictFault.{VerdictFault}
 use Rattle.gate_text.specs.declared.verdict.VerdictFault.TheVariants.{Caps, Profiles, Calls}
-
--- what a verdict is asked of, beside the capability text
-pub record Asked : Type 0 where
-  pub target : Target
-  pub reads : Bool
-  pub writes : Bool
-  pub calls : List Op
-  pub until : Option ℕ  -- when the ticket ends
-  pub tick : ℕ  -- when the request comes
-
--- what the calls ask for, and the two flags
-abbrev pub asked_needs : Asked → Needs
-asked_needs a =
-    let n : Needs = needs_of a.calls in
-    record { reads = a.reads || n.reads; writes = a.writes || n.writes; calls = n.calls }
-
--- why the calls are refused, where there are any
-abbrev pub calls_fault : List Op → Option NeedsFault
-calls_fault [] = None
-calls_fault (op ∷ ops) = needs_fault (op ∷ ops)
 
 -- allowed, or denied with the report
 abbrev pub judged : Ticket → Target → Needs → ℕ → Verdict
@@ -55,7 +34,7 @@ needed None ticket asked = Ok (judged ticket asked.target (asked_needs asked) as
 -- the same, where the list is expanded
 abbrev pub expanded : Option ExpandFault → List Grant → Asked → Result Verdict VerdictFault
 expanded (Some fault) grants asked = Err (Profiles fault)
-expanded None grants asked = needed (calls_fault asked.calls) (record { grants = flat built_in grants; until = asked.until }) asked
+expanded None grants asked = needed (calls_fault asked) (record { grants = flat built_in grants; until = asked.until }) asked
 
 -- what a list of grants gets: it is expanded, then the calls are looked up, then it is judged
 abbrev pub answer_of : List Grant → Asked → Result Verdict VerdictFault

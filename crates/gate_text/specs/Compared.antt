@@ -1,6 +1,6 @@
 -- Statement: contracts of public calls use it.
 -- What is printed of two capability texts: which allows more, and an example for each grant that does (this project's
--- profile). Comparison is over the class registry: the calls of all requests are of its methods.
+-- profile).
 use Rattle.std.specs.Prelude.{ℕ, ◌≡◌, ◌≢◌, ◌⊎◌, ◌↔◌, ◌&&◌, List, [], ◌∷◌, ◌++◌, Bool, true, false, None, Some, codes}
 use Rattle.std.specs.List.{All, flat_map}
 use Rattle.cap_text.specs.FaultText as cap
@@ -12,21 +12,23 @@ use Rattle.grant_core.specs.BuiltIn.{built_in}
 use Rattle.grant_core.specs.Flat.{Flat, flat}
 use Rattle.grant_core.specs.Refusal.{expand_refusal}
 use Rattle.grant_core.specs.Text as profiles
-use Rattle.compare_core.specs.Widening.{Answers, IsGained, Widens, request_of}
+use Rattle.compare_core.specs.Widening.{AnswersBy, IsGainedBy, WidensBy, request_of}
 use Rattle.compare_core.specs.declared.comparing.Example.{Example}
+use Rattle.compare_core.specs.declared.registry.Registry.{Registry}
 use Rattle.gate_text.specs.Request.{example_line}
+use Rattle.gate_text.specs.declared.comparison.Comparison.{Comparison}
 use Rattle.gate_text.specs.declared.compare.Change.{Change}
 use Rattle.gate_text.specs.declared.compare.Relation.{Relation}
 use Rattle.gate_text.specs.declared.compare.Relation.TheVariants.{Same, Narrower, Wider, Different}
 use Rattle.gate_text.specs.declared.compare.TextFault.{TextFault}
 use Rattle.gate_text.specs.declared.compare.TextFault.TheVariants.{Spelling, Expansion, OutOfMemory}
 
--- how new grants stand to old ones: by what only the new allow, and what only the old allow
-abbrev pub IsRelation : Flat → Flat → Relation → Type 0
-IsRelation old new Same = (¬ Widens old new) × (¬ Widens new old)
-IsRelation old new Narrower = (¬ Widens old new) × Widens new old
-IsRelation old new Wider = Widens old new × (¬ Widens new old)
-IsRelation old new Different = Widens old new × Widens new old
+-- how new grants stand to old ones: by what only the new allow, and what only the old allow, over a class registry or all
+abbrev pub IsRelation : Registry → Flat → Flat → Relation → Type 0
+IsRelation registry old new Same = (¬ WidensBy registry old new) × (¬ WidensBy registry new old)
+IsRelation registry old new Narrower = (¬ WidensBy registry old new) × WidensBy registry new old
+IsRelation registry old new Wider = WidensBy registry old new × (¬ WidensBy registry new old)
+IsRelation registry old new Different = WidensBy registry old new × WidensBy registry new old
 
 abbrev pub relation_word : Relation → List ℕ
 relation_word Same = codes "same"
@@ -60,25 +62,25 @@ is_any [] = false
 is_any (example ∷ examples) = true
 
 -- the examples of both ways, and that there are none exactly where nothing is allowed that the other denies
-pub record IsChange (old new : Flat) (change : Change) : Type 0 where
-  pub gains : Answers old new change.gained.items
-  pub loses : Answers new old change.lost.items
-  pub no_gain : (change.gained.items ≡ []) ↔ (¬ Widens old new)
-  pub no_loss : (change.lost.items ≡ []) ↔ (¬ Widens new old)
-  pub first_gain : All (λ example. IsGained old new (request_of example)) change.gained.items
-  pub first_loss : All (λ example. IsGained new old (request_of example)) change.lost.items
+pub record IsChange (registry : Registry) (old new : Flat) (change : Change) : Type 0 where
+  pub gains : AnswersBy registry old new change.gained.items
+  pub loses : AnswersBy registry new old change.lost.items
+  pub no_gain : (change.gained.items ≡ []) ↔ (¬ WidensBy registry old new)
+  pub no_loss : (change.lost.items ≡ []) ↔ (¬ WidensBy registry new old)
+  pub first_gain : All (λ example. IsGainedBy registry old new (request_of example)) change.gained.items
+  pub first_loss : All (λ example. IsGainedBy registry new old (request_of example)) change.lost.items
 
 -- The first line is the relation, and each grant that by itself allows more has a line with its example. It fails where a
 -- check was asked for and the new grants allow what the old ones deny.
-pub record IsCompared (old new : Flat) (check : Bool) (text : List ℕ) (fails : Bool) : Type 0 where
+pub record IsCompared (how : Comparison) (old new : Flat) (text : List ℕ) (fails : Bool) : Type 0 where
   pub relation : Relation
   pub gained : List Example
   pub lost : List Example
-  pub stands : IsRelation old new relation
-  pub gains : Answers old new gained
-  pub loses : Answers new old lost
+  pub stands : IsRelation how.registry old new relation
+  pub gains : AnswersBy how.registry old new gained
+  pub loses : AnswersBy how.registry new old lost
   pub printed : text ≡ relation_word relation ++ (codes "\n" ++ example_lines gained lost)
-  pub ends : fails ≡ (check && is_wider relation)
+  pub ends : fails ≡ (how.check && is_wider relation)
 
 -- the list is expanded by the built-in profiles, and comes to these grants
 abbrev pub Expands : List Grant → Flat → Type 0
@@ -116,15 +118,15 @@ pub record IsSideRefused (caps side : List ℕ) (text : List ℕ) (fails : Bool)
   pub printed : text ≡ refused_side side fault
   pub ends : fails ≡ true
 
-pub record AreCompared (old new : List ℕ) (check : Bool) (text : List ℕ) (fails : Bool) : Type 0 where
+pub record AreCompared (how : Comparison) (old new : List ℕ) (text : List ℕ) (fails : Bool) : Type 0 where
   pub old_grants : Flat
   pub new_grants : Flat
   pub old_comes : ComesTo old old_grants
   pub new_comes : ComesTo new new_grants
-  pub compared : IsCompared old_grants new_grants check text fails
+  pub compared : IsCompared how old_grants new_grants text fails
 
-abbrev pub IsCompareAnswer : List ℕ → List ℕ → Bool → List ℕ → Bool → Type 0
-IsCompareAnswer old new check text fails =
-    AreCompared old new check text fails
+abbrev pub IsCompareAnswer : Comparison → List ℕ → List ℕ → List ℕ → Bool → Type 0
+IsCompareAnswer how old new text fails =
+    AreCompared how old new text fails
     ⊎ (IsSideRefused old (codes "old") text fails
     ⊎ (((grants : Flat) × ComesTo old grants) × IsSideRefused new (codes "new") text fails))

@@ -5,10 +5,11 @@ use Rattle.std.specs.Prelude.{ℕ, ◌≡◌, ◌≢◌, ◌⊎◌, ◌&&◌, �
 use Rattle.std.specs.List.{find}
 use Rattle.std.specs.Str.{bytes_eq}
 use Rattle.grant_core.specs.Flat.{Flat}
-use Rattle.compare_core.specs.Widening.{Answers}
+use Rattle.compare_core.specs.Widening.{AnswersBy}
 use Rattle.compare_core.specs.declared.comparing.Example.{Example}
 use Rattle.gate_text.specs.Caret.{shown}
 use Rattle.gate_text.specs.Compared.{ComesTo, IsFaultOf, IsRelation, indented_lines, is_wider, refused_side, relation_word}
+use Rattle.gate_text.specs.declared.comparison.Comparison.{Comparison}
 use Rattle.gate_text.specs.declared.entity.Entity.{Entity}
 use Rattle.gate_text.specs.declared.compare.Relation.{Relation}
 use Rattle.gate_text.specs.declared.compare.Relation.TheVariants.{Same, Narrower, Wider, Different}
@@ -40,23 +41,23 @@ abbrev pub refused_line : List ℕ → List ℕ → TextFault → List ℕ
 refused_line name side fault = shown name ++ (codes " " ++ refused_side side fault)
 
 -- How the rights of an entity change. It fails where a check was asked for and the new grants allow what the old ones deny.
-pub record IsChangeTold (presence : Presence) (name : List ℕ) (old new : Flat) (check : Bool) (text : List ℕ) (fails : Bool) : Type 0 where
+pub record IsChangeTold (how : Comparison) (presence : Presence) (name : List ℕ) (old new : Flat) (text : List ℕ) (fails : Bool) : Type 0 where
   pub relation : Relation
   pub gained : List Example
   pub lost : List Example
-  pub stands : IsRelation old new relation
-  pub gains : Answers old new gained
-  pub loses : Answers new old lost
+  pub stands : IsRelation how.registry old new relation
+  pub gains : AnswersBy how.registry old new gained
+  pub loses : AnswersBy how.registry new old lost
   pub printed : text ≡ change_lines name (word_of presence relation) gained lost
-  pub ends : fails ≡ (check && is_wider relation)
+  pub ends : fails ≡ (how.check && is_wider relation)
 
 -- both texts come to grants
-pub record AreRightsTold (presence : Presence) (name old new : List ℕ) (check : Bool) (text : List ℕ) (fails : Bool) : Type 0 where
+pub record AreRightsTold (how : Comparison) (presence : Presence) (name old new : List ℕ) (text : List ℕ) (fails : Bool) : Type 0 where
   pub old_grants : Flat
   pub new_grants : Flat
   pub old_comes : ComesTo old old_grants
   pub new_comes : ComesTo new new_grants
-  pub told : IsChangeTold presence name old_grants new_grants check text fails
+  pub told : IsChangeTold how presence name old_grants new_grants text fails
 
 -- a text has no grants
 pub record IsFaultTold (name caps side text : List ℕ) (fails : Bool) : Type 0 where
@@ -67,28 +68,28 @@ pub record IsFaultTold (name caps side text : List ℕ) (fails : Bool) : Type 0 
   pub ends : fails ≡ true
 
 -- what is told of an entity with an old and a new text, of which the old one is refused first
-abbrev pub IsPairTold : Presence → List ℕ → List ℕ → List ℕ → Bool → List ℕ → Bool → Type 0
-IsPairTold presence name old new check text fails =
-    AreRightsTold presence name old new check text fails
+abbrev pub IsPairTold : Comparison → Presence → List ℕ → List ℕ → List ℕ → List ℕ → Bool → Type 0
+IsPairTold how presence name old new text fails =
+    AreRightsTold how presence name old new text fails
     ⊎ (IsFaultTold name old (codes "old") text fails
     ⊎ (((grants : Flat) × ComesTo old grants) × IsFaultTold name new (codes "new") text fails))
 
 -- an entity of the old list, by what the new list has under its name; one that is gone is compared with the empty text
-abbrev pub IsOldToldBy : Option Entity → Bool → Entity → List ℕ → Bool → Type 0
-IsOldToldBy None check entity text fails = IsPairTold Gone (string_bytes entity.name) (string_bytes entity.osd) [] check text fails
-IsOldToldBy (Some other) check entity text fails =
-    IsPairTold Both (string_bytes entity.name) (string_bytes entity.osd) (string_bytes other.osd) check text fails
+abbrev pub IsOldToldBy : Comparison → Option Entity → Entity → List ℕ → Bool → Type 0
+IsOldToldBy how None entity text fails = IsPairTold how Gone (string_bytes entity.name) (string_bytes entity.osd) [] text fails
+IsOldToldBy how (Some other) entity text fails =
+    IsPairTold how Both (string_bytes entity.name) (string_bytes entity.osd) (string_bytes other.osd) text fails
 
-abbrev pub IsOldTold : List Entity → Bool → Entity → List ℕ → Bool → Type 0
-IsOldTold new check entity text fails = IsOldToldBy (entity_in new (string_bytes entity.name)) check entity text fails
+abbrev pub IsOldTold : Comparison → List Entity → Entity → List ℕ → Bool → Type 0
+IsOldTold how new entity text fails = IsOldToldBy how (entity_in new (string_bytes entity.name)) entity text fails
 
 -- an entity of the new list, by what the old list has under its name: nothing more is told of one that the old list has
-abbrev pub IsNewToldBy : Option Entity → Bool → Entity → List ℕ → Bool → Type 0
-IsNewToldBy None check entity text fails = IsPairTold New (string_bytes entity.name) [] (string_bytes entity.osd) check text fails
-IsNewToldBy (Some other) check entity text fails = (text ≡ []) × (fails ≡ false)
+abbrev pub IsNewToldBy : Comparison → Option Entity → Entity → List ℕ → Bool → Type 0
+IsNewToldBy how None entity text fails = IsPairTold how New (string_bytes entity.name) [] (string_bytes entity.osd) text fails
+IsNewToldBy how (Some other) entity text fails = (text ≡ []) × (fails ≡ false)
 
-abbrev pub IsNewTold : List Entity → Bool → Entity → List ℕ → Bool → Type 0
-IsNewTold old check entity text fails = IsNewToldBy (entity_in old (string_bytes entity.name)) check entity text fails
+abbrev pub IsNewTold : Comparison → List Entity → Entity → List ℕ → Bool → Type 0
+IsNewTold how old entity text fails = IsNewToldBy how (entity_in old (string_bytes entity.name)) entity text fails
 
 -- what is told of each entity, in order; it fails where it fails for one
 abbrev pub AreAllTold : (Entity → List ℕ → Bool → Type 0) → List Entity → List ℕ → Bool → Type 0
@@ -98,12 +99,12 @@ AreAllTold IsTold (entity ∷ entities) text fails =
     × (text ≡ front ++ rest) × (fails ≡ (first || later))
 
 -- what is printed of two lists, and whether the command fails: the entities of the old list, and then those of the new list alone
-pub record IsEntitiesAnswer (old new : List Entity) (check : Bool) (text : List ℕ) (fails : Bool) : Type 0 where
+pub record IsEntitiesAnswer (how : Comparison) (old new : List Entity) (text : List ℕ) (fails : Bool) : Type 0 where
   pub old_text : List ℕ
   pub new_text : List ℕ
   pub old_fails : Bool
   pub new_fails : Bool
-  pub old_told : AreAllTold (IsOldTold new check) old old_text old_fails
-  pub new_told : AreAllTold (IsNewTold old check) new new_text new_fails
+  pub old_told : AreAllTold (IsOldTold how new) old old_text old_fails
+  pub new_told : AreAllTold (IsNewTold how old) new new_text new_fails
   pub printed : text ≡ old_text ++ new_text
   pub ends : fails ≡ (old_fails || new_fails)

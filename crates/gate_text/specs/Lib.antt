@@ -1,7 +1,10 @@
 pub mod Text
+pub mod Asked
 pub mod Answer
 pub mod Explain
 pub mod Caret
+pub mod Words
+pub mod Calls
 pub mod Request
 pub mod Compared
 pub mod Who

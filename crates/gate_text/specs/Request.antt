@@ -1,25 +1,14 @@
 -- Statement: contracts of public calls use it.
 -- Requests as the words of a shell that `osdgate verdict` takes (this project's profile; quotes as POSIX shells read them).
-use Rattle.std.specs.Prelude.{ℕ, Bool, List, [], ◌∷◌, ◌++◌, ◌==◌, ◌&&◌, not, length, codes, if◌then◌else◌}
-use Rattle.std.specs.List.{flat_map, list_all}
-use Rattle.cap_text.specs.Bytes.{is_word_byte}
-use Rattle.cap_text.specs.declared.tags.AppTags.{AppTags}
+use Rattle.std.specs.Prelude.{ℕ, List, [], ◌∷◌, ◌++◌, codes}
+use Rattle.std.specs.List.{flat_map}
+use Rattle.common_types.specs.declared.tags.AppTags.{AppTags}
 use Rattle.grant_core.specs.Text.{printed_path}
 use Rattle.verdict_core.specs.declared.request.Needs.{Needs}
-use Rattle.verdict_core.specs.declared.request.ClassCall.{ClassCall}
 use Rattle.verdict_core.specs.Target.{Target}
 use Rattle.compare_core.specs.declared.comparing.Example.{Example}
-
--- inside single quotes each byte stands for itself; a single quote ends them, stands behind a backslash, and begins them again
-abbrev pub quoted_byte : ℕ → List ℕ
-quoted_byte byte = if byte == 39 then codes "'\\''" else byte ∷ []
-
-abbrev pub quoted : List ℕ → List ℕ
-quoted text = codes "'" ++ (flat_map quoted_byte text ++ codes "'")
-
--- bare, where it has bytes and all are those of words; else in single quotes
-abbrev pub shell_word : List ℕ → List ℕ
-shell_word text = if not (length text == 0) && list_all is_word_byte text then text else quoted text
+use Rattle.gate_text.specs.Calls.{call_words}
+use Rattle.gate_text.specs.Words.{flag_words, shell_word}
 
 abbrev pub pair_words : List ℕ × List ℕ → List ℕ
 pair_words pair = codes ":" ++ (shell_word pair.0 ++ (codes "=" ++ shell_word pair.1))
@@ -32,15 +21,9 @@ abbrev pub namespace_words : List ℕ → List ℕ
 namespace_words [] = []
 namespace_words (b ∷ bs) = codes " --namespace " ++ shell_word (b ∷ bs)
 
-abbrev pub call_words : ClassCall → List ℕ
-call_words call = codes " " ++ (shell_word call.class ++ (codes "." ++ shell_word call.method))
-
 abbrev pub target_words : Target → List ℕ
 target_words target =
     codes "--pool " ++ (shell_word target.pool ++ (namespace_words target.namespace ++ (codes " --object " ++ (shell_word target.object ++ flat_map tag_words target.tags))))
-
-abbrev pub flag_words : Bool → List ℕ → List ℕ
-flag_words set word = if set then word else []
 
 abbrev pub needs_words : Needs → List ℕ
 needs_words needs = flag_words needs.reads (codes " --read") ++ (flag_words needs.writes (codes " --write") ++ flat_map call_words needs.calls)

@@ -7,7 +7,8 @@ use Rattle.object_core.specs.Faults as vectors
 use Rattle.object_core.specs.declared.needs.NeedsFault.{NeedsFault}
 use Rattle.verdict_core.specs.Text.{report_line}
 use Rattle.verdict_core.specs.declared.request.Condition.{Condition}
-use Rattle.gate_text.specs.Answer.{Asked, IsAnswer, answer_of, calls_fault}
+use Rattle.gate_text.specs.Answer.{IsAnswer, answer_of}
+use Rattle.gate_text.specs.Asked.{Asked, calls_fault}
 use Rattle.gate_text.specs.Caret.{shown}
 use Rattle.gate_text.specs.Text.{fault_text, refused_text}
 use Rattle.gate_text.specs.declared.entity.Entity.{Entity}
@@ -75,4 +76,4 @@ IsWhoOf None entities asked all text fails = AreTold all asked entities text × 
 
 -- what is printed of some entities and a request, and whether the command fails
 abbrev pub IsWho : List Entity → Asked → Bool → List ℕ → Bool → Type 0
-IsWho entities asked all text fails = IsWhoOf (calls_fault asked.calls) entities asked all text fails
+IsWho entities asked all text fails = IsWhoOf (calls_fault asked) entities asked all text fails

@@ -3,7 +3,8 @@
 ghost use Rattle.std.specs.Prelude.{◌≡◌, ◌++◌, ◌&&◌, [], ◌∷◌, IfOk, IsTrue, OnOk, codes, nat_le, replicate, string_bytes, take, ◌<◌, ◌/◌, ◌%◌};
 ghost use Rattle.gate_text.specs.Caret.{hex_digit, pointed_text, shown, shown_byte};
 
-use cap_text::{CapFault, FaultKind, OutOfMemory, parse};
+use cap_text::{CapFault, FaultKind, parse};
+use common_types::OutOfMemory;
 use std::alloc::Global;
 use std::io::Write;
 

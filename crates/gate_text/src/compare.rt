@@ -6,11 +6,13 @@ ghost use Rattle.gate_text.specs.Compared as spec;
 ghost use Rattle.gate_text.specs.Compared.{ComesTo, IsChange, IsCompareAnswer, IsFaultOf, refused_side};
 ghost use Rattle.gate_text.specs.Request.{example_line};
 
+use crate::comparison::Comparison;
 use crate::expanded;
 use crate::printed::Printed;
 use crate::request::push_example;
-use cap_text::{CapFault, CapList, FaultKind, OutOfMemory, parse};
-use compare_core::{Example, widening};
+use cap_text::{CapFault, CapList, FaultKind, parse};
+use common_types::OutOfMemory;
+use compare_core::{Example, Registry, widening_by};
 use grant_core::ExpandFault;
 use std::alloc::{AllocError, Global};
 use std::fmt;
@@ -171,12 +173,17 @@ pub(crate) fn ticket_of(alloc: Global, caps: &str) -> Result<Ticket, TextFault>
 }
 
 /// What changes from an old ticket to a new one, both ways.
-pub(crate) fn changes(alloc: Global, old: &Ticket, new: &Ticket) -> Result<Change, OutOfMemory>
-    ensures { IfOk result (λ change. IsChange old.now.grants new.now.grants change) }
+pub(crate) fn changes(
+    alloc: Global,
+    registry: Registry,
+    old: &Ticket,
+    new: &Ticket,
+) -> Result<Change, OutOfMemory>
+    ensures { IfOk result (λ change. IsChange registry old.now.grants new.now.grants change) }
 {
     Ok(Change {
-        gained: widening(alloc, old, new)?,
-        lost: widening(alloc, new, old)?,
+        gained: widening_by(alloc, registry, old, new)?,
+        lost: widening_by(alloc, registry, new, old)?,
     })
 }
 
@@ -197,15 +204,20 @@ pub(crate) fn fails_check(check: bool, relation: Relation) -> bool
 }
 
 /// The relation and the examples. It fails where a check was asked for and the new ticket is wider.
-fn compared(alloc: Global, old: &Ticket, new: &Ticket, check: bool) -> Result<Printed, OutOfMemory>
-    ensures { IfOk result (λ printed. spec.IsCompared old.now.grants new.now.grants check (string_bytes printed.text) printed.fails) }
+fn compared(
+    alloc: Global,
+    old: &Ticket,
+    new: &Ticket,
+    how: Comparison,
+) -> Result<Printed, OutOfMemory>
+    ensures { IfOk result (λ printed. spec.IsCompared how old.now.grants new.now.grants (string_bytes printed.text) printed.fails) }
 {
-    let change = changes(alloc, old, new)?;
+    let change = changes(alloc, how.registry, old, new)?;
     let relation = change.relation();
     let mut text = String::from_str(alloc, relation.word())?;
     text.push_str("\n")?;
     change.push_lines(&mut text)?;
-    let fails = fails_check(check, relation);
+    let fails = fails_check(how.check, relation);
     Ok(Printed { text, fails })
 }
 
@@ -213,15 +225,15 @@ fn compared(alloc: Global, old: &Ticket, new: &Ticket, check: bool) -> Result<Pr
 /// text allows and the old one denies and the other way round; then for each grant of the new text that by itself
 /// allows what the old text denies a line `+ PATH REQUEST`, and for each such grant of the old text a line
 /// `- PATH REQUEST`, where REQUEST is what `osdgate verdict` takes, quoted for a shell. A text that has no grants
-/// is refused, the old one first, which fails. With `check` it fails too where the new text allows something that
+/// is refused, the old one first, which fails. With a check it fails too where the new text allows something that
 /// the old one denies.
 pub fn compare_text(
     alloc: Global,
     old: &str,
     new: &str,
-    check: bool,
+    how: Comparison,
 ) -> Result<Printed, OutOfMemory>
-    ensures { IfOk result (λ printed. IsCompareAnswer old.now new.now check (string_bytes printed.text) printed.fails) }
+    ensures { IfOk result (λ printed. IsCompareAnswer how old.now new.now (string_bytes printed.text) printed.fails) }
 {
     let old_ticket = match ticket_of(alloc, old) {
         Ok(ticket) => ticket,
@@ -229,7 +241,7 @@ pub fn compare_text(
         Err(fault) => return refused(alloc, "old", fault),
     };
     match ticket_of(alloc, new) {
-        Ok(ticket) => compared(alloc, &old_ticket, &ticket, check),
+        Ok(ticket) => compared(alloc, &old_ticket, &ticket, how),
         Err(TextFault::OutOfMemory) => Err(AllocError),
         Err(fault) => refused(alloc, "new", fault),
     }

@@ -6,9 +6,10 @@ ghost use Rattle.gate_text.specs.Entities.{AreAllTold, IsChangeTold, IsEntitiesA
 
 use crate::caret::push_shown_text;
 use crate::compare::{Change, Relation, TextFault, changes, fails_check, ticket_of};
+use crate::comparison::Comparison;
 use crate::entity::{Entity, find};
 use crate::printed::Printed;
-use cap_text::OutOfMemory;
+use common_types::OutOfMemory;
 use std::alloc::{AllocError, Global};
 use std::fmt::Write;
 use verdict_core::Ticket;
@@ -83,20 +84,20 @@ fn changed_pair(
     pair: &Pair<'_>,
     old: &Ticket,
     new: &Ticket,
-    check: bool,
+    how: Comparison,
 ) -> Result<Printed, OutOfMemory>
-    ensures { IfOk result (λ printed. IsChangeTold pair.now.presence pair.now.name.now old.now.grants new.now.grants check (string_bytes printed.text) printed.fails) }
+    ensures { IfOk result (λ printed. IsChangeTold how pair.now.presence pair.now.name.now old.now.grants new.now.grants (string_bytes printed.text) printed.fails) }
 {
-    let change = changes(alloc, old, new)?;
+    let change = changes(alloc, how.registry, old, new)?;
     let relation = change.relation();
     let text = change_lines(alloc, pair, relation, &change)?;
-    let fails = fails_check(check, relation);
+    let fails = fails_check(how.check, relation);
     Ok(Printed { text, fails })
 }
 
 /// What is told of an entity, and whether it fails.
-fn told_pair(alloc: Global, pair: &Pair<'_>, check: bool) -> Result<Printed, OutOfMemory>
-    ensures { IfOk result (λ printed. IsPairTold pair.now.presence pair.now.name.now pair.now.old.now pair.now.new.now check (string_bytes printed.text) printed.fails) }
+fn told_pair(alloc: Global, pair: &Pair<'_>, how: Comparison) -> Result<Printed, OutOfMemory>
+    ensures { IfOk result (λ printed. IsPairTold how pair.now.presence pair.now.name.now pair.now.old.now pair.now.new.now (string_bytes printed.text) printed.fails) }
 {
     let old = match ticket_of(alloc, pair.old) {
         Ok(ticket) => ticket,
@@ -104,7 +105,7 @@ fn told_pair(alloc: Global, pair: &Pair<'_>, check: bool) -> Result<Printed, Out
         Err(fault) => return refused_pair(alloc, pair.name, "old", fault),
     };
     match ticket_of(alloc, pair.new) {
-        Ok(new) => changed_pair(alloc, pair, &old, &new, check),
+        Ok(new) => changed_pair(alloc, pair, &old, &new, how),
         Err(TextFault::OutOfMemory) => Err(AllocError),
         Err(fault) => refused_pair(alloc, pair.name, "new", fault),
     }
@@ -115,9 +116,9 @@ fn told_of_old(
     alloc: Global,
     entity: &Entity,
     new: &[Entity],
-    check: bool,
+    how: Comparison,
 ) -> Result<Printed, OutOfMemory>
-    ensures { IfOk result (λ printed. IsOldTold new.now check entity.now (string_bytes printed.text) printed.fails) }
+    ensures { IfOk result (λ printed. IsOldTold how new.now entity.now (string_bytes printed.text) printed.fails) }
 {
     let gone = Pair {
         name: entity.name.as_str(),
@@ -126,14 +127,14 @@ fn told_of_old(
         new: "",
     };
     match find(new, gone.name) {
-        None => told_pair(alloc, &gone, check),
+        None => told_pair(alloc, &gone, how),
         Some(other) => {
             let both = Pair {
                 presence: Presence::Both,
                 new: other.osd.as_str(),
                 ..gone
             };
-            told_pair(alloc, &both, check)
+            told_pair(alloc, &both, how)
         }
     }
 }
@@ -143,9 +144,9 @@ fn told_of_new(
     alloc: Global,
     entity: &Entity,
     old: &[Entity],
-    check: bool,
+    how: Comparison,
 ) -> Result<Printed, OutOfMemory>
-    ensures { IfOk result (λ printed. IsNewTold old.now check entity.now (string_bytes printed.text) printed.fails) }
+    ensures { IfOk result (λ printed. IsNewTold how old.now entity.now (string_bytes printed.text) printed.fails) }
 {
     let added = Pair {
         name: entity.name.as_str(),
@@ -154,7 +155,7 @@ fn told_of_new(
         new: entity.osd.as_str(),
     };
     match find(old, added.name) {
-        None => told_pair(alloc, &added, check),
+        None => told_pair(alloc, &added, how),
         Some(_) => Ok(Printed {
             text: String::new(alloc),
             fails: false,
@@ -177,16 +178,16 @@ fn old_told(
     alloc: Global,
     old: &[Entity],
     new: &[Entity],
-    check: bool,
+    how: Comparison,
 ) -> Result<Printed, OutOfMemory>
-    ensures { IfOk result (λ printed. AreAllTold (IsOldTold new.now check) old.now (string_bytes printed.text) printed.fails) }
+    ensures { IfOk result (λ printed. AreAllTold (IsOldTold how new.now) old.now (string_bytes printed.text) printed.fails) }
 {
     let mut printed = Printed {
         text: String::new(alloc),
         fails: false,
     };
     for entity in old {
-        let told = told_of_old(alloc, entity, new, check)?;
+        let told = told_of_old(alloc, entity, new, how)?;
         push_told(&mut printed, &told)?;
     }
     Ok(printed)
@@ -197,16 +198,16 @@ fn new_told(
     alloc: Global,
     old: &[Entity],
     new: &[Entity],
-    check: bool,
+    how: Comparison,
 ) -> Result<Printed, OutOfMemory>
-    ensures { IfOk result (λ printed. AreAllTold (IsNewTold old.now check) new.now (string_bytes printed.text) printed.fails) }
+    ensures { IfOk result (λ printed. AreAllTold (IsNewTold how old.now) new.now (string_bytes printed.text) printed.fails) }
 {
     let mut printed = Printed {
         text: String::new(alloc),
         fails: false,
     };
     for entity in new {
-        let told = told_of_new(alloc, entity, old, check)?;
+        let told = told_of_new(alloc, entity, old, how)?;
         push_told(&mut printed, &told)?;
     }
     Ok(printed)
@@ -216,7 +217,7 @@ fn new_told(
 /// each of the new list alone, a line `ENTITY WORD`, and below it, indented by two blanks, the lines of
 /// `compare_text` for its texts. WORD is `narrower`, `wider` or `different`, or `new` or `gone` where one list alone
 /// has the entity, which is compared with no grants then. An entity that both have with the same rights has no
-/// line. Where a text has no grants, the entity's line is `ENTITY refused SIDE FAULT`, which fails. With `check` it
+/// line. Where a text has no grants, the entity's line is `ENTITY refused SIDE FAULT`, which fails. With a check it
 /// fails too where an entity's new text allows something that its old one denies.
 ///
 /// Where a list has a name twice, an entity of the other list is compared with the first of them. A name's bytes
@@ -225,12 +226,12 @@ pub fn compare_entities(
     alloc: Global,
     old: &[Entity],
     new: &[Entity],
-    check: bool,
+    how: Comparison,
 ) -> Result<Printed, OutOfMemory>
-    ensures { IfOk result (λ printed. IsEntitiesAnswer old.now new.now check (string_bytes printed.text) printed.fails) }
+    ensures { IfOk result (λ printed. IsEntitiesAnswer how old.now new.now (string_bytes printed.text) printed.fails) }
 {
-    let mut printed = old_told(alloc, old, new, check)?;
-    let told = new_told(alloc, old, new, check)?;
+    let mut printed = old_told(alloc, old, new, how)?;
+    let told = new_told(alloc, old, new, how)?;
     push_told(&mut printed, &told)?;
     Ok(printed)
 }

@@ -1,7 +1,7 @@
 //! Lists of grants, expanded by the built-in profiles.
 
 ghost use Rattle.std.specs.Prelude.{◌≡◌, ◌≢◌, None, Some, IfOk, IfErr, OnOk};
-ghost use Rattle.cap_text.specs.Refused.{RefusedFirst};
+ghost use Rattle.common_types.specs.Refused.{RefusedFirst};
 ghost use Rattle.grant_core.specs.BuiltIn.{built_in};
 ghost use Rattle.grant_core.specs.Flat.{flat};
 ghost use Rattle.grant_core.specs.Refusal.{expand_refusal};

@@ -10,7 +10,8 @@ ghost use Rattle.gate_text.specs.Text.{refused_text};
 
 use crate::expanded::ticket_of;
 use crate::printed::Printed;
-use cap_text::{AllowGrant, CapFault, CapList, FaultKind, OutOfMemory, parse, print, push_allow};
+use cap_text::{AllowGrant, CapFault, CapList, FaultKind, parse, print, push_allow};
+use common_types::OutOfMemory;
 use grant_core::{ExpandFault, Path};
 use std::alloc::{AllocError, Global};
 use std::fmt::{Display, Write};

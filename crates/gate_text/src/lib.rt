@@ -5,9 +5,12 @@
 //! text or with calls is part of what is printed. The forms of the lines are this project's profile.
 #![tactic(auto)]
 
+mod asked;
+mod call_words;
 mod caret;
 mod compare;
 mod compare_auth;
+mod comparison;
 mod entity;
 mod expanded;
 mod explain;
@@ -16,11 +19,13 @@ mod request;
 mod verdict;
 mod who;
 
+pub use asked::{Asked, Times};
 pub use caret::point_at_fault;
 pub use compare::compare_text;
 pub use compare_auth::compare_entities;
+pub use comparison::Comparison;
 pub use entity::{Entity, find};
 pub use explain::explain_text;
 pub use printed::Printed;
-pub use verdict::{Answer, Times, Verdict, VerdictFault, answer, text_of, verdict_text};
+pub use verdict::{Answer, Verdict, VerdictFault, answer, text_of, verdict_text};
 pub use who::who_text;

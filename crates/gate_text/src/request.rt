@@ -2,15 +2,18 @@
 
 ghost use Rattle.std.specs.Prelude.{◌≡◌, ◌++◌, string_bytes, OnOk};
 ghost use Rattle.std.specs.List.{flat_map};
-ghost use Rattle.gate_text.specs.Request.{call_words, example_line, needs_words, flag_words, namespace_words, pair_words, target_words, quoted, quoted_byte, shell_word, tag_words};
+ghost use Rattle.gate_text.specs.Calls.{call_words};
+ghost use Rattle.gate_text.specs.Request.{example_line, needs_words, namespace_words, pair_words, target_words, tag_words};
+ghost use Rattle.gate_text.specs.Words.{flag_words, quoted, quoted_byte, shell_word};
 
-use cap_text::{AppTags, Name, OutOfMemory, are_word_bytes};
+use crate::call_words::push_call;
+use common_types::{AppTags, Name, OutOfMemory, are_word_bytes};
 use compare_core::{Example, OwnedTarget};
 use std::fmt::Write;
 use verdict_core::{ClassCall, Needs};
 
 /// Adds a text's bytes as they stand between single quotes.
-fn push_inside(line: &mut String, text: &str) -> Result<(), OutOfMemory>
+pub(crate) fn push_inside(line: &mut String, text: &str) -> Result<(), OutOfMemory>
     ensures { OnOk result (string_bytes line.new ≡ string_bytes line.old ++ flat_map quoted_byte text.now) }
 {
     let mut rest = text;
@@ -105,15 +108,6 @@ fn push_target(line: &mut String, target: &OwnedTarget) -> Result<(), OutOfMemor
     push_tags(line, target.tags.as_slice())
 }
 
-fn push_call(line: &mut String, call: &ClassCall) -> Result<(), OutOfMemory>
-    ensures { OnOk result (string_bytes line.new ≡ string_bytes line.old ++ call_words call.now) }
-{
-    line.push_str(" ")?;
-    push_word(line, &call.class)?;
-    line.push_str(".")?;
-    push_word(line, &call.method)
-}
-
 fn push_calls(line: &mut String, calls: &[ClassCall]) -> Result<(), OutOfMemory>
     ensures { OnOk result (string_bytes line.new ≡ string_bytes line.old ++ flat_map call_words calls.now) }
 {
@@ -123,7 +117,8 @@ fn push_calls(line: &mut String, calls: &[ClassCall]) -> Result<(), OutOfMemory>
     Ok(())
 }
 
-fn push_flag(line: &mut String, set: bool, word: &str) -> Result<(), OutOfMemory>
+/// Adds a word where it is set.
+pub(crate) fn push_flag(line: &mut String, set: bool, word: &str) -> Result<(), OutOfMemory>
     ensures { OnOk result (string_bytes line.new ≡ string_bytes line.old ++ flag_words set word.now) }
 {
     if set { line.push_str(word) } else { Ok(()) }

@@ -1,19 +1,21 @@
 //! What a capability text and a request come to, as a value and as a text.
 
 ghost use Rattle.std.specs.Prelude.{◌≡◌, IfOk, Some, string_bytes};
-ghost use Rattle.cap_text.specs.Refused.{RefusedFirst};
-ghost use Rattle.object_core.specs.Needs.{needs_of};
 ghost use Rattle.gate_text.specs.Answer as spec;
-ghost use Rattle.gate_text.specs.Answer.{IsAnswer, IsVerdictText, answer_of, needed, calls_fault};
+ghost use Rattle.gate_text.specs.Answer.{IsAnswer, IsVerdictText, answer_of, needed};
+ghost use Rattle.gate_text.specs.Asked.{calls_fault};
 ghost use Rattle.gate_text.specs.Text as printed;
 
+use crate::asked::{Asked, needs_asked};
 use crate::expanded::ticket_of;
-use cap_text::{CapFault, CapList, FaultKind, OutOfMemory, parse};
+use cap_text::{CapFault, CapList, FaultKind, parse};
+use common_types::OutOfMemory;
 use grant_core::ExpandFault;
-use object_core::{NeedsFault, Op, needs_of};
+use object_core::NeedsFault;
 use std::alloc::{AllocError, Global};
+use std::error::Error;
 use std::fmt;
-use verdict_core::{Calls, Needs, Report, Target, Ticket, judge, report};
+use verdict_core::{Needs, Report, Target, Ticket, judge, report};
 
 /// What a request gets. It prints `allow`, or `deny` and a line `PATH CONDITION` for each grant; every line ends
 /// with a line feed.
@@ -36,13 +38,6 @@ pub enum VerdictFault {
 
 /// A verdict, or why there is none.
 pub type Answer = Result<Verdict, VerdictFault>;
-
-/// When a ticket ends, if it does, and when the request comes, both as ticks: at tick `until` its grants hold no more.
-#[derive(Clone, Copy, Debug)]
-pub struct Times {
-    pub until: Option<u64>,
-    pub tick: u64,
-}
 
 impl fmt::Display for Verdict {
     ghost use Rattle.std.specs.Prelude.{Some};
@@ -73,6 +68,8 @@ impl fmt::Display for VerdictFault {
     }
 }
 
+impl Error for VerdictFault {}
+
 /// Allowed, or denied with the report.
 fn judged(
     alloc: Global,
@@ -89,42 +86,14 @@ fn judged(
     Ok(Verdict::Denied(report(alloc, ticket, target, needs, tick)?))
 }
 
-/// What a request with these calls asks for. Without calls it asks for nothing.
-pub(crate) fn needs_of_calls(alloc: Global, calls: &[Op]) -> Result<Needs, NeedsFault>
-    ensures refused { RefusedFirst (calls_fault calls.now) NeedsFault.OutOfMemory result }
-    ensures needs { IfOk result (λ needs. needs ≡ needs_of calls.now) }
-{
-    if calls.is_empty() {
-        return Ok(Needs {
-            reads: false,
-            writes: false,
-            calls: Calls::from_vec(Vec::new(alloc)),
-        });
-    }
-    needs_of(alloc, calls)
-}
-
 /// The answer of a ticket, which is a verdict where the calls are not refused.
-fn answer_ticket(
-    alloc: Global,
-    ticket: &Ticket,
-    target: &Target<'_>,
-    reads: bool,
-    writes: bool,
-    calls: &[Op],
-    times: Times,
-) -> Result<Answer, OutOfMemory>
-    ensures { IfOk result (λ answer. answer ≡ needed (calls_fault calls.now) ticket.now
-        (record { target = target.now; reads = reads; writes = writes; calls = calls.now; until = times.until; tick = times.tick })) }
+fn answer_ticket(alloc: Global, ticket: &Ticket, asked: &Asked<'_>) -> Result<Answer, OutOfMemory>
+    ensures { IfOk result (λ answer. answer ≡ needed (calls_fault asked.now) ticket.now asked.now) }
 {
-    match needs_of_calls(alloc, calls) {
+    match needs_asked(alloc, asked) {
         Ok(needs) => {
-            let needs = Needs {
-                reads: reads || needs.reads,
-                writes: writes || needs.writes,
-                calls: needs.calls,
-            };
-            Ok(Ok(judged(alloc, ticket, target, &needs, times.tick)?))
+            let tick = asked.times.tick;
+            Ok(Ok(judged(alloc, ticket, &asked.target, &needs, tick)?))
         }
         Err(NeedsFault::OutOfMemory) => Err(AllocError),
         Err(fault) => Ok(Err(VerdictFault::Calls(fault))),
@@ -132,42 +101,23 @@ fn answer_ticket(
 }
 
 /// The answer of a list of grants, which is its ticket's where it can be expanded by the built-in profiles.
-fn answer_list(
-    alloc: Global,
-    list: &CapList,
-    target: &Target<'_>,
-    reads: bool,
-    writes: bool,
-    calls: &[Op],
-    times: Times,
-) -> Result<Answer, OutOfMemory>
-    ensures { IfOk result (λ answer. answer ≡ answer_of list.now
-        (record { target = target.now; reads = reads; writes = writes; calls = calls.now; until = times.until; tick = times.tick })) }
+fn answer_list(alloc: Global, list: &CapList, asked: &Asked<'_>) -> Result<Answer, OutOfMemory>
+    ensures { IfOk result (λ answer. answer ≡ answer_of list.now asked.now) }
 {
-    match ticket_of(alloc, list, times.until) {
-        Ok(ticket) => answer_ticket(alloc, &ticket, target, reads, writes, calls, times),
+    match ticket_of(alloc, list, asked.times.until) {
+        Ok(ticket) => answer_ticket(alloc, &ticket, asked),
         Err(ExpandFault::OutOfMemory) => Err(AllocError),
         Err(fault) => Ok(Err(VerdictFault::Profiles(fault))),
     }
 }
 
 /// What a capability text and a request come to: a verdict; or the first of these that holds: the text spells no
-/// grants, they cannot be expanded by the built-in profiles, the calls are refused. The request reads and writes
-/// as the two flags say, beside what its calls ask for.
-pub fn answer(
-    alloc: Global,
-    caps: &str,
-    target: &Target<'_>,
-    reads: bool,
-    writes: bool,
-    calls: &[Op],
-    times: Times,
-) -> Result<Answer, OutOfMemory>
-    ensures { IfOk result (λ answer. IsAnswer caps.now
-        (record { target = target.now; reads = reads; writes = writes; calls = calls.now; until = times.until; tick = times.tick }) answer) }
+/// grants, they cannot be expanded by the built-in profiles, the calls are refused.
+pub fn answer(alloc: Global, caps: &str, asked: &Asked<'_>) -> Result<Answer, OutOfMemory>
+    ensures { IfOk result (λ answer. IsAnswer caps.now asked.now answer) }
 {
     match parse(alloc, caps) {
-        Ok(list) => answer_list(alloc, &list, target, reads, writes, calls, times),
+        Ok(list) => answer_list(alloc, &list, asked),
         Err(
             CapFault {
                 kind: FaultKind::OutOfMemory,
@@ -189,18 +139,9 @@ pub fn text_of(alloc: Global, answer: &Answer) -> Result<String, OutOfMemory>
 }
 
 /// The whole text that the program prints for a capability text and a request: that of their answer.
-pub fn verdict_text(
-    alloc: Global,
-    caps: &str,
-    target: &Target<'_>,
-    reads: bool,
-    writes: bool,
-    calls: &[Op],
-    times: Times,
-) -> Result<String, OutOfMemory>
-    ensures { IfOk result (λ text. IsVerdictText caps.now
-        (record { target = target.now; reads = reads; writes = writes; calls = calls.now; until = times.until; tick = times.tick }) (string_bytes text)) }
+pub fn verdict_text(alloc: Global, caps: &str, asked: &Asked<'_>) -> Result<String, OutOfMemory>
+    ensures { IfOk result (λ text. IsVerdictText caps.now asked.now (string_bytes text)) }
 {
-    let answer = answer(alloc, caps, target, reads, writes, calls, times)?;
+    let answer = answer(alloc, caps, asked)?;
     text_of(alloc, &answer)
 }

@@ -1,26 +1,21 @@
 //! Which entities may do what a request asks for.
 
-ghost use Rattle.std.specs.Prelude.{◌≡◌, ◌++◌, true, false, None, IfOk, OnOk, flat_map, string_bytes};
+ghost use Rattle.std.specs.Prelude.{◌≡◌, ◌++◌, true, false, IfOk, OnOk, flat_map, string_bytes};
 ghost use Rattle.object_core.specs.Faults as vectors;
 ghost use Rattle.gate_text.specs.Text.{refused_text};
 ghost use Rattle.gate_text.specs.Who.{AreTold, IsWho, answer_lines, answered_lines, indented_line, listed_lines, told};
 
+use crate::asked::{Asked, needs_asked};
 use crate::caret::push_shown_text;
 use crate::entity::Entity;
 use crate::printed::Printed;
-use crate::verdict::{Answer, Times, Verdict, answer, needs_of_calls};
-use cap_text::OutOfMemory;
+use crate::verdict::{Answer, Verdict, answer};
+use common_types::OutOfMemory;
 use grant_core::Path;
-use object_core::{NeedsFault, Op};
+use object_core::NeedsFault;
 use std::alloc::{AllocError, Global};
 use std::fmt::Write;
-use verdict_core::{Condition, Target};
-
-/// For ever, and at once.
-const ALWAYS: Times = Times {
-    until: None,
-    tick: 0,
-};
+use verdict_core::Condition;
 
 /// Adds a line of a report, indented.
 fn push_line(text: &mut String, line: &(Path, Condition)) -> Result<(), OutOfMemory>
@@ -94,27 +89,14 @@ fn push_told(text: &mut String, name: &str, answer: &Answer, all: bool) -> Resul
 fn told_text(
     alloc: Global,
     entities: &[Entity],
-    target: &Target<'_>,
-    reads: bool,
-    writes: bool,
-    calls: &[Op],
+    asked: &Asked<'_>,
     all: bool,
 ) -> Result<String, OutOfMemory>
-    ensures { IfOk result (λ text. AreTold all
-        (record { target = target.now; reads = reads; writes = writes; calls = calls.now; until = None; tick = 0 })
-        entities.now (string_bytes text)) }
+    ensures { IfOk result (λ text. AreTold all asked.now entities.now (string_bytes text)) }
 {
     let mut text = String::new(alloc);
     for entity in entities {
-        let answer = answer(
-            alloc,
-            entity.osd.as_str(),
-            target,
-            reads,
-            writes,
-            calls,
-            ALWAYS,
-        )?;
+        let answer = answer(alloc, entity.osd.as_str(), asked)?;
         push_told(&mut text, entity.name.as_str(), &answer, all)?;
     }
     Ok(text)
@@ -124,18 +106,13 @@ fn told_text(
 fn asked_text(
     alloc: Global,
     entities: &[Entity],
-    target: &Target<'_>,
-    reads: bool,
-    writes: bool,
-    calls: &[Op],
+    asked: &Asked<'_>,
     all: bool,
 ) -> Result<Printed, OutOfMemory>
-    ensures { IfOk result (λ printed. AreTold all
-        (record { target = target.now; reads = reads; writes = writes; calls = calls.now; until = None; tick = 0 })
-        entities.now (string_bytes printed.text) × (printed.fails ≡ false)) }
+    ensures { IfOk result (λ printed. AreTold all asked.now entities.now (string_bytes printed.text) × (printed.fails ≡ false)) }
 {
     Ok(Printed {
-        text: told_text(alloc, entities, target, reads, writes, calls, all)?,
+        text: told_text(alloc, entities, asked, all)?,
         fails: false,
     })
 }
@@ -158,18 +135,13 @@ fn refused_calls(alloc: Global, fault: NeedsFault) -> Result<Printed, OutOfMemor
 pub fn who_text(
     alloc: Global,
     entities: &[Entity],
-    target: &Target<'_>,
-    reads: bool,
-    writes: bool,
-    calls: &[Op],
+    asked: &Asked<'_>,
     all: bool,
 ) -> Result<Printed, OutOfMemory>
-    ensures { IfOk result (λ printed. IsWho entities.now
-        (record { target = target.now; reads = reads; writes = writes; calls = calls.now; until = None; tick = 0 })
-        all (string_bytes printed.text) printed.fails) }
+    ensures { IfOk result (λ printed. IsWho entities.now asked.now all (string_bytes printed.text) printed.fails) }
 {
-    match needs_of_calls(alloc, calls) {
-        Ok(_) => asked_text(alloc, entities, target, reads, writes, calls, all),
+    match needs_asked(alloc, asked) {
+        Ok(_) => asked_text(alloc, entities, asked, all),
         Err(NeedsFault::OutOfMemory) => Err(AllocError),
         Err(fault) => refused_calls(alloc, fault),
     }

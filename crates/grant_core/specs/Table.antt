@@ -1,4 +1,4 @@
--- Statement: contracts of public calls use it.
+-- Refinement: only contracts inside the crate use it.
 -- What a table of profiles stands for.
 use Rattle.std.specs.Prelude.{◌≡◌, ℕ, ◌≤◌, List, map, length, take, Some, slice_get, String, string_bytes}
 use Rattle.std.specs.declared.alloc.Global.{Global}

@@ -7,7 +7,8 @@ ghost use Rattle.grant_core.specs.Refusal.{add_refusal};
 
 use crate::fault::ExpandFault;
 use crate::table::ProfileTable;
-use cap_text::{Access, AllowGrant, CapList, Flags, Grant, Name, OutOfMemory, ProfileUse};
+use cap_text::{Access, AllowGrant, CapList, Flags, Grant, ProfileUse};
+use common_types::{Name, OutOfMemory};
 use std::alloc::{AllocError, Global};
 
 impl ProfileTable {

@@ -3,7 +3,7 @@
 ghost use Rattle.std.specs.Prelude.{◌≡◌, ◌≤◌, ◌+◌, ◌++◌, length, map, take, IfOk};
 ghost use Rattle.grant_core.specs.Flat.{filled, filled_use, flat, under};
 ghost use Rattle.grant_core.specs.Found.{parts_before};
-ghost use Rattle.cap_text.specs.Refused.{RefusedFirst};
+ghost use Rattle.common_types.specs.Refused.{RefusedFirst};
 ghost use Rattle.grant_core.specs.Refusal.{expand_refusal};
 ghost use Rattle.grant_core.specs.Table.{table_of, IsSized};
 ghost use Rattle.grant_core.specs.Tree.{flat_branches};
@@ -13,7 +13,8 @@ use crate::filling::{filled_allow, filled_use};
 use crate::refusal::check_list;
 use crate::table::{Profile, ProfileTable, find_before};
 use crate::tree::{Branches, GrantTree};
-use cap_text::{CapList, Grant, Name, OutOfMemory, ProfileUse};
+use cap_text::{CapList, Grant, ProfileUse};
+use common_types::{Name, OutOfMemory};
 use indexmap::IndexMap;
 use std::alloc::Global;
 

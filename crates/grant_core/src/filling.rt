@@ -3,7 +3,8 @@
 ghost use Rattle.std.specs.Prelude.{◌≡◌, IfOk};
 ghost use Rattle.grant_core.specs.Flat.{filled_allow, filled_use};
 
-use cap_text::{AllowGrant, OutOfMemory, ProfileUse, copy_name, copy_namespace};
+use cap_text::{AllowGrant, ProfileUse, copy_namespace};
+use common_types::{OutOfMemory, copy_name};
 
 /// An allow with what it takes from the use: one with a pool of its own takes nothing.
 pub(crate) fn filled_allow(used: &ProfileUse, grant: &AllowGrant) -> Result<AllowGrant, OutOfMemory>

@@ -3,7 +3,7 @@
 ghost use Rattle.std.specs.Prelude.{◌≡◌, IfOk, Some};
 ghost use Rattle.grant_core.specs.Text.{printed_path};
 
-use cap_text::OutOfMemory;
+use common_types::OutOfMemory;
 use std::alloc::Global;
 use std::fmt;
 use std::marker::Model;

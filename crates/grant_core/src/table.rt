@@ -4,14 +4,15 @@ ghost use Rattle.std.specs.Prelude.{◌≡◌, ◌+◌, ◌<◌, ◌≤◌, ◌+
 ghost use Rattle.cap_text.specs.declared.grant.ProfileUse.{ProfileUse};
 ghost use Rattle.grant_core.specs.Flat.{flat};
 ghost use Rattle.grant_core.specs.Found.{IsFound, parts_before};
-ghost use Rattle.cap_text.specs.Refused.{RefusedFirst};
+ghost use Rattle.common_types.specs.Refused.{RefusedFirst};
 ghost use Rattle.grant_core.specs.Refusal.{add_refusal};
 ghost use Rattle.grant_core.specs.Refusal as spec;
 ghost use Rattle.grant_core.specs.Table.{table_of, IsSized};
 
 use crate::fault::ExpandFault;
 use crate::refusal::accepted_size;
-use cap_text::{CapList, Grant, Name, OutOfMemory};
+use cap_text::{CapList, Grant};
+use common_types::{Name, OutOfMemory};
 use indexmap::IndexMap;
 use std::alloc::Global;
 use std::marker::Model;

@@ -4,7 +4,8 @@ ghost use Rattle.std.specs.Prelude.{◌≡◌, ◌≤◌, ◌++◌, map, length,
 ghost use Rattle.grant_core.specs.Tree.{below, flat_branches};
 
 use crate::path::Path;
-use cap_text::{AllowGrant, OutOfMemory};
+use cap_text::AllowGrant;
+use common_types::OutOfMemory;
 use std::alloc::Global;
 use std::marker::Model;
 

@@ -1,4 +1,4 @@
--- Refinement: only contracts inside the crate use it.
+-- Statement: contracts of public calls use it.
 -- What holds of every group of the program.
 use Rattle.std.specs.Prelude.{ℕ, ◌≡◌, length}
 use Rattle.group_core.specs.Group.{Group}

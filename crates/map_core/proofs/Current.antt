@@ -8,7 +8,7 @@ use Rattle.std.specs.Option.{option_map, IfSome}
 use Rattle.place_core.specs.Placement.{acting_of, numbers_of}
 use Rattle.map_core.specs.State.{MapState, History}
 use Rattle.map_core.specs.Map.{after, initial, map_after, map_of, epoch_of, pools_after, up_after, pool_in, view_of, view_at, is_named}
-use Rattle.cap_text.specs.Refused.{RefusedFirst}
+use Rattle.common_types.specs.Refused.{RefusedFirst}
 use Rattle.map_core.specs.Refusal.{refusal, first_of, acting_tests, view_refusal, is_word}
 use Rattle.map_core.specs.Limits.{AcceptedFrom, IsPool, HasLimits}
 use Rattle.map_core.specs.Intervals.{size_in, set_of}

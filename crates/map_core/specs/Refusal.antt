@@ -4,8 +4,8 @@ use Rattle.std.specs.Prelude.{◌≢◌, ℕ, ◌+◌, List, [], ◌∷◌, Bool
 use Rattle.std.specs.List.{list_any, list_all, find}
 use Rattle.std.specs.Option.{option_map_or}
 use Rattle.std.specs.Str.{bytes_eq}
-use Rattle.cap_text.specs.Bytes.{is_word_byte}
-use Rattle.cap_text.specs.declared.tags.AppTags.{AppTags}
+use Rattle.common_types.specs.WordBytes.{is_word_byte}
+use Rattle.common_types.specs.declared.tags.AppTags.{AppTags}
 use Rattle.map_core.specs.State.{MapState, History}
 use Rattle.map_core.specs.Map.{map_of, epoch_of, is_app, pool_in, view_at}
 use Rattle.map_core.specs.declared.pool.Pool.{Pool}

@@ -9,7 +9,7 @@ ghost use Rattle.map_core.specs.Limits.{IsPool};
 use crate::command::MapCommand;
 use crate::pool::Pool;
 use crate::refusals::find_pool;
-use cap_text::Name;
+use common_types::Name;
 use place_core::{ActingSet, DaemonSet};
 
 // The acting set of a group, where sets have so many daemons.

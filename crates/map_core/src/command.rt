@@ -4,7 +4,7 @@ ghost use Rattle.std.specs.Prelude.{◌≡◌, ◌↔◌, IfOk, IsTrue};
 ghost use Rattle.map_core.specs.State.{Begins};
 ghost use Rattle.map_core.specs.declared.command.MapCommand.TheVariants.{PoolCreate, AppEnable, AppSet, AppRm};
 
-use cap_text::{Name, OutOfMemory};
+use common_types::{Name, OutOfMemory};
 use std::alloc::Global;
 
 /// A change of the map. An accepted one raises the epoch by 1.

@@ -6,7 +6,7 @@ ghost use Rattle.map_core.specs.Map as spec;
 
 use crate::command::MapCommand;
 use crate::pool::Pool;
-use cap_text::{AppTags, Name, OutOfMemory, Pairs, Tags};
+use common_types::{AppTags, Name, OutOfMemory, Pairs, Tags};
 use std::alloc::Global;
 use std::mem;
 

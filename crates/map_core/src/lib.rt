@@ -13,8 +13,8 @@ mod pool;
 mod refusals;
 mod replay;
 
-pub use cap_text::OutOfMemory;
 pub use command::MapCommand;
+pub use common_types::OutOfMemory;
 pub use fault::MapFault;
 pub use laws::{intervals_follow_the_sets, pools_differ, pools_stay, sets_are_acting};
 pub use map::ClusterMap;

@@ -1,10 +1,10 @@
 //! The cluster map.
 
-ghost use Rattle.std.specs.Prelude.{◌≡◌, ◌≤◌, ◌++◌, [], ◌∷◌, OnOk, OnErr, IfOk, Some, None, Option, All, IsOkAnd, IfSome, IsTrue, ◌↔◌};
+ghost use Rattle.std.specs.Prelude.{◌≡◌, ◌≤◌, ◌++◌, [], ◌∷◌, OnOk, OnErr, IfOk, Some, None, Option, All, IsOkAnd, IfSome, IsTrue, ◌↔◌, option_copied};
 ghost use Rattle.std.specs.Option.{option_to_list};
 ghost use Rattle.map_core.specs.Map.{epoch_of, map_of, after};
 ghost use Rattle.map_core.specs.Map as spec;
-ghost use Rattle.cap_text.specs.Refused.{RefusedFirst};
+ghost use Rattle.common_types.specs.Refused.{RefusedFirst};
 ghost use Rattle.map_core.specs.Refusal as tests;
 ghost use Rattle.map_core.specs.Intervals.{set_of, intervals_of};
 ghost use Rattle.map_core.specs.Intervals as intervals;
@@ -17,9 +17,9 @@ use crate::command::{MapCommand, begin_with, copy_commands};
 use crate::edits::change_pools;
 use crate::fault::MapFault;
 use crate::pool::{Epoch, Pool, PoolView, copy_pools};
-use crate::refusals::{acting_refusal, is_word, refusal};
+use crate::refusals::{acting_refusal, find_pool, is_word, refusal};
 use crate::replay::{view_now, view_then};
-use cap_text::{Name, OutOfMemory};
+use common_types::{Name, OutOfMemory};
 use place_core::{ActingSet, DaemonSet};
 use std::alloc::Global;
 use std::marker::Model;
@@ -93,6 +93,13 @@ impl ClusterMap {
         ensures limits { All IsPool result.now }
     {
         self.pools.as_slice()
+    }
+
+    /// The pool of this name at the present epoch, if there is one. It takes no memory.
+    pub fn pool(&self, name: &Name) -> Option<&Pool>
+        ensures { option_copied result ≡ spec.pool_in (map_of self.now).pools name.now }
+    {
+        find_pool(self.pools.as_slice(), name)
     }
 
     /// Why a command would be refused. It takes no memory, and where it answers `None` [`ClusterMap::apply`] fails for memory only.
@@ -186,6 +193,15 @@ impl ClusterMap {
                 Ok(members)
             }
         }
+    }
+
+    /// Why there is no such group at the present epoch: M9 where the pool's name is no word, M2 where there is no such pool, M10
+    /// where it has no group of that number. It takes no memory, and where it answers `None` [`ClusterMap::acting`] fails for
+    /// memory only.
+    pub fn acting_refusal(&self, pool: &Name, group: u32) -> Option<MapFault>
+        ensures { result ≡ tests.acting_refusal self.now pool.now group }
+    {
+        acting_refusal(self.pools.as_slice(), pool, group)
     }
 
     /// The acting set of a group of a pool, or `None` where there is no such pool. It takes no memory.

@@ -2,7 +2,7 @@
 
 ghost use Rattle.std.specs.Prelude.{◌≡◌, IfOk};
 
-use cap_text::{Name, OutOfMemory, Tags, TryCopy};
+use common_types::{Name, OutOfMemory, Tags, TryCopy};
 use std::alloc::Global;
 
 /// The number of a state of the map, from 1 on, at most 65,535.

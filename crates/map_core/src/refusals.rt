@@ -9,7 +9,7 @@ ghost use Rattle.map_core.specs.Map as map;
 use crate::command::MapCommand;
 use crate::fault::MapFault;
 use crate::pool::Pool;
-use cap_text::{AppTags, Name, are_word_bytes};
+use common_types::{AppTags, Name, are_word_bytes};
 use place_core::DaemonSet;
 
 const LAST_EPOCH: u32 = 65535;

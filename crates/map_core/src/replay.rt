@@ -3,7 +3,7 @@
 ghost use Rattle.std.specs.Prelude.{◌≡◌, IfOk, OnErr, is_some, fold, None, Some, true};
 ghost use Rattle.std.specs.Option.{option_map};
 ghost use Rattle.map_core.specs.Map.{pool_in, view_of};
-ghost use Rattle.cap_text.specs.Refused.{RefusedFirst};
+ghost use Rattle.common_types.specs.Refused.{RefusedFirst};
 ghost use Rattle.map_core.specs.Replay.{pool_step, no_pool};
 
 use crate::command::MapCommand;
@@ -11,7 +11,7 @@ use crate::edits::{change_pool, create};
 use crate::fault::MapFault;
 use crate::pool::{Epoch, Pool, PoolView};
 use crate::refusals::find_pool;
-use cap_text::{Name, OutOfMemory};
+use common_types::{Name, OutOfMemory};
 use std::alloc::Global;
 
 // What a command leaves of the pool of this name.

@@ -1,4 +1,4 @@
--- Refinement: only contracts inside the crate use it.
+-- Statement: contracts of public calls use it.
 -- How the program tells effects: a change that was not made stands for the object that was given.
 use Rattle.std.specs.Prelude.{◌≡◌, ℕ, List, [], Option, Result, Ok, Err}
 use Rattle.object_core.specs.Content.{Content}

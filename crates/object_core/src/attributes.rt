@@ -4,7 +4,7 @@ ghost use Rattle.std.specs.Prelude.{◌≡◌, true, [], is_some, IfOk, OnOk, op
 ghost use Rattle.object_core.specs.Content.{AreAttributes, IsAttribute, place_of, value_of, has_room, with_attribute, without_attribute};
 
 use crate::bytes::Bytes;
-use cap_text::{Name, OutOfMemory, TryCopy};
+use common_types::{Name, OutOfMemory, TryCopy};
 use std::alloc::Global;
 use std::marker::Model;
 

@@ -3,7 +3,7 @@
 ghost use Rattle.std.specs.Prelude.{◌≡◌, ◌+◌, ◌≤◌, ◌++◌, [], IfOk, OnOk, length, take, drop};
 ghost use Rattle.object_core.specs.Bytes.{part_of, resized, overwritten};
 
-use cap_text::{OutOfMemory, TryCopy};
+use common_types::{OutOfMemory, TryCopy};
 use std::alloc::Global;
 use std::marker::Model;
 

@@ -16,7 +16,7 @@ use crate::bytes::Bytes;
 use crate::errors::{EEXIST, EFBIG, EINVAL, ENODATA, ENOENT, ERANGE};
 use crate::object::{BYTE_LIMIT, Object};
 use crate::outcome::Change;
-use cap_text::{Name, OutOfMemory, TryCopy};
+use common_types::{Name, OutOfMemory, TryCopy};
 use std::alloc::Global;
 
 /// What became of the object, or the number of an error.

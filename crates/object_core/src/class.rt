@@ -6,7 +6,7 @@ ghost use Rattle.object_core.specs.Needs as spec;
 ghost use Rattle.object_core.specs.Needs.{IsRegistered};
 ghost use Rattle.verdict_core.specs.declared.request.ClassCall.{ClassCall};
 
-use cap_text::{Name, OutOfMemory};
+use common_types::{Name, OutOfMemory};
 use std::alloc::Global;
 use verdict_core::{Calls, ClassCall};
 

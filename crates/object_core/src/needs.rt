@@ -2,7 +2,7 @@
 
 ghost use Rattle.std.specs.Prelude.{◌≡◌, ◌++◌, Some, None, IfOk, OnOk, option_to_list};
 ghost use Rattle.std.specs.List.{list_any, filter_map};
-ghost use Rattle.cap_text.specs.Refused.{RefusedFirst};
+ghost use Rattle.common_types.specs.Refused.{RefusedFirst};
 ghost use Rattle.object_core.specs.Faults.{text_of, number_of_fault};
 ghost use Rattle.object_core.specs.Needs.{needs_fault};
 ghost use Rattle.object_core.specs.Needs as spec;
@@ -11,8 +11,9 @@ ghost use Rattle.object_core.specs.declared.needs.NeedsFault.TheVariants as faul
 use crate::class::{method_of, registered};
 use crate::errors::{EINVAL, EOPNOTSUPP};
 use crate::op::Op;
-use cap_text::OutOfMemory;
+use common_types::OutOfMemory;
 use std::alloc::{AllocError, AllocFailed, Global};
+use std::error::Error;
 use std::fmt;
 use verdict_core::{Calls, ClassCall, Needs};
 
@@ -58,6 +59,8 @@ impl fmt::Display for NeedsFault {
         }
     }
 }
+
+impl Error for NeedsFault {}
 
 impl From<AllocError> for NeedsFault {
     ghost from_gives = { λ _ fault. fault ≡ faults.OutOfMemory };

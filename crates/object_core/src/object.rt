@@ -5,7 +5,7 @@ ghost use Rattle.object_core.specs.Content.{Content, empty};
 
 use crate::attributes::Attributes;
 use crate::bytes::Bytes;
-use cap_text::{OutOfMemory, TryCopy};
+use common_types::{OutOfMemory, TryCopy};
 use std::alloc::Global;
 use std::marker::Model;
 

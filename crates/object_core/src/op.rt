@@ -1,7 +1,7 @@
 //! Operations on an object.
 
 use crate::bytes::Bytes;
-use cap_text::{Name, OutOfMemory, TryCopy};
+use common_types::{Name, OutOfMemory, TryCopy};
 
 /// An operation on an object. Places, lengths and sizes are in bytes.
 #[derive(Debug, Drop)]

@@ -11,7 +11,7 @@ use crate::object::Object;
 use crate::op::Op;
 use crate::outcome::{Change, Outcome, Outputs};
 use crate::{changing, looking};
-use cap_text::OutOfMemory;
+use common_types::OutOfMemory;
 use std::alloc::Global;
 
 /// One operation on what became of the given object so far.

@@ -9,7 +9,6 @@ use crate::group::add_groups;
 use crate::loads::add_clusters;
 use crate::parse::add_parses;
 use crate::script::add_scripts;
-use crate::table::{Mode, Table};
 use crate::vector::add_vectors;
 use crate::verdict::add_verdicts;
 use std::alloc::Global;
@@ -18,6 +17,7 @@ use std::io::Write;
 use std::sync::Wait;
 use std::thread::Threads;
 use std::time::Clock;
+use stopwatch::{Mode, Table};
 
 /// All is done.
 const DONE: u8 = 0;
@@ -55,64 +55,78 @@ enum Part {
     Group,
     Script,
     Cluster,
-    Check,
 }
 
-fn part_of(word: &str) -> Option<Part> {
+/// All parts, in the order of their rows.
+const ALL: &[Part] = &[
+    Part::Verdict,
+    Part::Parse,
+    Part::Expand,
+    Part::Compare,
+    Part::Vector,
+    Part::Group,
+    Part::Script,
+    Part::Cluster,
+];
+
+/// What a word asks for: some parts, and what is done with the work of their rows.
+fn parts_of(word: &str) -> Option<(&'static [Part], Mode)> {
     match word {
-        "verdict" => Some(Part::Verdict),
-        "parse" => Some(Part::Parse),
-        "expand" => Some(Part::Expand),
-        "compare" => Some(Part::Compare),
-        "vector" => Some(Part::Vector),
-        "group" => Some(Part::Group),
-        "script" => Some(Part::Script),
-        "cluster" => Some(Part::Cluster),
-        "check" => Some(Part::Check),
+        "verdict" => Some((&[Part::Verdict], Mode::Timed)),
+        "parse" => Some((&[Part::Parse], Mode::Timed)),
+        "expand" => Some((&[Part::Expand], Mode::Timed)),
+        "compare" => Some((&[Part::Compare], Mode::Timed)),
+        "vector" => Some((&[Part::Vector], Mode::Timed)),
+        "group" => Some((&[Part::Group], Mode::Timed)),
+        "script" => Some((&[Part::Script], Mode::Timed)),
+        "cluster" => Some((&[Part::Cluster], Mode::Timed)),
+        "check" => Some((ALL, Mode::Once)),
         _ => None,
     }
 }
 
-/// Adds the rows of all parts.
-fn add_all<C: Clock, R: Threads + Wait + Sync>(
+/// Adds the rows of a part.
+fn add_part<C: Clock, R: Threads + Wait + Sync>(
     table: &mut Table<'_, C>,
     rt: &R,
+    part: Part,
     name: &str,
 ) -> Result<(), Fault> {
-    add_verdicts(table, name)?;
-    add_parses(table, name)?;
-    add_expansions(table, name)?;
-    add_comparisons(table, name)?;
-    add_vectors(table, name)?;
-    add_groups(table, name)?;
-    add_scripts(table, name)?;
-    add_clusters(table, rt)
+    match part {
+        Part::Verdict => add_verdicts(table, name),
+        Part::Parse => add_parses(table, name),
+        Part::Expand => add_expansions(table, name),
+        Part::Compare => add_comparisons(table, name),
+        Part::Vector => add_vectors(table, name),
+        Part::Group => add_groups(table, name),
+        Part::Script => add_scripts(table, name),
+        Part::Cluster => add_clusters(table, rt),
+    }
 }
 
-/// The table of a part.
+fn add_parts<C: Clock, R: Threads + Wait + Sync>(
+    table: &mut Table<'_, C>,
+    rt: &R,
+    parts: &[Part],
+    name: &str,
+) -> Result<(), Fault> {
+    for part in parts {
+        add_part(table, rt, *part, name)?;
+    }
+    Ok(())
+}
+
+/// The table of some parts.
 fn table_of<C: Clock, R: Threads + Wait + Sync>(
     alloc: Global,
     clock: &C,
     rt: &R,
-    part: Part,
+    parts: &[Part],
+    mode: Mode,
     name: &str,
 ) -> Result<String, Fault> {
-    let mode = match part {
-        Part::Check => Mode::Once,
-        _ => Mode::Timed,
-    };
     let mut table = Table::new(alloc, clock, mode)?;
-    match part {
-        Part::Verdict => add_verdicts(&mut table, name)?,
-        Part::Parse => add_parses(&mut table, name)?,
-        Part::Expand => add_expansions(&mut table, name)?,
-        Part::Compare => add_comparisons(&mut table, name)?,
-        Part::Vector => add_vectors(&mut table, name)?,
-        Part::Group => add_groups(&mut table, name)?,
-        Part::Script => add_scripts(&mut table, name)?,
-        Part::Cluster => add_clusters(&mut table, rt)?,
-        Part::Check => add_all(&mut table, rt, name)?,
-    }
+    add_parts(&mut table, rt, parts, name)?;
     Ok(table.into_text()?)
 }
 
@@ -127,9 +141,27 @@ fn write_out<W: Write>(out: &mut W, text: &str) -> u8
     }
 }
 
+/// Writes a table, or why there is none, and answers the status behind it.
+fn write_table<O: Write, E: Write>(out: &mut O, err: &mut E, table: Result<String, Fault>) -> u8
+    ensures { result ≤ 1 }
+{
+    match table {
+        Ok(text) => write_out(out, text.as_str()),
+        Err(fault) => {
+            let _ = write!(err, "osdgate_bench: {fault}\n");
+            FAULT
+        }
+    }
+}
+
+/// Whether the words ask for the usage.
+fn is_help<S: AsStr>(words: &[S]) -> bool {
+    words.len() == 2 && words[1].as_str() == "--help"
+}
+
 /// Runs the program on the words of its command line, the first of which is the program's own name, and
 /// answers its exit status: 0 where it is done, 1 where the table could not be made or written, 2 where the
-/// words are no command line. Without further words it prints its usage.
+/// words are no command line. Without further words, and with `--help`, it prints its usage.
 pub(crate) fn run_command<S: AsStr, C: Clock, R: Threads + Wait + Sync, O: Write, E: Write>(
     alloc: Global,
     clock: &C,
@@ -140,7 +172,7 @@ pub(crate) fn run_command<S: AsStr, C: Clock, R: Threads + Wait + Sync, O: Write
 ) -> u8
     ensures { result ≤ 2 }
 {
-    if words.len() <= 1 {
+    if words.len() <= 1 || is_help(words) {
         return write_out(out, USAGE);
     }
     let name = if words.len() == 3 {
@@ -148,14 +180,10 @@ pub(crate) fn run_command<S: AsStr, C: Clock, R: Threads + Wait + Sync, O: Write
     } else {
         "data"
     };
-    match part_of(words[1].as_str()) {
-        Some(part) if words.len() <= 3 => match table_of(alloc, clock, rt, part, name) {
-            Ok(text) => write_out(out, text.as_str()),
-            Err(fault) => {
-                let _ = write!(err, "osdgate_bench: {fault}\n");
-                FAULT
-            }
-        },
+    match parts_of(words[1].as_str()) {
+        Some((parts, mode)) if words.len() <= 3 => {
+            write_table(out, err, table_of(alloc, clock, rt, parts, mode, name))
+        }
         _ => {
             let _ = write_out(err, USAGE);
             BAD_COMMAND_LINE

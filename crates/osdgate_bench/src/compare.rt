@@ -4,12 +4,11 @@ ghost use Rattle.std.specs.Prelude.{◌<◌, ◌≤◌};
 
 use crate::fault::Fault;
 use crate::grants::{pools, ticket_of};
-use crate::measure::Work;
-use crate::table::Table;
-use cap_text::OutOfMemory;
+use common_types::OutOfMemory;
 use compare_core::widening;
 use std::alloc::Global;
 use std::time::Clock;
+use stopwatch::{Table, Work};
 use verdict_core::Ticket;
 
 /// Two tickets, and whether the new one allows what the old one denies. The examples are let go.
@@ -96,7 +95,7 @@ fn add_row<C: Clock>(
     let work = change.work(table.alloc(), name, grants)?;
     let how = change.name();
     let row = format!(in table.alloc(); "compare, {how}, of {grants}")?;
-    table.row(row.as_str(), &work)
+    Ok(table.row(row.as_str(), &work)?)
 }
 
 /// Adds the rows of comparisons, over pools whose names begin with a given one.

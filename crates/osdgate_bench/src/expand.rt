@@ -2,12 +2,12 @@
 
 use crate::fault::Fault;
 use crate::grants::push_grant;
-use crate::measure::Work;
-use crate::table::Table;
-use cap_text::{CapList, OutOfMemory, parse};
+use cap_text::{CapList, parse};
+use common_types::OutOfMemory;
 use grant_core::{ExpandFault, GrantTree, ProfileTable, expand};
 use std::alloc::{AllocError, Global};
 use std::time::Clock;
+use stopwatch::{Table, Work};
 use verdict_core::Ticket;
 
 /// A list, which is expanded. The tree is let go.
@@ -81,7 +81,7 @@ fn add_row<C: Clock, W: Work>(
     requires { W.ready work.now }
 {
     let row = format!(in table.alloc(); "{call}, {times} of {what}")?;
-    table.row(row.as_str(), work)
+    Ok(table.row(row.as_str(), work)?)
 }
 
 /// Adds the rows of expansions, over a given name.

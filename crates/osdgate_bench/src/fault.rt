@@ -4,8 +4,9 @@ use cap_text::CapFault;
 use grant_core::ExpandFault;
 use object_core::NeedsFault;
 use std::alloc::{AllocError, AllocFailed};
-use std::{fmt, io};
-use world_core::ScriptFault;
+use std::fmt;
+use stopwatch::MeasureFault;
+use world_script::ScriptFault;
 
 /// Why a table is not made. No part of it is printed then.
 #[derive(Debug, Drop)]
@@ -38,9 +39,12 @@ impl<T: Drop> From<AllocFailed<T>> for Fault {
     }
 }
 
-impl From<io::Error> for Fault {
-    fn from(_error: io::Error) -> Fault {
-        Fault::Clock
+impl From<MeasureFault> for Fault {
+    fn from(fault: MeasureFault) -> Fault {
+        match fault {
+            MeasureFault::OutOfMemory => Fault::OutOfMemory,
+            MeasureFault::Clock => Fault::Clock,
+        }
     }
 }
 

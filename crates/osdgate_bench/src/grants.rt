@@ -3,7 +3,8 @@
 ghost use Rattle.std.specs.Prelude.{◌≤◌};
 
 use crate::fault::Fault;
-use cap_text::{CapList, OutOfMemory, parse};
+use cap_text::{CapList, parse};
+use common_types::OutOfMemory;
 use grant_core::{GrantTree, ProfileTable, expand};
 use std::alloc::Global;
 use verdict_core::{IndexedTicket, Ticket};

@@ -4,9 +4,7 @@ ghost use Rattle.std.specs.Prelude.{◌≡◌, IfOk};
 
 use crate::fault::Fault;
 use crate::grants::ticket_of;
-use crate::measure::Work;
-use crate::table::Table;
-use cap_text::{Name, OutOfMemory, Tags};
+use common_types::{Name, OutOfMemory, Tags};
 use entry_core::{GroupId, Id, Sealed, TryCopy};
 use group_core::Group;
 use map_core::PoolView;
@@ -14,6 +12,7 @@ use object_core::{Bytes, Op};
 use place_core::{ActingSet, DaemonSet};
 use std::alloc::Global;
 use std::time::Clock;
+use stopwatch::{Table, Work};
 use verdict_core::SharedTicket;
 
 /// Requests that a new group takes and answers.
@@ -117,5 +116,5 @@ pub(crate) fn add_groups<C: Clock>(table: &mut Table<'_, C>, name: &str) -> Resu
     let few = through_a_group(table.alloc(), 1000, name)?;
     table.row("group, a request of 1,000", &few)?;
     let many = through_a_group(table.alloc(), 8000, name)?;
-    table.row("group, a request of 8,000", &many)
+    Ok(table.row("group, a request of 8,000", &many)?)
 }

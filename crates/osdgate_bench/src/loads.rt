@@ -1,14 +1,13 @@
 //! What requests, verdicts and views cost on a cluster's threads.
 
 use crate::fault::Fault;
-use crate::measure::Work;
-use crate::table::Table;
-use cap_text::OutOfMemory;
 use cluster::ClusterFault;
+use common_types::OutOfMemory;
 use std::alloc::{AllocError, Global};
 use std::sync::Wait;
 use std::thread::Threads;
 use std::time::Clock;
+use stopwatch::{Table, Work};
 use workload::{Load, WorkloadFault, run_load, run_requests};
 
 /// How many requests each worker asks for.
@@ -80,44 +79,86 @@ impl Work for Alone {
     }
 }
 
-/// A load of so many workers, each of which asks so often.
-fn on_threads<R>(
-    rt: &R,
-    alloc: Global,
-    groups: u32,
-    workers: u32,
-    load: Load,
-    times: u32,
-) -> Loaded<'_, R> {
-    Loaded {
-        rt,
-        alloc,
-        groups,
-        workers,
-        load,
-        moves: false,
-        size: (workers as u64).saturating_mul(times as u64),
+/// What is measured on threads: requests by so many workers on so many groups, verdicts by so many workers, and views
+/// by one worker, while the map changes or not.
+#[derive(Clone, Copy, Debug)]
+enum Kind {
+    Requests { groups: u32, workers: u32 },
+    Verdicts { workers: u32 },
+    Views { moves: bool },
+}
+
+/// All loads, in the order of their rows.
+const LOADS: [Kind; 9] = [
+    Kind::Requests {
+        groups: 1,
+        workers: 1,
+    },
+    Kind::Requests {
+        groups: 1,
+        workers: 4,
+    },
+    Kind::Requests {
+        groups: 4,
+        workers: 1,
+    },
+    Kind::Requests {
+        groups: 4,
+        workers: 4,
+    },
+    Kind::Verdicts { workers: 1 },
+    Kind::Verdicts { workers: 2 },
+    Kind::Verdicts { workers: 4 },
+    Kind::Views { moves: false },
+    Kind::Views { moves: true },
+];
+
+impl Kind {
+    /// How a row is named.
+    fn name(self, alloc: Global) -> Result<String, OutOfMemory> {
+        match self {
+            Kind::Requests { groups, workers } => {
+                format!(in alloc; "cluster, a request, groups: {groups}, threads: {workers}")
+            }
+            Kind::Verdicts { workers } => format!(in alloc;
+                "cluster, a verdict, threads: {workers}"
+            ),
+            Kind::Views { moves: false } => format!(in alloc; "cluster, a view"),
+            Kind::Views { moves: true } => format!(in alloc;
+                "cluster, a view while the map changes"
+            ),
+        }
+    }
+
+    /// The load, by workers on these threads.
+    fn work<R>(self, rt: &R, alloc: Global) -> Loaded<'_, R> {
+        let (groups, workers, load, times, moves) = match self {
+            Kind::Requests { groups, workers } => {
+                (groups, workers, Load::Requests(REQUESTS), REQUESTS, false)
+            }
+            Kind::Verdicts { workers } => (1, workers, Load::Verdicts(VERDICTS), VERDICTS, false),
+            Kind::Views { moves } => (4, 1, Load::Views(VIEWS), VIEWS, moves),
+        };
+        Loaded {
+            rt,
+            alloc,
+            groups,
+            workers,
+            load,
+            moves,
+            size: (workers as u64).saturating_mul(times as u64),
+        }
     }
 }
 
-/// Adds the rows of verdicts, and of views.
-fn add_looks<C: Clock, R: Threads + Wait + Sync>(
+/// Adds the row of a load.
+fn add_row<C: Clock, R: Threads + Wait + Sync>(
     table: &mut Table<'_, C>,
     rt: &R,
+    kind: Kind,
 ) -> Result<(), Fault> {
-    let alloc = table.alloc();
-    for workers in [1, 2, 4] {
-        let row = format!(in alloc; "cluster, a verdict, threads: {workers}")?;
-        let load = Load::Verdicts(VERDICTS);
-        table.row(
-            row.as_str(),
-            &on_threads(rt, alloc, 1, workers, load, VERDICTS),
-        )?;
-    }
-    let mut views = on_threads(rt, alloc, 4, 1, Load::Views(VIEWS), VIEWS);
-    table.row("cluster, a view", &views)?;
-    views.moves = true;
-    table.row("cluster, a view while the map changes", &views)
+    let row = kind.name(table.alloc())?;
+    Ok(table.row(row.as_str(), &kind.work(rt, table.alloc()))?)
 }
 
 /// Adds the rows of clusters: the time of a request, a verdict or a view, of all that the threads ask for.
@@ -127,17 +168,8 @@ pub(crate) fn add_clusters<C: Clock, R: Threads + Wait + Sync>(
 ) -> Result<(), Fault> {
     let alloc = table.alloc();
     table.row("world, a request without locks", &Alone { alloc })?;
-    for groups in [1, 4] {
-        for workers in [1, 4] {
-            let row = format!(in alloc;
-                "cluster, a request, groups: {groups}, threads: {workers}"
-            )?;
-            let load = Load::Requests(REQUESTS);
-            table.row(
-                row.as_str(),
-                &on_threads(rt, alloc, groups, workers, load, REQUESTS),
-            )?;
-        }
+    for kind in LOADS {
+        add_row(table, rt, kind)?;
     }
-    add_looks(table, rt)
+    Ok(())
 }

@@ -11,20 +11,14 @@ mod fault;
 mod grants;
 mod group;
 mod loads;
-mod measure;
 mod parse;
 mod script;
 mod script_lines;
-mod table;
-mod text;
 mod vector;
 mod verdict;
 
 use command::run_command;
 use std::process::ExitCode;
-
-#[cfg(test)]
-mod tests;
 
 fn main(rt: HostRuntime) -> ExitCode {
     let alloc = rt.alloc();

@@ -2,11 +2,11 @@
 
 use crate::fault::Fault;
 use crate::grants::pools;
-use crate::measure::Work;
-use crate::table::Table;
-use cap_text::{CapFault, FaultKind, OutOfMemory, parse};
+use cap_text::{CapFault, FaultKind, parse};
+use common_types::OutOfMemory;
 use std::alloc::{AllocError, Global};
 use std::time::Clock;
+use stopwatch::{Table, Work};
 
 /// A text, which is read and let go.
 #[derive(Drop)]

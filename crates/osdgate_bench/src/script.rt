@@ -1,13 +1,14 @@
 //! What it costs to run scripts.
 
 use crate::fault::Fault;
-use crate::measure::Work;
 use crate::script_lines::{Script, Settling, comments, moves, requests, restarts, ticks};
-use crate::table::Table;
-use cap_text::OutOfMemory;
+use Kind::{Comments, Moves, Requests, Restarts, Ticks};
+use Settling::{Hundreds, Once};
+use common_types::OutOfMemory;
 use std::alloc::{AllocError, Global};
 use std::time::Clock;
-use world_core::{ScriptFault, run_script};
+use stopwatch::{Table, Work};
+use world_script::{ScriptFault, run_script};
 
 /// A script, which is run, and what it prints kept to its end. The time is of each of so many of its lines.
 #[derive(Drop)]
@@ -40,68 +41,98 @@ impl Work for Running {
     }
 }
 
-/// Adds the row of a script, where it ends well.
-fn add_row<C: Clock>(
-    table: &mut Table<'_, C>,
-    row: &str,
-    script: Script,
-    lines: u32,
-) -> Result<(), Fault> {
-    let alloc = table.alloc();
-    let work = Running {
-        alloc,
-        script,
-        lines,
-    };
-    if !work.ends_well()? {
-        return Err(Fault::Refused);
-    }
-    table.row(row, &work)
+/// What is measured: so many comments, ticks, requests, pairs of moves, or restarts.
+#[derive(Clone, Copy, Debug)]
+enum Kind {
+    Comments(u32),
+    Ticks(u32),
+    Requests(u32, Settling),
+    Moves(u16),
+    Restarts(u16),
 }
 
-/// Adds the rows of lines that are read and answered at once.
-fn add_lines<C: Clock>(table: &mut Table<'_, C>, name: &str) -> Result<(), Fault> {
-    let alloc = table.alloc();
-    for count in [1000, 16000] {
-        let row = format!(in alloc; "script, a comment of {count}")?;
-        add_row(table, row.as_str(), comments(alloc, name, count)?, count)?;
-        let row = format!(in alloc; "script, a tick of {count}")?;
-        add_row(table, row.as_str(), ticks(alloc, count)?, count)?;
+/// All scripts, in the order of their rows.
+const SCRIPTS: [Kind; 15] = [
+    Comments(1000),
+    Ticks(1000),
+    Comments(16000),
+    Ticks(16000),
+    Requests(1000, Once),
+    Requests(4000, Once),
+    Requests(8000, Once),
+    Requests(16000, Once),
+    Requests(1000, Hundreds),
+    Requests(4000, Hundreds),
+    Requests(8000, Hundreds),
+    Requests(16000, Hundreds),
+    Moves(0),
+    Moves(8),
+    Restarts(1023),
+];
+
+impl Kind {
+    /// How a row is named.
+    fn name(self, alloc: Global) -> Result<String, OutOfMemory> {
+        match self {
+            Comments(count) => format!(in alloc; "script, a comment of {count}"),
+            Ticks(count) => format!(in alloc; "script, a tick of {count}"),
+            Requests(count, settling) => {
+                let how = settling.name();
+                format!(in alloc; "script, a request of {count}, {how}")
+            }
+            Moves(0) => format!(in alloc; "script, 32 pools of 64 groups, the whole"),
+            Moves(_) => format!(in alloc; "script, the same and 16 moves, a sixteenth"),
+            Restarts(count) => format!(in alloc; "script, a restart of {count}"),
+        }
     }
-    Ok(())
+
+    /// The script, over a given name.
+    fn script(self, alloc: Global, name: &str) -> Result<Script, OutOfMemory> {
+        match self {
+            Comments(count) => comments(alloc, name, count),
+            Ticks(count) => ticks(alloc, count),
+            Requests(count, settling) => requests(alloc, name, count, settling),
+            Moves(pairs) => moves(alloc, name, pairs),
+            Restarts(count) => restarts(alloc, name, count),
+        }
+    }
+
+    /// How many lines a row's time is divided by.
+    fn lines(self) -> u32 {
+        match self {
+            Comments(count) | Ticks(count) | Requests(count, _) => count,
+            Moves(0) => 1,
+            Moves(_) => 16,
+            Restarts(count) => count as u32,
+        }
+    }
+
+    /// The script, where it ends well.
+    fn work(self, alloc: Global, name: &str) -> Result<Running, Fault> {
+        let work = Running {
+            alloc,
+            script: self.script(alloc, name)?,
+            lines: self.lines(),
+        };
+        if work.ends_well()? {
+            Ok(work)
+        } else {
+            Err(Fault::Refused)
+        }
+    }
 }
 
-/// Adds the rows of requests.
-fn add_requests<C: Clock>(
-    table: &mut Table<'_, C>,
-    name: &str,
-    settling: Settling,
-) -> Result<(), Fault> {
-    let alloc = table.alloc();
-    for count in [1000, 4000, 8000, 16000] {
-        let how = settling.name();
-        let row = format!(in alloc; "script, a request of {count}, {how}")?;
-        let script = requests(alloc, name, count, settling)?;
-        add_row(table, row.as_str(), script, count)?;
-    }
-    Ok(())
-}
-
-/// Adds the rows of daemons that go, come and restart.
-fn add_moves<C: Clock>(table: &mut Table<'_, C>, name: &str) -> Result<(), Fault> {
-    let alloc = table.alloc();
-    let row = "script, 32 pools of 64 groups, the whole";
-    add_row(table, row, moves(alloc, name, 0)?, 1)?;
-    let row = "script, the same and 16 moves, a sixteenth";
-    add_row(table, row, moves(alloc, name, 8)?, 16)?;
-    let row = "script, a restart of 1023";
-    add_row(table, row, restarts(alloc, name, 1023)?, 1023)
+/// Adds the row of a script.
+fn add_row<C: Clock>(table: &mut Table<'_, C>, kind: Kind, name: &str) -> Result<(), Fault> {
+    let work = kind.work(table.alloc(), name)?;
+    let row = kind.name(table.alloc())?;
+    Ok(table.row(row.as_str(), &work)?)
 }
 
 /// Adds the rows of scripts, over a given name.
 pub(crate) fn add_scripts<C: Clock>(table: &mut Table<'_, C>, name: &str) -> Result<(), Fault> {
-    add_lines(table, name)?;
-    add_requests(table, name, Settling::Once)?;
-    add_requests(table, name, Settling::Hundreds)?;
-    add_moves(table, name)
+    for kind in SCRIPTS {
+        add_row(table, kind, name)?;
+    }
+    Ok(())
 }

@@ -1,6 +1,6 @@
 //! The scripts that are measured.
 
-use cap_text::OutOfMemory;
+use common_types::OutOfMemory;
 use std::alloc::Global;
 use std::fmt::Write;
 

@@ -3,12 +3,11 @@
 ghost use Rattle.std.specs.Prelude.{length};
 
 use crate::fault::Fault;
-use crate::measure::Work;
-use crate::table::Table;
-use cap_text::{Name, OutOfMemory};
+use common_types::{Name, OutOfMemory};
 use object_core::{Attributes, Bytes, Object, Op, Outcome, run_vector};
 use std::alloc::Global;
 use std::time::Clock;
+use stopwatch::{Table, Work};
 
 /// A vector on an object, which is run and its outcome let go.
 #[derive(Drop)]

@@ -4,11 +4,10 @@ ghost use Rattle.std.specs.Prelude.{◌<◌, ◌≤◌};
 
 use crate::fault::Fault;
 use crate::grants::{FIRST, indexed, push_grant, ticket_of};
-use crate::measure::Work;
-use crate::table::Table;
-use cap_text::{AppTags, Name, OutOfMemory, Pairs, Tags};
+use common_types::{AppTags, Name, OutOfMemory, Pairs, Tags};
 use std::alloc::Global;
 use std::time::Clock;
+use stopwatch::{Table, Work};
 use verdict_core::{Calls, ClassCall, IndexedTicket, Needs, Target, Ticket, judge, report};
 
 /// A number that no grant has.
@@ -319,7 +318,7 @@ impl Rows {
     {
         let by = self.shape.name();
         let row = format!(in table.alloc(); "{call}, {by}, {which} {}", self.grants)?;
-        table.row(row.as_str(), work)
+        Ok(table.row(row.as_str(), work)?)
     }
 
     /// Adds the rows of verdicts.

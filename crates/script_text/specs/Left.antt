@@ -1,4 +1,4 @@
--- Statement: contracts of public calls use it.
+-- Refinement: only contracts inside the crate use it.
 -- The words that are left of a text that can be cut into words.
 use Rattle.std.specs.Prelude.{ℕ, List, []}
 use Rattle.std.specs.Option.{unwrap_or}

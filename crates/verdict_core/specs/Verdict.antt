@@ -14,7 +14,7 @@ use Rattle.cap_text.specs.declared.grant.NsMatch.TheVariants.{Exact, Prefix}
 use Rattle.cap_text.specs.declared.grant.Part.{Part}
 use Rattle.cap_text.specs.declared.grant.Part.TheVariants.{Any, Is}
 use Rattle.cap_text.specs.declared.grant.Tag.{Tag}
-use Rattle.cap_text.specs.declared.tags.AppTags.{AppTags}
+use Rattle.common_types.specs.declared.tags.AppTags.{AppTags}
 use Rattle.verdict_core.specs.declared.request.Needs.{Needs}
 use Rattle.verdict_core.specs.declared.request.ClassCall.{ClassCall}
 use Rattle.verdict_core.specs.declared.request.Condition.{Condition}

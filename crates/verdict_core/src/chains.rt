@@ -9,7 +9,8 @@ ghost use Rattle.verdict_core.specs.Verdict.{grants_allow, is_covered};
 use crate::judging;
 use crate::matching::{allows, is_usable};
 use crate::request::{ClassCall, Needs, Target};
-use cap_text::{Access, AllowGrant, Name, OutOfMemory};
+use cap_text::{Access, AllowGrant};
+use common_types::{Name, OutOfMemory};
 use grant_core::Path;
 use std::alloc::Global;
 

@@ -8,7 +8,8 @@ ghost use Rattle.verdict_core.specs.Verdict as spec;
 
 use crate::request::{ClassCall, Condition, Needs, Target};
 use crate::texts::{begins_with, begins_with_at_once, is_name_at_once, is_text, is_text_at_once};
-use cap_text::{Access, AllowGrant, AppTags, Name, NsMatch, Pairs, Part, Tag, Tags};
+use cap_text::{Access, AllowGrant, NsMatch, Part, Tag};
+use common_types::{AppTags, Name, Pairs, Tags};
 
 /// No name, or this one.
 #[inline(always)]

@@ -7,7 +7,7 @@ ghost use Rattle.verdict_core.specs.Verdict.{is_allowed, report_of};
 use crate::matching::first_failure;
 use crate::request::{Condition, Needs, Target};
 use crate::ticket::{Report, Ticket};
-use cap_text::OutOfMemory;
+use common_types::OutOfMemory;
 use grant_core::Path;
 use std::alloc::Global;
 

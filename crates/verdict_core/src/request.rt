@@ -3,7 +3,7 @@
 ghost use Rattle.std.specs.Prelude.{Some};
 ghost use Rattle.verdict_core.specs.Text.{condition_text};
 
-use cap_text::{Items, Name, OutOfMemory, Tags, TryCopy};
+use common_types::{Items, Name, OutOfMemory, Tags, TryCopy};
 use std::fmt;
 use std::marker::Model;
 

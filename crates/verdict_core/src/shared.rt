@@ -4,7 +4,7 @@ ghost use Rattle.std.specs.Prelude.{◌≡◌, IfOk};
 
 use crate::indexed::IndexedTicket;
 use crate::ticket::Ticket;
-use cap_text::OutOfMemory;
+use common_types::OutOfMemory;
 use std::marker::Model;
 use std::sync::Arc;
 

@@ -5,7 +5,7 @@ ghost use Rattle.std.specs.List.{starts_with};
 ghost use Rattle.std.specs.Option.{ForSome};
 ghost use Rattle.std.specs.Str.{bytes_eq};
 
-use cap_text::Name;
+use common_types::Name;
 
 /// Whether two texts of N bytes are the same: a comparison of words, since their length is known to the compiler.
 #[inline(always)]

@@ -2,11 +2,11 @@
 
 ghost use Rattle.std.specs.Prelude.{◌≤◌, All, IfOk, IfSome};
 ghost use Rattle.cluster.specs.Asks.{IsBegun, IsPassOf};
-ghost use Rattle.cluster.specs.Monitors.{IsMonitorOf, Follows};
+ghost use Rattle.cluster.specs.Monitors.{IsMonitorOf, FollowsStart};
 
 use auth_db::Caps;
-use cap_text::Name;
 use cluster::{Asked, Asking, Cluster, ClusterFault, Monitor, Pass, PoolSpec, UserSpec, start};
+use common_types::Name;
 use entry_core::Reply;
 use grant_core::ProfileTable;
 use group_core::GroupFault;
@@ -43,7 +43,7 @@ pub(crate) fn begun<R: Wait>(
 ) -> Result<(Cluster, Monitor, Vec<Pass>), Fail>
     requires { 1 ≤ passes }
     ensures begun { IfOk result (λ r. IsBegun r.0 × All (IsPassOf r.0) r.2.items) }
-    ensures monitor { IfOk result (λ r. IsMonitorOf r.0 r.1 × Follows r.0.start r.1) }
+    ensures monitor { IfOk result (λ r. IsMonitorOf r.0 r.1 × FollowsStart r.0 r.1) }
 {
     let pool = PoolSpec {
         name: Name::new(alloc, "data")?,

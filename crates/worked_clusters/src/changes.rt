@@ -5,8 +5,8 @@ ghost use Rattle.cluster.specs.Asks.{IsPassOf};
 ghost use Rattle.cluster.specs.Monitors.{IsMonitorOf};
 
 use crate::begun::{begun, take_pass};
-use cap_text::Name;
 use cluster::{ChangeFault, Cluster, Monitor, Pass};
+use common_types::Name;
 use map_core::{MapCommand, MapFault};
 use std::alloc::Global;
 use std::sync::Wait;

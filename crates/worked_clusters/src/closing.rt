@@ -2,7 +2,7 @@
 
 ghost use Rattle.std.specs.Prelude.{All};
 ghost use Rattle.cluster.specs.Asks.{IsBegun, IsPassOf};
-ghost use Rattle.cluster.specs.Monitors.{IsMonitorOf, Follows};
+ghost use Rattle.cluster.specs.Monitors.{IsMonitorOf, FollowsStart};
 
 use crate::begun::{begun, put_pass, take_pass};
 use cluster::{CloseFault, Cluster, Monitor, Pass};
@@ -20,7 +20,7 @@ fn close_whole<R: Wait>(
     passes: Vec<Pass>,
 ) -> Option<World>
     requires begun { IsBegun cluster }
-    requires monitor { IsMonitorOf cluster monitor × Follows cluster.start monitor }
+    requires monitor { IsMonitorOf cluster monitor × FollowsStart cluster monitor }
     requires passes { All (IsPassOf cluster) passes.items }
 {
     match cluster.close(rt, alloc, monitor, passes) {
@@ -41,7 +41,7 @@ fn close_late<R: Wait>(
     mut passes: Vec<Pass>,
 ) -> Option<World>
     requires begun { IsBegun cluster }
-    requires monitor { IsMonitorOf cluster monitor × Follows cluster.start monitor }
+    requires monitor { IsMonitorOf cluster monitor × FollowsStart cluster monitor }
     requires passes { All (IsPassOf cluster) passes.items }
 {
     let Some(last) = take_pass(&cluster, &mut passes) else {

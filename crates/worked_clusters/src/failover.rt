@@ -6,8 +6,8 @@ ghost use Rattle.cluster.specs.Monitors.{IsMonitorOf};
 
 use crate::begun::{Wish, answered, begun, is_output, submit, take_pass};
 use auth_db::{AuthFault, Caps};
-use cap_text::Name;
 use cluster::{Asked, ChangeFault, Cluster, ClusterFault, Monitor, Pass};
+use common_types::Name;
 use entry_core::Reply;
 use map_core::MapCommand;
 use std::alloc::Global;

@@ -4,8 +4,8 @@ ghost use Rattle.std.specs.Prelude.{All};
 ghost use Rattle.cluster.specs.Asks.{IsPassOf};
 
 use crate::begun::{Wish, begun, is_output, put_pass, submit, take_pass};
-use cap_text::Name;
 use cluster::{Asked, Cluster, ClusterFault, Gate, Pass, run_workers};
+use common_types::Name;
 use std::alloc::Global;
 use std::sync::Wait;
 use std::sync::atomic::{AtomicU64, Ordering};

@@ -5,8 +5,8 @@ ghost use Rattle.cluster.specs.Asks.{IsPassOf};
 ghost use Rattle.cluster.specs.Passes.{AreSeatsOf, group_count};
 
 use crate::begun::{begun, take_pass};
-use cap_text::Name;
 use cluster::{Cluster, ClusterFault, LockedGroup, Pass, Seats, Worked};
+use common_types::Name;
 use entry_core::GroupId;
 use std::alloc::Global;
 use std::sync::Wait;
@@ -122,7 +122,7 @@ fn both<R: Threads + Wait + Sync>(
     requires groups { 0 < group_count cluster.now }
 {
     let mut passes = passes;
-    let Some(mut holder) = take_pass(cluster, &mut passes) else {
+    let Some(holder) = take_pass(cluster, &mut passes) else {
         return false;
     };
     let Some(mut looker) = take_pass(cluster, &mut passes) else {
@@ -134,12 +134,13 @@ fn both<R: Threads + Wait + Sync>(
     let Ok(session) = cluster.open(rt, &mut looker, name, None) else {
         return false;
     };
+    let mut seats = holder.into_seats();
     let progress = Progress {
         stage: AtomicU64::new(0),
     };
     let (held, looked) = join_mut(
         rt,
-        &mut || hold_group(rt, cluster, &mut holder.seats, &progress),
+        &mut || hold_group(rt, cluster, &mut seats, &progress),
         &mut || look_meanwhile(rt, alloc, cluster, &mut looker, session, &progress),
     );
     held && looked

@@ -4,8 +4,8 @@ ghost use Rattle.std.specs.Prelude.{All};
 ghost use Rattle.cluster.specs.Asks.{IsPassOf};
 
 use crate::begun::{answered, asking, begun, take_pass};
-use cap_text::Name;
 use cluster::{Asked, Cluster, ClusterFault, Pass};
+use common_types::Name;
 use entry_core::Reply;
 use std::alloc::Global;
 use std::sync::Wait;

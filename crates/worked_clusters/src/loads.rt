@@ -1,31 +1,11 @@
-//! Workers on threads.
+//! Workers on threads. `sessions/command_line/workers.console` shows what became of their requests.
 
 use entry_core::{Entry, Reply};
 use std::alloc::Global;
+use std::sync::Wait;
 use std::test::Fail;
-use workload::{Tally, run_workload, world_of_workload};
-
-// Whether these are the counts.
-fn has_counts(tally: &Tally, requests: u32, denied: u32, counter: &str) -> bool {
-    tally.requests == requests
-        && tally.answered == requests
-        && tally.denied == denied
-        && tally.counter.as_slice() == counter.as_bytes()
-}
-
-#[test]
-fn four_workers_count_to_two_hundred(rt: HostRuntime) -> Result<(), Fail> {
-    let tally = run_workload(&rt, rt.alloc(), 4, false).map_err(|_| "a workload that fails")?;
-    assert!(&rt; has_counts(&tally, 240, 40, "200") && tally.moves == None);
-    Ok(())
-}
-
-#[test]
-fn workers_count_while_groups_move(rt: HostRuntime) -> Result<(), Fail> {
-    let tally = run_workload(&rt, rt.alloc(), 4, true).map_err(|_| "a workload that fails")?;
-    assert!(&rt; has_counts(&tally, 240, 40, "200") && tally.moves == Some(40));
-    Ok(())
-}
+use std::thread::Threads;
+use workload::world_of_workload;
 
 // The number that an addition gave.
 fn sum_of(entry: &Entry) -> Option<u32> {
@@ -53,10 +33,7 @@ fn count_up_to(entries: &[Entry], last: u32) -> bool {
 }
 
 // Whether four workers, while groups move, leave a list of additions that counts to 200.
-fn counts<R: std::thread::Threads + std::sync::Wait + Sync>(
-    rt: &R,
-    alloc: Global,
-) -> Result<bool, Fail> {
+fn counts<R: Threads + Wait + Sync>(rt: &R, alloc: Global) -> Result<bool, Fail> {
     let (world, _moves) = world_of_workload(rt, alloc, 4, true).map_err(
         |_| "a workload that fails",
     )?;

@@ -4,8 +4,8 @@ ghost use Rattle.std.specs.Prelude.{All};
 ghost use Rattle.cluster.specs.Asks.{IsPassOf};
 
 use crate::begun::{Wish, begun, is_output, reply_to, take_pass};
-use cap_text::Name;
 use cluster::{Cluster, ClusterFault, Pass};
+use common_types::Name;
 use std::alloc::Global;
 use std::sync::Wait;
 use std::test::Fail;

@@ -1,14 +1,16 @@
 //! Random pairs of texts, compared with all requests over small alphabets.
 
 use crate::tickets::ticket;
-use cap_text::{AllowGrant, AppTags, Name, Pairs, Tags, TryCopy};
-use compare_core::widening;
+use cap_text::AllowGrant;
+use common_types::{AppTags, Name, Pairs, Tags, TryCopy};
+use compare_core::{Registry, widening_by};
 use grant_core::Path;
 use object_core::registry;
 use std::alloc::Global;
 use std::fmt::Write;
+use std::process::Abort;
 use std::test::Fail;
-use verdict_core::{Calls, Needs, Target, Ticket, grants_allow};
+use verdict_core::{Calls, ClassCall, Needs, Target, Ticket, grants_allow};
 
 const ACCESSES: &[&str] = &[
     "r",
@@ -116,15 +118,64 @@ fn some_calls(alloc: Global, bits: u8) -> Result<Calls, Fail> {
     Ok(Calls::from_vec(calls))
 }
 
-/// All reads and writes, with each set of the registry's three calls.
-fn all_needs(alloc: Global) -> Result<Vec<Needs>, Fail> {
+/// Each set of the own registry's three calls.
+fn own_sets(alloc: Global) -> Result<Vec<Calls>, Fail> {
+    let mut sets = Vec::new(alloc);
+    for bits in 0..8u8 {
+        sets.push(some_calls(alloc, bits)?)?;
+    }
+    Ok(sets)
+}
+
+/// A call of these names, whose method reads and writes and whose class is listed as the bits say.
+fn call_of(alloc: Global, (class, method): (&str, &str), bits: u8) -> Result<ClassCall, Fail> {
+    Ok(ClassCall {
+        class: Name::new(alloc, class)?,
+        method: Name::new(alloc, method)?,
+        class_reads: bits & 1 != 0,
+        class_writes: bits & 2 != 0,
+        listed: bits & 4 != 0,
+    })
+}
+
+/// Classes and methods of the texts, and those that no text has.
+const CALL_NAMES: &[(&str, &str)] = &[
+    ("counter", "get"),
+    ("counter", "z"),
+    ("vault", "z"),
+    ("z", "z"),
+];
+
+/// No call; of each of these names one that reads off the default list, and those on it that read, write or both; and one
+/// that reads with one of the names before that writes.
+fn every_sets(alloc: Global) -> Result<Vec<Calls>, Fail> {
+    let mut sets = Vec::new(alloc);
+    sets.push(Calls::from_vec(Vec::new(alloc)))?;
+    let mut before = ("z", "z");
+    for names in CALL_NAMES {
+        for bits in [1u8, 5, 6, 7] {
+            sets.push(Calls::from_vec(vec![in alloc; call_of(alloc, *names, bits)?]?))?;
+        }
+        let two = vec![in alloc; call_of(alloc, *names, 5)?, call_of(alloc, before, 6)?]?;
+        sets.push(Calls::from_vec(two))?;
+        before = *names;
+    }
+    Ok(sets)
+}
+
+/// All reads and writes, with each set of calls over a registry.
+fn all_needs(alloc: Global, registry: Registry) -> Result<Vec<Needs>, Fail> {
     let mut all = Vec::new(alloc);
     for (reads, writes) in [(false, false), (true, false), (false, true), (true, true)] {
-        for bits in 0..8u8 {
+        let sets = match registry {
+            Registry::Own => own_sets(alloc)?,
+            Registry::Every => every_sets(alloc)?,
+        };
+        for calls in sets {
             all.push(Needs {
                 reads,
                 writes,
-                calls: some_calls(alloc, bits)?,
+                calls,
             })?;
         }
     }
@@ -137,8 +188,13 @@ fn shows_at(
     target: &Target<'_>,
     needs: &[Needs],
 ) -> bool {
-    needs.iter().any(|needs| grants_allow(new, target, needs)
-        && !grants_allow(old.grants(), target, needs))
+    // (the first needs ask nothing, and tell whether the new grants match)
+    let matches = needs
+        .first()
+        .is_some_and(|nothing| grants_allow(new, target, nothing));
+    matches
+        && needs.iter().any(|needs| grants_allow(new, target, needs)
+            && !grants_allow(old.grants(), target, needs))
 }
 
 /// Whether some request over the alphabets is allowed by the new grants and denied by the old one.
@@ -164,40 +220,63 @@ fn gains(old: &Ticket, new: &[(Path, AllowGrant)], tags: &[Tags], needs: &[Needs
 }
 
 /// The paths of the new text's grants that by themselves show something over the alphabets.
-fn found_by_looking(alloc: Global, old: &Ticket, new: &Ticket) -> Result<String, Fail> {
+fn found_by_looking(
+    alloc: Global,
+    needs: &[Needs],
+    old: &Ticket,
+    new: &Ticket,
+) -> Result<String, Fail> {
     let tags = all_tags(alloc)?;
-    let needs = all_needs(alloc)?;
     let mut paths = String::new(alloc);
     for entry in new.grants() {
         let one = vec![in alloc; (entry.0.copy()?, entry.1.copy()?)]?;
-        if gains(old, one.as_slice(), &tags, &needs) {
+        if gains(old, one.as_slice(), &tags, needs) {
             write!(paths, "{} ", entry.0)?;
         }
     }
     Ok(paths)
 }
 
-fn found_by_widening(alloc: Global, old: &str, new: &Ticket) -> Result<String, Fail> {
+fn found_by_widening(
+    alloc: Global,
+    registry: Registry,
+    old: &str,
+    new: &Ticket,
+) -> Result<String, Fail> {
     let old = ticket(alloc, old, None)?;
     let mut paths = String::new(alloc);
-    for example in &widening(alloc, &old, new)? {
+    for example in &widening_by(alloc, registry, &old, new)? {
         write!(paths, "{} ", example.path)?;
     }
     Ok(paths)
 }
 
-#[test]
-fn widening_finds_what_looking_finds(rt: HostRuntime) -> Result<(), Fail> {
-    let alloc = rt.alloc();
+fn expect_the_same(
+    rt: &impl Abort,
+    alloc: Global,
+    registry: Registry,
+    pairs: u32,
+) -> Result<(), Fail> {
+    let needs = all_needs(alloc, registry)?;
     let mut row = 20u64;
-    for _ in 0..60 {
+    for _ in 0..pairs {
         let old_text = draw_text(alloc, &mut row)?;
         let new_text = draw_text(alloc, &mut row)?;
         let old = ticket(alloc, old_text.as_str(), None)?;
         let new = ticket(alloc, new_text.as_str(), None)?;
-        let looked = found_by_looking(alloc, &old, &new)?;
-        let found = found_by_widening(alloc, old_text.as_str(), &new)?;
+        let looked = found_by_looking(alloc, &needs, &old, &new)?;
+        let found = found_by_widening(alloc, registry, old_text.as_str(), &new)?;
         assert_eq!(rt; found.as_str(), looked.as_str(), "{old_text} to {new_text}");
     }
     Ok(())
+}
+
+#[test]
+fn widening_finds_what_looking_finds(rt: HostRuntime) -> Result<(), Fail> {
+    expect_the_same(&rt, rt.alloc(), Registry::Every, 20)
+}
+
+#[test]
+fn own_widening_finds_what_looking_finds(rt: HostRuntime) -> Result<(), Fail> {
+    expect_the_same(&rt, rt.alloc(), Registry::Own, 60)
 }

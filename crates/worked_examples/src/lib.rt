@@ -4,9 +4,9 @@
 #![tactic(auto)]
 
 #[cfg(test)]
-mod capability_texts;
+mod calls_by_words;
 #[cfg(test)]
-mod comparisons;
+mod capability_texts;
 #[cfg(test)]
 mod comparisons_by_force;
 #[cfg(test)]

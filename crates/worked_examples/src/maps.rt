@@ -1,4 +1,4 @@
-use cap_text::Name;
+use common_types::Name;
 use map_core::{ClusterMap, Epoch, MapCommand, MapFault, OutOfMemory};
 use place_core::ActingSet;
 use std::alloc::Global;

@@ -1,6 +1,6 @@
 //! Vectors of operations at worked examples.
 
-use cap_text::{Name, OutOfMemory, TryCopy};
+use common_types::{Name, OutOfMemory, TryCopy};
 use object_core::{
     Attributes, Bytes, Change, NeedsFault, Object, Op, Outcome, Outputs, needs_of, run_vector,
 };

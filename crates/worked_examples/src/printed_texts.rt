@@ -1,4 +1,130 @@
-mod answers;
-mod changes;
-mod entities;
-mod explanations;
+//! What is printed, once by each call. `sessions/` shows the texts.
+
+use common_types::{OutOfMemory, Tags};
+use compare_core::Registry;
+use gate_text::{
+    Asked, Comparison, Entity, Printed, Times, compare_entities, compare_text, explain_text, find,
+    point_at_fault, verdict_text, who_text,
+};
+use std::alloc::Global;
+use std::test::Fail;
+use verdict_core::Target;
+
+/// A text that may read and write a pool.
+const CAPS: &str = "allow rw pool=data";
+
+/// Over every class registry, where a gain fails.
+const CHECKED: Comparison = Comparison {
+    registry: Registry::Every,
+    check: true,
+};
+
+/// A write to the object x of a pool.
+fn write<'a>(pool: &'a str, tags: &'a Tags, times: Times) -> Asked<'a> {
+    Asked {
+        target: Target {
+            pool,
+            tags,
+            namespace: "",
+            object: "x",
+        },
+        reads: false,
+        writes: true,
+        calls: &[],
+        stated: &[],
+        times,
+    }
+}
+
+/// What a verdict on a write to this pool prints, where a ticket ends at the tick 10.
+fn verdict(alloc: Global, pool: &str, tick: u64) -> Result<String, OutOfMemory> {
+    let tags = Tags::from_vec(Vec::new(alloc));
+    let times = Times {
+        until: Some(10),
+        tick,
+    };
+    verdict_text(alloc, CAPS, &write(pool, &tags, times))
+}
+
+#[test]
+fn verdicts_print(rt: HostRuntime) -> Result<(), Fail> {
+    let alloc = rt.alloc();
+    assert_eq!(rt; verdict(alloc, "data", 9)?.as_str(), "allow\n");
+    assert_eq!(rt; verdict(alloc, "logs", 9)?.as_str(), "deny\n1 pool\n");
+    assert_eq!(rt; verdict(alloc, "data", 10)?.as_str(), "deny\n1 expired\n");
+    Ok(())
+}
+
+/// Whether this was printed, by a command that fails or does not.
+fn is_printed(printed: Printed, text: &str, fails: bool) -> bool {
+    printed.text.as_str() == text && printed.fails == fails
+}
+
+/// Whether what points at the fault of a text is this.
+fn is_pointed_at(alloc: Global, caps: &str, below: &str) -> bool {
+    let mut pointed: Vec<u8> = Vec::new(alloc);
+    point_at_fault(alloc, caps, &mut pointed);
+    pointed.as_slice() == below.as_bytes()
+}
+
+#[test]
+fn texts_print(rt: HostRuntime) -> Result<(), Fail> {
+    let alloc = rt.alloc();
+    let explained = explain_text(alloc, CAPS)?;
+    assert!(rt;
+        is_printed(
+            explained,
+            "allow rw pool=data\n1 allow rw pool=data\n",
+            false
+        )
+    );
+    let compared = compare_text(
+        alloc,
+        CAPS,
+        "allow rw pool=data, allow r pool=data",
+        CHECKED,
+    )?;
+    assert!(rt; is_printed(compared, "same\n", false));
+    assert!(rt; is_pointed_at(alloc, "deny r", "deny r\n^\n"));
+    Ok(())
+}
+
+/// One entity, of this name.
+fn one(alloc: Global, name: &str) -> Result<Vec<Entity>, OutOfMemory> {
+    let mut entities = Vec::new(alloc);
+    entities.push(Entity {
+        name: String::from_str(alloc, name)?,
+        osd: String::from_str(alloc, CAPS)?,
+    })?;
+    Ok(entities)
+}
+
+/// Who of one entity may write to the pool data.
+fn who(alloc: Global, entities: &[Entity]) -> Result<Printed, OutOfMemory> {
+    let tags = Tags::from_vec(Vec::new(alloc));
+    let times = Times {
+        until: None,
+        tick: 0,
+    };
+    who_text(alloc, entities, &write("data", &tags, times), true)
+}
+
+/// Whether an entity of this name and text is found.
+fn is_found(entities: &[Entity], name: &str) -> bool {
+    match find(entities, name) {
+        Some(entity) => entity.osd.as_str() == CAPS,
+        None => false,
+    }
+}
+
+#[test]
+fn entities_print(rt: HostRuntime) -> Result<(), Fail> {
+    let alloc = rt.alloc();
+    let app = one(alloc, "client.app")?;
+    assert!(rt; is_printed(who(alloc, app.as_slice())?, "client.app allow\n", false));
+    let none = compare_entities(alloc, app.as_slice(), app.as_slice(), CHECKED)?;
+    assert!(rt; is_printed(none, "", false));
+    assert!(rt; is_found(app.as_slice(), "client.app"));
+    assert!(rt; !is_found(app.as_slice(), "client"));
+    Ok(())
+}

@@ -1,6 +1,7 @@
 //! Worked examples.
 
-use cap_text::{Access, AllowGrant, CapList, NsMatch, OutOfMemory, parse};
+use cap_text::{Access, AllowGrant, CapList, NsMatch, parse};
+use common_types::OutOfMemory;
 use grant_core::{ExpandFault, GrantTree, Path, ProfileTable, expand};
 use std::alloc::Global;
 use std::fmt::Write;

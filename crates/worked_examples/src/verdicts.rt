@@ -1,5 +1,5 @@
 use crate::tickets::ticket;
-use cap_text::{AppTags, Name, OutOfMemory, Pairs, Tags};
+use common_types::{AppTags, Name, OutOfMemory, Pairs, Tags};
 use std::alloc::Global;
 use std::fmt::Write;
 use std::process::Abort;

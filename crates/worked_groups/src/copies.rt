@@ -1,4 +1,4 @@
-use cap_text::{Name, Tags};
+use common_types::{Name, Tags};
 use entry_core::{BoxedLog, Id, Items, OutOfMemory, Sealed, TryCopy};
 use map_core::PoolView;
 use peer_core::{Body, Daemon, IntervalSets, Message, Party, Role, Sent};

@@ -10,4 +10,6 @@ mod groups;
 #[cfg(test)]
 mod logs;
 #[cfg(test)]
+mod operations;
+#[cfg(test)]
 mod tickets;

@@ -2,7 +2,7 @@
 
 use super::words::{not_understood, number_of, three_of, words_of};
 use auth_db::Caps;
-use cap_text::Name;
+use common_types::Name;
 use entry_core::{GroupId, OutOfMemory};
 use map_core::MapCommand;
 use object_core::{Bytes, Op};
@@ -25,7 +25,6 @@ fn with_caps(word: &str, name: Name, caps: Caps) -> Result<AuthCommand, Fail> {
     match word {
         "add" => Ok(AuthCommand::Add { name, caps }),
         "make" => Ok(AuthCommand::GetOrCreate { name, caps }),
-        "caps" => Ok(AuthCommand::SetCaps { name, caps }),
         _ => Err(Fail::new("no command on a user")),
     }
 }
@@ -111,26 +110,17 @@ fn on_daemon(words: &[&str]) -> Result<MapCommand, Fail> {
     }
 }
 
-// The tick at which a ticket ends, where it does.
-fn until(words: &[&str]) -> Result<Option<u64>, Fail> {
-    match words {
-        [] => Ok(None),
-        ["until", tick] => Ok(Some(u64::from(number_of(*tick)?))),
-        _ => Err(not_understood(words)),
-    }
-}
-
-fn open(alloc: Global, name: &str, when: &[&str]) -> Result<Event, Fail> {
+fn open(alloc: Global, name: &str) -> Result<Event, OutOfMemory> {
     Ok(Event::Open {
-        until: until(when)?,
+        until: None,
         entity: Name::new(alloc, name)?,
     })
 }
 
-fn renew(session: &str, when: &[&str]) -> Result<Event, Fail> {
+fn renew(session: &str) -> Result<Event, Fail> {
     Ok(Event::Renew {
         session: number_of(session)?,
-        until: until(when)?,
+        until: None,
     })
 }
 
@@ -168,7 +158,6 @@ fn op(alloc: Global, work: &[&str]) -> Result<Op, Fail> {
             offset: 0,
             length: 0,
         }),
-        ["remove"] => Ok(Op::Remove),
         ["add"] => Ok(call(alloc, "add", "1")?),
         ["unknown_method"] => Ok(call(alloc, "drop", "")?),
         ["stat"] | ["nothing"] | ["seventeen"] => Ok(Op::Stat),
@@ -240,8 +229,8 @@ fn of_group(alloc: Global, words: &[&str]) -> Result<Event, Fail> {
 // What a session does, or what happens to a group's messages.
 fn of_session(alloc: Global, words: &[&str]) -> Result<Event, Fail> {
     match words {
-        ["open", name, when @ ..] => open(alloc, *name, when),
-        ["renew", session, when @ ..] => renew(*session, when),
+        ["open", name] => Ok(open(alloc, *name)?),
+        ["renew", session] => renew(*session),
         ["close", session] => Ok(Event::Close {
             session: number_of(*session)?,
         }),

@@ -1,7 +1,7 @@
-//! A group moves while a tag and a user go: as a list of events, and one after another.
+//! A group moves while a tag and a user go, as a list of events. `sessions/answers` shows them one after another.
 
 use super::events::read_event;
-use super::lines::{expect, expect_on};
+use super::lines::expect_on;
 use super::telling::number;
 use super::words::is_number;
 use grant_core::ProfileTable;
@@ -119,31 +119,4 @@ fn a_list_stops_at_the_first_refusal(rt: HostRuntime) -> Result<(), Fail> {
     let is_made = made(rt.alloc(), &[])?.is_ok();
     assert!(&rt; is_made);
     Ok(())
-}
-
-// The same one after another, with what each tells.
-pub(super) const TOLD: &str = "\
-at 1
-pool data 1 3 2 -> epoch 2
-auth add client.a 'allow rwx tag app k=v' -> done
-app enable app -> epoch 3
-app set app k v -> epoch 4
-open client.a -> session 1
-submit 1 4 0 data '' x add -> request 1.1
-osd down 0 -> epoch 5
-app unset app k -> epoch 6
-auth delete client.a -> done
-wire 0 7
-settle 0 12
-audit 1.1
-decided 1.1 output 1
-renew 1 -> refused A3
-submit 1 6 0 data '' x add -> request 1.2
-wire 0 1
-settle 0 4
-";
-
-#[test]
-fn one_event_after_another(rt: HostRuntime) -> Result<(), Fail> {
-    expect(rt.alloc(), 3, &[(TOLD, 18), (SEEN, 5)])
 }

@@ -51,32 +51,3 @@ group data 0 3 yes
 fn questions_are_refused_in_order(rt: HostRuntime) -> Result<(), Fail> {
     expect(rt.alloc(), 3, &[(BEGUN, 3), (QUESTIONS, 6)])
 }
-
-// A pool of one group of all three daemons, settled, with a request on its way.
-const ASKED: &str = "\
-pool data 1 3 2 -> epoch 2
-auth add client.a 'allow rw' -> done
-open client.a -> session 1
-settle 0 11
-submit 1 2 0 data '' x append a -> request 1.1
-wire 0 1
-";
-
-// A message to a daemon that is down is dropped, and nothing else happens.
-const DROPPED: &str = "\
-osd down 2 -> epoch 3
-wire 0 4
-deliver data 0 0 -> done
-wire 0 5
-deliver data 0 4 -> refused P2
-wire 0 4
-audit
-ready 0 yes
-settle 0 10
-decided 1.1 output ''
-";
-
-#[test]
-fn a_message_to_a_daemon_that_is_down(rt: HostRuntime) -> Result<(), Fail> {
-    expect(rt.alloc(), 3, &[(ASKED, 6), (DROPPED, 10)])
-}

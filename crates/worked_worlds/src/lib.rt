@@ -18,15 +18,9 @@ mod lines;
 #[cfg(test)]
 mod looks;
 #[cfg(test)]
-mod names;
-#[cfg(test)]
 mod refusals;
 #[cfg(test)]
 mod replies;
-#[cfg(test)]
-mod schedules;
-#[cfg(test)]
-mod sessions;
 #[cfg(test)]
 mod telling;
 #[cfg(test)]

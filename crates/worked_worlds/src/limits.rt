@@ -1,32 +1,7 @@
-//! Worlds that are full: of sessions, of intervals, and of requests.
+//! Worlds that are full: of intervals, and of requests. `sessions/limits` shows those full of sessions and of users.
 
 use super::lines::expect;
 use std::test::Fail;
-
-// A user opens as many sessions as a world has.
-const ALL_SESSIONS: &str = "\
-auth add client.a 'allow r' -> done
-times 1023 open client.a
-close 1 -> done
-open client.a -> session 1024
-";
-
-// Closed sessions count. Users are looked for first.
-const NO_MORE_SESSIONS: &str = "\
-open client.a -> refused W6
-close 2 -> done
-open client.a -> refused W6
-open client.b -> refused A3
-open b -> refused A1
-renew 1024 -> done
-auth delete client.a -> done
-open client.a -> refused A3
-";
-
-#[test]
-fn sessions_fill(rt: HostRuntime) -> Result<(), Fail> {
-    expect(rt.alloc(), 1, &[(ALL_SESSIONS, 4), (NO_MORE_SESSIONS, 8)])
-}
 
 // The first daemon is the one member of a group, with one request decided there, and restarts as often as it may.
 const ALL_INTERVALS: &str = "\

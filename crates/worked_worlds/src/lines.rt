@@ -4,11 +4,8 @@
 //! A word that is empty or has blanks stands in single quotes. A line that says nothing fails its test. Groups are those of
 //! the pool `data` where no other is named:
 //!
-//! - `settle G N`: message 0 of a group is delivered, or lost where its daemon is down, until none is left: N were delivered.
-//! - `settle G`: the same, however many were delivered.
-//! - `lose_all G`: every message of a group is lost.
+//! - `settle G N`: message 0 of a group is delivered until none is left: N were delivered.
 //! - `times N EVENT`: an event happens so many times, and is refused none of them.
-//! - `try N EVENT`: an event happens so many times, whatever it tells.
 //! - `wire G N`: how many messages of a group are on their way.
 //! - `ready G yes` or `no`: whether a group can be recovered by hand.
 //! - `group P G N yes`: both of these of a group of this pool, or the refusal in the place of either.
@@ -20,7 +17,7 @@
 ghost use Rattle.std.specs.Prelude.{◌≤◌};
 
 use super::events::{event_of, group_of, read_event};
-use super::looks::{sees, waiting};
+use super::looks::sees;
 use super::telling::is_told;
 use super::words::{is_number, number_of, words_of};
 use grant_core::ProfileTable;
@@ -58,74 +55,29 @@ fn are_accepted(
     Ok(true)
 }
 
-// An event happens so many times, whatever it tells.
-fn try_all(alloc: Global, world: &mut World, words: &[&str], count: u32) -> Result<bool, Fail> {
-    for _ in 0..count {
-        let event = event_of(alloc, words)?;
-        let _ = world.apply(event);
-    }
-    Ok(true)
-}
-
-// Delivers message 0 of a group, and says whether it was delivered, or lost since its daemon is down.
-fn deliver_first(alloc: Global, world: &mut World, group: &str) -> Result<Option<bool>, Fail> {
-    let event = Event::Deliver {
-        group: group_of(alloc, "data", group)?,
-        place: 0,
-    };
-    Ok(match world.apply(event) {
-        Ok(_) => Some(true),
-        Err(WorldFault::Group(GroupFault::Unreachable)) => Some(false),
-        Err(_) => None,
-    })
-}
-
-// Delivers message 0 of a group until none is left, and says how many were delivered. It gives up after 10,000.
-fn settle(alloc: Global, world: &mut World, group: &str) -> Result<Option<u64>, Fail> {
-    let mut delivered = 0u64;
-    for _ in 0..10000 {
-        if waiting(alloc, world, group)? == 0 {
-            return Ok(Some(delivered));
-        }
-        match deliver_first(alloc, world, group)? {
-            Some(true) => delivered = delivered.saturating_add(1),
-            Some(false) => {}
-            None => return Ok(None),
-        }
-    }
-    Ok(None)
-}
-
-// Whether so many messages were delivered.
+// Whether so many messages 0 of a group can be delivered, and then none is left.
 fn settles(alloc: Global, world: &mut World, group: &str, wanted: &str) -> Result<bool, Fail> {
-    match settle(alloc, world, group)? {
-        Some(delivered) => Ok(is_number(delivered, wanted)),
-        None => Ok(false),
-    }
-}
-
-// Loses every message of a group, and says that it did.
-fn lose_all(alloc: Global, world: &mut World, group: &str) -> Result<bool, Fail> {
-    for _ in 0..waiting(alloc, world, group)? {
-        let event = Event::Lose {
+    for delivered in 0..10000u64 {
+        let event = Event::Deliver {
             group: group_of(alloc, "data", group)?,
             place: 0,
         };
-        if !matches!(world.apply(event), Ok(Told::Done)) {
-            return Ok(false);
+        match world.apply(event) {
+            Ok(_) => {}
+            Err(WorldFault::Group(GroupFault::NoMessage(0))) => {
+                return Ok(is_number(delivered, wanted));
+            }
+            Err(_) => return Ok(false),
         }
     }
-    Ok(waiting(alloc, world, group)? == 0)
+    Ok(false)
 }
 
 // Whether many events happen as these words say, or a world looks so.
 fn happens(alloc: Global, world: &mut World, words: &[&str]) -> Result<bool, Fail> {
     match words {
-        ["settle", group] => Ok(settle(alloc, world, *group)?.is_some()),
         ["settle", group, count] => settles(alloc, world, *group, *count),
-        ["lose_all", group] => lose_all(alloc, world, *group),
         ["times", count, event @ ..] => are_accepted(alloc, world, event, number_of(*count)?),
-        ["try", count, event @ ..] => try_all(alloc, world, event, number_of(*count)?),
         _ => sees(alloc, world, words),
     }
 }
@@ -166,7 +118,7 @@ fn begun(alloc: Global, daemons: u8) -> Result<World, Fail>
 }
 
 // A text, and how many lines it has.
-pub(super) type Part<'a> = (&'a str, usize);
+type Part<'a> = (&'a str, usize);
 
 // A world takes all lines of these parts, one after another.
 pub(super) fn expect_on(alloc: Global, world: &mut World, parts: &[Part<'_>]) -> Result<(), Fail> {

@@ -9,15 +9,6 @@ use std::alloc::Global;
 use std::test::Fail;
 use world_core::World;
 
-// How many messages of a group of the pool `data` are on their way, 0 where there is none.
-pub(super) fn waiting(alloc: Global, world: &World, group: &str) -> Result<usize, Fail> {
-    let id = group_of(alloc, "data", group)?;
-    Ok(match world.wire(&id) {
-        Ok(sent) => sent.len(),
-        Err(_) => 0,
-    })
-}
-
 // Whether so many messages of a group are on their way, or the question is refused by this number; true where nothing is wanted.
 fn has_wire(world: &World, id: &GroupId, wanted: Option<&str>) -> bool {
     let Some(wanted) = wanted else {

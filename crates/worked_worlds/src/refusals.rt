@@ -1,4 +1,4 @@
-//! What sessions, users and the map are refused, in the order of the refusals.
+//! What submissions and lists are refused, in the order of the refusals. `sessions/refusals` shows what users and the map are refused.
 
 use super::lines::expect;
 use std::test::Fail;
@@ -79,33 +79,32 @@ fn lists_are_refused_in_order(rt: HostRuntime) -> Result<(), Fail> {
     expect(rt.alloc(), 3, &[(BEGUN, 10), (LISTS, 11), (SEEN, 9)])
 }
 
-const OTHERS: &str = "\
-open client -> refused A1
-open client.b -> refused A3
-renew 0 -> refused W1
-renew 2 -> refused W1
-renew 4 -> refused W1
-close 0 -> refused W1
-close 2 -> refused W1
-close 4 -> refused W1
-auth add client.a 'allow r' -> refused A2
-auth make client.a 'allow r' -> refused A4
-auth make a 'allow r' -> refused A1
-auth caps client.a 'deny r' -> refused A5
-auth caps client.a 'profile osd' -> refused A6
-auth delete client.b -> refused A3
-pool data 65 3 2 -> refused M1
-pool more 65 3 2 -> refused M7
-pool more 1 2 3 -> refused M7
-pool 'mo re' 1 2 3 -> refused M9
-app enable app -> refused M6
-osd down 3 -> refused M5
-osd down 16 -> refused M5
-osd up 2 -> refused M6
-osd restart 255 -> refused M5
+// A pool of one group, and a user who may read.
+const READER: &str = "\
+pool data 1 1 1 -> epoch 2
+auth make client.a 'allow r' -> made
+auth make client.a 'allow r' -> there
+settle 0 1
+";
+
+// Each session's own epochs and ticks do not go back, and a renewal does not set them back.
+const FORWARD: &str = "\
+open client.a -> session 1
+open client.a -> session 2
+osd down 0 -> epoch 3
+osd up 0 -> epoch 4
+submit 1 3 7 data '' x read -> request 1.1
+submit 1 2 7 data '' x read -> refused W4
+submit 1 3 6 data '' x read -> refused W9
+renew 1 -> done
+submit 1 2 7 data '' x read -> refused W4
+submit 1 3 6 data '' x read -> refused W9
+submit 1 4 7 data '' x read -> request 1.2
+submit 1 3 7 data '' x read -> refused W4
+submit 2 2 0 data '' x read -> request 2.1
 ";
 
 #[test]
-fn other_refusals(rt: HostRuntime) -> Result<(), Fail> {
-    expect(rt.alloc(), 3, &[(BEGUN, 10), (OTHERS, 23), (SEEN, 9)])
+fn epochs_and_ticks_go_forward(rt: HostRuntime) -> Result<(), Fail> {
+    expect(rt.alloc(), 1, &[(READER, 4), (FORWARD, 13)])
 }

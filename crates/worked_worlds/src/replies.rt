@@ -1,7 +1,7 @@
 //! Replies, in short.
 
 use super::words::is_number;
-use cap_text::Name;
+use common_types::Name;
 use entry_core::Reply;
 use object_core::Bytes;
 use verdict_core::{Condition, Report};

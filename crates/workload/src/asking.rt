@@ -2,8 +2,8 @@
 
 ghost use Rattle.cluster.specs.Asks.{IsPassOf};
 
-use cap_text::Name;
 use cluster::{Asked, Asking, Cluster, ClusterFault, Pass, Worked};
+use common_types::Name;
 use entry_core::GroupId;
 use group_core::GroupFault;
 use object_core::{Bytes, Op};

@@ -2,6 +2,7 @@
 
 use cluster::{ChangeFault, CloseFault, ClusterFault};
 use std::alloc::{AllocError, AllocFailed};
+use std::error::Error;
 use std::fmt;
 use world_core::WorldFault;
 
@@ -53,3 +54,5 @@ impl fmt::Display for WorkloadFault {
         }
     }
 }
+
+impl Error for WorkloadFault {}

@@ -4,8 +4,8 @@ ghost use Rattle.cluster.specs.Asks.{IsPassOf};
 
 use crate::asking::{OBJECT, POOL, Wish, deliver, submit_one};
 use crate::worker::WRITER;
-use cap_text::Name;
 use cluster::{Cluster, ClusterFault, Pass};
+use common_types::Name;
 use entry_core::Reply;
 use std::alloc::Global;
 use std::sync::Wait;

@@ -2,7 +2,7 @@
 
 ghost use Rattle.std.specs.Prelude.{All};
 ghost use Rattle.cluster.specs.Asks.{IsPassOf};
-ghost use Rattle.cluster.specs.Monitors.{IsMonitorOf, Follows};
+ghost use Rattle.cluster.specs.Monitors.{IsMonitorOf, FollowsStart};
 ghost use Rattle.workload.specs.Workers.{AreWorkersOf};
 
 use crate::fault::WorkloadFault;
@@ -25,7 +25,7 @@ fn work_and_move<R: Threads + Wait + Sync>(
     workers: &mut [Worker],
     load: Load,
 ) -> Result<(), WorkloadFault>
-    requires monitor { IsMonitorOf cluster.now monitor.old × Follows cluster.now.start monitor.old }
+    requires monitor { IsMonitorOf cluster.now monitor.old × FollowsStart cluster.now monitor.old }
     requires workers { AreWorkersOf cluster.now workers.old }
 {
     let ended = AtomicU64::new(0);
@@ -55,7 +55,7 @@ fn work<R: Threads + Wait + Sync>(
     load: Load,
     moves: bool,
 ) -> Result<u64, WorkloadFault>
-    requires monitor { IsMonitorOf cluster.now monitor.old × Follows cluster.now.start monitor.old }
+    requires monitor { IsMonitorOf cluster.now monitor.old × FollowsStart cluster.now monitor.old }
     requires passes { All (IsPassOf cluster.now) passes.items }
 {
     let mut workers = workers_of(alloc, cluster, passes)?;

@@ -1,6 +1,6 @@
 //! Moving the groups meanwhile.
 
-ghost use Rattle.cluster.specs.Monitors.{IsMonitorOf, Follows};
+ghost use Rattle.cluster.specs.Monitors.{IsMonitorOf, FollowsStart};
 
 use cluster::{ChangeFault, Cluster, Monitor};
 use map_core::MapCommand;
@@ -23,8 +23,8 @@ fn change<R: Wait>(
     monitor: &mut Monitor,
     command: MapCommand,
 ) -> Result<(), ChangeFault>
-    requires { IsMonitorOf cluster.now monitor.old × Follows cluster.now.start monitor.old }
-    ensures { IsMonitorOf cluster.now monitor.new × Follows cluster.now.start monitor.new }
+    requires { IsMonitorOf cluster.now monitor.old × FollowsStart cluster.now monitor.old }
+    ensures { IsMonitorOf cluster.now monitor.new × FollowsStart cluster.now monitor.new }
 {
     match monitor.change_map(rt, cluster, command) {
         Ok(_) => Ok(()),
@@ -39,8 +39,8 @@ pub(crate) fn move_often<R: Wait>(
     cluster: &Cluster,
     monitor: &mut Monitor,
 ) -> Result<u32, ChangeFault>
-    requires { IsMonitorOf cluster.now monitor.old × Follows cluster.now.start monitor.old }
-    ensures { IsMonitorOf cluster.now monitor.new × Follows cluster.now.start monitor.new }
+    requires { IsMonitorOf cluster.now monitor.old × FollowsStart cluster.now monitor.old }
+    ensures { IsMonitorOf cluster.now monitor.new × FollowsStart cluster.now monitor.new }
 {
     for _time in 0..TIMES {
         change(rt, cluster, monitor, MapCommand::OsdDown(DAEMON))?;
@@ -56,8 +56,8 @@ pub(crate) fn move_until<R: Wait>(
     monitor: &mut Monitor,
     ended: &AtomicU64,
 ) -> Result<(), ChangeFault>
-    requires { IsMonitorOf cluster.now monitor.old × Follows cluster.now.start monitor.old }
-    ensures { IsMonitorOf cluster.now monitor.new × Follows cluster.now.start monitor.new }
+    requires { IsMonitorOf cluster.now monitor.old × FollowsStart cluster.now monitor.old }
+    ensures { IsMonitorOf cluster.now monitor.new × FollowsStart cluster.now monitor.new }
 {
     for _time in 0..MOST_TIMES {
         if ended.load(Ordering::SeqCst) > 0 {

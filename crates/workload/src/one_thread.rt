@@ -6,7 +6,7 @@ use crate::settling::settle;
 use crate::team::DAEMONS;
 use crate::worker::WRITER;
 use auth_db::Caps;
-use cap_text::Name;
+use common_types::Name;
 use entry_core::Reply;
 use grant_core::ProfileTable;
 use map_core::MapCommand;

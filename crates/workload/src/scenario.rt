@@ -2,7 +2,7 @@
 
 ghost use Rattle.std.specs.Prelude.{All, IfOk};
 ghost use Rattle.cluster.specs.Asks.{IsBegun, IsPassOf};
-ghost use Rattle.cluster.specs.Monitors.{IsMonitorOf, Follows};
+ghost use Rattle.cluster.specs.Monitors.{IsMonitorOf, FollowsStart};
 ghost use Rattle.world_core.specs.Parts.{FitTogether};
 ghost use Rattle.workload.specs.Workers.{AreWorkersOf};
 
@@ -31,9 +31,9 @@ fn run_all<R: Threads + Wait + Sync>(
     workers: &mut [Worker],
     moves: bool,
 ) -> Result<Option<u32>, WorkloadFault>
-    requires monitor { IsMonitorOf cluster.now monitor.old × Follows cluster.now.start monitor.old }
+    requires monitor { IsMonitorOf cluster.now monitor.old × FollowsStart cluster.now monitor.old }
     requires workers { AreWorkersOf cluster.now workers.old }
-    ensures monitor { IsMonitorOf cluster.now monitor.new × Follows cluster.now.start monitor.new }
+    ensures monitor { IsMonitorOf cluster.now monitor.new × FollowsStart cluster.now monitor.new }
     ensures workers { AreWorkersOf cluster.now workers.new }
 {
     if !moves {
@@ -62,9 +62,9 @@ fn work<R: Threads + Wait + Sync>(
     passes: Vec<Pass>,
     moves: bool,
 ) -> Result<(Vec<Pass>, Option<u32>), WorkloadFault>
-    requires monitor { IsMonitorOf cluster.now monitor.old × Follows cluster.now.start monitor.old }
+    requires monitor { IsMonitorOf cluster.now monitor.old × FollowsStart cluster.now monitor.old }
     requires passes { All (IsPassOf cluster.now) passes.items }
-    ensures monitor { IsMonitorOf cluster.now monitor.new × Follows cluster.now.start monitor.new }
+    ensures monitor { IsMonitorOf cluster.now monitor.new × FollowsStart cluster.now monitor.new }
     ensures passes { IfOk result (λ r. All (IsPassOf cluster.now) r.0.items) }
 {
     let mut workers = workers_of(alloc, cluster, passes)?;
@@ -81,7 +81,7 @@ fn close<R: Wait>(
     passes: Vec<Pass>,
 ) -> Result<WorldParts, WorkloadFault>
     requires begun { IsBegun cluster }
-    requires monitor { IsMonitorOf cluster monitor × Follows cluster.start monitor }
+    requires monitor { IsMonitorOf cluster monitor × FollowsStart cluster monitor }
     requires passes { All (IsPassOf cluster) passes.items }
     ensures { IfOk result FitTogether }
 {

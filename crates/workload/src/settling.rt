@@ -1,7 +1,7 @@
 //! Settling the groups of a world.
 
 use crate::asking::POOL;
-use cap_text::Name;
+use common_types::Name;
 use entry_core::GroupId;
 use group_core::GroupFault;
 use std::alloc::Global;

@@ -2,15 +2,15 @@
 
 ghost use Rattle.std.specs.Prelude.{All, IfOk};
 ghost use Rattle.cluster.specs.Asks.{IsBegun, IsPassOf};
-ghost use Rattle.cluster.specs.Monitors.{IsMonitorOf, Follows};
+ghost use Rattle.cluster.specs.Monitors.{IsMonitorOf, FollowsStart};
 ghost use Rattle.workload.specs.Workers.{AreWorkersOf};
 
 use crate::asking::POOL;
 use crate::fault::WorkloadFault;
 use crate::worker::{READER, WRITER, Worker};
 use auth_db::Caps;
-use cap_text::Name;
 use cluster::{Cluster, Monitor, Pass, PoolSpec, UserSpec, start};
+use common_types::Name;
 use grant_core::ProfileTable;
 use std::alloc::Global;
 use std::sync::Wait;
@@ -56,7 +56,7 @@ pub(crate) fn begin<R: Wait>(
     passes: u32,
 ) -> Result<(Cluster, Monitor, Vec<Pass>), WorkloadFault>
     ensures begun { IfOk result (λ r. IsBegun r.0 × All (IsPassOf r.0) r.2.items) }
-    ensures monitor { IfOk result (λ r. IsMonitorOf r.0 r.1 × Follows r.0.start r.1) }
+    ensures monitor { IfOk result (λ r. IsMonitorOf r.0 r.1 × FollowsStart r.0 r.1) }
 {
     let table = ProfileTable::builtin(alloc)?;
     let pools = pools(alloc, groups)?;

@@ -6,8 +6,8 @@ ghost use Rattle.workload.specs.Workers.{AreWorkersOf, IsWorkerOf};
 
 use crate::asking::{Wish, ask};
 use crate::load::{Load, ask_often, judge_often, view_often};
-use cap_text::Name;
 use cluster::{Cluster, ClusterFault, Pass};
+use common_types::Name;
 use std::alloc::Global;
 use std::sync::Wait;
 use std::thread;

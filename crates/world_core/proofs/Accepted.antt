@@ -1,12 +1,11 @@
 -- What a world keeps whose events were all accepted.
 use Prim.Native.Nat.{zero, suc}
-use Rattle.std.proofs.Common.{◌≡◌, ◌∙◌, ℕ, ◌+◌, ◌*◌, ◌<◌, ◌≤◌, ◌==◌, ◌||◌, List, [], ◌∷◌, ◌++◌, Bool, true, false, not, cond, if◌then◌else◌, Option, Some, None, Result, Ok, Err, map, length, fold, refl, sym, ap, subst, arith, append-nil, length-append, nat_lt, option_to_list}
+use Rattle.std.proofs.Common.{◌≡◌, ◌∙◌, ℕ, ◌+◌, ◌*◌, ◌<◌, ◌≤◌, ◌==◌, ◌||◌, List, ◌∷◌, ◌++◌, Bool, true, false, not, cond, if◌then◌else◌, Option, Some, None, Result, Ok, Err, map, length, refl, sym, ap, subst, arith, append-nil, length-append, nat_lt, option_to_list, []}
 use Rattle.std.specs.List.{filter, flat_map, range_with_len, find, list_any}
 use Rattle.std.specs.Option.{option_map, option_or}
 use Rattle.std.specs.Str.{bytes_eq}
 use Rattle.std.proofs.lemmas.Bool.Decides.{nat_tests}
 use Rattle.std.proofs.lemmas.List.Elements.{filter-append}
-use Rattle.grant_core.specs.Flat.{Table}
 use Rattle.place_core.specs.Placement.{IsActingSet, acting_of, numbers_of}
 use Rattle.map_core.specs.State.{MapState, History}
 use Rattle.map_core.specs.Map.{is_named, created, after, initial, map_of, epoch_of, pool_in}
@@ -22,32 +21,29 @@ use Rattle.map_core.proofs.OnePool.{pool_after_step}
 use Rattle.entry_core.specs.Request.{Sealed}
 use Rattle.entry_core.specs.declared.sealed.GroupId.{GroupId}
 use Rattle.group_core.specs.Each.{Each}
-use Rattle.group_core.specs.Group.{Group, IsSet, EventFits, group_step, run, start, last_set, is_submitted}
+use Rattle.group_core.specs.Group.{Group, EventFits, group_step, run, start, last_set, is_submitted}
 use Rattle.group_core.specs.Group as group
 use Rattle.group_core.specs.Reached.{IsReached}
-use Rattle.group_core.specs.Recovery.{ActsWithin}
+use Rattle.group_core.specs.Within.{ActsWithin}
 use Rattle.group_core.specs.declared.fault.GroupFault.{GroupFault}
 use Rattle.group_core.specs.declared.fault.GroupFault.TheVariants as group_fault
 use Rattle.group_core.proofs.Groups.{run-append}
 use Rattle.world_core.specs.Event.{Ask, Event, Auth, Map, Open, Renew, Close, Submit, ListNames, Deliver, Lose, Repeat, Kick, Fault, OfMap, OfGroup}
 use Rattle.entry_core.specs.Locality.{group_for}
-use Rattle.world_core.specs.Groups.{is_same_group}
+use Rattle.world_core.specs.Groups.{is_same_group, is_for}
 use Rattle.world_core.specs.Front.{Front, Session, front_step, front_refusal, asking_refusal, is_full, requests_of, sealed_by, if_ok}
-use Rattle.world_core.specs.World.{World, Part, part, first_world, group_at, groups_of, members_of, map_parts, asked_parts, parts_of, begun_group, created_by, refused_in, parts_refusal, is_accepted, world_step, world_after}
-use Rattle.world_core.specs.Holds.{events_in, group_step_alone, AcceptedFrom, AreAccepted}
-use Rattle.world_core.specs.Groups.{is_for}
-use Rattle.world_core.specs.Accepted.{RequestsAreSubmissions, FrontTells, FrontTellsRequests, AcceptedHolds, AcceptedAnswers, IntervalsAreTheMaps, IsServed, GroupsAreServed}
+use Rattle.world_core.specs.World.{World, Part, part, group_at, groups_of, members_of, map_parts, asked_parts, parts_of, begun_group, created_by, refused_in, parts_refusal, is_accepted, world_step}
+use Rattle.world_core.specs.Holds.{events_in, group_step_alone}
+use Rattle.world_core.specs.Accepted.{FrontTells, IsServed}
 use Rattle.world_core.proofs.Merge.{same_group, bytes_refl}
 use Rattle.world_core.proofs.Bytes.{number_same}
 use Rattle.world_core.proofs.Pools.{InMap, in_later, found_in}
 use Rattle.world_core.proofs.Numbers.{next_in, next_at, open_is, IsGiven, NumberedFrom}
 use Rattle.world_core.proofs.Acting.{each_join}
 use Rattle.world_core.proofs.Fronts.{Requested, submit_made, list_made, FrontStands}
-use Rattle.world_core.proofs.Worlds.{world_stands}
-use Rattle.world_core.proofs.Holding.{step_at, world_holds}
-use Rattle.world_core.proofs.Replied.{answers_are_decided}
+use Rattle.world_core.proofs.Holding.{step_at}
 use Rattle.world_core.proofs.Places.{each_filter, numbered, places_once, AtMostOne}
-use Rattle.world_core.proofs.Limits.{or_second, wrapped_none, not_refused, Allowed, allowed, CreatesWell, creates_well, IsSealedFor, FrontKept, once, first_kept, front_kept, few_submissions, pool_limits, if_none, each_not, counted_for, not_full, accepted_has_numbers}
+use Rattle.world_core.proofs.Limits.{or_second, wrapped_none, not_refused, Allowed, allowed, CreatesWell, creates_well, IsSealedFor, FrontKept, once, front_kept, few_submissions, pool_limits, if_none, each_not, counted_for, not_full}
 use Rattle.world_core.proofs.Sets.{IsMap, set_acting, members_fit, lies_within}
 use Rattle.world_core.proofs.Requests.{facts, told_one, asked_facts, moved_facts, restarted_facts}
 use Rattle.world_core.proofs.Intervals.{sized_set, members_are, intervals_after, intervals_none, HasSets, later, sets_after, sets_kept}
@@ -423,13 +419,6 @@ world_kept w e h accepted = record {
         let same : run (events_in id (parts_of w.front e)) old ≡ g = cc in
         subst (GroupKept (front_step w.front e) id) same (old_kept w e id old h.front next (h.groups id old there) (passes w e accepted) there)
 
-kept_through : (es : List Event) (w : World) → AcceptedFrom w es → WorldKept w → WorldKept (fold world_step w es)
-kept_through [] w accepted h = h
-kept_through (e ∷ es) w accepted h = kept_through es (world_step w e) accepted.1 (world_kept w e h accepted.0)
-
-pub accepted_kept : (table : Table) (daemons : ℕ) (events : List Event) → AreAccepted table daemons events → WorldKept (world_after table daemons events)
-accepted_kept table daemons events accepted = kept_through events (first_world table daemons) accepted (record { front = first_kept table daemons; groups = λ id g is. absurd (cc) })
-
 -- ---- no group refuses a request that the front does not
 
 new_number : (sessions : List Session) (session m : ℕ) → next_at sessions session ≤ m → m < 4294967296 → ((n : ℕ) → next_at sessions n ≤ 4294967296) → (rs : List Sealed) → Each (λ r. IsGiven sessions r.id) rs
@@ -501,16 +490,7 @@ front_tells w kept stands = record {
       (few_submissions (front_step w.front (ListNames ask)) (front_kept w.front (ListNames ask) kept.front none)));
 }
 
--- ---- the laws
-
-pub requests_are_submissions : RequestsAreSubmissions
-requests_are_submissions table daemons events accepted id g there = ((accepted_kept table daemons events accepted).groups id g there).requests
-
-pub intervals_are_the_maps : IntervalsAreTheMaps
-intervals_are_the_maps table daemons events accepted id g there = ((accepted_kept table daemons events accepted).groups id g there).sets.are
-
-pub accepted_holds : AcceptedHolds
-accepted_holds table daemons events accepted = world_holds table daemons events (accepted_has_numbers table daemons events accepted)
+-- ---- what the present map says of a group
 
 pub group_served : (w : World) (id : GroupId) (g : Group) → WorldKept w → group_at id w.groups ≡ Some g → IsServed w id g
 group_served w id g k there =
@@ -523,13 +503,3 @@ group_served w id g k there =
       present = h.sets.present;
       acting = subst A (sym h.up) (set_acting (map_of w.front.history) id (last_set g.sets) (record { history = w.front.history; accepted = k.front.accepted; is = refl }) h.sets.present);
     }
-
-pub groups_are_served : GroupsAreServed
-groups_are_served table daemons events id g accepted there = group_served (world_after table daemons events) id g (accepted_kept table daemons events accepted) there
-
-pub front_tells_requests : FrontTellsRequests
-front_tells_requests table daemons events accepted =
-    front_tells (world_after table daemons events) (accepted_kept table daemons events accepted) (world_stands table daemons events (accepted_has_numbers table daemons events accepted)).front
-
-pub accepted_answers : AcceptedAnswers
-accepted_answers table daemons events id reply accepted is = answers_are_decided table daemons events id reply (accepted_has_numbers table daemons events accepted) is

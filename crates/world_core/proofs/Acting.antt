@@ -21,13 +21,6 @@ use Rattle.world_core.proofs.Standing.{step_is, Submits, Stands, stands_step, st
 
 -- ---- groups by their places
 
--- not this group
-other_group : (id other : GroupId) (b : Bool) → is_same_group other id ≡ false → is_same_group other id ≡ b → b ≡ false
-other_group id other b h e = sym e ∙ h
-
-true_not_false : true ≡ false → ⊥
-true_not_false e = cc
-
 pub group_at_self : (id : GroupId) (change : Group → Group) → ((g : Group) → (change g).group ≡ g.group) → (gs : List Group) → group_at id (at_group id change gs) ≡ option_map change (group_at id gs)
 group_at_self id change keeps [] = refl
 group_at_self id change keeps (g ∷ gs) = go (is_same_group id g.group) refl (group_at_self id change keeps gs)

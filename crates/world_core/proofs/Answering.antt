@@ -1,5 +1,5 @@
 -- What a request that was submitted is answered.
-use Rattle.std.proofs.Common.{◌≡◌, ◌∙◌, ℕ, ◌+◌, ◌*◌, ◌/◌, ◌%◌, ◌<◌, ◌≤◌, List, Option, None, Some, if◌then◌else◌, is_some, length, refl, sym, ap, subst, arith}
+use Rattle.std.proofs.Common.{◌≡◌, ◌∙◌, ℕ, ◌+◌, ◌*◌, ◌/◌, ◌%◌, ◌<◌, ◌≤◌, ◌==◌, ◌||◌, List, ◌∷◌, Bool, true, false, Option, None, Some, if◌then◌else◌, is_some, length, refl, sym, ap, subst, arith, []}
 use Rattle.std.specs.Prelude.{IfSome}
 use Rattle.std.proofs.lemmas.Nat.{mod-mul-add}
 use Rattle.std.proofs.Math.Nat.{mod-add-div'}
@@ -8,7 +8,7 @@ use Rattle.map_core.specs.Map.{map_of}
 use Rattle.entry_core.specs.Request.{Sealed}
 use Rattle.entry_core.specs.Locality.{group_for}
 use Rattle.entry_core.specs.declared.reply.Reply.{Reply}
-use Rattle.group_core.specs.Group.{Group, submitted, answer_of}
+use Rattle.group_core.specs.Group.{Group, submitted, is_submitted, answer_of}
 use Rattle.world_core.specs.Event.{Fault, NoRequest}
 use Rattle.world_core.specs.Front.{Front}
 use Rattle.world_core.specs.World.{group_at}
@@ -20,11 +20,27 @@ use Rattle.world_core.specs.Stands.{next_at, IsGiven}
 use Rattle.world_core.specs.Inside.{world_of}
 use Rattle.world_core.specs.declared.audit.Run.{Run}
 use Rattle.world_core.proofs.Limits.{few_submissions}
-use Rattle.world_core.proofs.ListingLaws.{found_number}
 use Rattle.world_core.proofs.PlaceIn.{stands}
 use Rattle.world_core.proofs.Pools.{found_in}
-use Rattle.world_core.proofs.Questions.{asked_for}
 use Rattle.world_core.proofs.Standing.{found_each}
+use Rattle.world_core.proofs.Bytes.{number_same}
+
+pub asked_for : (rs : List Sealed) (id : ℕ) → is_submitted rs id ≡ is_some (submitted rs id)
+asked_for [] id = refl
+asked_for (r ∷ rs) id = go (r.id == id) (asked_for rs id)
+  where
+    go : (b : Bool) → is_submitted rs id ≡ is_some (submitted rs id) → (b || is_submitted rs id) ≡ is_some (if b then Some r else submitted rs id)
+    go true rest = refl
+    go false rest = rest
+
+-- the number of a submission that is found
+pub found_number : (rs : List Sealed) (id : ℕ) (s : Sealed) → submitted rs id ≡ Some s → s.id ≡ id
+found_number [] id s h = absurd (cc)
+found_number (r ∷ rs) id s h = go (r.id == id) refl h (λ k. found_number rs id s k)
+  where
+    go : (b : Bool) → (r.id == id) ≡ b → (if b then Some r else submitted rs id) ≡ Some s → (submitted rs id ≡ Some s → s.id ≡ id) → s.id ≡ id
+    go true e k rest = let same : r ≡ s = cc in ap (λ t. t.id) (sym same) ∙ number_same r.id id e
+    go false e k rest = rest k
 
 -- the group of a request whose pool the map has
 pub place_of_request : (history : History) (s : Sealed) → IsSealedFor history s → (groups : List Group) → AreGroupsOf history groups

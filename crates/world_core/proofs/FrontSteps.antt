@@ -51,10 +51,6 @@ quiet_kept f e g h is none lists =
       begun = subst (λ s. B s (lists_step f e)) (sym subs) (subst (B f.submissions) (sym lists) h.begun);
     })
 
-pub auth_kept : (f : Front) (command : AuthCommand) (g : Front) → IsKept f → g ≡ front_step f (Auth command) → IsKept g
-unfolding requests_of
-auth_kept f command g h is = quiet_kept f (Auth command) g h is refl refl
-
 pub map_kept : (f : Front) (command : MapCommand) (g : Front) → IsKept f → g ≡ front_step f (Map command) → IsKept g
 unfolding requests_of
 map_kept f command g h is = quiet_kept f (Map command) g h is refl refl

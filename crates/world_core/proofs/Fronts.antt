@@ -20,7 +20,7 @@ use Rattle.world_core.specs.Event.{Ask, Event, Auth, Map, Open, Renew, Close, Su
 use Rattle.entry_core.specs.Locality.{IsPlaced}
 use Rattle.world_core.specs.Standing.{group_count}
 pub use Rattle.world_core.specs.Stands.{IsSealedWell, FrontStands}
-use Rattle.world_core.specs.Front.{Session, Front, Asker, ◌>>=◌, need, unless, lower, if_ok, session_of, session_at, opened, ticket_for, asker_of, is_object_name, is_namespace, sealed_of, vector_of, pieces_of, requests_of, sealed_by, asks_more, asked, front_step}
+use Rattle.world_core.specs.Front.{Session, Front, Asker, ◌>>=◌, need, refuse_if, lower, if_ok, session_of, session_at, opened, ticket_for, asker_of, is_object_name, is_namespace, sealed_of, vector_of, pieces_of, requests_of, sealed_by, asks_more, asked, front_step}
 use Rattle.world_core.proofs.Pools.{InMap, in_later, view_in, counted}
 use Rattle.world_core.proofs.Numbers.{next_in as next_of_found, next_at, open_is, IsGiven, Onward, given_later, pushed_onward, pushed_most, at_onward, at_most, at_here, NumberedFrom, asked_later, all_asked, news_given}
 
@@ -45,15 +45,15 @@ pub asker_made : (f : Front) (ask : Ask) (asker : Asker) → asker_of f ask ≡ 
 asker_made f ask asker h =
     let view : PoolView → Type 0 = λ v. InMap f.history v.pool v.pg_num in
     let a = bind_ok (session_of f.sessions ask.session) (λ s.
-    unless (nat_lt ask.epoch s.epoch || nat_lt (epoch_of f.history) ask.epoch) StaleEpoch >>= λ _.
-    unless (nat_lt ask.tick s.tick) StaleTick >>= λ _.
+    refuse_if (nat_lt ask.epoch s.epoch || nat_lt (epoch_of f.history) ask.epoch) StaleEpoch >>= λ _.
+    refuse_if (nat_lt ask.tick s.tick) StaleTick >>= λ _.
     need (view_at f.history ask.pool ask.epoch) NoPool >>= λ view.
     Ok (record { session = s; view = view })) asker h in
-    let b = bind_ok (unless (nat_lt ask.epoch a.0.epoch || nat_lt (epoch_of f.history) ask.epoch) StaleEpoch) (λ _.
-    unless (nat_lt ask.tick a.0.tick) StaleTick >>= λ _.
+    let b = bind_ok (refuse_if (nat_lt ask.epoch a.0.epoch || nat_lt (epoch_of f.history) ask.epoch) StaleEpoch) (λ _.
+    refuse_if (nat_lt ask.tick a.0.tick) StaleTick >>= λ _.
     need (view_at f.history ask.pool ask.epoch) NoPool >>= λ view.
     Ok (record { session = a.0; view = view })) asker a.2 in
-    let c = bind_ok (unless (nat_lt ask.tick a.0.tick) StaleTick) (λ _.
+    let c = bind_ok (refuse_if (nat_lt ask.tick a.0.tick) StaleTick) (λ _.
     need (view_at f.history ask.pool ask.epoch) NoPool >>= λ view.
     Ok (record { session = a.0; view = view })) asker b.2 in
     let d = bind_ok (need (view_at f.history ask.pool ask.epoch) NoPool) (λ view. Ok (record { session = a.0; view = view })) asker c.2 in
@@ -90,10 +90,10 @@ pub submit_made : (f : Front) (ask : Ask) (object : List ℕ) (ops : List Op) (r
 unfolding requests_of
 submit_made f ask object ops rs h =
     let a = bind_ok (asker_of f ask) (λ asker.
-    unless (not (is_object_name object && is_namespace ask.namespace)) BadObjectName >>= λ _.
+    refuse_if (not (is_object_name object && is_namespace ask.namespace)) BadObjectName >>= λ _.
     lower OfNeeds (needs_fault ops) >>= λ _.
     Ok (vector_of ask asker object ops ∷ [])) rs h in
-    let b = bind_ok (unless (not (is_object_name object && is_namespace ask.namespace)) BadObjectName) (λ _.
+    let b = bind_ok (refuse_if (not (is_object_name object && is_namespace ask.namespace)) BadObjectName) (λ _.
     lower OfNeeds (needs_fault ops) >>= λ _.
     Ok (vector_of ask a.0 object ops ∷ [])) rs a.2 in
     let c = bind_ok (lower OfNeeds (needs_fault ops)) (λ _. Ok (vector_of ask a.0 object ops ∷ [])) rs b.2 in
@@ -135,9 +135,9 @@ pub list_made : (f : Front) (ask : Ask) (rs : List Sealed) → requests_of f (Li
 unfolding requests_of
 list_made f ask rs h =
     let a = bind_ok (asker_of f ask) (λ asker.
-    unless (not (is_namespace ask.namespace)) BadObjectName >>= λ _.
+    refuse_if (not (is_namespace ask.namespace)) BadObjectName >>= λ _.
     Ok (pieces_of ask asker)) rs h in
-    let b = bind_ok (unless (not (is_namespace ask.namespace)) BadObjectName) (λ _. Ok (pieces_of ask a.0)) rs a.2 in
+    let b = bind_ok (refuse_if (not (is_namespace ask.namespace)) BadObjectName) (λ _. Ok (pieces_of ask a.0)) rs a.2 in
     let made : Made f ask a.0 = asker_made f ask a.0 a.1 in
     let result : ◌≡◌ {A = Result (List Sealed) Fault} (Ok (pieces_of ask a.0)) (Ok rs) = b.2 in
     let same : pieces_of ask a.0 ≡ rs = cc in

@@ -1,6 +1,6 @@
 -- What the front keeps whose events were accepted: few pools, each name once, and few requests for each group.
 use Prim.Native.Nat.{suc}
-use Rattle.std.proofs.Common.{◌≡◌, ◌∙◌, ℕ, ◌+◌, ◌*◌, ◌<◌, ◌≤◌, ◌||◌, List, [], ◌∷◌, ◌++◌, Bool, true, false, not, cond, Option, Some, None, is_some, option_to_list, length, map, slice_index_or, ◌≢◌, All, count_by, refl, sym, ap, subst, arith, append-nil, length-append, if◌then◌else◌, Result, Ok, Err, fold}
+use Rattle.std.proofs.Common.{◌≡◌, ◌∙◌, ℕ, ◌+◌, ◌*◌, ◌<◌, ◌≤◌, ◌||◌, List, ◌∷◌, ◌++◌, Bool, true, false, not, cond, Option, Some, None, is_some, option_to_list, length, map, slice_index_or, ◌≢◌, All, count_by, refl, sym, ap, subst, arith, append-nil, length-append, if◌then◌else◌, Result, Ok, Err, []}
 use Rattle.std.specs.Prelude.{nat_le}
 use Rattle.std.specs.List.{AllPairs, filter, flat_map, find, list_any}
 use Rattle.std.specs.Option.{option_map, option_or}
@@ -23,12 +23,9 @@ use Rattle.entry_core.specs.declared.sealed.GroupId.{GroupId}
 use Rattle.group_core.specs.Each.{Each}
 use Rattle.world_core.specs.Event.{Ask, Event, Auth, Map, Open, Renew, Close, Submit, ListNames, Deliver, Lose, Repeat, Kick, Fault, OfMap}
 use Rattle.entry_core.specs.Locality.{group_for}
-use Rattle.world_core.specs.Groups.{is_same_group}
+use Rattle.world_core.specs.Groups.{is_same_group, is_for}
 use Rattle.world_core.specs.Front.{Front, first_front, front_step, front_refusal, asking_refusal, is_full, requests_of, if_ok}
-use Rattle.world_core.specs.World.{World, first_world, world_step, world_after, groups_of, refusal_of, is_drop, accepts, is_accepted}
-use Rattle.world_core.specs.Holds.{AcceptedFrom, AreAccepted}
-use Rattle.world_core.specs.Accepted.{AcceptedHasNumbers}
-use Rattle.world_core.specs.Groups.{is_for}
+use Rattle.world_core.specs.World.{World, groups_of, refusal_of, is_drop, accepts, is_accepted}
 use Rattle.world_core.proofs.Merge.{same_group}
 use Rattle.world_core.proofs.Pools.{in_later, found_in}
 use Rattle.world_core.proofs.Bytes.{bytes_same}
@@ -320,20 +317,3 @@ few_submissions f h =
     let c : length places ≤ length (map_of f.history).pools * 64 = few_places (map_of f.history).pools (limits_now f h) in
     let d : length (map_of f.history).pools ≤ 32 = pools_are_few f.history h.accepted in
     omega arith
-
--- ---- histories
-
-kept_through : (es : List Event) (w : World) → AcceptedFrom w es → FrontKept w.front → FrontKept (fold world_step w es).front
-kept_through [] w accepted h = h
-kept_through (e ∷ es) w accepted h = kept_through es (world_step w e) accepted.1 (front_kept w.front e h (allowed w e accepted.0))
-
-pub world_front_kept : (table : Table) (daemons : ℕ) (events : List Event) → AreAccepted table daemons events → FrontKept (world_after table daemons events).front
-world_front_kept table daemons events accepted = kept_through events (first_world table daemons) accepted (first_kept table daemons)
-
-pub accepted_has_numbers : AcceptedHasNumbers
-accepted_has_numbers table daemons events accepted =
-    let a : length (world_after table daemons events).front.submissions ≤ 33554432 = few_submissions (world_after table daemons events).front (world_front_kept table daemons events accepted) in
-    fits (length (world_after table daemons events).front.submissions) a
-  where
-    fits : (n : ℕ) → n ≤ 33554432 → n < 4294967296
-    fits n h = omega arith

@@ -18,7 +18,7 @@ use Rattle.map_core.specs.declared.fault.MapFault.{MapFault}
 use Rattle.world_core.specs.Front.{Front, front_step, front_refusal, group_refusal, told_of, requests_of}
 use Rattle.world_core.specs.World.{World, Part, part, group_at, at_group, act, acted, counts, is_drop, accepts, is_accepted, created_by, decided_in, part_refusal, parts_refusal, parts_of, refused_in, refusal_of, world_step}
 use Rattle.world_core.specs.Moves.{IsAt}
-use Rattle.cap_text.specs.Refused.{RefusedExactly}
+use Rattle.common_types.specs.Refused.{RefusedExactly}
 use Rattle.world_core.specs.Refusing.{RefusedOrMemory}
 use Rattle.world_core.specs.declared.audit.Run.{Run}
 use Rattle.world_core.specs.declared.calls.GroupCall.{GroupCall}

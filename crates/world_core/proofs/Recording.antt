@@ -11,7 +11,7 @@ use Rattle.group_core.specs.Each.{Each}
 use Rattle.group_core.specs.Group.{submitted}
 use Rattle.group_core.specs.Asked.{IsAsked}
 use Rattle.world_core.specs.Event.{Ask, Fault, OutOfMemory, Submit, ListNames, BadObjectName, OfNeeds}
-use Rattle.world_core.specs.Front.{error_of, ◌>>=◌, unless, Front, Session, Pieced, Asker, asker_of, is_object_name, is_namespace, lower, vector_of, pieces_of, sealed_of, requests_of, sealed_by, session_of, session_at, asks_more, asked, if_ok, listed, front_step}
+use Rattle.world_core.specs.Front.{error_of, ◌>>=◌, refuse_if, Front, Session, Pieced, Asker, asker_of, is_object_name, is_namespace, lower, vector_of, pieces_of, sealed_of, requests_of, sealed_by, session_of, session_at, asks_more, asked, if_ok, listed, front_step}
 use Rattle.world_core.specs.Stands.{next_at, IsGiven, IsKept}
 use Rattle.world_core.specs.Submitting.{AreNew}
 use Rattle.world_core.proofs.Numbers.{next_in as next_of_found, open_is, NumberedFrom}
@@ -19,11 +19,10 @@ use Rattle.world_core.proofs.Fronts.{Requested, front_stands}
 
 -- ---- numbers that no request has
 
-Free : List Sealed → ℕ → ℕ → Type 0
+abbrev pub Free : List Sealed → ℕ → ℕ → Type 0
 Free rs session number = (q : ℕ) → number ≤ q → q < 4294967296 → submitted rs (session * 4294967296 + q) ≡ None
 
 free_of_given : (sessions : List Session) (session number : ℕ) → next_at sessions session ≤ number → ((n : ℕ) → next_at sessions n ≤ 4294967296) → (rs : List Sealed) → Each (λ r. IsGiven sessions r.id) rs → Free rs session number
-unfolding Free
 free_of_given sessions session number next few [] h q least small = refl
 free_of_given sessions session number next few (r ∷ rs) h q least small = go (r.id == (session * 4294967296 + q)) refl (free_of_given sessions session number next few rs h.1 q least small)
   where
@@ -60,8 +59,7 @@ still_none (x ∷ xs) r id apart none = go (x.id == id) none (still_none xs r id
     go true e rest = absurd (cc)
     go false e rest = rest e
 
-free_new : (rs news : List Sealed) (session number : ℕ) → Free rs session number → number + length news ≤ 4294967296 → NumberedFrom session number news → AreNew rs news
-unfolding Free
+pub free_new : (rs news : List Sealed) (session number : ℕ) → Free rs session number → number + length news ≤ 4294967296 → NumberedFrom session number news → AreNew rs news
 free_new rs [] session number free room numbered = tt
 free_new rs (s ∷ ss) session number free room numbered =
     let later : (q : ℕ) → number + 1 ≤ q → s.id ≡ session * 4294967296 + q → ⊥ = λ q least is. let own : s.id ≡ session * 4294967296 + number = numbered.0 in omega arith in (
@@ -70,7 +68,6 @@ free_new rs (s ∷ ss) session number free room numbered =
     )
 
 free_each : (rs news : List Sealed) (session number : ℕ) → Free rs session number → number + length news ≤ 4294967296 → NumberedFrom session number news → Each (λ r. submitted rs r.id ≡ None) news
-unfolding Free
 free_each rs [] session number free room numbered = tt
 free_each rs (s ∷ ss) session number free room numbered = (
   subst (λ i. submitted rs i ≡ None) (sym numbered.0) (free number (omega arith) (omega arith)),
@@ -85,8 +82,7 @@ next_few f n s h is =
     let c : next_at f.sessions n ≡ s.next = ap next_of_found (open_is f.sessions n s is) in
     omega arith
 
-free_in : (f : Front) (n : ℕ) (s : Session) → IsKept f → session_of f.sessions n ≡ Ok s → Free f.submissions n s.next
-unfolding Free
+pub free_in : (f : Front) (n : ℕ) (s : Session) → IsKept f → session_of f.sessions n ≡ Ok s → Free f.submissions n s.next
 free_in f n s h is =
     let next : next_at f.sessions n ≡ s.next = ap next_of_found (open_is f.sessions n s is) in
     let b : length f.submissions ≤ 67108928 = h.few in
@@ -109,10 +105,10 @@ pub vector_asked : (f : Front) (ask : Ask) (asker : Asker) (object : List ℕ) (
 unfolding requests_of
 vector_asked f ask asker object ops request who names needs is =
     ap (λ q. q >>= λ found.
-    unless (not (is_object_name object && is_namespace ask.namespace)) BadObjectName >>= λ _.
+    refuse_if (not (is_object_name object && is_namespace ask.namespace)) BadObjectName >>= λ _.
     lower OfNeeds (needs_fault ops) >>= λ _.
     Ok (vector_of ask found object ops ∷ [])) who
-    ∙ ap (λ b. unless (not b) BadObjectName >>= λ _.
+    ∙ ap (λ b. refuse_if (not b) BadObjectName >>= λ _.
     lower OfNeeds (needs_fault ops) >>= λ _.
     Ok (vector_of ask asker object ops ∷ [])) names
     ∙ go (needs_fault ops) needs
@@ -129,10 +125,10 @@ unfolding requests_of
 vector_refused f ask asker object ops fault who names (inl memory) = inl memory
 vector_refused f ask asker object ops fault who names (inr refused) = inr (
     ap (λ q. error_of (q >>= λ found.
-    unless (not (is_object_name object && is_namespace ask.namespace)) BadObjectName >>= λ _.
+    refuse_if (not (is_object_name object && is_namespace ask.namespace)) BadObjectName >>= λ _.
     lower OfNeeds (needs_fault ops) >>= λ _.
     Ok (vector_of ask found object ops ∷ []))) who
-    ∙ ap (λ b. error_of (unless (not b) BadObjectName >>= λ _.
+    ∙ ap (λ b. error_of (refuse_if (not b) BadObjectName >>= λ _.
     lower OfNeeds (needs_fault ops) >>= λ _.
     Ok (vector_of ask asker object ops ∷ []))) names
     ∙ go (needs_fault ops) refused)
@@ -146,9 +142,9 @@ pub list_asked : (f : Front) (ask : Ask) (asker : Asker) (requests : List Sealed
 unfolding requests_of
 list_asked f ask asker requests who names is =
     ap (λ q. q >>= λ found.
-    unless (not (is_namespace ask.namespace)) BadObjectName >>= λ _.
+    refuse_if (not (is_namespace ask.namespace)) BadObjectName >>= λ _.
     Ok (pieces_of ask found)) who
-    ∙ ap (λ b. unless (not b) BadObjectName >>= λ _.
+    ∙ ap (λ b. refuse_if (not b) BadObjectName >>= λ _.
     Ok (pieces_of ask asker)) names
     ∙ ap (λ (rs : List Sealed). Ok rs) (sym is)
 

@@ -15,11 +15,9 @@ use Rattle.auth_db.specs.Users.{Database, HasTicket}
 use Rattle.auth_db.specs.Refusals.{again}
 use Rattle.map_core.specs.declared.fault.MapFault.{MapFault}
 use Rattle.map_core.specs.declared.fault.MapFault.TheVariants as map_fault
-use Rattle.object_core.specs.declared.needs.NeedsFault.{NeedsFault}
-use Rattle.object_core.specs.declared.needs.NeedsFault.TheVariants as needs_fault
-use Rattle.world_core.specs.Event.{Made, There, Fault, OutOfMemory, OfUsers, OfMap, OfNeeds}
+use Rattle.world_core.specs.Event.{Made, There, Fault, OutOfMemory, OfUsers, OfMap}
 use Rattle.world_core.specs.Front.{users_fault, told_creation, ticket_with, ticket_for}
-use Rattle.world_core.specs.Refusing.{RefusedOrMemory, fault_of_map, fault_of_needs}
+use Rattle.world_core.specs.Refusing.{RefusedOrMemory, fault_of_map}
 use Rattle.world_core.proofs.Tickets.{tickets_are_read}
 
 -- ---- users
@@ -74,25 +72,6 @@ pub map_exit : {T : Type 0} (r : Result T Fault) (refusal : Option MapFault) (fa
     → RefusedOrMemory (option_map OfMap refusal) r
 map_exit (Ok x) refusal fault is why = absurd is
 map_exit (Err seen) refusal fault is why = map_refused refusal fault seen is why
-
-pub needs_refused : (refusal : Option NeedsFault) (fault : NeedsFault) (seen : Fault) → seen ≡ fault_of_needs fault → (fault ≡ needs_fault.OutOfMemory) ⊎ (refusal ≡ Some fault)
-    → (seen ≡ OutOfMemory) ⊎ (option_map OfNeeds refusal ≡ Some seen)
-needs_refused refusal fault seen is (inl memory) = inl (is ∙ ap fault_of_needs memory)
-needs_refused refusal fault seen is (inr refused) = go fault is refused
-  where
-    named : (f : NeedsFault) → refusal ≡ Some f → seen ≡ OfNeeds f → (seen ≡ OutOfMemory) ⊎ (option_map OfNeeds refusal ≡ Some seen)
-    named f r e = inr (ap (λ o. option_map OfNeeds o) r ∙ ap (λ v. Some v) (sym e))
-
-    go : (f : NeedsFault) → seen ≡ fault_of_needs f → refusal ≡ Some f → (seen ≡ OutOfMemory) ⊎ (option_map OfNeeds refusal ≡ Some seen)
-    go needs_fault.OutOfMemory e r = inl e
-    go needs_fault.EmptyVector e r = named needs_fault.EmptyVector r e
-    go needs_fault.TooManyOps e r = named needs_fault.TooManyOps r e
-    go needs_fault.NoMethod e r = named needs_fault.NoMethod r e
-
-pub needs_exit : {T : Type 0} (r : Result T Fault) (refusal : Option NeedsFault) (fault : NeedsFault) → IsErrAnd r (λ seen. seen ≡ fault_of_needs fault) → (fault ≡ needs_fault.OutOfMemory) ⊎ (refusal ≡ Some fault)
-    → RefusedOrMemory (option_map OfNeeds refusal) r
-needs_exit (Ok x) refusal fault is why = absurd is
-needs_exit (Err seen) refusal fault is why = needs_refused refusal fault seen is why
 
 -- a fault that is passed on
 pub same_exit : {T : Type 0} (r : Result T Fault) (refusal : Option Fault) (fault : Fault) → IsErrAnd r (λ seen. seen ≡ fault) → (fault ≡ OutOfMemory) ⊎ (refusal ≡ Some fault) → RefusedOrMemory refusal r

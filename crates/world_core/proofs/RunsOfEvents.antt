@@ -1,6 +1,6 @@
 -- Events, one after another.
 use Prim.Native.Nat.{zero, suc}
-use Rattle.std.proofs.Common.{◌≡◌, ◌∙◌, ◌⊎◌, inl, inr, ℕ, ◌+◌, ◌<◌, List, [], ◌∷◌, ◌++◌, true, Some, Ok, length, take, get_or, refl, sym, ap, subst, arith}
+use Rattle.std.proofs.Common.{◌≡◌, ◌∙◌, ◌⊎◌, inl, inr, ℕ, ◌+◌, ◌<◌, List, [], ◌∷◌, ◌++◌, true, Some, None, Ok, length, take, get_or, refl, sym, ap, subst, arith}
 use Rattle.std.specs.Prelude.{fold, slice_get}
 use Rattle.std.proofs.lemmas.List.{take_more}
 use Rattle.grant_core.specs.Flat.{Table}
@@ -8,22 +8,32 @@ use Rattle.world_core.specs.Event.{Event, Told, Fault, OutOfMemory}
 use Rattle.world_core.specs.World.{World, accepts, first_world, is_accepted, refusal_of, world_after, world_step}
 use Rattle.world_core.specs.Holds.{AcceptedFrom, AreAccepted, Holds}
 use Rattle.world_core.specs.Refusing.{RefusedOrMemory}
-use Rattle.world_core.specs.Calls.{IsFirstRefused}
+use Rattle.world_core.specs.Calls.{AreUnrefused, IsFirstRefused, UnrefusedFrom}
+use Rattle.world_core.specs.Front.{first_front}
+use Rattle.world_core.specs.Service.{Reaches, begun}
+use Rattle.world_core.specs.Serving.{service_of, submitted_through}
 use Rattle.world_core.proofs.Holding.{world_holds}
+use Rattle.world_core.proofs.Sounds.{first_sound}
+use Rattle.world_core.proofs.Serving.{serves_through}
 
--- the world after these events, each of which was accepted
+-- the world after these events, of which nothing refused one
 pub record IsAfter (table : Table) (daemons : ℕ) (events : List Event) (w : World) : Type 0 where
   pub holds : Holds table daemons events w
   pub accepted : AreAccepted table daemons events
+  pub unrefused : AreUnrefused table daemons events
 
 pub after_none : (table : Table) (daemons : ℕ) (w : World) → w ≡ first_world table daemons → IsAfter table daemons [] w
-after_none table daemons w is = record { holds = subst (Holds table daemons []) (sym is) (world_holds table daemons [] (omega arith)); accepted = tt }
+after_none table daemons w is = record { holds = subst (Holds table daemons []) (sym is) (world_holds table daemons [] (omega arith)); accepted = tt; unrefused = tt }
 
 accepted_push : (w : World) (es : List Event) (e : Event) → AcceptedFrom w es → is_accepted (fold world_step w es) e ≡ true → AcceptedFrom w (es ++ e ∷ [])
 accepted_push w [] e all is = (is, tt)
 accepted_push w (x ∷ xs) e all is = (all.0, accepted_push (world_step w x) xs e all.1 is)
 
--- one event more, which was accepted
+unrefused_push : (w : World) (es : List Event) (e : Event) → UnrefusedFrom w es → refusal_of (fold world_step w es) e ≡ None → UnrefusedFrom w (es ++ e ∷ [])
+unrefused_push w [] e all is = (is, tt)
+unrefused_push w (x ∷ xs) e all is = (all.0, unrefused_push (world_step w x) xs e all.1 is)
+
+-- one event more, which nothing refused
 pub after_next : (table : Table) (daemons : ℕ) (events : List Event) (k : ℕ) (d e copy : Event) (old new : World) (told : Told) → k < length events → e ≡ get_or events k d → copy ≡ e
     → IsAfter table daemons (take k events) old
     → ((before : List Event) → Holds table daemons before old → true ≡ true → Holds table daemons (before ++ copy ∷ []) new)
@@ -36,6 +46,7 @@ after_next table daemons events k d e copy old new told low is same h holds refu
     subst P (sym next) (record {
       holds = holds es h.holds refl;
       accepted = accepted_push (first_world table daemons) es copy h.accepted (ap (λ w. is_accepted w copy) (sym h.holds.made) ∙ ap (accepts copy) refused);
+      unrefused = unrefused_push (first_world table daemons) es copy h.unrefused (ap (λ w. refusal_of w copy) (sym h.holds.made) ∙ refused);
     })
 
 there_is : (events : List Event) (k : ℕ) (d : Event) → k < length events → slice_get events k ≡ Some (get_or events k d)
@@ -46,8 +57,14 @@ there_is (x ∷ xs) (suc k) d low = there_is xs k d (omega arith)
 -- where it stops
 pub stops : (table : Table) (daemons : ℕ) (events : List Event) (k : ℕ) (d : Event) (w : World) (fault : Fault) → k < length events → IsAfter table daemons (take k events) w
     → (fault ≡ OutOfMemory) ⊎ (refusal_of w (get_or events k d) ≡ Some fault) → IsFirstRefused table daemons events k fault
-stops table daemons events k d w fault low h refused = record { event = get_or events k d; there = there_is events k d low; before = h.accepted; refused = go refused }
+stops table daemons events k d w fault low h refused = record { event = get_or events k d; there = there_is events k d low; before = h.accepted; unrefused = h.unrefused; refused = go refused }
   where
     go : (fault ≡ OutOfMemory) ⊎ (refusal_of w (get_or events k d) ≡ Some fault) → (fault ≡ OutOfMemory) ⊎ (refusal_of (world_after table daemons (take k events)) (get_or events k d) ≡ Some fault)
     go (inl x) = inl x
     go (inr x) = inr (ap (λ v. refusal_of v (get_or events k d)) (sym h.holds.made) ∙ x)
+
+-- it is reached by as many steps of the service
+pub run_serves : (table : Table) (daemons : ℕ) (events : List Event) (w : World) → IsAfter table daemons events w → Reaches (submitted_through (first_front table daemons) events) begun (service_of w)
+run_serves table daemons events w h =
+    let P : World → Type 0 = λ v. Reaches (submitted_through (first_front table daemons) events) begun (service_of v) in
+    subst P (sym h.holds.made) (serves_through events (first_world table daemons) (first_sound table daemons) h.accepted)

@@ -1,5 +1,5 @@
 -- Every world of the program is sound: at first, and after one more accepted event.
-use Rattle.std.proofs.Common.{◌≡◌, ◌∙◌, ℕ, ◌<◌, ◌≤◌, List, [], ◌∷◌, ◌++◌, Bool, true, false, if◌then◌else◌, map, length, refl, sym, ap, arith, append-nil}
+use Rattle.std.proofs.Common.{◌≡◌, ◌∙◌, ℕ, ◌+◌, ◌<◌, ◌≤◌, List, [], ◌∷◌, ◌++◌, Bool, true, false, if◌then◌else◌, map, length, refl, sym, ap, arith, append-nil, length-append}
 use Rattle.std.specs.List.{flat_map}
 use Rattle.std.proofs.lemmas.Grind.{flat_map-append}
 use Rattle.std.proofs.lemmas.List.{map-append}
@@ -10,22 +10,20 @@ use Rattle.map_core.specs.declared.pool.Pool.{Pool}
 use Rattle.map_core.specs.declared.command.MapCommand.{MapCommand}
 use Rattle.map_core.specs.declared.command.MapCommand.TheVariants.{PoolCreate, AppEnable, AppSet, AppRm, OsdUp, OsdDown, OsdRestart}
 use Rattle.map_core.proofs.Current.{after_push}
+use Rattle.entry_core.specs.Request.{Sealed}
 use Rattle.entry_core.specs.declared.sealed.GroupId.{GroupId}
 use Rattle.group_core.specs.Group.{Group, group_step}
-use Rattle.group_core.proofs.Groups.{replicated}
-use Rattle.group_core.proofs.Reached.{reached_good}
-use Rattle.world_core.specs.Calls.{KeepsPromises}
 use Rattle.world_core.specs.Event.{Event, Auth, Map, Open, Renew, Close, Submit, ListNames, Deliver, Lose, Repeat, Kick}
 use Rattle.world_core.specs.Groups.{is_same_group}
-use Rattle.world_core.specs.Front.{Front, front_step}
+use Rattle.world_core.specs.Front.{Front, front_step, sealed_by}
 use Rattle.world_core.specs.World.{World, Part, first_world, at_group, groups_of, act, acted, parts_of, begun_group, created_by, is_accepted, world_step}
 use Rattle.world_core.specs.Standing.{HasNumbers}
-use Rattle.world_core.specs.Sound.{FrontKept, HasGroups, IsSound}
+use Rattle.world_core.specs.Sound.{FrontKept, HasGroups, WorldKept, IsSound}
 use Rattle.world_core.proofs.Standing.{step_is}
-use Rattle.world_core.proofs.Worlds.{first_stands, step_stands, world_one_list}
-use Rattle.world_core.proofs.Replied.{world_answered}
+use Rattle.world_core.proofs.NewRequests.{event_new, new_joined}
+use Rattle.world_core.proofs.Worlds.{first_stands, step_stands}
 use Rattle.world_core.proofs.Limits.{allowed, first_kept, front_kept, few_submissions}
-use Rattle.world_core.proofs.Accepted.{world_kept, front_tells, group_served}
+use Rattle.world_core.proofs.Accepted.{world_kept}
 
 -- ---- which groups there are
 
@@ -109,27 +107,19 @@ first_sound table daemons = record {
   stands = first_stands table daemons;
   kept = record { front = first_kept table daemons; groups = λ id g is. absurd (cc) };
   places = refl;
+  new = tt;
 }
 
 pub sound_on : (w : World) (e : Event) → IsSound w → is_accepted w e ≡ true → IsSound (world_step w e)
-sound_on w e h accepted = record {
-  stands = step_stands w e h.stands (has_numbers_on w e h.kept.front accepted);
-  kept = world_kept w e h.kept accepted;
-  places = has_groups_on w e h.places;
-}
-
--- ---- what a sound world keeps
-
-pub sound_promises : (w : World) → IsSound w → KeepsPromises w
-sound_promises w h = record {
-  one_list = world_one_list w h.stands;
-  numbers = few_numbers w.front h.kept.front;
-  requests = λ id g there. (h.kept.groups id g there).requests;
-  front = front_tells w h.kept h.stands.front;
-  intervals = λ id g there. (h.kept.groups id g there).sets.are;
-  groups = λ id g there. record {
-    served = group_served w id g h.kept there;
-    replicated = replicated g (reached_good g (h.kept.groups id g there).within.is.reached);
-  };
-  answers = λ id reply is. world_answered w id reply h.stands is;
-}
+sound_on w e h accepted =
+    let kept : WorldKept (world_step w e) = world_kept w e h.kept accepted in
+    let old : List Sealed = w.front.submissions in
+    let few : length old ≤ 33554432 = few_submissions w.front h.kept.front in
+    let all : length (old ++ sealed_by w.front e) ≤ 33554432 = few_submissions (front_step w.front e) kept.front in
+    let sum : length (old ++ sealed_by w.front e) ≡ length old + length (sealed_by w.front e) = length-append old (sealed_by w.front e) in
+    record {
+      stands = step_stands w e h.stands (has_numbers_on w e h.kept.front accepted);
+      kept = kept;
+      places = has_groups_on w e h.places;
+      new = new_joined [] old (sealed_by w.front e) h.new (event_new w.front e h.stands.front few (omega arith));
+    }

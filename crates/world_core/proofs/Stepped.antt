@@ -1,6 +1,6 @@
 -- The groups after all parts of an event: each part reaches one group, and a move reaches each group once.
 use Prim.Native.Nat.{zero, suc}
-use Rattle.std.proofs.Common.{◌≡◌, ◌∙◌, ℕ, ◌+◌, ◌<◌, ◌==◌, ◌&&◌, List, [], ◌∷◌, ◌++◌, Bool, true, false, cond, if◌then◌else◌, Option, Some, None, map, length, drop, refl, sym, ap, subst, arith, append-nil}
+use Rattle.std.proofs.Common.{◌≡◌, ◌∙◌, ℕ, ◌+◌, ◌<◌, ◌==◌, ◌&&◌, List, [], ◌∷◌, ◌++◌, Bool, true, false, cond, if◌then◌else◌, Some, None, map, refl, sym, ap, subst, arith}
 use Rattle.std.specs.List.{flat_map, range_with_len, find}
 use Rattle.std.specs.Option.{option_or}
 use Rattle.std.specs.Str.{bytes_eq}
@@ -11,27 +11,21 @@ use Rattle.map_core.specs.declared.pool.Pool.{Pool}
 use Rattle.map_core.specs.declared.command.MapCommand.{MapCommand}
 use Rattle.map_core.specs.declared.command.MapCommand.TheVariants.{PoolCreate, AppEnable, AppSet, AppRm, OsdUp, OsdDown, OsdRestart}
 use Rattle.map_core.proofs.Kept.{pools_differ}
-use Rattle.entry_core.specs.Log.{is_in}
 use Rattle.entry_core.specs.declared.sealed.GroupId.{GroupId}
 use Rattle.group_core.specs.Each.{Each}
-use Rattle.peer_core.specs.Steps.{restarted}
-use Rattle.group_core.specs.Group.{Group, group_step, refusal_of, last_set, same_set, has_all_intervals, with_up, begin}
+use Rattle.group_core.specs.Group.{Group, group_step, refusal_of}
 use Rattle.group_core.specs.Group as group
 use Rattle.world_core.specs.Groups.{is_same_group}
-use Rattle.world_core.specs.World.{World, Part, part, group_at, at_group, groups_of, map_parts, parts_of, created_by, decided_in, act, acted, refused_in, part_refusal, parts_refusal}
+use Rattle.world_core.specs.World.{Part, part, group_at, at_group, groups_of, map_parts, parts_of, created_by, refused_in, part_refusal, parts_refusal}
 use Rattle.world_core.specs.Event.{Map}
 use Rattle.world_core.specs.Front.{Front}
-use Rattle.world_core.specs.Moves.{stepped, stepped_by, moves_groups, move_of, made_by, all_moved, first_refusal}
+use Rattle.world_core.specs.Moves.{stepped, stepped_by, moves_groups, move_of, all_moved, first_refusal}
 use Rattle.world_core.proofs.Bytes.{number_same}
 use Rattle.world_core.proofs.Merge.{group_refl}
 use Rattle.world_core.proofs.Standing.{step_is}
 use Rattle.world_core.proofs.Acting.{each_join}
 use Rattle.world_core.proofs.Places.{numbered, true_not_false, group_turned, bytes_turned, NamedOnce}
 use Rattle.world_core.proofs.Limits.{named_once}
-
-pub acted_stepped : (w : World) (parts : List Part) → (acted w parts).groups ≡ stepped parts w.groups
-acted_stepped w [] = refl
-acted_stepped w (p ∷ ps) = acted_stepped (act w p) ps
 
 -- ---- no two places are one
 
@@ -141,15 +135,6 @@ moving_parts state (AppEnable pool app) moves = absurd (true_not_false (sym move
 moving_parts state (AppSet pool app key value) moves = absurd (true_not_false (sym moves))
 moving_parts state (AppRm pool app key) moves = absurd (true_not_false (sym moves))
 
-pub no_parts : (state : MapState) (c : MapCommand) → moves_groups c ≡ false → map_parts state c ≡ []
-no_parts state (OsdUp d) still = absurd (true_not_false still)
-no_parts state (OsdDown d) still = absurd (true_not_false still)
-no_parts state (OsdRestart d) still = absurd (true_not_false still)
-no_parts state (PoolCreate name pg_num size min_size) still = refl
-no_parts state (AppEnable pool app) still = refl
-no_parts state (AppSet pool app key value) still = refl
-no_parts state (AppRm pool app key) still = refl
-
 pub none_created : (front : Front) (c : MapCommand) → moves_groups c ≡ true → created_by front (Map c) ≡ []
 none_created front (OsdUp d) moves = refl
 none_created front (OsdDown d) moves = refl
@@ -158,15 +143,6 @@ none_created front (PoolCreate name pg_num size min_size) moves = absurd (true_n
 none_created front (AppEnable pool app) moves = absurd (true_not_false (sym moves))
 none_created front (AppSet pool app key value) moves = absurd (true_not_false (sym moves))
 none_created front (AppRm pool app key) moves = absurd (true_not_false (sym moves))
-
-pub created_made : (front : Front) (c : MapCommand) → created_by front (Map c) ≡ made_by (map_of front.history) c
-created_made front (OsdUp d) = refl
-created_made front (OsdDown d) = refl
-created_made front (OsdRestart d) = refl
-created_made front (PoolCreate name pg_num size min_size) = refl
-created_made front (AppEnable pool app) = refl
-created_made front (AppSet pool app key value) = refl
-created_made front (AppRm pool app key) = refl
 
 -- the groups of a map, after a command on a daemon
 pub stepped_moved : (front : Front) (c : MapCommand) (groups : List Group) → IsAccepted front.history → map (λ g. g.group) groups ≡ flat_map groups_of (map_of front.history).pools → moves_groups c ≡ true
@@ -185,58 +161,3 @@ refusals_moved front c groups accepted places moves =
     ∙ refusals_all event groups (subst Distinct (sym places) (places_distinct front.history accepted))
 
 -- ---- a command on the map decides nothing
-
-abbrev IsMove : group.Event → Type 0
-IsMove (group.NewInterval acting up) = Unit {0}
-IsMove (group.Restart d) = Unit {0}
-IsMove (group.Submit s) = ⊥
-IsMove (group.Deliver k) = ⊥
-IsMove (group.Lose k) = ⊥
-IsMove (group.Repeat k) = ⊥
-IsMove group.Kick = ⊥
-
-quiet : (g : Group) (e : group.Event) → IsMove e → (group_step g e).audit ≡ g.audit
-quiet g (group.NewInterval acting up) m = go (same_set acting (last_set g.sets)) (has_all_intervals g)
-  where
-    go : (b c : Bool) → (if b then with_up g up else (if c then g else begin (with_up g up) acting)).audit ≡ g.audit
-    go true c = refl
-    go false true = refl
-    go false false = refl
-quiet g (group.Restart d) m = go (is_in (last_set g.sets) d) (has_all_intervals g)
-  where
-    go : (b c : Bool)
-        → (if b then (if c then g else begin (record g { copies = map (λ x. if x.number == d then restarted x else x) g.copies }) (last_set g.sets)) else record g { copies = map (λ x. if x.number == d then restarted x else x) g.copies }).audit ≡ g.audit
-    go true true = refl
-    go true false = refl
-    go false c = refl
-quiet g (group.Submit s) m = absurd m
-quiet g (group.Deliver k) m = absurd m
-quiet g (group.Lose k) m = absurd m
-quiet g (group.Repeat k) m = absurd m
-quiet g group.Kick m = absurd m
-
-none_left : {X : Type 0} (xs : List X) → drop (length xs) xs ≡ []
-none_left [] = refl
-none_left (x ∷ xs) = none_left xs
-
-decides_none : (found : Option Group) (e : group.Event) → IsMove e → decided_in found e ≡ []
-decides_none None e m = refl
-decides_none (Some g) e m = ap (drop (length g.audit)) (quiet g e m) ∙ none_left g.audit
-
-quiet_parts : (w : World) (ps : List Part) → Each (λ p. IsMove p.event) ps → (acted w ps).audit ≡ w.audit
-quiet_parts w [] m = refl
-quiet_parts w (p ∷ ps) m =
-    quiet_parts (act w p) ps m.1 ∙ ap (λ l. w.audit ++ l) (decides_none (group_at p.id w.groups) p.event m.0) ∙ append-nil w.audit
-
-all_moves : (event : GroupId → group.Event) (ids : List GroupId) → ((id : GroupId) → IsMove (event id)) → Each (λ p. IsMove p.event) (map (λ id. part id (event id)) ids)
-all_moves event [] m = tt
-all_moves event (id ∷ ids) m = (m id, all_moves event ids m)
-
-pub map_decides_nothing : (w : World) (c : MapCommand) → (acted w (parts_of w.front (Map c))).audit ≡ w.audit
-map_decides_nothing w (OsdUp d) = quiet_parts w (parts_of w.front (Map (OsdUp d))) (all_moves (move_of (map_of w.front.history) (OsdUp d)) (flat_map groups_of (map_of w.front.history).pools) (λ id. tt))
-map_decides_nothing w (OsdDown d) = quiet_parts w (parts_of w.front (Map (OsdDown d))) (all_moves (move_of (map_of w.front.history) (OsdDown d)) (flat_map groups_of (map_of w.front.history).pools) (λ id. tt))
-map_decides_nothing w (OsdRestart d) = quiet_parts w (parts_of w.front (Map (OsdRestart d))) (all_moves (move_of (map_of w.front.history) (OsdRestart d)) (flat_map groups_of (map_of w.front.history).pools) (λ id. tt))
-map_decides_nothing w (PoolCreate name pg_num size min_size) = refl
-map_decides_nothing w (AppEnable pool app) = refl
-map_decides_nothing w (AppSet pool app key value) = refl
-map_decides_nothing w (AppRm pool app key) = refl

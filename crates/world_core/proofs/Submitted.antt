@@ -1,6 +1,5 @@
 -- Requests and lists by their ids.
-use Prim.Native.Nat.{zero, suc}
-use Rattle.std.proofs.Common.{◌≡◌, ◌∙◌, ℕ, ◌==◌, Bool, true, false, cond, List, [], ◌∷◌, ◌++◌, Option, Some, None, take, refl, sym, ap, eqb-true}
+use Rattle.std.proofs.Common.{◌≡◌, ◌∙◌, ℕ, ◌==◌, Bool, true, false, cond, List, [], ◌∷◌, ◌++◌, Option, Some, None, refl, sym, ap, eqb-true}
 use Rattle.std.specs.Option.{option_map}
 use Rattle.std.specs.List.{find}
 use Rattle.std.specs.Map.{lookup}
@@ -23,11 +22,6 @@ request_found (e ∷ es) id h = go (id == e.0) (same_turned id e.0 ∙ ap (λ k.
 pub keyed_push : (es : List (ℕ × Sealed)) (id : ℕ) (s : Sealed) → AreKeyed es → id ≡ s.id → AreKeyed (es ++ (id, s) ∷ [])
 keyed_push [] id s h is = (is, tt)
 keyed_push (e ∷ es) id s h is = (h.0, keyed_push es id s h.1 is)
-
-pub keyed_take : (n : ℕ) (es : List (ℕ × Sealed)) → AreKeyed es → AreKeyed (take n es)
-keyed_take zero es h = tt
-keyed_take (suc n) [] h = tt
-keyed_take (suc n) (e ∷ es) h = (h.0, keyed_take n es h.1)
 
 pub requests_push : (es : List (ℕ × Sealed)) (id : ℕ) (s : Sealed) → requests_in (es ++ (id, s) ∷ []) ≡ requests_in es ++ s ∷ []
 requests_push es id s = map-append (λ (e : ℕ × Sealed). e.1) es ((id, s) ∷ [])

@@ -9,7 +9,7 @@ use Rattle.group_core.specs.declared.fault.GroupFault.TheVariants as group_fault
 use Rattle.world_core.specs.Event.{Event, Deliver, Lose, Repeat, Kick, Told, Done, Fault, OutOfMemory, OfGroup}
 use Rattle.world_core.specs.Front.{told_of}
 use Rattle.world_core.specs.World.{World, counts, refusal_of, world_step}
-use Rattle.cap_text.specs.Refused.{RefusedExactly}
+use Rattle.common_types.specs.Refused.{RefusedExactly}
 use Rattle.world_core.specs.Refusing.{RefusedOrMemory}
 use Rattle.world_core.specs.declared.audit.Run.{Run}
 use Rattle.world_core.specs.declared.calls.GroupCall.{GroupCall}

@@ -1,4 +1,4 @@
--- Statement: contracts of public calls use it.
+-- Refinement: only contracts inside the crate use it.
 -- Requests that an event asks for.
 use Rattle.std.specs.Prelude.{◌≡◌, ℕ, ◌≤◌, List, [], ◌∷◌, Ok, length}
 use Rattle.object_core.specs.declared.op.Op.{Op}

@@ -1,17 +1,20 @@
 -- Statement: contracts of public calls use it.
 -- What calls on a world answer.
-use Rattle.std.specs.Prelude.{◌≡◌, ◌⊎◌, ℕ, List, Option, None, Some, if◌then◌else◌, slice_get, take}
+use Rattle.std.specs.Prelude.{◌≡◌, ◌⊎◌, ℕ, List, [], ◌∷◌, Option, None, Some, if◌then◌else◌, slice_get, take}
 use Rattle.grant_core.specs.Flat.{Table}
+use Rattle.entry_core.specs.Request.{Sealed}
 use Rattle.entry_core.specs.declared.sealed.GroupId.{GroupId}
 use Rattle.group_core.specs.Group.{Group, is_submitted}
 use Rattle.group_core.specs.Replicated.{IsReplicated}
 use Rattle.group_core.specs.Types.{EntryReply}
 use Rattle.world_core.specs.Event.{Event, Fault, NoRequest, OutOfMemory}
-use Rattle.world_core.specs.World.{World, group_at, refusal_of, world_after}
+use Rattle.world_core.specs.World.{World, first_world, group_at, refusal_of, world_after, world_step}
 use Rattle.world_core.specs.Holds.{AreAccepted, HasIntervals}
 use Rattle.world_core.specs.Standing.{HasNumbers}
 use Rattle.world_core.specs.Answers.{IsOneList, IsAnswered, answer_at}
 use Rattle.world_core.specs.Accepted.{HasRequests, FrontTells, IsServed}
+use Rattle.world_core.specs.Service.{Reaches, begun}
+use Rattle.world_core.specs.Serving.{service_of}
 
 -- why there is no answer: no such request was submitted
 abbrev pub answer_refusal : World → ℕ → Option Fault
@@ -24,6 +27,7 @@ pub record KeepsGroup (w : World) (id : GroupId) (g : Group) : Type 0 where
 
 -- what holds of every world of the program
 pub record KeepsPromises (w : World) : Type 0 where
+  pub reached : (requests : List (List Sealed)) × Reaches requests begun (service_of w)
   pub one_list : IsOneList w
   pub numbers : HasNumbers w
   pub requests : HasRequests w
@@ -32,9 +36,18 @@ pub record KeepsPromises (w : World) : Type 0 where
   pub groups : (id : GroupId) (g : Group) → group_at id w.groups ≡ Some g → KeepsGroup w id g
   pub answers : (id : ℕ) (reply : EntryReply) → answer_at w id ≡ Some reply → IsAnswered w id reply
 
--- the first event that was refused, counted from 0: those before it were accepted, and none of them was a delivery to a daemon that is down
+-- nothing refuses these events, one after another: not even a delivery is to a daemon that is down
+abbrev pub UnrefusedFrom : World → List Event → Type 0
+UnrefusedFrom w [] = Unit {0}
+UnrefusedFrom w (e ∷ es) = (refusal_of w e ≡ None) × UnrefusedFrom (world_step w e) es
+
+abbrev pub AreUnrefused : Table → ℕ → List Event → Type 0
+AreUnrefused table daemons events = UnrefusedFrom (first_world table daemons) events
+
+-- the first event that was refused, counted from 0: nothing refused those before it
 pub record IsFirstRefused (table : Table) (daemons : ℕ) (events : List Event) (place : ℕ) (fault : Fault) : Type 0 where
   pub event : Event
   pub there : slice_get events place ≡ Some event
   pub before : AreAccepted table daemons (take place events)
+  pub unrefused : AreUnrefused table daemons (take place events)
   pub refused : (fault ≡ OutOfMemory) ⊎ (refusal_of (world_after table daemons (take place events)) event ≡ Some fault)

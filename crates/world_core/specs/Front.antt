@@ -56,10 +56,10 @@ abbrev pub need : {A : Type 0} → Option A → Fault → Result A Fault
 need None fault = Err fault
 need (Some x) fault = Ok x
 
--- this fault where the test holds
-abbrev pub unless : Bool → Fault → Result (Unit {0}) Fault
-unless true fault = Err fault
-unless false fault = Ok tt
+-- refused by this fault where the test holds
+abbrev pub refuse_if : Bool → Fault → Result (Unit {0}) Fault
+refuse_if true fault = Err fault
+refuse_if false fault = Ok tt
 
 -- a refusal of a lower layer
 abbrev pub lower : {E : Type 0} → (E → Fault) → Option E → Result (Unit {0}) Fault
@@ -133,8 +133,8 @@ pub record Asker : Type 0 where
 abbrev pub asker_of : Front → Ask → Result Asker Fault
 asker_of front ask =
     session_of front.sessions ask.session >>= λ s.
-    unless (nat_lt ask.epoch s.epoch || nat_lt (epoch_of front.history) ask.epoch) StaleEpoch >>= λ _.
-    unless (nat_lt ask.tick s.tick) StaleTick >>= λ _.
+    refuse_if (nat_lt ask.epoch s.epoch || nat_lt (epoch_of front.history) ask.epoch) StaleEpoch >>= λ _.
+    refuse_if (nat_lt ask.tick s.tick) StaleTick >>= λ _.
     need (view_at front.history ask.pool ask.epoch) NoPool >>= λ view.
     Ok (record { session = s; view = view })
 
@@ -148,9 +148,13 @@ is_object_name = is_printable 1 255
 abbrev pub is_namespace : List ℕ → Bool
 is_namespace = is_printable 0 64
 
+-- the numbers of a session's requests are below this: 2 ^ 32
+abbrev pub numbers : ℕ
+numbers = 4294967296
+
 -- the id of a session's request, as one number
 abbrev pub id_of : (session number : ℕ) → ℕ
-id_of session number = session * 4294967296 + number
+id_of session number = session * numbers + number
 
 -- The request with all that it is decided by; offset counts the requests of one event. This is the one place where a request is sealed.
 abbrev pub sealed_of : Ask → Asker → Work → (group offset : ℕ) → Sealed
@@ -175,12 +179,12 @@ pieces_of ask asker = map (λ n. sealed_of ask asker Listing n n) (range_with_le
 unfoldable pub requests_of : Front → Event → Result (List Sealed) Fault
 requests_of front (Submit ask object ops) =
     asker_of front ask >>= λ asker.
-    unless (not (is_object_name object && is_namespace ask.namespace)) BadObjectName >>= λ _.
+    refuse_if (not (is_object_name object && is_namespace ask.namespace)) BadObjectName >>= λ _.
     lower OfNeeds (needs_fault ops) >>= λ _.
     Ok (vector_of ask asker object ops ∷ [])
 requests_of front (ListNames ask) =
     asker_of front ask >>= λ asker.
-    unless (not (is_namespace ask.namespace)) BadObjectName >>= λ _.
+    refuse_if (not (is_namespace ask.namespace)) BadObjectName >>= λ _.
     Ok (pieces_of ask asker)
 requests_of front e = Ok []
 

@@ -1,4 +1,4 @@
--- Refinement: only contracts inside the crate use it.
+-- Statement: contracts of public calls use it.
 -- What the fields of a world stand for.
 use Rattle.std.specs.Prelude.{◌-◌, List, take, drop, slice_get}
 use Rattle.std.specs.List.{flat_map}

@@ -1,6 +1,6 @@
 -- Statement: contracts of public calls use it.
 -- A world that is put together of parts.
-use Rattle.std.specs.Prelude.{◌≤◌, List, [], length}
+use Rattle.std.specs.Prelude.{◌≤◌, List, length, []}
 use Rattle.std.specs.List.{flat_map}
 use Rattle.entry_core.specs.Request.{Sealed}
 use Rattle.entry_core.specs.declared.entry.Entry.{Entry}
@@ -8,7 +8,6 @@ use Rattle.group_core.specs.Group.{Group}
 use Rattle.world_core.specs.Front.{Front}
 use Rattle.world_core.specs.World.{World}
 use Rattle.world_core.specs.Sound.{IsSound}
-use Rattle.world_core.specs.Submitting.{AreNew}
 use Rattle.world_core.specs.declared.world.parts.WorldParts.{WorldParts}
 
 -- the requests of groups, group by group
@@ -25,9 +24,8 @@ front_of p = record { database = p.users; history = p.map; sessions = p.sessions
 abbrev pub put_together : WorldParts → World
 put_together p = record { front = front_of p; groups = p.groups.items; audit = decided_of p.groups.items }
 
--- The parts are of one world: what holds of every world holds of the one that they make, no number of a request was given
--- twice, and there are no more requests than a world has.
+-- The parts are of one world: what holds of every world holds of the one that they make, and there are no more requests than a
+-- world has.
 pub record FitTogether (p : WorldParts) : Type 0 where
   pub sound : IsSound (put_together p)
-  pub new : AreNew [] (requests_of p.groups.items)
   pub few : length (requests_of p.groups.items) ≤ 67108928

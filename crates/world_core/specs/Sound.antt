@@ -1,6 +1,6 @@
 -- Statement: contracts of public calls use it.
 -- What holds of every world of the program: facts of its front, of its groups and of its runs, and of no history of events.
-use Rattle.std.specs.Prelude.{◌≡◌, ℕ, ◌<◌, ◌≤◌, List, Some, length, map, slice_get}
+use Rattle.std.specs.Prelude.{◌≡◌, ℕ, ◌<◌, ◌≤◌, List, [], Some, length, map, slice_get}
 use Rattle.std.specs.List.{filter, flat_map}
 use Rattle.place_core.specs.Placement.{numbers_of}
 use Rattle.map_core.specs.State.{History}
@@ -13,7 +13,7 @@ use Rattle.entry_core.specs.declared.sealed.GroupId.{GroupId}
 use Rattle.group_core.specs.Each.{Each}
 use Rattle.group_core.specs.Asked.{IsAsked}
 use Rattle.group_core.specs.Group.{Group, Event, Submit, Deliver, Lose, Repeat, NewInterval, Restart, Kick, last_set, run, start}
-use Rattle.group_core.specs.Laws.{IsReachedWithin}
+use Rattle.group_core.specs.Within.{IsReachedWithin}
 use Rattle.world_core.specs.Groups.{is_for}
 use Rattle.world_core.specs.Front.{Front}
 use Rattle.world_core.specs.World.{World, group_at, groups_of}
@@ -21,6 +21,7 @@ use Rattle.world_core.specs.Standing.{audit_in, IsMerged}
 use Rattle.world_core.specs.Stands.{InMap, IsSealedWell, FrontStands}
 use Rattle.world_core.specs.declared.audit.Run.{Run}
 use Rattle.world_core.specs.Inside.{world_of}
+use Rattle.world_core.specs.Submitting.{AreNew}
 
 -- ---- the front
 
@@ -95,6 +96,7 @@ pub record IsSound (w : World) : Type 0 where
   pub stands : WorldStands w
   pub kept : WorldKept w
   pub places : HasGroups w
+  pub new : AreNew [] w.front.submissions
 
 -- the run is of a group that is there, and within what was decided in it
 pub record FitsAt (groups : List Group) (run : Run) : Type 0 where

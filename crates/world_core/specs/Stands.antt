@@ -1,6 +1,6 @@
 -- Statement: contracts of public calls use it.
 -- What every front keeps: each request was sealed well, under a number of a session that was given once.
-use Rattle.std.specs.Prelude.{◌≡◌, ℕ, ◌+◌, ◌-◌, ◌*◌, ◌<◌, ◌≤◌, List, Option, Some, None, true, length, slice_get, is_some}
+use Rattle.std.specs.Prelude.{◌≡◌, ℕ, ◌+◌, ◌-◌, ◌<◌, ◌≤◌, List, Option, Some, None, true, length, slice_get, is_some}
 use Rattle.map_core.specs.State.{History}
 use Rattle.map_core.specs.Laws.{HasPool}
 use Rattle.entry_core.specs.Request.{Sealed}
@@ -8,7 +8,7 @@ use Rattle.entry_core.specs.Locality.{Hashes}
 use Rattle.group_core.specs.Each.{Each}
 use Rattle.group_core.specs.Group.{submitted}
 use Rattle.group_core.specs.Asked.{IsAsked}
-use Rattle.world_core.specs.Front.{Session, Front}
+use Rattle.world_core.specs.Front.{Session, Front, id_of}
 
 -- ---- numbers
 
@@ -24,7 +24,7 @@ next_at sessions n = next_in (slice_get sessions (n - 1))
 pub record IsGiven (sessions : List Session) (id : ℕ) : Type 0 where
   pub session : ℕ
   pub number : ℕ
-  pub is : id ≡ session * 4294967296 + number
+  pub is : id ≡ id_of session number
   pub past : number < next_at sessions session
 
 -- ---- pools

@@ -12,7 +12,7 @@ ghost use Rattle.world_core.specs.Refusing as refusing;
 
 use crate::fault::WorldFault;
 use crate::session::Session;
-use cap_text::Name;
+use common_types::Name;
 use map_core::{ClusterMap, Epoch, MapFault, PoolView};
 
 /// Who asks, and the pool as the asker saw it.

@@ -4,7 +4,7 @@ ghost use Rattle.std.specs.Prelude.{◌≡◌, IfOk};
 
 use crate::ops::Ops;
 use auth_db::Caps;
-use cap_text::{Name, OutOfMemory};
+use common_types::{Name, OutOfMemory};
 use entry_core::{GroupId, Id, TryCopy};
 use map_core::{Epoch, MapCommand};
 

@@ -1,7 +1,7 @@
 //! The printed form of a fault.
 
 ghost use Rattle.std.specs.Prelude.{Some};
-ghost use Rattle.world_core.specs.Text.{fault_text};
+ghost use Rattle.world_core.specs.Printed.{fault_text};
 
 use crate::fault::WorldFault;
 use std::fmt;

@@ -22,7 +22,7 @@ use crate::session::{Pieced, Session, Sessions};
 use crate::submissions::Submissions;
 use crate::users::{change_users, check_user, ticket_for};
 use auth_db::AuthDb;
-use cap_text::{Name, OutOfMemory};
+use common_types::{Name, OutOfMemory};
 use entry_core::{Id, Items, Sealed};
 use grant_core::ProfileTable;
 use map_core::{ClusterMap, MapCommand};

@@ -1,13 +1,11 @@
 //! Where a group stands among the groups of the world.
 
-ghost use Rattle.std.specs.Prelude.{◌≡◌, ◌≤◌, List, All, length, IfOk, None, option_copied};
+ghost use Rattle.std.specs.Prelude.{◌≡◌, ◌≤◌, List, All, length, IfOk};
 ghost use Rattle.std.specs.Option.{option_map};
 ghost use Rattle.entry_core.specs.Locality.{group_for};
 ghost use Rattle.group_core.specs.Group.{Group};
 ghost use Rattle.map_core.specs.Limits.{IsPool};
-ghost use Rattle.map_core.specs.Map.{pool_in};
-ghost use Rattle.map_core.specs.Refusal.{first_of, acting_tests, acting_refusal};
-ghost use Rattle.map_core.specs.Refusal as map_tests;
+ghost use Rattle.map_core.specs.Refusal.{acting_refusal};
 ghost use Rattle.world_core.specs.Event.{OfMap};
 ghost use Rattle.world_core.specs.Front.{error_of};
 ghost use Rattle.world_core.specs.Moves.{AreGroupsOf, IsAt};
@@ -15,9 +13,9 @@ ghost use Rattle.world_core.specs.Moves as spec;
 ghost use Rattle.world_core.specs.Sound.{IsSealedFor};
 
 use crate::fault::WorldFault;
-use cap_text::{Name, are_word_bytes};
+use common_types::Name;
 use entry_core::{GroupId, Sealed};
-use map_core::{ClusterMap, MapFault, Pool};
+use map_core::{ClusterMap, Pool};
 
 /// The place of a group among the groups of a map's pools: as many as the earlier pools have, and its number. It takes no
 /// memory, and a step for each pool, of which there are at most 32.
@@ -29,7 +27,7 @@ pub fn place_of(map: &ClusterMap, group: &GroupId) -> Result<usize, WorldFault>
 {
     let _epoch = map.epoch();
     let pools = map.pools();
-    match refusal(pools, group) {
+    match map.acting_refusal(&group.pool, group.number) {
         Some(fault) => Err(WorldFault::Map(fault)),
         None => Ok(place_in(pools, &group.pool, group.number)),
     }
@@ -44,50 +42,6 @@ pub(crate) fn place_of_request(map: &ClusterMap, request: &Sealed) -> usize
     let _epoch = map.epoch();
     let pools = map.pools();
     place_for(pools, request)
-}
-
-/// Why a group has no place.
-fn refusal(pools: &[Pool], group: &GroupId) -> Option<MapFault>
-    ensures { result ≡ first_of (acting_tests pools.now group.now.pool group.now.number) }
-{
-    if !is_word(&group.pool) {
-        return Some(MapFault::BadName);
-    }
-    if pool_of(pools, group).is_none() {
-        return Some(MapFault::NoPool);
-    }
-    if group.number >= groups_in(pools, group) {
-        return Some(MapFault::NoGroup);
-    }
-    None
-}
-
-/// How many groups the pool of a group has.
-#[tactic(auto, unfolding(map_core::specs::Refusal::groups_in))]
-fn groups_in(pools: &[Pool], group: &GroupId) -> u32
-    ensures { result ≡ map_tests.groups_in pools.now group.now.pool }
-{
-    match pool_of(pools, group) {
-        Some(pool) => pool.pg_num,
-        None => 0,
-    }
-}
-
-/// The pool of a group.
-#[tactic(auto, unfolding(map_core::specs::Map::pool_in))]
-fn pool_of<'a>(pools: &'a [Pool], group: &GroupId) -> Option<&'a Pool>
-    ensures { option_copied result ≡ pool_in pools.now group.now.pool }
-{
-    pools.iter().find(|pool| pool.name.equals(&group.pool))
-}
-
-/// Whether it is a pool's name: 1 to 64 letters, digits, `_`, `.`, `/` or `-`.
-#[tactic(auto, unfolding(map_core::specs::Refusal::is_word))]
-fn is_word(name: &Name) -> bool
-    ensures { result ≡ map_tests.is_word name.now }
-{
-    let bytes = name.as_str().as_bytes();
-    bytes.len() >= 1 && bytes.len() <= 64 && are_word_bytes(bytes)
 }
 
 /// How many groups the pools before the one of a name have, and a group's number there.

@@ -1,6 +1,7 @@
 //! The answers of a list's pieces, put together.
 
 ghost use Rattle.std.specs.Prelude.{◌≡◌, ◌+◌, ◌<◌, ◌%◌, [], None, IfOk, OnOk};
+ghost use Rattle.world_core.specs.Front.{numbers};
 ghost use Rattle.world_core.specs.Answers.{answer_at};
 ghost use Rattle.world_core.specs.Joining.{reply_of, with_reply};
 ghost use Rattle.world_core.specs.Listing.{listing_of};
@@ -58,7 +59,7 @@ impl Joined {
 
 /// The id of a piece of a list, counted from 0.
 fn piece_id(first: Id, place: u32) -> Id
-    requires { first % 4294967296 + place < 4294967296 }
+    requires { first % numbers + place < numbers }
     ensures { result ≡ first + place }
 {
     Id::new(first.session(), first.number() + place)

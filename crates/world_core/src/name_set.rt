@@ -5,7 +5,7 @@ ghost use Rattle.std.specs.BTreeSet.{insert_key};
 ghost use Rattle.world_core.specs.Joining.{with_names};
 ghost use Rattle.entry_core.specs.Store.{bytes_cmp};
 
-use cap_text::Name;
+use common_types::Name;
 use entry_core::{Items, OutOfMemory};
 use std::alloc::Global;
 use std::collections::BTreeSet;

@@ -1,6 +1,6 @@
 //! Vectors of operations.
 
-use cap_text::Items;
+use common_types::Items;
 use object_core::Op;
 
 /// The operations of a vector, in order, which contracts see as their list.

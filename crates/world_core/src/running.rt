@@ -2,7 +2,10 @@
 
 ghost use Rattle.std.specs.Prelude.{◌≡◌, ◌≤◌, ◌⊎◌, IfOk, IfErr};
 ghost use Rattle.world_core.specs.Holds.{AreAccepted, Holds};
-ghost use Rattle.world_core.specs.Calls.{IsFirstRefused};
+ghost use Rattle.world_core.specs.Front.{first_front};
+ghost use Rattle.world_core.specs.Service.{Reaches, begun};
+ghost use Rattle.world_core.specs.Serving.{service_of, submitted_through};
+ghost use Rattle.world_core.specs.Calls.{AreUnrefused, IsFirstRefused};
 
 use crate::event::Event;
 use crate::fault::WorldFault;
@@ -23,6 +26,8 @@ pub fn run(
     requires few { daemons ≤ 16 }
     ensures holds { IfOk result (λ world. Holds table daemons events.now world) }
     ensures accepted { IfOk result (λ world. AreAccepted table daemons events.now) }
+    ensures unrefused { IfOk result (λ world. AreUnrefused table daemons events.now) }
+    ensures serves { IfOk result (λ world. Reaches (submitted_through (first_front table daemons) events.now) begun (service_of world)) }
     ensures refused { IfErr result (λ stop. IsFirstRefused table daemons events.now stop.0 stop.1) }
 {
     let mut world = match World::new(alloc, table, daemons) {

@@ -6,14 +6,14 @@ ghost use Rattle.object_core.specs.Needs.{needs_fault};
 ghost use Rattle.entry_core.specs.Request.{Listing};
 ghost use Rattle.world_core.specs.Event.{OfNeeds};
 ghost use Rattle.world_core.specs.Refusing.{RefusedOrMemory};
-ghost use Rattle.world_core.specs.Front.{pieces_of, sealed_of, vector_of};
+ghost use Rattle.world_core.specs.Front.{numbers, pieces_of, sealed_of, vector_of};
 
 use crate::asking::Asker;
 use crate::event::Ask;
 use crate::fault::WorldFault;
 use crate::ops::Ops;
 use crate::session::Session;
-use cap_text::Name;
+use common_types::Name;
 use entry_core::{Id, Items, OutOfMemory, Sealed};
 use map_core::PoolView;
 use place_core::group_of;
@@ -56,7 +56,7 @@ pub fn seal_piece(
     offset: u32,
 ) -> Result<Sealed, OutOfMemory>
     requires groups { 1 ≤ view.now.pg_num }
-    requires room { session.now.next + offset < 4294967296 }
+    requires room { session.now.next + offset < numbers }
     ensures { IfOk result (λ s. s ≡ sealed_of ask.now (record { session = session.now; view = view.now }) Listing group offset) }
 {
     let id = Id::new(ask.session, session.next + offset);
@@ -73,7 +73,7 @@ pub(crate) fn seal_pieces(
     asker: &Asker<'_>,
 ) -> Result<Items<Sealed>, OutOfMemory>
     requires groups { 1 ≤ asker.now.view.pg_num }
-    requires room { asker.now.session.now.next + asker.now.view.pg_num < 4294967296 }
+    requires room { asker.now.session.now.next + asker.now.view.pg_num < numbers }
     ensures { IfOk result (λ all. all ≡ pieces_of ask.now (record { session = asker.now.session.now; view = asker.now.view })) }
 {
     let mut all = Items::new(alloc);

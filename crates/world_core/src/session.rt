@@ -1,13 +1,13 @@
 //! Sessions of users.
 
 ghost use Rattle.std.specs.Prelude.{◌≡◌, ◌<◌, ◌≤◌, ◌+◌, ◌++◌, ℕ, [], ◌∷◌, Ok, true, OnOk, OnErr, IfOk, length};
-ghost use Rattle.world_core.specs.Front.{asks_more, error_of, opened, session_at, session_of};
+ghost use Rattle.world_core.specs.Front.{asks_more, error_of, numbers, opened, session_at, session_of};
 ghost use Rattle.world_core.specs.Front as spec;
-ghost use Rattle.cap_text.specs.Refused.{RefusedExactly};
+ghost use Rattle.common_types.specs.Refused.{RefusedExactly};
 
 use crate::event::Ask;
 use crate::fault::WorldFault;
-use cap_text::Name;
+use common_types::Name;
 use entry_core::{Id, OutOfMemory};
 use map_core::Epoch;
 use std::alloc::Global;
@@ -31,9 +31,10 @@ pub struct Session {
 
 /// The requests of one list: consecutive numbers.
 #[derive(Clone, Copy, Drop)]
-pub(crate) struct Pieced {
-    pub(crate) first: Id,
-    pub(crate) count: u32,
+pub struct Pieced {
+    /// The first of them.
+    pub first: Id,
+    pub count: u32,
 }
 
 impl Session {
@@ -153,7 +154,7 @@ impl Sessions {
 
     /// The open session of the asker has asked for so many requests more. Without one, nothing changes.
     pub fn ask(&mut self, ask: &Ask, count: u32)
-        requires room { (s : spec.Session) → session_of self.old ask.now.session ≡ Ok s → s.next + count < 4294967296 }
+        requires room { (s : spec.Session) → session_of self.old ask.now.session ≡ Ok s → s.next + count < numbers }
         ensures { self.new ≡ session_at self.old ask.now.session (asks_more ask.now count) }
     {
         if self.find(ask.session).is_err() {

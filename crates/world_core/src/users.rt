@@ -7,13 +7,13 @@ ghost use Rattle.auth_db.specs.Users.{after};
 ghost use Rattle.world_core.specs.Event.{Add, GetOrCreate, SetCaps, Delete, OfUsers};
 ghost use Rattle.world_core.specs.Front.{command_of, told_auth};
 ghost use Rattle.world_core.specs.Front as spec;
-ghost use Rattle.cap_text.specs.Refused.{RefusedExactly};
+ghost use Rattle.common_types.specs.Refused.{RefusedExactly};
 ghost use Rattle.world_core.specs.Refusing.{RefusedOrMemory};
 
 use crate::event::{AuthCommand, Told};
 use crate::fault::WorldFault;
 use auth_db::{AuthDb, Caps, Creation};
-use cap_text::Name;
+use common_types::Name;
 use verdict_core::SharedTicket;
 
 /// Carries out a command on the users.

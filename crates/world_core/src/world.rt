@@ -8,9 +8,11 @@ ghost use Rattle.world_core.specs.Event as events;
 ghost use Rattle.world_core.specs.Front.{told_of, group_refusal};
 ghost use Rattle.world_core.specs.World.{first_world, world_step, refusal_of, counts, group_at};
 ghost use Rattle.world_core.specs.Holds.{Holds};
-ghost use Rattle.cap_text.specs.Refused.{RefusedExactly};
+ghost use Rattle.common_types.specs.Refused.{RefusedExactly};
 ghost use Rattle.world_core.specs.Refusing.{RefusedOrMemory};
 ghost use Rattle.world_core.specs.Calls.{KeepsPromises};
+ghost use Rattle.world_core.specs.Service.{Step, begun};
+ghost use Rattle.world_core.specs.Serving.{service_of, submitted_by};
 
 mod answers;
 mod parts;
@@ -25,7 +27,7 @@ use crate::moves::apply_map;
 use crate::ops::Ops;
 use crate::taking::{take_back_all, take_requests};
 use auth_db::AuthDb;
-use cap_text::Name;
+use common_types::Name;
 use entry_core::{Entry, GroupId, OutOfMemory};
 use grant_core::ProfileTable;
 use group_core::Group;
@@ -65,7 +67,8 @@ impl World {
     pub fn new(alloc: Global, table: ProfileTable, daemons: u8) -> Result<World, WorldFault>
         requires some { 1 ≤ daemons }
         requires few { daemons ≤ 16 }
-        ensures { IsOkAnd result (λ world. world ≡ first_world table daemons) }
+        ensures made { IsOkAnd result (λ world. world ≡ first_world table daemons) }
+        ensures begins { IsOkAnd result (λ world. service_of world ≡ begun) }
     {
         Ok(World {
             front: Front::new(alloc, table, daemons),
@@ -83,6 +86,7 @@ impl World {
     pub fn apply(&mut self, event: Event) -> Result<Told, WorldFault>
         ensures holds { (table : Table) (daemons : ℕ) (before : List events.Event) → Holds table daemons before self.old → counts event result ≡ true
             → Holds table daemons (before ++ event ∷ []) self.new }
+        ensures serves { Step (submitted_by self.old.front event result) (service_of self.old) (service_of self.new) }
         ensures steps { counts event result ≡ true → self.new ≡ world_step self.old event }
         ensures tells { IfOk result (λ told. told ≡ told_of self.old.front event) }
         ensures refused { RefusedOrMemory (refusal_of self.old event) result }
@@ -95,7 +99,7 @@ impl World {
 
     /// A copy of the decided entries of all groups, in the order in which they were decided.
     pub fn audit(&self) -> Result<Vec<Entry>, OutOfMemory>
-        ensures { IfOk result (λ entries. entries.items ≡ self.now.audit) }
+        ensures { IfOk result (λ entries. entries.items ≡ (service_of self.now).decided) }
     {
         let _front = &self.front;
         let alloc = *self.groups.allocator();
@@ -153,7 +157,7 @@ impl World {
         self.front.map()
     }
 
-    /// What holds of every world, whatever was done to it: what was decided is one legal list of requests that were submitted,
+    /// What holds of every world, whatever was done to it: the service reaches it from its beginning; what was decided is one legal list of requests that were submitted,
     /// made of the groups' own lists; each answer is what one store gives at its place; each group's requests are the
     /// submissions for it, and its sets the map's intervals; what was decided in it is replicated.
     pub fn keeps_promises(&self)

@@ -4,7 +4,7 @@ ghost use Rattle.std.specs.Prelude.{◌≤◌};
 
 use super::requests::{May, Work, request};
 use super::sets::{self, Who, set};
-use cap_text::Name;
+use common_types::Name;
 use entry_core::{GroupId, Id, OutOfMemory, Reply, Sealed};
 use group_core::{Group, GroupFault};
 use object_core::NeedsFault;

@@ -3,10 +3,11 @@
 ghost use Rattle.std.specs.Prelude.{◌≡◌, ◌+◌, ◌<◌, ◌%◌, IfOk, IfSome, Ok, option_copied};
 ghost use Rattle.world_core.specs.Answers.{answer_at};
 ghost use Rattle.world_core.specs.Calls.{answer_refusal};
-ghost use Rattle.world_core.specs.Front.{error_of};
+ghost use Rattle.world_core.specs.Front.{error_of, numbers};
 ghost use Rattle.world_core.specs.Listing.{listing_at};
-ghost use Rattle.cap_text.specs.Refused.{RefusedExactly};
+ghost use Rattle.common_types.specs.Refused.{RefusedExactly};
 ghost use Rattle.world_core.specs.Refusing.{RefusedOrMemory};
+ghost use Rattle.world_core.specs.Serving.{service_of};
 
 use crate::fault::WorldFault;
 use crate::group_places::place_of_request;
@@ -20,7 +21,7 @@ impl World {
     /// W5 where no request of this id was submitted. The request and the reply are found by hash, the group in a step for each
     /// pool. It takes no memory.
     pub fn answer(&self, id: Id) -> Result<Option<&Reply>, WorldFault>
-        ensures answer { IfOk result (λ reply. option_copied reply ≡ answer_at self.now id) }
+        ensures answer { IfOk result (λ reply. option_copied reply ≡ (service_of self.now).answers id) }
         ensures refused { RefusedExactly (answer_refusal self.now id) result }
     {
         let _runs = &self.runs;
@@ -36,7 +37,7 @@ impl World {
     /// The reply to the request of an id, if it was submitted and answered. The next number is an id's too.
     pub(crate) fn reply_to(&self, id: Id) -> Option<&Reply>
         ensures reply { option_copied result ≡ answer_at self.now id }
-        ensures low { IfSome result (λ _. id % 4294967296 + 1 < 4294967296) }
+        ensures low { IfSome result (λ _. id % numbers + 1 < numbers) }
     {
         let _front = &self.front;
         let _groups = &self.groups;

@@ -1,13 +1,16 @@
 use Rattle.std.proofs.Common.{◌<◌, map, arith, refl, subst}
 use Rattle.map_core.specs.Limits.{IsAccepted}
 use Rattle.world_core.specs.declared.world.parts.WorldParts.{WorldParts}
-use Rattle.world_core.proofs.Together.{fit_together}
+use Rattle.world_laws.proofs.Together.{fit_together}
 use Rattle.cluster.specs.declared.cluster.Seats.{Seats}
-use Rattle.cluster.specs.Passes.{Gathers, Closed}
-use Rattle.cluster.specs.Ends.{seats_of}
-use Rattle.cluster.proofs.Begun.{in_step_long}
+use Rattle.cluster.specs.Passes.{AreSeatsOf, Gathers, Closed}
+use Rattle.cluster.specs.Asks.{IsPassOf, seats_of}
+use Rattle.cluster.proofs.Begun.{all_are, in_step_long}
 use Rattle.cluster.proofs.Ending.{ran_apart}
 use Rattle.cluster.proofs.closing.end_all.Goals as goal
+
+pub gather-all-requires-clause-passes : goal.gather-all-requires-clause-passes
+gather-all-requires-clause-passes g c = all_are (IsPassOf c.args.cluster) (λ pass. AreSeatsOf c.args.cluster pass.seats) c.args.passes.items (λ pass h. h.seats.0) c.requires.passes
 
 pub unlock-requires : goal.unlock-requires
 unlock-requires g c =

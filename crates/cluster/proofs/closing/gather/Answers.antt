@@ -2,7 +2,7 @@ use Rattle.std.proofs.Common.{◌≡◌, [], ◌∷◌, ◌++◌, List, map, sym
 use Rattle.std.proofs.lemmas.List.{map-append}
 use Rattle.cluster.specs.declared.cluster.Seats.{Seats}
 use Rattle.cluster.specs.Passes.{Gathers}
-use Rattle.cluster.specs.Ends.{seats_of}
+use Rattle.cluster.specs.Asks.{seats_of}
 use Rattle.cluster.proofs.Gathering.{gathers_more}
 use Rattle.cluster.proofs.closing.gather.Goals as goal
 

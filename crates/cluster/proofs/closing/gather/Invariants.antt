@@ -1,6 +1,6 @@
 use Rattle.std.proofs.Common.{map}
 use Rattle.cluster.specs.Passes.{AreSeatsOf, Gathers}
-use Rattle.cluster.specs.Ends.{seats_of}
+use Rattle.cluster.specs.Asks.{seats_of}
 use Rattle.cluster.proofs.closing.gather.Given as goal
 
 abbrev pub invariant-loop-pass : goal.invariant-loop-pass

@@ -1,4 +1,4 @@
-use Rattle.std.proofs.Common.{Some, refl, rules}
+use Rattle.std.proofs.Common.{refl, rules}
 use Rattle.cluster.proofs.FirstPasses.{first_pass}
 use Rattle.cluster.proofs.starting.pass_with.Goals as goal
 
@@ -6,8 +6,8 @@ pub returns-in-Ok-clause-pass : goal.returns-in-Ok-clause-pass
 returns-in-Ok-clause-pass c =
     let own = c.requires.monitor in
     let none = c.new.ensures.items in (
-      first_pass c.args.cluster.now c.args.monitor.now (record { seats = c.args.seats; reader = Some c.in-Ok.news.reader; sessions = c.new.result }) c.requires.begun c.requires.fresh own.0 own.1 c.requires.follows.0
-          (search rules) c.in-Ok.ensures.told none,
+      first_pass c.args.cluster.now c.args.monitor.now (record { seats = c.args.seats; reader = c.into_reader.result; sessions = c.new.result }) c.requires.begun c.requires.fresh own.0 own.1 c.requires.follows.0
+          (search rules) none,
       refl,
       none,
     )

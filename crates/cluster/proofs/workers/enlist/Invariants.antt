@@ -1,6 +1,6 @@
 use Rattle.std.proofs.Common.{◌≡◌, ◌≤◌, map, vec_len}
 use Rattle.std.specs.Vec.{vec_capacity}
-use Rattle.cluster.specs.Works.{pass_of}
+use Rattle.cluster.specs.Workers.{pass_of}
 use Rattle.cluster.proofs.workers.enlist.Given as goal
 
 abbrev pub invariant-loop-pass : goal.invariant-loop-pass

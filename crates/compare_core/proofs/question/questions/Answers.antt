@@ -7,5 +7,5 @@ use Rattle.compare_core.proofs.question.questions.Goals as goal
 pub returns : goal.returns
 returns c =
     ok_also c.needs_with.result
-    (λ asked is. enough_questions asked.items c.in_ok-registry.field-0 (is ∙ ap spec.questions c.as_slice-2.ensures) c.in_ok-registry.ensures.known c.in_ok-registry.ensures.whole)
+    (λ asked is. enough_questions c.args.registry c.args.grant.now c.args.old.now.grants asked.items c.in_ok-calls_for.field-0 (is ∙ ap spec.questions c.as_slice-2.ensures) c.in_ok-calls_for.ensures)
     c.needs_with.ensures

@@ -4,4 +4,4 @@ use Rattle.gate_text.proofs.compare_auth.new_told.Given as goal
 
 -- what is told of the entities so far
 abbrev pub invariant-loop-entity : goal.invariant-loop-entity
-invariant-loop-entity l = AreAllTold (IsNewTold l.old l.check) (take l.entity-index l.new) (string_bytes l.printed.text) l.printed.fails
+invariant-loop-entity l = AreAllTold (IsNewTold l.how l.old) (take l.entity-index l.new) (string_bytes l.printed.text) l.printed.fails

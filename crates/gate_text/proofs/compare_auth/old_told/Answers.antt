@@ -5,9 +5,9 @@ use Rattle.gate_text.proofs.compare_auth.old_told.Goals as goal
 
 pub loop-entity-preserved : goal.loop-entity-preserved
 loop-entity-preserved c =
-    next_told (IsOldTold c.args.new.now c.args.check) c.args.old.now c.loop-entity.entity-index c.entity-item.result _ _ _ _ _ _ (omega arith) c.entity-item.is c.loop-entity.invariant
+    next_told (IsOldTold c.args.how c.args.new.now) c.args.old.now c.loop-entity.entity-index c.entity-item.result _ _ _ _ _ _ (omega arith) c.entity-item.is c.loop-entity.invariant
     c.in_ok-told.ensures c.in_ok-push_told.ensures.text c.in_ok-push_told.ensures.fails
 
 pub returns : goal.returns
 returns c =
-    told_whole (IsOldTold c.args.new.now c.args.check) c.args.old.now c.loop-entity.entity-index _ _ c.loop-entity-test.false c.loop-entity.invariant
+    told_whole (IsOldTold c.args.how c.args.new.now) c.args.old.now c.loop-entity.entity-index _ _ c.loop-entity-test.false c.loop-entity.invariant

@@ -1,6 +1,6 @@
 use Rattle.std.proofs.Common.{◌≡◌, ◌++◌, string_bytes, drop}
 use Rattle.std.specs.List.{flat_map}
-use Rattle.gate_text.specs.Request.{call_words}
+use Rattle.gate_text.specs.Calls.{call_words}
 use Rattle.gate_text.proofs.request.push_calls.Given as goal
 
 -- what is written, and what the rest gives, is the whole

@@ -1,6 +1,6 @@
 use Rattle.std.proofs.Common.{rules, sym, ap, ◌∙◌, ◌++◌, string_bytes}
 use Rattle.std.specs.List.{flat_map}
-use Rattle.gate_text.specs.Request.{quoted_byte}
+use Rattle.gate_text.specs.Words.{quoted_byte}
 use Rattle.gate_text.proofs.Quotes.{found_quote, no_quote_left, quote_written, rest_written}
 use Rattle.gate_text.proofs.request.push_inside.Goals as goal
 

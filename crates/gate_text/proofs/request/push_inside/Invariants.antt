@@ -2,7 +2,7 @@ use Rattle.std.proofs.Common.{◌≡◌, ◌++◌, string_bytes, length}
 use denote.Text.{Utf8}
 use denote.Shadow.{shadow}
 use Rattle.std.specs.List.{flat_map}
-use Rattle.gate_text.specs.Request.{quoted_byte}
+use Rattle.gate_text.specs.Words.{quoted_byte}
 use Rattle.gate_text.proofs.request.push_inside.Given as goal
 
 -- what is written, and what the rest gives, is the whole

@@ -2,7 +2,8 @@ use Rattle.std.proofs.Common.{◌≡◌, ℕ, List, Result, Ok, Err, IfOk, Strin
 use Rattle.std.specs.declared.alloc.Global.{Global}
 use Rattle.gate_text.specs.declared.verdict.Verdict.{Verdict}
 use Rattle.gate_text.specs.declared.verdict.VerdictFault.{VerdictFault}
-use Rattle.gate_text.specs.Answer.{Asked, IsAnswer, IsVerdictText}
+use Rattle.gate_text.specs.Answer.{IsAnswer, IsVerdictText}
+use Rattle.gate_text.specs.Asked.{Asked}
 use Rattle.gate_text.specs.Text.{answer_text}
 use Rattle.gate_text.proofs.verdict.verdict_text.Goals as goal
 

@@ -1,12 +1,13 @@
-use Rattle.std.proofs.Common.{arith, None, subst, ap, ◌∙◌, ◌++◌, string_bytes}
-use Rattle.gate_text.specs.Answer.{Asked, IsAnswer}
+use Rattle.std.proofs.Common.{arith, subst, ap, ◌∙◌, ◌++◌, string_bytes}
+use Rattle.gate_text.specs.Answer.{IsAnswer}
+use Rattle.gate_text.specs.Asked.{Asked}
 use Rattle.gate_text.specs.Who.{told}
 use Rattle.gate_text.proofs.Told.{next_told, told_whole}
 use Rattle.gate_text.proofs.who.told_text.Goals as goal
 
 pub loop-entity-preserved : goal.loop-entity-preserved
 loop-entity-preserved c =
-    let asked : Asked = record { target = c.args.target.now; reads = c.args.reads; writes = c.args.writes; calls = c.args.calls.now; until = None; tick = 0 } in
+    let asked : Asked = c.args.asked.now in
     next_told c.args.all asked c.args.entities.now c.loop-entity.entity-index c.entity-item.result _ _ _ (omega arith) c.entity-item.is c.loop-entity.invariant
     (subst (λ osd. IsAnswer osd asked c.in_ok-answer.answer) c.as_str.ensures.value c.in_ok-answer.ensures)
     (c.in_ok-push_told.ensures ∙ ap (λ name. string_bytes c.loop-entity.text ++ told c.args.all name c.in_ok-answer.answer) c.as_str-in-loop-entity.ensures.value)

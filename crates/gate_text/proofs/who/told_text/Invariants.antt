@@ -1,8 +1,8 @@
-use Rattle.std.proofs.Common.{None, string_bytes, take}
+use Rattle.std.proofs.Common.{string_bytes, take}
 use Rattle.gate_text.specs.Who.{AreTold}
 use Rattle.gate_text.proofs.who.told_text.Given as goal
 
 -- what is told of the entities so far
 abbrev pub invariant-loop-entity : goal.invariant-loop-entity
 invariant-loop-entity l =
-    AreTold l.all (record { target = l.target; reads = l.reads; writes = l.writes; calls = l.calls; until = None; tick = 0 }) (take l.entity-index l.entities) (string_bytes l.text)
+    AreTold l.all l.asked (take l.entity-index l.entities) (string_bytes l.text)

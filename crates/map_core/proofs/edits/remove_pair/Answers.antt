@@ -1,5 +1,5 @@
 use Rattle.std.proofs.Common.{sym, ◌∙◌, ap, set, position}
-use Rattle.cap_text.specs.declared.tags.AppTags.{AppTags}
+use Rattle.common_types.specs.declared.tags.AppTags.{AppTags}
 use Rattle.map_core.specs.Map.{is_app, without_pair}
 use Rattle.map_core.proofs.FirstPlaces.{change_first_at, change_first_none}
 use Rattle.map_core.proofs.edits.remove_pair.Goals as goal

@@ -1,5 +1,5 @@
-use Rattle.cluster.specs.Monitors.{IsMonitorOf, Follows}
+use Rattle.cluster.specs.Monitors.{IsMonitorOf, FollowsStart}
 use Rattle.workload.proofs.moving.move_often.Given as goal
 
 abbrev pub invariant-loop-time : goal.invariant-loop-time
-invariant-loop-time g l = IsMonitorOf l.cluster l.monitor × Follows l.cluster.start l.monitor
+invariant-loop-time g l = IsMonitorOf l.cluster l.monitor × FollowsStart l.cluster l.monitor

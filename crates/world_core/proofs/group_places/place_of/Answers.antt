@@ -11,8 +11,7 @@ place_in-requires-clause-few c = subst (λ l. length l ≤ 32) (sym c.pools-pool
 
 pub returns-in-None-clause-place : goal.returns-in-None-clause-place
 returns-in-None-clause-place c = λ groups are.
-    let none : first_of (acting_tests (map_of c.args.map.now).pools c.args.group.now.pool c.args.group.now.number) ≡ None =
-    ap (λ l. first_of (acting_tests l c.args.group.now.pool c.args.group.now.number)) (sym c.pools-pools.ensures.value) ∙ sym c.in-None.ensures in
+    let none : first_of (acting_tests (map_of c.args.map.now).pools c.args.group.now.pool c.args.group.now.number) ≡ None = sym c.in-None.ensures in
     let e : place_in (map_of c.args.map.now).pools c.args.group.now ≡ c.place_in.result =
     ap (λ l. place_in l c.args.group.now) (sym c.pools-pools.ensures.value) ∙ sym c.place_in.ensures in
     subst (IsAt groups c.args.group.now) e (has_place c.args.map.now c.args.group.now none groups are)

@@ -1,10 +1,10 @@
 use Rattle.std.proofs.Common.{◌≡◌, take, subst}
 use Rattle.std.proofs.lemmas.List.{take_all}
-use Rattle.world_core.proofs.RunsOfEvents.{IsAfter, after_next, after_none}
+use Rattle.world_core.proofs.RunsOfEvents.{IsAfter, after_next, after_none, run_serves}
 use Rattle.world_core.proofs.running.run.Goals as goal
 
 pub loop-place-init : goal.loop-place-init
-loop-place-init c = after_none c.args.table c.args.daemons c.in-Ok.world c.in-Ok.ensures
+loop-place-init c = after_none c.args.table c.args.daemons c.in-Ok.world c.in-Ok.ensures.made
 
 pub loop-place-preserved : goal.loop-place-preserved
 loop-place-preserved c =
@@ -15,4 +15,4 @@ pub returns : goal.returns
 returns c =
     let all : take c.loop-place.place c.args.events.now ≡ c.args.events.now = take_all c.loop-place.place c.args.events.now c.loop-place-test.false in
     let h : IsAfter c.args.table c.args.daemons c.args.events.now c.loop-place.world = subst (λ l. IsAfter c.args.table c.args.daemons l c.loop-place.world) all c.loop-place.invariant in
-    record { holds = h.holds; accepted = h.accepted; refused = tt }
+    record { holds = h.holds; accepted = h.accepted; unrefused = h.unrefused; serves = run_serves c.args.table c.args.daemons c.args.events.now c.loop-place.world h; refused = tt }

@@ -4,8 +4,8 @@ use Rattle.std.proofs.lemmas.List.{with_items_is}
 use Rattle.world_core.specs.declared.session.Session.{Session}
 use Rattle.cluster.specs.Sessions.{own_session, own_session_at}
 use Rattle.cluster.specs.Users.{renew_entry, RenewTells}
-use Rattle.cluster.specs.Opening.{RenewTurn}
-use Rattle.cluster.proofs.Own.{same_count}
+use Rattle.cluster.specs.UserTurns.{RenewTurn}
+use Rattle.cluster.proofs.OwnNumbers.{same_count}
 use Rattle.cluster.proofs.Held.{pass_turned, same_numbers, renewed_numbers}
 use Rattle.cluster.proofs.cluster.Cluster.renew.Goals as goal
 

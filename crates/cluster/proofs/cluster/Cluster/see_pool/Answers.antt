@@ -3,9 +3,9 @@ use Rattle.std.specs.Prelude.{Result}
 use Rattle.map_core.specs.declared.fault.MapFault.{MapFault}
 use Rattle.map_core.specs.declared.pool.PoolView.{PoolView}
 use Rattle.cluster.specs.declared.fault.ClusterFault.{ClusterFault}
-use Rattle.cluster.specs.Reading.{IsUnseen}
+use Rattle.cluster.specs.Pools.{IsUnseen}
 use Rattle.cluster.specs.ToAsk.{HasAnswered}
-use Rattle.cluster.proofs.Readings.{pool_seen, pool_left_out, pool_refused}
+use Rattle.cluster.proofs.PoolsRead.{pool_seen, pool_left_out, pool_refused}
 use Rattle.cluster.proofs.cluster.Cluster.see_pool.Goals as goal
 
 pub returns-then-has_pool-clause-ok : goal.returns-then-has_pool-clause-ok

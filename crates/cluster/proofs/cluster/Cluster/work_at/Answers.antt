@@ -1,5 +1,5 @@
 use Rattle.std.specs.Prelude.{Ok, Err}
-use Rattle.cluster.proofs.WorkTurns.{work_pass}
+use Rattle.cluster.proofs.DeliveryTurns.{work_pass}
 use Rattle.cluster.proofs.cluster.Cluster.work_at.Goals as goal
 
 pub returns-in-Ok-clause-pass : goal.returns-in-Ok-clause-pass

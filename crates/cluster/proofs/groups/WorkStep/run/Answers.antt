@@ -1,4 +1,4 @@
-use Rattle.cluster.proofs.Telling.{none_left}
+use Rattle.cluster.proofs.NoneLeft.{none_left}
 use Rattle.cluster.proofs.groups.WorkStep.run.Goals as goal
 
 pub returns-in-Err-NoMessage-clause-tells : goal.returns-in-Err-NoMessage-clause-tells

@@ -4,13 +4,13 @@ use Rattle.entry_core.specs.declared.sealed.GroupId.{GroupId}
 use Rattle.cluster.specs.declared.cluster.Cluster.{Cluster}
 use Rattle.cluster.specs.declared.cluster.Seats.{Seats}
 use Rattle.cluster.specs.declared.monitor.Monitor.{Monitor}
-use Rattle.cluster.specs.Published.{with_command}
+use Rattle.published_map.specs.Published.{with_command}
 use Rattle.cluster.specs.Passes.{group_count}
-use Rattle.cluster.specs.Change.{HaveLooked, NoneFull, Goes}
+use Rattle.cluster.specs.GroupMoves.{HaveLooked, NoneFull, Goes}
 use Rattle.cluster.specs.Monitors.{HasBegun, IsAdmitted, IsLeft, IsLeftBy, left_at, change_refusal, published_of}
 use Rattle.cluster.proofs.Moved.{none_through, goes_nowhere, goes_through}
 use Rattle.cluster.proofs.Following.{follows_begun}
-use Rattle.cluster.proofs.Changing.{begins, stands_whole, where_none}
+use Rattle.cluster.proofs.GoingOn.{begins, stands_whole, where_none}
 use Rattle.std.specs.Prelude.{None}
 use Rattle.cluster.proofs.monitor.Monitor.begin.Goals as goal
 
@@ -36,7 +36,7 @@ returns-in-Ok-go_on-clause-ok g c = let old = c.args.self.now in let new = c.go_
       record {
         begun = begun;
         before = stands_whole old.unfinished count old.map (published_of old) _ c.requires.whole c.requires.monitor.stands;
-        shown = stands_whole new.unfinished count new.map (published_of new) _ c.in-Ok-go_on.ensures.ok c.go_on.ensures.monitor.stands ∙ ap (λ m. Some m) begun.map_is;
+        shown = stands_whole new.unfinished count new.map (published_of new) _ c.in-Ok-go_on.ensures.ok c.go_on.ensures.monitor.stands ∙ begun.map_is;
         done = c.in-Ok-go_on.ensures.ok;
       },
     )
@@ -45,7 +45,7 @@ pub returns-in-Err-go_on-clause-err : goal.returns-in-Err-go_on-clause-err
 returns-in-Err-go_on-clause-err g c = let old = c.args.self.now in let new = c.go_on.new.self in let world = c.args.cluster.now in let count = group_count world in
     let at = c.in-Err-go_on.at in
     let mid : Monitor = record old { map = c.apply.new.self; seats = c.any_full.new.seats } in
-    let before : published_of old ≡ Some old.map = stands_whole old.unfinished count old.map (published_of old) _ c.requires.whole c.requires.monitor.stands in
+    let before : published_of old ≡ old.map = stands_whole old.unfinished count old.map (published_of old) _ c.requires.whole c.requires.monitor.stands in
     let left : IsLeft world c.args.command at old new = record {
       begun = started c.args.command c.in-Ok.kept at old mid new c.in-Ok.ensures c.any_full.ensures.looked c.in-Ok-apply.ensures.accepted refl (c.in-Err-go_on.ensures.begun old);
       before = before;

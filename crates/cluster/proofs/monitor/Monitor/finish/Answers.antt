@@ -2,7 +2,7 @@ use Rattle.std.proofs.Common.{◌≡◌, sym, ◌∙◌}
 use Rattle.std.specs.Prelude.{Some}
 use Rattle.cluster.specs.declared.monitor.Unfinished.TheVariants.{Laid}
 use Rattle.cluster.specs.Passes.{group_count}
-use Rattle.cluster.proofs.Changing.{stays, left_laid}
+use Rattle.cluster.proofs.GoingOn.{stays, left_laid}
 use Rattle.cluster.proofs.monitor.Monitor.finish.Goals as goal
 
 pub returns-in-Err-show-clause-finished : goal.returns-in-Err-show-clause-finished

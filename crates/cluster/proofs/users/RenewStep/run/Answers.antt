@@ -1,6 +1,6 @@
 use Rattle.std.proofs.Common.{List, ℕ, subst}
 use Rattle.std.specs.Prelude.{IfOk}
-use Rattle.cap_text.specs.Refused.{RefusedFirst}
+use Rattle.common_types.specs.Refused.{RefusedFirst}
 use Rattle.auth_db.specs.declared.fault.AuthFault.TheVariants as auth
 use Rattle.auth_db.specs.Users.{HasTicket}
 use Rattle.auth_db.specs.Refusals.{known_refusal}

@@ -1,6 +1,6 @@
 use Rattle.std.proofs.Common.{subst}
 use Rattle.world_core.specs.Calls.{KeepsPromises}
-use Rattle.world_core.proofs.Sounds.{sound_promises}
+use Rattle.world_core.proofs.Serving.{sound_promises}
 use Rattle.world_core.proofs.world.World.keeps_promises.Goals as goal
 
 pub returns : goal.returns

@@ -1,0 +1,26 @@
+use Rattle.std.proofs.Common.{[], ◌∷◌, ◌++◌, map, sym, ap, ◌∙◌, subst}
+use Rattle.std.proofs.lemmas.List.{map-append}
+use Rattle.group_core.specs.Group.{Group}
+use Rattle.turn_lock.specs.Seats.{first_of}
+use Rattle.cluster.specs.Places.{Beside, IsFreshRow}
+use Rattle.cluster.specs.Passes.{group_in, shares_of}
+use Rattle.cluster.proofs.Begun.{rows_empty, rows_longer, shares_long, in_step_long}
+use Rattle.cluster.proofs.locks.open_groups.Goals as goal
+
+pub loop-group-init : goal.loop-group-init
+loop-group-init c = let empty = c.in_ok-rows.ensures in let none = c.in_ok-locks.ensures.items in record {
+  count = empty.0;
+  firsts = ap (map first_of) none;
+  rows = λ passes is. subst (λ locks. Beside (λ share row. IsFreshRow share locks row.items) (shares_of passes) c.in_ok-rows.rows.items) (sym none)
+      (rows_empty Group (λ row. row.items) (shares_of passes) c.in_ok-rows.rows.items (sym c.in_ok-rows.rows.ok.0 ∙ (empty.0 ∙ (sym is ∙ sym (shares_long passes)))) empty.1);
+}
+
+pub loop-group-preserved : goal.loop-group-preserved
+loop-group-preserved c = let inv = c.loop-group.invariant in let opened = c.in_ok-lock.ensures in let dealt = c.in_ok-rows-2.ensures in
+    let pushed = c.in_ok-push.ensures.items in
+    let longs = in_step_long _ _ _ _ dealt in record {
+      count = c.in_ok-rows-2.rows.ok.0 ∙ (longs.1 ∙ (sym c.loop-group.rows.ok.0 ∙ inv.count));
+      firsts = ap (map first_of) pushed ∙ (map-append first_of c.loop-group.locks.items (c.in_ok-lock.lock ∷ []) ∙ ((λ i. inv.firsts i ++ opened.first i ∷ []) ∙ sym (map-append group_in c.loop-group.yielded (c.in-Some.group ∷ []))));
+      rows = λ passes is. subst (λ locks. Beside (λ share row. IsFreshRow share locks row.items) (shares_of passes) c.in_ok-rows-2.rows.items) (sym pushed)
+          (rows_longer (λ row. row.items) c.loop-group.locks.items c.in_ok-lock.lock (shares_of passes) c.loop-group.rows.items c.in_ok-lock.seats.items c.in_ok-rows-2.rows.items (inv.rows passes is) opened.seats.1 (opened.shares passes is) dealt);
+    }

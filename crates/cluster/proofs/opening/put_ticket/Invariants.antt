@@ -1,9 +1,0 @@
-use Rattle.std.proofs.Common.{◌≡◌}
-use Rattle.cluster.proofs.Own.{NoneBefore}
-use Rattle.cluster.proofs.opening.put_ticket.Given as goal
-
-abbrev pub invariant-loop-k : goal.invariant-loop-k
-invariant-loop-k l = record {
-  same : l.sessions ≡ l.initial.sessions;
-  none : NoneBefore l.initial.sessions l.number l.k;
-}

@@ -1,0 +1,110 @@
+//! What standard error tells beside an answer.
+
+use crate::request_words::{asks_nothing, call_of};
+use clap::ArgMatches;
+use common_types::OutOfMemory;
+use gate_text::{Asked, Entity, Printed, answer};
+use object_core::{NeedsFault, needs_of, registry};
+use std::alloc::{AllocError, Global};
+use std::fmt::Write;
+
+const ASKS_NOTHING: &str = "osdgate: the request asks nothing; did you forget --read?\n";
+
+/// Whether the class registry lacks the method of a call.
+fn is_unknown(alloc: Global, word: &str) -> Result<bool, OutOfMemory> {
+    let call = call_of(alloc, word)?;
+    match needs_of(alloc, [call].as_slice()) {
+        Ok(_) => Ok(false),
+        Err(NeedsFault::OutOfMemory) => Err(AllocError),
+        Err(_) => Ok(true),
+    }
+}
+
+/// The line that tells which call the class registry does not have, which it has, and what to do.
+fn unknown_line(alloc: Global, word: &str) -> Result<String, OutOfMemory> {
+    let mut line = format!(in alloc; "osdgate: the class registry has no {word}, only")?;
+    for call in registry(alloc)?.as_slice() {
+        write!(line, " {}.{}", call.class.as_str(), call.method.as_str())?;
+    }
+    line.push_str(
+        "; a call of another one says what it does: --call CLASS.METHOD:r, :w or :rw, and :listed behind it where the class is on the default list\n",
+    )?;
+    Ok(line)
+}
+
+/// A line on the first call that the class registry does not have, or nothing.
+fn unknown_call(alloc: Global, matches: &ArgMatches<'_>) -> Result<String, OutOfMemory> {
+    if let Some(words) = matches.get_strs("calls") {
+        for word in words {
+            if is_unknown(alloc, word)? {
+                return unknown_line(alloc, word);
+            }
+        }
+    }
+    Ok(String::new(alloc))
+}
+
+/// A line on the call that the class registry does not have, where that is why there is no answer; one on a request that
+/// asks nothing, where there is an answer; or nothing.
+pub(crate) fn note_of(
+    alloc: Global,
+    matches: &ArgMatches<'_>,
+    printed: &Printed,
+) -> Result<String, OutOfMemory> {
+    if printed.text.as_str().starts_with("refused N3 ") {
+        return unknown_call(alloc, matches);
+    }
+    if asks_nothing(matches) && !printed.text.as_str().starts_with("refused ") {
+        return String::from_str(alloc, ASKS_NOTHING);
+    }
+    Ok(String::new(alloc))
+}
+
+/// Adds a name, each character of it outside of ASCII's printed ones as a `?`.
+fn push_name(line: &mut String, name: &str) -> Result<(), OutOfMemory> {
+    for letter in name.chars() {
+        let plain = (' '..='~').contains(&letter);
+        line.push(if plain { letter } else { '?' })?;
+    }
+    Ok(())
+}
+
+/// Adds an entity and the number of the fault for which it has no verdict; answers whether it has none.
+fn push_unjudged(
+    line: &mut String,
+    alloc: Global,
+    entity: &Entity,
+    asked: &Asked<'_>,
+) -> Result<bool, OutOfMemory> {
+    let Err(fault) = answer(alloc, entity.osd.as_str(), asked)? else {
+        return Ok(false);
+    };
+    let fault = format!(in alloc; "{fault}")?;
+    let number = fault.as_str().split(' ').next().unwrap_or("");
+    if !line.is_empty() {
+        line.push_str(", ")?;
+    }
+    push_name(line, entity.name.as_str())?;
+    write!(line, " ({number})")?;
+    Ok(true)
+}
+
+/// A line on the entities that have no verdict, since their texts are refused, or nothing.
+pub(crate) fn unjudged_line(
+    alloc: Global,
+    entities: &[Entity],
+    asked: &Asked<'_>,
+) -> Result<String, OutOfMemory> {
+    let mut names = String::new(alloc);
+    let mut count = 0usize;
+    for entity in entities {
+        if push_unjudged(&mut names, alloc, entity, asked)? {
+            count = count.saturating_add(1);
+        }
+    }
+    match count {
+        0 => Ok(String::new(alloc)),
+        1 => format!(in alloc; "osdgate: 1 entity is not judged: {names}\n"),
+        _ => format!(in alloc; "osdgate: {count} entities are not judged: {names}\n"),
+    }
+}

@@ -1,0 +1,253 @@
+//! Requests as words of the command line.
+
+use clap::ArgMatches;
+use common_types::{AppTags, Name, OutOfMemory, Pairs, Tags};
+use gate_text::{Asked, Times};
+use object_core::{Bytes, Op};
+use std::alloc::{AllocError, AllocFailed, Global};
+use verdict_core::{ClassCall, Target};
+
+/// Why words that clap takes are no command line.
+#[derive(Clone, Copy, Debug, PartialEq, Eq)]
+pub(crate) enum BadWords {
+    /// A tag with a `:` has no `=` behind it.
+    Tag,
+    /// A time is no decimal number below 2 to the power of 64.
+    Time,
+    /// A comparison of files has not two of them, or both are standard input.
+    Files,
+    /// A number of workers is not 1 to 8.
+    Workers,
+    /// A call of `--call` does not say what its method does, or lacks a class or a method.
+    Call,
+    /// There is no class registry of this name.
+    Registry,
+    /// There is no such command.
+    Command,
+}
+
+impl BadWords {
+    pub(crate) fn text(self) -> &'static str {
+        match self {
+            BadWords::Tag => "osdgate: a tag with a `:` needs a `=` behind it\n",
+            BadWords::Time => "osdgate: a time is a decimal number below 2^64, without a sign\n",
+            BadWords::Files => {
+                "osdgate: a comparison of files needs `--auth` twice, and standard input once at most\n"
+            }
+            BadWords::Workers => "osdgate: there are 1 to 8 workers\n",
+            BadWords::Call => {
+                "osdgate: a `--call` is CLASS.METHOD and `:r`, `:w` or `:rw`, and then `:listed` where the class is on the default list\n"
+            }
+            BadWords::Registry => "osdgate: a registry is `all` or `own`\n",
+            BadWords::Command => "osdgate: there is no such command\n",
+        }
+    }
+}
+
+/// Why words are no request.
+#[derive(Clone, Copy, Debug)]
+pub(crate) enum NoRequest {
+    Words(BadWords),
+    /// A growth was refused.
+    OutOfMemory,
+}
+
+impl From<AllocError> for NoRequest {
+    fn from(_error: AllocError) -> NoRequest {
+        NoRequest::OutOfMemory
+    }
+}
+
+impl<T: Drop> From<AllocFailed<T>> for NoRequest {
+    fn from(_error: AllocFailed<T>) -> NoRequest {
+        NoRequest::OutOfMemory
+    }
+}
+
+/// What a request's words have to own.
+#[derive(Drop)]
+pub(crate) struct RequestWords {
+    tags: Tags,
+    calls: Vec<Op>,
+    stated: Vec<ClassCall>,
+}
+
+impl RequestWords {
+    pub(crate) fn of(alloc: Global, matches: &ArgMatches<'_>) -> Result<RequestWords, NoRequest> {
+        Ok(RequestWords {
+            tags: tags_asked(alloc, matches)?,
+            calls: calls_of(alloc, matches)?,
+            stated: stated_of(alloc, matches)?,
+        })
+    }
+
+    /// What the words ask for, at these times.
+    pub(crate) fn asked<'a>(&'a self, matches: &ArgMatches<'a>, times: Times) -> Asked<'a> {
+        Asked {
+            target: Target {
+                pool: value_of(matches, "pool"),
+                tags: &self.tags,
+                namespace: value_of(matches, "namespace"),
+                object: value_of(matches, "object"),
+            },
+            reads: matches.get_flag("read"),
+            writes: matches.get_flag("write"),
+            calls: self.calls.as_slice(),
+            stated: self.stated.as_slice(),
+            times,
+        }
+    }
+}
+
+/// An application tag: a text is cut at its first `:`, and what is behind it at its first `=`. A text with a
+/// `:` and no `=` behind it is none.
+fn tag_of(alloc: Global, text: &str) -> Result<Option<AppTags>, OutOfMemory> {
+    let mut pairs = Vec::new(alloc);
+    let application = match text.split_once(':') {
+        None => text,
+        Some((application, pair)) => match pair.split_once('=') {
+            None => return Ok(None),
+            Some((key, value)) => {
+                pairs.push((Name::new(alloc, key)?, Name::new(alloc, value)?))?;
+                application
+            }
+        },
+    };
+    Ok(Some(AppTags {
+        application: Name::new(alloc, application)?,
+        pairs: Pairs::from_vec(pairs),
+    }))
+}
+
+/// A call without input: a word is cut at its first `.`, and one without it is a class with an empty method.
+pub(crate) fn call_of(alloc: Global, word: &str) -> Result<Op, OutOfMemory> {
+    let (class, method) = word.split_once('.').unwrap_or((word, ""));
+    Ok(Op::Call {
+        class: Name::new(alloc, class)?,
+        method: Name::new(alloc, method)?,
+        input: Bytes::from_vec(Vec::new(alloc)),
+    })
+}
+
+/// What a stated call's method does: whether it reads, and whether it writes.
+fn kind_of(text: &str) -> Option<(bool, bool)> {
+    match text {
+        "r" => Some((true, false)),
+        "w" => Some((false, true)),
+        "rw" => Some((true, true)),
+        _ => None,
+    }
+}
+
+/// A class and a method, neither of them empty. A class may stand between quotes; else it ends at the first `.`.
+fn names_of(text: &str) -> Option<(&str, &str)> {
+    let (class, method) = if let Some(behind) = text.strip_prefix('"') {
+        behind.split_once("\".")?
+    } else if let Some(behind) = text.strip_prefix('\'') {
+        behind.split_once("'.")?
+    } else {
+        text.split_once('.')?
+    };
+    if class.is_empty() || method.is_empty() {
+        return None;
+    }
+    Some((class, method))
+}
+
+/// A call as `--call` takes it, or nothing where the text is none: `CLASS.METHOD`, what the method does, and whether the
+/// class is on the default list.
+fn stated_call(alloc: Global, text: &str) -> Result<Option<ClassCall>, OutOfMemory> {
+    let (front, listed) = match text.strip_suffix(":listed") {
+        Some(front) => (front, true),
+        None => (text, false),
+    };
+    let Some((names, kind)) = front.rsplit_once(':') else {
+        return Ok(None);
+    };
+    let Some((class_reads, class_writes)) = kind_of(kind) else {
+        return Ok(None);
+    };
+    let Some((class, method)) = names_of(names) else {
+        return Ok(None);
+    };
+    Ok(Some(ClassCall {
+        class: Name::new(alloc, class)?,
+        method: Name::new(alloc, method)?,
+        class_reads,
+        class_writes,
+        listed,
+    }))
+}
+
+/// A number in decimal digits alone.
+pub(crate) fn number_of(text: &str) -> Option<u64> {
+    if !text.as_bytes().iter().all(|byte| byte.is_ascii_digit()) {
+        return None;
+    }
+    text.parse::<u64>().ok()
+}
+
+/// The times of `osdgate verdict`, or nothing where one is no number.
+pub(crate) fn times_of(matches: &ArgMatches<'_>) -> Option<Times> {
+    let until = match matches.get_str("until") {
+        None => None,
+        Some(text) => Some(number_of(text)?),
+    };
+    let tick = match matches.get_str("tick") {
+        None => 0,
+        Some(text) => number_of(text)?,
+    };
+    Some(Times { until, tick })
+}
+
+/// The value of an option, the empty text where it is not given.
+pub(crate) fn value_of<'a>(matches: &ArgMatches<'a>, name: &str) -> &'a str {
+    matches.get_str(name).unwrap_or("")
+}
+
+/// The calls that the words ask for.
+fn calls_of(alloc: Global, matches: &ArgMatches<'_>) -> Result<Vec<Op>, OutOfMemory> {
+    let mut calls = Vec::new(alloc);
+    if let Some(words) = matches.get_strs("calls") {
+        for word in words {
+            calls.push(call_of(alloc, word)?)?;
+        }
+    }
+    Ok(calls)
+}
+
+/// The calls of `--call`.
+fn stated_of(alloc: Global, matches: &ArgMatches<'_>) -> Result<Vec<ClassCall>, NoRequest> {
+    let mut calls = Vec::new(alloc);
+    if let Some(texts) = matches.get_strs("call") {
+        for text in texts {
+            match stated_call(alloc, text)? {
+                Some(call) => calls.push(call)?,
+                None => return Err(NoRequest::Words(BadWords::Call)),
+            }
+        }
+    }
+    Ok(calls)
+}
+
+/// The tags of the option, which may be given more than once.
+fn tags_asked(alloc: Global, matches: &ArgMatches<'_>) -> Result<Tags, NoRequest> {
+    let mut tags = Vec::new(alloc);
+    if let Some(texts) = matches.get_strs("tag") {
+        for text in texts {
+            match tag_of(alloc, text)? {
+                Some(tag) => tags.push(tag)?,
+                None => return Err(NoRequest::Words(BadWords::Tag)),
+            }
+        }
+    }
+    Ok(Tags::from_vec(tags))
+}
+
+/// Whether a request neither reads, writes nor calls anything.
+pub(crate) fn asks_nothing(matches: &ArgMatches<'_>) -> bool {
+    !matches.get_flag("read")
+        && !matches.get_flag("write")
+        && matches.get_strs("calls").is_none()
+        && matches.get_strs("call").is_none()
+}

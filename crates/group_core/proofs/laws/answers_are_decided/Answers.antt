@@ -1,5 +1,0 @@
-use Rattle.group_core.proofs.Statements.{answers_decided}
-use Rattle.group_core.proofs.laws.answers_are_decided.Goals as goal
-
-pub returns : goal.returns
-returns c = answers_decided

@@ -1,6 +1,0 @@
-use Rattle.group_core.proofs.Refusals.{refused_leaves}
-use Rattle.group_core.proofs.Statements.{sets_fit}
-use Rattle.group_core.proofs.laws.limits_hold.Goals as goal
-
-pub returns : goal.returns
-returns c = record { sets = sets_fit; refused = refused_leaves }

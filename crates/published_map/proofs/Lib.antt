@@ -1,0 +1,3 @@
+pub mod Grows
+pub mod Knowing
+pub mod ActingSets

@@ -1,0 +1,130 @@
+//! Each command once, on files and workers of the tests.
+
+use super::files::TestFiles;
+use command_line::run_command;
+use std::alloc::Global;
+use std::process::Abort;
+use std::test::Fail;
+
+/// What a command writes on standard output and standard error, and its status.
+#[derive(Drop)]
+struct Ran {
+    out: Vec<u8>,
+    err: Vec<u8>,
+    status: u8,
+}
+
+/// Words behind the program's name; what must be written on standard output and on standard error; and the status.
+type Row = (&'static [&'static str], &'static str, &'static str, u8);
+
+/// What every command reads on standard input.
+const INPUT: &str = "osds 1\n";
+
+const ROWS: &[Row; 12] = &[
+    (
+        &[
+            "osdgate", "verdict", "--caps", "allow r", "--pool", "data", "--object", "x", "--write",
+        ],
+        "deny\n1 write\n",
+        "",
+        0,
+    ),
+    (
+        &["osdgate", "explain", "--caps", "deny r"],
+        "refused C3 UnknownWord at 0\n",
+        "deny r\n^\n",
+        1,
+    ),
+    (
+        &[
+            "osdgate", "compare", "--old", "allow r", "--new", "allow rw", "--check",
+        ],
+        "wider\n+ 1 --pool a --namespace a --object a --write\n",
+        "",
+        1,
+    ),
+    (
+        &["osdgate", "compare", "--auth", "app", "--auth", "nobody"],
+        "client.app gone\n  - 1 --pool data --namespace a --object a --read\n",
+        "",
+        0,
+    ),
+    (
+        &[
+            "osdgate", "who", "--auth", "app", "--pool", "data", "--object", "x", "--write",
+        ],
+        "client.app\n",
+        "",
+        0,
+    ),
+    (
+        &[
+            "osdgate", "who", "--auth", "-", "--pool", "data", "--object", "x", "--write",
+        ],
+        "",
+        "osdgate: the file is no JSON at line 1, column 1\n",
+        1,
+    ),
+    (&["osdgate", "run", "script"], "epoch 1\nepoch 2\n", "", 0),
+    (&["osdgate", "run"], "epoch 1\n", "", 0),
+    (&["osdgate", "threads", "4"], "4", "", 0),
+    (
+        &["osdgate", "threads", "1", "--moves"],
+        "",
+        "osdgate: K2 NoThread\n",
+        1,
+    ),
+    (
+        &["osdgate", "threads", "9"],
+        "",
+        "osdgate: there are 1 to 8 workers\n",
+        2,
+    ),
+    (&["osdgate", "--version"], "osdgate 0.1.0\n", "", 0),
+];
+
+/// What stands for workers on threads: a line with their number where groups stay, and no thread where they move.
+fn count_workers(workers: u32, moves: bool) -> Result<u32, &'static str> {
+    if moves {
+        return Err("K2 NoThread");
+    }
+    Ok(workers)
+}
+
+fn run(alloc: Global, words: &[&str]) -> Ran {
+    let mut out: Vec<u8> = Vec::new(alloc);
+    let mut err: Vec<u8> = Vec::new(alloc);
+    let mut input = INPUT.as_bytes();
+    let files = TestFiles { alloc };
+    let status = run_command(
+        alloc,
+        words,
+        &files,
+        count_workers,
+        &mut input,
+        &mut out,
+        &mut err,
+    );
+    Ran { out, err, status }
+}
+
+/// Whether a command writes what its row says, and ends so.
+fn goes(alloc: Global, row: &Row) -> bool {
+    let (words, out, err, status) = *row;
+    let ran = run(alloc, words);
+    ran.out.as_slice() == out.as_bytes()
+        && ran.err.as_slice() == err.as_bytes()
+        && ran.status == status
+}
+
+fn expect(rt: &impl Abort, alloc: Global, rows: &[Row]) {
+    for row in rows {
+        assert!(rt; goes(alloc, row), "{:?}", row.0);
+    }
+}
+
+#[test]
+fn commands_write_and_end(rt: HostRuntime) -> Result<(), Fail> {
+    expect(&rt, rt.alloc(), ROWS);
+    Ok(())
+}

@@ -1,5 +1,0 @@
-use Rattle.world_core.proofs.KickRecovery.{kick_recovers, losses_lose_all}
-use Rattle.world_core.proofs.laws.a_kick_recovers.Goals as goal
-
-pub returns : goal.returns
-returns c = record { recovers = kick_recovers; loses = losses_lose_all }

@@ -1,5 +1,0 @@
-use Rattle.world_core.proofs.PlainScripts.{plain_scripts_print, plain_beginnings, plain_scripts_write}
-use Rattle.world_core.proofs.laws.plain_scripts_print.Goals as goal
-
-pub returns : goal.returns
-returns c = record { print = plain_scripts_print; begin = plain_beginnings; write = plain_scripts_write }

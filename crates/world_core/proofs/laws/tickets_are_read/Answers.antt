@@ -1,5 +1,0 @@
-use Rattle.world_core.proofs.Tickets.{tickets_are_read as law}
-use Rattle.world_core.proofs.laws.tickets_are_read.Goals as goal
-
-pub returns : goal.returns
-returns c = law

@@ -1,6 +1,0 @@
-use Rattle.std.proofs.Common.{◌≡◌, take, flat_map}
-use Rattle.world_core.specs.World.{groups_of}
-use Rattle.world_core.proofs.script.groups.places.Given as goal
-
-abbrev pub invariant-loop-pool : goal.invariant-loop-pool
-invariant-loop-pool l = l.groups.items ≡ flat_map groups_of (take l.pool-index l.pool-items)

@@ -1,0 +1,21 @@
+-- Statement: contracts of public calls use it.
+-- A world as the service: which of its parts are seen, and which requests an event submits.
+use Rattle.std.specs.Prelude.{List, [], ◌∷◌, if◌then◌else◌, Result}
+use Rattle.entry_core.specs.Request.{Sealed}
+use Rattle.world_core.specs.Event.{Event, Told, Fault}
+use Rattle.world_core.specs.Front.{Front, front_step, sealed_by}
+use Rattle.world_core.specs.World.{World, counts}
+use Rattle.world_core.specs.Answers.{answer_at}
+use Rattle.world_core.specs.Service.{Service}
+
+abbrev pub service_of : World → Service
+service_of w = record { submitted = w.front.submissions; decided = w.audit; answers = answer_at w }
+
+-- the requests that an event submits: those that the front seals for it, unless it was refused
+abbrev pub submitted_by : Front → Event → Result Told Fault → List Sealed
+submitted_by front e result = if counts e result then sealed_by front e else []
+
+-- the same of accepted events, one after another
+abbrev pub submitted_through : Front → List Event → List (List Sealed)
+submitted_through front [] = []
+submitted_through front (e ∷ es) = sealed_by front e ∷ submitted_through (front_step front e) es

@@ -1,0 +1,10 @@
+pub mod AcceptedLaws
+pub mod ServiceLaws
+pub mod ServingLaws
+pub mod RunLaws
+pub mod PlaceGroups
+pub mod KickRecovery
+pub mod Listings
+pub mod ListingLaws
+pub mod Apart
+pub mod Together

@@ -1,0 +1,125 @@
+-- The lines of a script, one after another.
+use Rattle.std.proofs.Common.{◌≡◌, ◌∙◌, ℕ, ◌+◌, List, [], ◌∷◌, ◌++◌, Bool, true, false, Option, Some, Result, Ok, Err, OnOk, IfErr, refl, sym, ap, subst, fold, append-nil, append_assoc, if◌then◌else◌}
+use Rattle.std.specs.Prelude.{codes}
+use Rattle.std.specs.Io.KnownBytes.{Appends}
+use Rattle.script_text.specs.Streams.{AppendsPart}
+use Rattle.script_text.specs.Text.{line, numeral}
+use Rattle.script_text.specs.declared.fault.ScriptFault.{ScriptFault}
+use Rattle.script_text.specs.declared.fault.ScriptFault.TheVariants as ends
+use Rattle.script_text.proofs.Known.{appends_kept, appends_more}
+use Rattle.object_core.specs.declared.op.Op.{Op}
+use Rattle.entry_core.specs.declared.sealed.GroupId.{GroupId}
+use Rattle.world_core.specs.declared.event.Ask.{Ask}
+use Rattle.world_core.specs.declared.event.Event.{Event}
+use Rattle.world_core.specs.declared.fault.WorldFault.{WorldFault as Fault}
+use Rattle.world_core.specs.declared.event.Event.TheVariants as happens
+use Rattle.world_core.specs.World.{World, world_step, refusal_of, is_drop}
+use Rattle.world_script.specs.Command.{Command, Submit, ListNames, Ready}
+use Rattle.world_script.specs.Text.{refused_text}
+use Rattle.world_script.specs.Script.{Step, Goes, IsBad, IsOther, BadAt, Output, Machine, event_told, event_line, line_step, script_step, onward, behind, outputs, script_output, WroteOf, ask_now, ready_line_text, unrefused, settle_events, settle_line}
+use Rattle.world_script.specs.Steps.{Does, at, GoesTo, LineWrote}
+
+pub on_ok : {A E : Type 0} {P Q : Type 0} (r : Result A E) → (P → Q) → OnOk r P → OnOk r Q
+on_ok (Ok x) f p = f p
+on_ok (Err e) f p = p
+
+-- what a refused event has done
+pub refused_does : (tick : ℕ) (w next : World) (e : Event) (fault : Fault) (old new : List ℕ) → refusal_of w e ≡ Some fault → (is_drop e fault ≡ true → next ≡ world_step w e) → (is_drop e fault ≡ false → next ≡ w)
+    → new ≡ old ++ refused_text fault → Does (at tick w) (event_line (at tick w) e) old new (at tick next)
+refused_does tick w next e fault old new refused steps stays text =
+    let line : event_line (at tick w) e ≡ event_told (at tick w) e (Some fault) = ap (event_told (at tick w) e) refused in
+    subst (λ l. Does (at tick w) l old new (at tick next)) (sym line) (text, ap (at tick) (go (is_drop e fault) refl))
+  where
+    go : (b : Bool) → is_drop e fault ≡ b → next ≡ fold world_step w (if is_drop e fault then e ∷ [] else [])
+    go true is = steps is ∙ ap (λ b. fold world_step w (if b then e ∷ [] else [])) (sym is)
+    go false is = stays is ∙ ap (λ b. fold world_step w (if b then e ∷ [] else [])) (sym is)
+
+-- the texts of two parts are one text
+pub joined : (done text : List ℕ) (o : Output) → behind done (behind text o) ≡ behind (done ++ text) o
+joined done text o = let e : done ++ (text ++ o.text) ≡ (done ++ text) ++ o.text = sym (append_assoc done text o.text) in λ i. record { text = e i; ending = o.ending }
+
+-- a line that goes on
+pub line_goes : (whole : Output) (done text line : List ℕ) (rest all : List (List ℕ)) (taken : ℕ) (s next : Option Machine) → all ≡ line ∷ rest
+    → whole ≡ behind done (outputs script_step all taken s) → line_step script_step s line ≡ Goes text next → whole ≡ behind (done ++ text) (outputs script_step rest (taken + 1) next)
+line_goes whole done text line rest all taken s next cut is goes =
+    is ∙ ap (λ ls. behind done (outputs script_step ls taken s)) cut ∙ ap (λ st. behind done (onward st (taken + 1) (outputs script_step rest (taken + 1)))) goes ∙ joined done text (outputs script_step rest (taken + 1) next)
+
+-- a line that is bad
+pub line_is_bad : (whole : Output) (done line : List ℕ) (rest all : List (List ℕ)) (taken : ℕ) (s : Option Machine) → all ≡ line ∷ rest
+    → whole ≡ behind done (outputs script_step all taken s) → line_step script_step s line ≡ IsBad → whole ≡ behind done (record { text = []; ending = BadAt (taken + 1) })
+line_is_bad whole done line rest all taken s cut is bad =
+    is ∙ ap (λ ls. behind done (outputs script_step ls taken s)) cut ∙ ap (λ st. behind done (onward st (taken + 1) (outputs script_step rest (taken + 1)))) bad
+
+-- ---- what was written
+
+printed_is : (before after : Option Machine) (line start printed given : List ℕ) → GoesTo (line_step script_step before line) start printed after → start ≡ [] → given ≡ printed
+    → (text : List ℕ) × (line_step script_step before line ≡ Goes text after) × (given ≡ text)
+printed_is before after line start printed given goes empty same = go (line_step script_step before line) refl goes
+  where
+    go : (st : Step (Option Machine)) → line_step script_step before line ≡ st → GoesTo st start printed after → (text : List ℕ) × (line_step script_step before line ≡ Goes text after) × (given ≡ text)
+    go (Goes text s) is there = (text, is ∙ ap (Goes text) (sym there.1), same ∙ there.0 ∙ ap (λ l. l ++ text) empty)
+    go IsBad is there = absurd there
+    go IsOther is there = absurd there
+
+pub line_written : (before : Option Machine) (line : List ℕ) (number : ℕ) (after : Option Machine) (old new : Option (List ℕ)) (result : Result (Unit {0}) ScriptFault) (start printed given : List ℕ)
+    → GoesTo (line_step script_step before line) start printed after → start ≡ [] → given ≡ printed
+    → OnOk result (Appends old new given) → AppendsPart old new given → IfErr result (λ fault. fault ≡ ends.Write) → LineWrote before line number after old new result
+line_written before line number after old new result start printed given goes empty same all part only = go (printed_is before after line start printed given goes empty same) result all only
+  where
+    go : (text : List ℕ) × (line_step script_step before line ≡ Goes text after) × (given ≡ text) → (r : Result (Unit {0}) ScriptFault) → OnOk r (Appends old new given) → IfErr r (λ fault. fault ≡ ends.Write)
+        → LineWrote before line number after old new r
+    go p (Ok done) all only = (p.0, p.1, subst (Appends old new) p.2 all)
+    go p (Err ends.Write) all only = (p.0, p.1, subst (AppendsPart old new) p.2 part)
+    go p (Err (ends.BadLine n)) all only = absurd (cc)
+    go p (Err (ends.OutOfMemory n)) all only = absurd (cc)
+    go p (Err ends.Read) all only = absurd (cc)
+    go p (Err ends.TooMuch) all only = absurd (cc)
+
+pub ended_by : (input : List ℕ) (old mid new : Option (List ℕ)) (done line : List ℕ) (rest lines : List (List ℕ)) (taken number : ℕ) (s after : Option Machine) (fault : ScriptFault) → Appends old mid done
+    → script_output input ≡ behind done (outputs script_step lines taken s) → lines ≡ line ∷ rest → number ≡ taken + 1
+    → LineWrote s line number after mid new (Err fault) → WroteOf input old new (Err fault)
+ended_by input old mid new done line rest lines taken number s after (ends.BadLine n) app is cut counted wrote =
+    let end : script_output input ≡ record { text = done ++ []; ending = BadAt (taken + 1) } = line_is_bad (script_output input) done line rest lines taken s cut is wrote.1 in (
+      ap (λ (o : Output). o.ending) end ∙ ap BadAt (sym (wrote.0 ∙ counted)),
+      subst (Appends old new) (sym (ap (λ (o : Output). o.text) end ∙ append-nil done)) (appends_kept old mid new done app wrote.2),
+    )
+ended_by input old mid new done line rest lines taken number s after ends.Write app is cut counted wrote =
+    let text = wrote.0 in
+    let (p, q, more) = wrote.2 in
+    let o : Output = outputs script_step rest (taken + 1) after in
+    let all : script_output input ≡ behind (done ++ text) o = line_goes (script_output input) done text line rest lines taken s after cut is wrote.1 in
+    let pieces : (done ++ p) ++ (q.0 ++ o.text) ≡ (done ++ text) ++ o.text =
+    append_assoc done p (q.0 ++ o.text) ∙ ap (λ l. done ++ l) (sym (append_assoc p q.0 o.text) ∙ ap (λ l. l ++ o.text) q.1) ∙ sym (append_assoc done text o.text) in
+    (done ++ p, (q.0 ++ o.text, pieces ∙ sym (ap (λ (v : Output). v.text) all)), appends_more old mid new done p app more)
+ended_by input old mid new done line rest lines taken number s after (ends.OutOfMemory n) app is cut counted wrote =
+    (done, ((outputs script_step lines taken s).text, sym (ap (λ (v : Output). v.text) is)), appends_kept old mid new done app wrote.1)
+ended_by input old mid new done line rest lines taken number s after ends.Read app is cut counted wrote = absurd wrote
+ended_by input old mid new done line rest lines taken number s after ends.TooMuch app is cut counted wrote = absurd wrote
+
+-- ---- commands
+
+pub then_ended : {E F P Q : Type 0} (done : Result (Unit {0}) E) (ended : Result (Unit {0}) F) → (P → Q) → OnOk ended (done ≡ Ok tt) → OnOk done P → OnOk ended Q
+then_ended {E} {F} {P} {Q} done (Ok x) f same p = f (subst (λ r. OnOk r P) same p)
+then_ended done (Err e) f same p = same
+
+pub submit_goes : (m after : Machine) (session : ℕ) (pool namespace object : List ℕ) (ops : List Op) (a : Ask) (command : Command) (old new : List ℕ) → command ≡ Submit session pool namespace object ops
+    → a ≡ ask_now m.world.front m.tick session pool namespace → Does m (event_line m (happens.Submit a object ops)) old new after → GoesTo (script_step (Some m) command) old new (Some after)
+submit_goes m after session pool namespace object ops a command old new is same does =
+    let now : Does m (event_line m (happens.Submit (ask_now m.world.front m.tick session pool namespace) object ops)) old new after = subst (λ v. Does m (event_line m (happens.Submit v object ops)) old new after) same does in
+    subst (λ k. GoesTo (script_step (Some m) k) old new (Some after)) (sym is) (now.0, ap Some now.1)
+
+pub list_goes : (m after : Machine) (session : ℕ) (pool namespace : List ℕ) (a : Ask) (command : Command) (old new : List ℕ) → command ≡ ListNames session pool namespace
+    → a ≡ ask_now m.world.front m.tick session pool namespace → Does m (event_line m (happens.List a)) old new after → GoesTo (script_step (Some m) command) old new (Some after)
+list_goes m after session pool namespace a command old new is same does =
+    let now : Does m (event_line m (happens.List (ask_now m.world.front m.tick session pool namespace))) old new after = subst (λ v. Does m (event_line m (happens.List v)) old new after) same does in
+    subst (λ k. GoesTo (script_step (Some m) k) old new (Some after)) (sym is) (now.0, ap Some now.1)
+
+pub ready_goes : (m : Machine) (id : GroupId) (w : World) (command : Command) (old new : List ℕ) → command ≡ Ready id → w ≡ m.world → new ≡ old ++ ready_line_text w id → GoesTo (script_step (Some m) command) old new (Some m)
+ready_goes m id w command old new is same text =
+    subst (λ k. GoesTo (script_step (Some m) k) old new (Some m)) (sym is) (text ∙ ap (λ v. old ++ ready_line_text v id) same, refl)
+
+-- ---- settling
+
+pub settles_does : (tick : ℕ) (w after : World) (count : ℕ) (old new : List ℕ) → after ≡ fold world_step w (settle_events w) → count ≡ unrefused w (settle_events w) → new ≡ old ++ line (codes "settled " ++ numeral count)
+    → Does (at tick w) (settle_line (at tick w)) old new (at tick after)
+settles_does tick w after count old new steps counted text = (text ∙ ap (λ n. old ++ line (codes "settled " ++ numeral n)) counted, ap (at tick) steps)
