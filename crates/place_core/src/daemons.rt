@@ -1,10 +1,9 @@
 //! Sets of daemons.
 
-ghost use Rattle.std.specs.Prelude.{◌≡◌, ◌≤◌, ◌<◌, ◌==◌, length, slice_index_or, slice_set, take, false, All, AllPairs, ◌≢◌, IfOk, map, nat_lt};
+ghost use Rattle.std.specs.Prelude.{◌≡◌, ◌≤◌, ◌<◌, ◌==◌, length, slice_index_or, slice_set, take, false, All, AllPairs, ◌≢◌, map, nat_lt};
 ghost use Rattle.std.specs.List.{range_with_len, list_any};
 ghost use Rattle.place_core.specs.Placement.{numbers_of};
 
-use std::alloc::{AllocError, Global};
 use std::marker::Model;
 
 /// A set of the daemons numbered 0 to 15, which contracts see as 16 flags, one at each number.
@@ -62,6 +61,7 @@ impl DaemonSet {
         ensures few { result ≤ 16 }
         ensures list { take result numbers.new ≡ numbers_of self.now }
         ensures small { All (λ d. d < 16) (numbers_of self.now) }
+        ensures distinct { AllPairs (λ a b. a ≢ b) (numbers_of self.now) }
     {
         let mut count = 0;
         for daemon in 0..16 {
@@ -71,16 +71,5 @@ impl DaemonSet {
             }
         }
         count
-    }
-
-    /// The numbers of the daemons, from the smallest on.
-    pub fn to_vec(&self, alloc: Global) -> Result<Vec<u8>, AllocError>
-        ensures list { IfOk result (λ v. v.items ≡ numbers_of self.now) }
-        ensures small { All (λ d. d < 16) (numbers_of self.now) }
-        ensures distinct { AllPairs (λ a b. a ≢ b) (numbers_of self.now) }
-    {
-        let mut numbers = [0; 16];
-        let count = self.numbers(&mut numbers);
-        Vec::from_slice(alloc, &numbers[..count])
     }
 }

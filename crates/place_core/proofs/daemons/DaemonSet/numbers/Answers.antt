@@ -1,7 +1,7 @@
 use Rattle.std.proofs.Common.{ℕ, ◌<◌, ◌∙◌, ap, arith, filter, slice_index_or, false, All, subst}
 use Rattle.std.specs.List.{range_with_len}
 use Rattle.place_core.specs.Placement.{numbers_of}
-use Rattle.place_core.proofs.Numbers.{numbers_yes, numbers_no, numbers_below}
+use Rattle.place_core.proofs.Numbers.{numbers_yes, numbers_no, numbers_below, numbers_differ}
 use Rattle.place_core.proofs.daemons.DaemonSet.numbers.Goals as goal
 use Rattle.place_core.proofs.daemons.DaemonSet.numbers.Goals.{then-self-daemon, else-self-daemon}
 
@@ -29,3 +29,6 @@ returns-clause-list c =
 
 pub returns-clause-small : goal.returns-clause-small
 returns-clause-small c = subst (λ (l : _). All (λ d. d < 16) (numbers_of l)) c.self.view_is (subst (λ (n : ℕ). All (λ d. d < n) (numbers_of c.self.inside.flags)) c.self.invariant (numbers_below c.self.inside.flags))
+
+pub returns-clause-distinct : goal.returns-clause-distinct
+returns-clause-distinct c = numbers_differ c.args.self.now
