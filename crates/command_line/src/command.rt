@@ -4,7 +4,7 @@ ghost use Rattle.std.specs.Prelude.{◌≤◌};
 
 use crate::arguments::whole_command;
 use crate::auth_file::{AuthFault, InputFiles, entities_of, read_text};
-use crate::notes::{note_of, unjudged_line};
+use crate::notes::{note_of, unjudged_line, without_controls};
 use crate::read_words::WordsFault;
 use crate::request_words::{BadWords, NoRequest, RequestWords, number_of, times_of, value_of};
 use crate::run::{RunFault, run_path};
@@ -362,15 +362,24 @@ fn finish_answer<O: Write, E: Write>(
     status
 }
 
+/// What clap says of words that it does not take.
+fn complaint(alloc: Global, error: &Error) -> Result<String, OutOfMemory> {
+    let said = format!(in alloc; "{error}")?;
+    without_controls(alloc, said.as_str())
+}
+
 /// What clap says of words that it does not take, or the help that they ask for.
-fn finish_error<O: Write, E: Write>(error: &Error, out: &mut O, err: &mut E) -> u8
+fn finish_error<O: Write, E: Write>(alloc: Global, error: &Error, out: &mut O, err: &mut E) -> u8
     ensures { result ≤ 2 }
 {
     if error.kind() == ErrorKind::OutOfMemory {
         return finish(WANT_OF_MEMORY, FAULT, out, err);
     }
     if error.use_stderr() {
-        let _ = write!(err, "{error}");
+        let Ok(said) = complaint(alloc, error) else {
+            return finish(WANT_OF_MEMORY, FAULT, out, err);
+        };
+        let _ = write_out(err, said.as_str());
         return BAD_COMMAND_LINE;
     }
     if write!(out, "{error}").is_ok() {
@@ -460,6 +469,6 @@ pub fn run_command<
             FAULT
         }
         Err(NoAnswer::OutOfMemory) => finish(WANT_OF_MEMORY, FAULT, out, err),
-        Err(NoAnswer::Clap(error)) => finish_error(&error, out, err),
+        Err(NoAnswer::Clap(error)) => finish_error(alloc, &error, out, err),
     }
 }

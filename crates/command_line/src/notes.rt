@@ -22,7 +22,9 @@ fn is_unknown(alloc: Global, word: &str) -> Result<bool, OutOfMemory> {
 
 /// The line that tells which call the class registry does not have, which it has, and what to do.
 fn unknown_line(alloc: Global, word: &str) -> Result<String, OutOfMemory> {
-    let mut line = format!(in alloc; "osdgate: the class registry has no {word}, only")?;
+    let mut line = String::from_str(alloc, "osdgate: the class registry has no ")?;
+    push_name(&mut line, word)?;
+    line.push_str(", only")?;
     for call in registry(alloc)?.as_slice() {
         write!(line, " {}.{}", call.class.as_str(), call.method.as_str())?;
     }
@@ -58,6 +60,16 @@ pub(crate) fn note_of(
         return String::from_str(alloc, ASKS_NOTHING);
     }
     Ok(String::new(alloc))
+}
+
+/// A text with a `?` for each control character of it but a line's end, so that words from outside cannot move the cursor.
+pub(crate) fn without_controls(alloc: Global, text: &str) -> Result<String, OutOfMemory> {
+    let mut shown = String::new(alloc);
+    for letter in text.chars() {
+        let moves = letter < ' ' || ('\u{7f}'..='\u{9f}').contains(&letter);
+        shown.push(if moves && letter != '\n' { '?' } else { letter })?;
+    }
+    Ok(shown)
 }
 
 /// Adds a name, each character of it outside of ASCII's printed ones as a `?`.
