@@ -1,3 +1,4 @@
 pub mod Published
 pub mod Told
 pub mod Answers
+pub mod Laws

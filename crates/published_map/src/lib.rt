@@ -11,12 +11,14 @@
 //! That a reader finds a place, or that the writer's wait ends, is not promised.
 #![tactic(auto)]
 
+mod laws;
 mod news;
 mod places;
 mod pools;
 mod published;
 
 pub use common_types::OutOfMemory;
+pub use laws::what_is_seen_was_published;
 pub use news::{News, learn, tell};
 pub use places::{Located, locate};
 pub use pools::view;
