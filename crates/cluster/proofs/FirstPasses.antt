@@ -1,13 +1,9 @@
 -- What a cluster begins with, and what fresh seats are to a pass.
 use Rattle.std.proofs.Common.{◌≡◌, ℕ, true, List, [], ◌∷◌, map, fold, append-nil, refl, sym, ap, ◌∙◌, subst, arith}
-use Rattle.std.specs.Prelude.{All, Option, Some, IsNone}
-use Rattle.std.proofs.lemmas.List.Elements.{All-cons, All-nil}
+use Rattle.std.specs.Prelude.{Option, Some, IsNone}
 use Rattle.std.proofs.lemmas.List.Sums.{fold-append}
 use Rattle.grant_core.specs.Flat.{Table}
-use Rattle.turn_lock.specs.Seats.{Locked, Seated, HasItsOwn}
-use Rattle.turn_lock.specs.Turns.{made_by}
 use Rattle.map_core.specs.State.{History, GoesOn}
-use Rattle.map_core.specs.declared.command.MapCommand.{MapCommand}
 use Rattle.group_core.specs.Each.{Each}
 use Rattle.group_core.specs.Group.{Event, is_submitted}
 use Rattle.world_core.specs.declared.event.Event.{Event as WorldEvent}
@@ -20,7 +16,6 @@ use Rattle.cluster.specs.declared.monitor.Monitor.{Monitor}
 use Rattle.cluster.specs.declared.pass.Pass.{Pass}
 use Rattle.cluster.specs.declared.starting.PoolSpec.{PoolSpec}
 use Rattle.cluster.specs.declared.starting.UserSpec.{UserSpec}
-use Rattle.cluster.specs.Places.{IsFreshRow}
 use Rattle.published_map.specs.Published.{GoesOnFrom}
 use Rattle.cluster.specs.Passes.{AreFreshOf, group_count, pass_share}
 use Rattle.cluster.specs.GroupMoves.{happened, happened_at}

@@ -13,7 +13,6 @@ use Rattle.cluster.specs.declared.cluster.Cluster.{Cluster}
 use Rattle.cluster.specs.declared.cluster.Seats.{Seats}
 use Rattle.cluster.specs.declared.pass.OwnSession.{OwnSession}
 use Rattle.cluster.specs.declared.pass.Pass.{Pass}
-use Rattle.published_map.specs.declared.published.Knowledge.{Knowledge}
 use Rattle.cluster.specs.declared.users.UserTable.{UserTable}
 use Rattle.cluster.specs.declared.users.UserEntry.{UserEntry}
 use Rattle.cluster.specs.Asks.{Asks, IsOwnEvent, IsPassOf, asked_of, known_by}
@@ -22,7 +21,7 @@ use Rattle.world_core.specs.declared.session.Session.{Session}
 use Rattle.cluster.specs.Sessions.{own_session_at, next_of, IsNumbered}
 use Rattle.cluster.specs.Places.{InStep, TakesIn}
 use Rattle.cluster.specs.Passes.{ArePassOf, AreSeatsOf, HaveShare, TakeIn, UserTurn, pass_share}
-use Rattle.published_map.specs.Published.{Covers, GoesOnFrom, Sees}
+use Rattle.published_map.specs.Published.{Covers}
 use Rattle.cluster.specs.Noted.{GaveNote}
 use Rattle.published_map.specs.Published.{KnowsAll}
 use Rattle.cluster.specs.Views.{OnlyLooked}

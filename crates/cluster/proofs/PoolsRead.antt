@@ -1,12 +1,11 @@
 -- A pass is a pass after a reading of the map, and what the map says of a pool.
 use Rattle.std.proofs.Common.{◌≡◌, ◌∙◌, ◌⊎◌, inl, inr, ℕ, ◌==◌, ◌||◌, List, [], ◌∷◌, ◌++◌, Bool, true, false, Option, Some, None, is_some, cond, refl, sym, ap, subst, arith}
-use Rattle.std.specs.Prelude.{Result, Ok, Err, MatchOption, IfOk, if◌then◌else◌, not, nat_lt}
+use Rattle.std.specs.Prelude.{Result, Ok, Err, MatchOption, if◌then◌else◌, not, nat_lt}
 use Rattle.std.specs.List.{find}
-use Rattle.common_types.specs.Refused.{RefusedFirst}
 use Rattle.map_core.specs.State.{History, GoesOn}
 use Rattle.map_core.specs.Map.{is_named, map_of, epoch_of, pool_in, view_at}
 use Rattle.map_core.specs.Refusal.{has_pool, is_word, view_refusal}
-use Rattle.map_core.specs.Limits.{IsAccepted, HasLimits}
+use Rattle.map_core.specs.Limits.{HasLimits}
 use Rattle.map_core.specs.declared.pool.Pool.{Pool}
 use Rattle.map_core.specs.declared.pool.PoolView.{PoolView}
 use Rattle.map_core.specs.declared.fault.MapFault.{MapFault}

@@ -5,7 +5,6 @@ use Rattle.entry_core.specs.Log.{is_in, reply_in}
 use Rattle.entry_core.specs.Request.{Sealed}
 use Rattle.peer_core.specs.ActingSets.{set_of, is_primary}
 use Rattle.group_core.specs.Types.{Idle, Append, Daemon, Party, Osd, Sent, EntryReply}
-use Rattle.group_core.specs.Each.{Each}
 use Rattle.group_core.specs.Group.{Group, Event, Submit, Deliver, Lose, EventFits, run, start, group_step, refusal_of, answer_of, settle}
 use Rattle.group_core.specs.History.{Begins, but_last}
 use Rattle.group_laws.specs.Open.{HasHistory}
@@ -14,7 +13,6 @@ use Rattle.group_core.specs.Asked.{IsReplied}
 use Rattle.group_core.specs.Budget.{budget, settled_group, settle_count}
 use Rattle.group_laws.specs.Quiet.{IsServed, made_by, deliveries_made, opening_cost, request_cost}
 use Rattle.group_laws.specs.Calm.{IsUnserved, IsCalmGroup, unserved_cost, log_of, answer_with}
-use Rattle.group_core.specs.Within.{LiesWithin, ActsWithin}
 
 -- whatever happens to the group only adds: what was decided begins what is decided later, each answer stands, and it stays a group that there can be
 pub record OnlyAdds (g : Group) : Type 0 where

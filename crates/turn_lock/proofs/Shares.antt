@@ -1,5 +1,5 @@
 -- What the seats have of the lock's numbers, and what those made that are no more.
-use Rattle.std.proofs.Common.{◌≡◌, ◌≢◌, ℕ, zero, suc, eqb, cond, eq-eqb, ne_eqb, ◌+◌, ◌-◌, ◌*◌, ◌/◌, ◌<◌, ◌≤◌, ◌⊎◌, List, [], ◌∷◌, ◌++◌, length, set, sym, refl, ap, ◌∙◌, subst, ⊎_elim, inl, inr, arith, min, length-append, length-set, mul-le-mul_right, suc-mul}
+use Rattle.std.proofs.Common.{◌≡◌, ◌≢◌, ℕ, zero, suc, cond, eq-eqb, ne_eqb, ◌+◌, ◌-◌, ◌*◌, ◌/◌, ◌<◌, ◌≤◌, ◌⊎◌, List, [], ◌∷◌, ◌++◌, length, set, sym, refl, ap, ◌∙◌, subst, ⊎_elim, inl, inr, arith, min, length-set, mul-le-mul_right, suc-mul}
 use mathlib.Core.Logic.{dite}
 use mathlib.Core.Option.{some, some-injective, some-ne-none}
 use native.Mathlib.Decide.{ℕ_discrete, dec_le}
@@ -13,7 +13,7 @@ use Rattle.turn_lock.specs.declared.rule.Joined.{Joined}
 use Rattle.turn_lock.specs.declared.rule.View.{View}
 use Rattle.turn_lock.specs.declared.rule.Stage.{Stage}
 use Rattle.turn_lock.specs.declared.rule.Stage.TheVariants.{Spent, Away, Waiting, Turn}
-use Rattle.turn_lock.specs.Turns.{made, made_by, last_word, Has, leaver, with_leaver, entries_by, HasMadeAll}
+use Rattle.turn_lock.specs.Turns.{made_by, last_word, Has, leaver, entries_by, HasMadeAll}
 use Rattle.turn_lock.specs.Turning.{total, total_share, pending, entry_count, IsWithinShare, IsSpent, AreJoined, IsToldOf, Shares, joined_view, spent_view}
 
 no_entries : {X : Type 0} → (xs : List X) → length xs ≡ 0 → xs ≡ []

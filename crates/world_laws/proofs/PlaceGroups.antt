@@ -1,5 +1,5 @@
 -- Every place of the map has its group.
-use Rattle.std.proofs.Common.{◌≡◌, ◌∙◌, ℕ, ◌+◌, ◌<◌, List, ◌∷◌, ◌++◌, Bool, true, false, cond, if◌then◌else◌, Option, Some, None, is_some, map, fold, refl, sym, ap, subst, arith, append-nil, append_assoc, []}
+use Rattle.std.proofs.Common.{◌≡◌, ◌∙◌, ℕ, ◌<◌, List, ◌∷◌, ◌++◌, Bool, true, false, cond, if◌then◌else◌, Option, Some, None, is_some, map, fold, refl, sym, ap, subst, arith, append-nil, append_assoc, []}
 use Rattle.std.specs.Prelude.{nat_le}
 use Rattle.std.specs.List.{filter, find, flat_map}
 use Rattle.std.specs.Option.{option_map, option_map_or}

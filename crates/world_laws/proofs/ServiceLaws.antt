@@ -1,20 +1,18 @@
 -- What the service keeps, whatever happens.
-use Prim.Native.Nat.{zero, suc}
-use Rattle.std.proofs.Common.{◌≡◌, ◌∙◌, ℕ, ◌+◌, ◌<◌, ◌≤◌, ◌==◌, ◌||◌, List, [], ◌∷◌, ◌++◌, Bool, true, false, not, cond, Option, Some, None, map, length, get_or, refl, sym, ap, subst, arith, append-nil, append_assoc, length-append}
+use Rattle.std.proofs.Common.{◌≡◌, ◌∙◌, ℕ, ◌+◌, ◌<◌, ◌≤◌, ◌==◌, ◌||◌, List, [], ◌∷◌, ◌++◌, Bool, true, false, not, cond, Some, map, length, refl, sym, ap, subst, arith, append-nil, append_assoc, length-append}
 use Rattle.std.specs.Prelude.{Contains, filter}
 use Rattle.std.proofs.lemmas.List.{get_or_append_left}
 use Rattle.verdict_core.specs.Verdict.{report_of}
-use Rattle.verdict_core.specs.declared.request.Condition.{Condition}
 use Rattle.entry_core.specs.Request.{Sealed, target_of, needs_for}
-use Rattle.entry_core.specs.Deciding.{Answer, answer_on, answered, is_allowed_sealed, performed, store_of, decision_on}
-use Rattle.entry_core.specs.Log.{decide, ids, is_in, reply_in, LegalFrom}
+use Rattle.entry_core.specs.Deciding.{answer_on, answered, is_allowed_sealed, performed, store_of}
+use Rattle.entry_core.specs.Log.{decide, ids, is_in, reply_in}
 use Rattle.entry_core.specs.Laws.{is_denied, is_done}
 use Rattle.entry_core.specs.declared.reply.Reply.{Reply}
 use Rattle.entry_core.specs.declared.reply.Reply.TheVariants.{Denied}
 use Rattle.entry_core.specs.declared.entry.Entry.{Entry}
 use Rattle.entry_core.proofs.Lawful.{verdict_is_sealed, refusals_leave_the_store}
 use Rattle.world_core.proofs.Bytes.{number_same}
-use Rattle.world_core.specs.Service.{Service, begun, AreNew, AreDecided, Step, Reaches, IsRight, KeepsItsWord, ServiceKeepsItsWord, Grows, ServiceGrows}
+use Rattle.world_core.specs.Service.{Service, begun, AreNew, AreDecided, Step, Reaches, IsRight, ServiceKeepsItsWord, Grows, ServiceGrows}
 
 -- ---- one more
 

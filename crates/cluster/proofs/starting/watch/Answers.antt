@@ -1,5 +1,4 @@
 use Rattle.std.proofs.Common.{refl}
-use Rattle.std.specs.Prelude.{None}
 use Rattle.cluster.proofs.Following.{follows_first}
 use Rattle.cluster.proofs.starting.watch.Goals as goal
 

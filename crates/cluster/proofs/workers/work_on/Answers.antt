@@ -5,6 +5,3 @@ use Rattle.cluster.proofs.workers.work_on.Goals as goal
 
 pub returns-in_default : goal.returns-in_default
 returns-in_default g c = let pass = c.args.worker.now.pass in (c.requires, worked_more 0 c.args.rounds pass pass (omega arith) (worked_nothing pass), gone_nowhere c.args.cluster.now pass)
-
-pub returns : goal.returns
-returns g c = (c.work_rounds.ensures.pass, c.work_rounds.ensures.worked, c.work_rounds.ensures.told)

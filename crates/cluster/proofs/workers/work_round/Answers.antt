@@ -2,7 +2,7 @@ use Rattle.std.proofs.Common.{◌<◌, arith}
 use Rattle.cluster.specs.Passes.{group_count}
 use Rattle.cluster.proofs.Moved.{inside_of}
 use Rattle.cluster.proofs.Rounds.{come_further, come_nowhere, came}
-use Rattle.cluster.proofs.FirstFaults.{gone_nowhere, gone_further, gone_through}
+use Rattle.cluster.proofs.FirstFaults.{gone_nowhere, gone_further}
 use Rattle.cluster.proofs.workers.work_round.Goals as goal
 
 pub loop-place-init : goal.loop-place-init
