@@ -161,14 +161,14 @@ fn entities_in<F: InputFiles, R: Read>(
     }
 }
 
-/// What `osdgate who` prints. Where it leaves out entities without a verdict it tells which, and fails unless those that
-/// are known were asked for.
-fn answered_who<'a, F: InputFiles, R: Read>(
+/// What `osdgate who` prints, and what else is told. Where it leaves out entities without a verdict it tells which, and fails
+/// unless those that are known were asked for.
+fn printed_who<F: InputFiles, R: Read>(
     alloc: Global,
     files: &F,
     reader: &mut R,
-    matches: &ArgMatches<'a>,
-) -> Result<Answered<'a>, NoAnswer> {
+    matches: &ArgMatches<'_>,
+) -> Result<(Printed, String), NoAnswer> {
     let request = RequestWords::of(alloc, matches)?;
     let path = value_of(matches, "auth");
     let entities = entities_in(alloc, files, reader, path, "the file")?;
@@ -181,6 +181,17 @@ fn answered_who<'a, F: InputFiles, R: Read>(
         printed.fails = !unjudged.is_empty() && !matches.get_flag("known");
         note.push_str(unjudged.as_str())?;
     }
+    Ok((printed, note))
+}
+
+/// The answer of `osdgate who`, in which no capability text is shown.
+fn answered_who<'a, F: InputFiles, R: Read>(
+    alloc: Global,
+    files: &F,
+    reader: &mut R,
+    matches: &ArgMatches<'_>,
+) -> Result<Answered<'a>, NoAnswer> {
+    let (printed, note) = printed_who(alloc, files, reader, matches)?;
     Ok(Answered {
         printed,
         caps: "",

@@ -82,7 +82,7 @@ impl RequestWords {
     }
 
     /// What the words ask for, at these times.
-    pub(crate) fn asked<'a>(&'a self, matches: &ArgMatches<'a>, times: Times) -> Asked<'a> {
+    pub(crate) fn asked<'a>(&'a self, matches: &'a ArgMatches<'_>, times: Times) -> Asked<'a> {
         Asked {
             target: Target {
                 pool: value_of(matches, "pool"),
