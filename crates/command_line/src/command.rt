@@ -13,8 +13,8 @@ use clap::{ArgMatches, Error};
 use common_types::OutOfMemory;
 use compare_core::Registry;
 use gate_text::{
-    Answer, Comparison, Entity, Printed, Times, Verdict, answer, compare_entities, compare_text,
-    explain_text, point_at_fault, text_of, who_text,
+    Answer, Asked, Comparison, Entity, Printed, Times, Verdict, answer, compare_entities,
+    compare_text, explain_text, point_at_fault, text_of, who_text,
 };
 use std::alloc::{AllocError, AllocFailed, Global};
 use std::convert::AsStr;
@@ -161,8 +161,26 @@ fn entities_in<F: InputFiles, R: Read>(
     }
 }
 
-/// What `osdgate who` prints, and what else is told. Where it leaves out entities without a verdict it tells which, and fails
-/// unless those that are known were asked for.
+/// What `osdgate who` prints of these entities, and what else is told. Where it leaves out entities without a verdict it
+/// tells which, and fails unless those that are known were asked for.
+fn told_who(
+    alloc: Global,
+    matches: &ArgMatches<'_>,
+    entities: &[Entity],
+    asked: &Asked<'_>,
+) -> Result<(Printed, String), NoAnswer> {
+    let all = matches.get_flag("all");
+    let mut printed = who_text(alloc, entities, asked, all)?;
+    let mut note = note_of(alloc, matches, &printed)?;
+    if !all && !printed.fails {
+        let unjudged = unjudged_line(alloc, entities, asked)?;
+        printed.fails = !unjudged.is_empty() && !matches.get_flag("known");
+        note.push_str(unjudged.as_str())?;
+    }
+    Ok((printed, note))
+}
+
+/// What `osdgate who` prints, and what else is told.
 fn printed_who<F: InputFiles, R: Read>(
     alloc: Global,
     files: &F,
@@ -172,16 +190,12 @@ fn printed_who<F: InputFiles, R: Read>(
     let request = RequestWords::of(alloc, matches)?;
     let path = value_of(matches, "auth");
     let entities = entities_in(alloc, files, reader, path, "the file")?;
-    let asked = request.asked(matches, ALWAYS);
-    let all = matches.get_flag("all");
-    let mut printed = who_text(alloc, entities.as_slice(), &asked, all)?;
-    let mut note = note_of(alloc, matches, &printed)?;
-    if !all && !printed.fails {
-        let unjudged = unjudged_line(alloc, entities.as_slice(), &asked)?;
-        printed.fails = !unjudged.is_empty() && !matches.get_flag("known");
-        note.push_str(unjudged.as_str())?;
-    }
-    Ok((printed, note))
+    told_who(
+        alloc,
+        matches,
+        entities.as_slice(),
+        &request.asked(matches, ALWAYS),
+    )
 }
 
 /// The answer of `osdgate who`, in which no capability text is shown.
