@@ -1,8 +1,8 @@
 -- Statement: contracts of public calls use it.
 -- What is printed of two capability texts: which allows more, and an example for each grant that does (this project's
 -- profile).
-use Rattle.std.specs.Prelude.{ℕ, ◌≡◌, ◌≢◌, ◌⊎◌, ◌↔◌, ◌&&◌, List, [], ◌∷◌, ◌++◌, Bool, true, false, None, Some, codes}
-use Rattle.std.specs.List.{All, flat_map}
+use Rattle.std.specs.Prelude.{ℕ, ◌≡◌, ◌≢◌, ◌⊎◌, ◌↔◌, ◌&&◌, ◌==◌, List, [], ◌∷◌, ◌++◌, Bool, true, false, None, Some, codes}
+use Rattle.std.specs.List.{All, before_first, flat_map}
 use Rattle.cap_text.specs.FaultText as cap
 use Rattle.cap_text.specs.Faults.{IsFirstFault}
 use Rattle.cap_text.specs.Grammar.{Spells}
@@ -106,6 +106,14 @@ abbrev pub fault_text : TextFault → List ℕ
 fault_text (Spelling fault) = cap.fault_text fault
 fault_text (Expansion fault) = profiles.fault_text fault
 fault_text OutOfMemory = codes "OutOfMemory"
+
+-- what stands before the first blank
+abbrev pub first_word : List ℕ → List ℕ
+first_word text = before_first (λ byte. byte == 32) text
+
+-- a fault's number, with which its printed form begins
+abbrev pub fault_number : TextFault → List ℕ
+fault_number fault = first_word (fault_text fault)
 
 abbrev pub refused_side : List ℕ → TextFault → List ℕ
 refused_side side fault = codes "refused " ++ (side ++ (codes " " ++ (fault_text fault ++ codes "\n")))

@@ -8,7 +8,7 @@ use Rattle.grant_core.specs.Flat.{Flat}
 use Rattle.compare_core.specs.Widening.{AnswersBy}
 use Rattle.compare_core.specs.declared.comparing.Example.{Example}
 use Rattle.gate_text.specs.Caret.{shown}
-use Rattle.gate_text.specs.Compared.{ComesTo, IsFaultOf, IsRelation, indented_lines, is_wider, refused_side, relation_word}
+use Rattle.gate_text.specs.Compared.{ComesTo, IsFaultOf, IsRelation, fault_number, indented_lines, is_wider, relation_word}
 use Rattle.gate_text.specs.declared.comparison.Comparison.{Comparison}
 use Rattle.gate_text.specs.declared.entity.Entity.{Entity}
 use Rattle.gate_text.specs.declared.compare.Relation.{Relation}
@@ -36,9 +36,16 @@ abbrev pub change_lines : List ℕ → Option (List ℕ) → List Example → Li
 change_lines name None gained lost = []
 change_lines name (Some word) gained lost = shown name ++ (codes " " ++ (word ++ (codes "\n" ++ indented_lines gained lost)))
 
--- the line of an entity of which a text has no grants
-abbrev pub refused_line : List ℕ → List ℕ → TextFault → List ℕ
-refused_line name side fault = shown name ++ (codes " " ++ refused_side side fault)
+-- what became of the text of an entity that is not judged
+abbrev pub became : Presence → List ℕ
+became Both = codes "text changed"
+became New = codes "new"
+became Gone = codes "gone"
+
+-- the line of an entity of which a text has no grants here: the number of the fault, and what became of the text
+abbrev pub unjudged_line : List ℕ → Presence → TextFault → List ℕ
+unjudged_line name presence fault =
+    shown name ++ (codes " not judged: " ++ (fault_number fault ++ (codes ", " ++ (became presence ++ codes "\n"))))
 
 -- How the rights of an entity change. It fails where a check was asked for and the new grants allow what the old ones deny.
 pub record IsChangeTold (how : Comparison) (presence : Presence) (name : List ℕ) (old new : Flat) (text : List ℕ) (fails : Bool) : Type 0 where
@@ -59,26 +66,31 @@ pub record AreRightsTold (how : Comparison) (presence : Presence) (name old new 
   pub new_comes : ComesTo new new_grants
   pub told : IsChangeTold how presence name old_grants new_grants text fails
 
--- a text has no grants
-pub record IsFaultTold (name caps side text : List ℕ) (fails : Bool) : Type 0 where
+-- a text has no grants, which fails
+pub record IsUnjudgedTold (presence : Presence) (name caps text : List ℕ) (fails : Bool) : Type 0 where
   pub fault : TextFault
   pub is : IsFaultOf caps fault
   pub real : fault ≢ OutOfMemory
-  pub printed : text ≡ refused_line name side fault
+  pub printed : text ≡ unjudged_line name presence fault
   pub ends : fails ≡ true
 
--- what is told of an entity with an old and a new text, of which the old one is refused first
+-- what is told of an entity with an old and a new text, of which the old one's fault comes first
 abbrev pub IsPairTold : Comparison → Presence → List ℕ → List ℕ → List ℕ → List ℕ → Bool → Type 0
 IsPairTold how presence name old new text fails =
     AreRightsTold how presence name old new text fails
-    ⊎ (IsFaultTold name old (codes "old") text fails
-    ⊎ (((grants : Flat) × ComesTo old grants) × IsFaultTold name new (codes "new") text fails))
+    ⊎ (IsUnjudgedTold presence name old text fails
+    ⊎ (((grants : Flat) × ComesTo old grants) × IsUnjudgedTold presence name new text fails))
+
+-- Of an entity whose texts are the same, byte for byte, nothing is told: whoever reads them, they give the same rights.
+abbrev pub IsBothTold : Bool → Comparison → List ℕ → List ℕ → List ℕ → List ℕ → Bool → Type 0
+IsBothTold true how name old new text fails = (text ≡ []) × (fails ≡ false)
+IsBothTold false how name old new text fails = IsPairTold how Both name old new text fails
 
 -- an entity of the old list, by what the new list has under its name; one that is gone is compared with the empty text
 abbrev pub IsOldToldBy : Comparison → Option Entity → Entity → List ℕ → Bool → Type 0
 IsOldToldBy how None entity text fails = IsPairTold how Gone (string_bytes entity.name) (string_bytes entity.osd) [] text fails
 IsOldToldBy how (Some other) entity text fails =
-    IsPairTold how Both (string_bytes entity.name) (string_bytes entity.osd) (string_bytes other.osd) text fails
+    IsBothTold (bytes_eq (string_bytes entity.osd) (string_bytes other.osd)) how (string_bytes entity.name) (string_bytes entity.osd) (string_bytes other.osd) text fails
 
 abbrev pub IsOldTold : Comparison → List Entity → Entity → List ℕ → Bool → Type 0
 IsOldTold how new entity text fails = IsOldToldBy how (entity_in new (string_bytes entity.name)) entity text fails

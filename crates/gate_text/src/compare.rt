@@ -143,6 +143,28 @@ fn push_examples(text: &mut String, sign: &str, examples: &[Example]) -> Result<
     Ok(())
 }
 
+/// What stands before the first blank of a text.
+fn first_word(text: &str) -> &str
+    ensures { result.now ≡ spec.first_word text.now }
+{
+    match text.split_once(' ') {
+        Some((word, _)) => word,
+        None => text,
+    }
+}
+
+/// Adds a fault's number, with which its printed form begins.
+pub(crate) fn push_number(
+    text: &mut String,
+    alloc: Global,
+    fault: TextFault,
+) -> Result<(), OutOfMemory>
+    ensures { OnOk result (string_bytes text.new ≡ string_bytes text.old ++ spec.fault_number fault) }
+{
+    let printed = format!(in alloc; "{fault}")?;
+    text.push_str(first_word(printed.as_str()))
+}
+
 /// The ticket of a list of grants, by the built-in profiles.
 fn ticket_of_list(alloc: Global, list: &CapList) -> Result<Ticket, TextFault>
     ensures ticket { IfOk result (λ ticket. spec.Expands list.now ticket.grants) }

@@ -27,7 +27,7 @@ fn expect(
     Ok(())
 }
 
-const OVER_EVERY_REGISTRY: &[Row; 9] = &[
+const OVER_EVERY_REGISTRY: &[Row; 11] = &[
     (
         "allow rw pool=vms",
         "allow rw pool=vms, allow pool vms class rbd",
@@ -72,6 +72,16 @@ const OVER_EVERY_REGISTRY: &[Row; 9] = &[
         "",
         "allow class 'a\"b' \"it's\"",
         "wider\n+ 1 --pool a --namespace a --object a --call ''\\''a\"b'\\'''.'it'\\''s':r\n",
+    ),
+    (
+        "",
+        "allow class 'a.b' 'get:r'",
+        "wider\n+ 1 --pool a --namespace a --object a --call '\"a.b\"'.'get:r':r\n",
+    ),
+    (
+        "",
+        "allow class rbd 'get:rw:listed'",
+        "wider\n+ 1 --pool a --namespace a --object a --call rbd.'get:rw:listed':r\n",
     ),
 ];
 
