@@ -26,10 +26,13 @@ const WORKERS_HELP: &str = "How many workers there are, 1 to 8, each on a thread
 const SCRIPT_HELP: &str = "The script, standard input where it is `-` or not given";
 
 const AUTH_HELP: &str =
-    "What `ceph auth ls --format json` or `ceph auth get NAME --format json` prints, `-` for standard input";
+    "What `ceph auth ls`, `ceph auth export` or `ceph auth get NAME` prints, with or without `--format json`, or a keyring; `-` for standard input";
 
 const AUTHS_HELP: &str =
-    "A file as `ceph auth ls --format json` prints it, the present one and then the one that is to take its place, `-` for standard input";
+    "A file of entities as `osdgate who` takes it, the present one and then the one that is to take its place, `-` for standard input";
+
+const POOLS_HELP: &str =
+    "What `ceph osd dump --format json` or `ceph osd pool ls detail --format json` prints, `-` for standard input: the pool must be one of these, and has its tags";
 
 const REGISTRY_HELP: &str =
     "Whose class methods requests call: those of `all` class registries, as where none is given, or this program's `own`";
@@ -77,13 +80,16 @@ const CALL_HELP: &str =
 
 const CAPS: OptionRow = ("caps", Needed("TEXT"), "The capability text");
 
+const POOLS: OptionRow = ("pools", Value("FILE"), POOLS_HELP);
+
 /// The options of `osdgate verdict`.
-const VERDICT: [OptionRow; 10] = [
+const VERDICT: [OptionRow; 11] = [
     CAPS,
     POOL,
     OBJECT,
     NAMESPACE,
     TAG,
+    POOLS,
     (
         "until",
         Value("TICK"),
@@ -104,12 +110,13 @@ const VERDICT: [OptionRow; 10] = [
 ];
 
 /// The options of `osdgate who`, but for the last.
-const WHO: [OptionRow; 8] = [
+const WHO: [OptionRow; 9] = [
     ("auth", Needed("FILE"), AUTH_HELP),
     POOL,
     OBJECT,
     NAMESPACE,
     TAG,
+    POOLS,
     READ,
     WRITE,
     (
@@ -118,6 +125,11 @@ const WHO: [OptionRow; 8] = [
         "Entities whose texts are refused are left out, and the status is 0",
     ),
 ];
+
+/// Whether this is an option's name.
+pub(crate) fn is_option(word: &str) -> bool {
+    VERDICT.iter().any(|row| row.0 == word) || WHO.iter().any(|row| row.0 == word) || word == "all"
+}
 
 /// An option whose value is taken as it is, also where it begins with a dash.
 fn text_option<'a>(alloc: Global, name: &'a str, value: &'a str, help: &'a str) -> Arg<'a> {
@@ -296,8 +308,7 @@ pub(crate) fn whole_command<'a>(alloc: Global) -> Result<Command<'a>, AllocError
         .about("The access gate of a replicated object store")
         .version(VERSION)
         .after_help(VERDICT_EXAMPLE)
-        .subcommand_required(true)
-        .disable_help_subcommand(true);
+        .subcommand_required(true);
     for kind in KINDS {
         command = command.subcommand(command_of(alloc, kind)?)?;
     }

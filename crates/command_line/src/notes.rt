@@ -1,5 +1,7 @@
 //! What standard error tells beside an answer.
 
+use crate::arguments::is_option;
+use crate::profile_notes::push_name;
 use crate::request_words::{asks_nothing, call_of};
 use clap::ArgMatches;
 use common_types::OutOfMemory;
@@ -20,8 +22,12 @@ fn is_unknown(alloc: Global, word: &str) -> Result<bool, OutOfMemory> {
     }
 }
 
-/// The line that tells which call the class registry does not have, which it has, and what to do.
+/// The line that tells which call the class registry does not have, which it has, and what to do. A word that is an option
+/// without its dashes is told so.
 fn unknown_line(alloc: Global, word: &str) -> Result<String, OutOfMemory> {
+    if is_option(word) {
+        return format!(in alloc; "osdgate: {word} is no call; the option is --{word}\n");
+    }
     let mut line = format!(in alloc; "osdgate: the class registry has no {word}, only")?;
     for call in registry(alloc)?.as_slice() {
         write!(line, " {}.{}", call.class.as_str(), call.method.as_str())?;
@@ -58,15 +64,6 @@ pub(crate) fn note_of(
         return String::from_str(alloc, ASKS_NOTHING);
     }
     Ok(String::new(alloc))
-}
-
-/// Adds a name, each character of it outside of ASCII's printed ones as a `?`.
-fn push_name(line: &mut String, name: &str) -> Result<(), OutOfMemory> {
-    for letter in name.chars() {
-        let plain = (' '..='~').contains(&letter);
-        line.push(if plain { letter } else { '?' })?;
-    }
-    Ok(())
 }
 
 /// Adds an entity and the number of the fault for which it has no verdict; answers whether it has none.

@@ -1,0 +1,27 @@
+//! What clap says of words that it does not take.
+
+use clap::Error;
+use common_types::OutOfMemory;
+use std::alloc::Global;
+
+/// How a tip begins that makes of an option a value, which here would be a call.
+const VALUE_TIP: &str = "  tip: to pass '";
+
+/// What clap says, without tips that make of an option a value.
+pub(crate) fn without_value_tip(alloc: Global, error: &Error) -> Result<String, OutOfMemory> {
+    let said = format!(in alloc; "{error}")?;
+    let mut kept = String::new(alloc);
+    let mut left_out = false;
+    for line in said.as_str().lines() {
+        if line.starts_with(VALUE_TIP) {
+            left_out = true;
+        } else if left_out && line.is_empty() {
+            left_out = false;
+        } else {
+            left_out = false;
+            kept.push_str(line)?;
+            kept.push_str("\n")?;
+        }
+    }
+    Ok(kept)
+}
