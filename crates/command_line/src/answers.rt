@@ -1,10 +1,13 @@
 //! What `osdgate verdict`, `explain` and `compare` answer.
 
+use crate::arguments::whole_command;
 use crate::auth_file::entities_of;
+use crate::completions::{Shell, completions};
 use crate::file_fault::{FileFault, Purpose};
 use crate::input_files::{InputFiles, read_text};
+use crate::man_page::man_page;
 use crate::no_answer::{BadFile, NoAnswer};
-use crate::notes::note_of;
+use crate::notes::{Outcome, note_of};
 use crate::pasted::refusal_line;
 use crate::pools_file::{Pool, pools_of, taken_line};
 use crate::profile_notes::profile_lines;
@@ -13,7 +16,7 @@ use clap::ArgMatches;
 use common_types::OutOfMemory;
 use compare_core::Registry;
 use gate_text::{
-    Answer, Comparison, Entity, Printed, Verdict, answer, compare_entities, compare_text,
+    Answer, Comparison, Entity, Format, Printed, Verdict, answer, compare_entities, compare_text,
     explain_text, text_of,
 };
 use std::alloc::Global;
@@ -29,8 +32,44 @@ pub(crate) struct Answered<'a> {
     pub(crate) note: String,
 }
 
+/// The answer of a command that prints a text and tells nothing.
+fn answered_text<'a>(alloc: Global, text: String) -> Answered<'a> {
+    Answered {
+        printed: Printed { text, fails: false },
+        caps: "",
+        note: String::new(alloc),
+    }
+}
+
+/// The answer of `osdgate completions`.
+pub(crate) fn answered_completions<'a>(
+    alloc: Global,
+    matches: &ArgMatches<'_>,
+) -> Result<Answered<'a>, NoAnswer> {
+    let Some(shell) = Shell::of(value_of(matches, "shell")) else {
+        return Err(NoAnswer::Words(BadWords::Shell));
+    };
+    let text = completions(alloc, &whole_command(alloc)?, shell)?;
+    Ok(answered_text(alloc, text))
+}
+
+/// The answer of `osdgate man`.
+pub(crate) fn answered_man<'a>(alloc: Global) -> Result<Answered<'a>, NoAnswer> {
+    let text = man_page(alloc, &whole_command(alloc)?)?;
+    Ok(answered_text(alloc, text))
+}
+
+/// The format that the words ask for, a text where none is given.
+pub(crate) fn format_of(matches: &ArgMatches<'_>) -> Result<Format, NoAnswer> {
+    match matches.get_str("format") {
+        None | Some("text") => Ok(Format::Text),
+        Some("json") => Ok(Format::Json),
+        Some(_) => Err(NoAnswer::Words(BadWords::Format)),
+    }
+}
+
 /// What is read of a file, or why it cannot be used.
-fn or_bad_file<T: Drop>(
+pub(crate) fn or_bad_file<T: Drop>(
     alloc: Global,
     purpose: Purpose,
     path: &str,
@@ -94,10 +133,11 @@ fn printed_verdict(
     alloc: Global,
     matches: &ArgMatches<'_>,
     answer: &Answer,
+    format: Format,
 ) -> Result<Printed, OutOfMemory> {
     let denied = matches!(answer, Ok(Verdict::Denied(_)));
     Ok(Printed {
-        text: text_of(alloc, answer)?,
+        text: text_of(alloc, answer, format)?,
         fails: answer.is_err() || (denied && matches.get_flag("check")),
     })
 }
@@ -112,15 +152,16 @@ pub(crate) fn answered_verdict<'a, F: InputFiles, R: Read>(
     let Some(times) = times_of(matches) else {
         return Err(NoAnswer::Words(BadWords::Time));
     };
+    let format = format_of(matches)?;
     let pools = pools_given(alloc, files, reader, matches)?;
     let request = RequestWords::of(alloc, matches, pools.as_ref().map(Vec::as_slice))?;
     let caps = value_of(matches, "caps");
     let answer = answer(alloc, caps, &request.asked(matches, times))?;
-    let printed = printed_verdict(alloc, matches, &answer)?;
+    let printed = printed_verdict(alloc, matches, &answer, format)?;
     let mut note = tags_line(alloc, &request)?;
-    note.push_str(note_of(alloc, matches, &printed)?.as_str())?;
+    note.push_str(note_of(alloc, matches, Outcome::of(&answer))?.as_str())?;
     note.push_str(profile_lines(alloc, caps)?.as_str())?;
-    note.push_str(refusal_line(alloc, caps, &printed)?.as_str())?;
+    note.push_str(refusal_line(alloc, caps)?.as_str())?;
     Ok(Answered {
         printed,
         caps,
@@ -134,11 +175,10 @@ pub(crate) fn answered_explain<'a>(
     matches: &ArgMatches<'a>,
 ) -> Result<Answered<'a>, NoAnswer> {
     let caps = value_of(matches, "caps");
-    let printed = explain_text(alloc, caps)?;
     Ok(Answered {
-        note: refusal_line(alloc, caps, &printed)?,
-        printed,
+        printed: explain_text(alloc, caps, format_of(matches)?)?,
         caps,
+        note: refusal_line(alloc, caps)?,
     })
 }
 
@@ -168,13 +208,10 @@ fn printed_files<F: InputFiles, R: Read>(
     Ok(compare_entities(alloc, old.as_slice(), new.as_slice(), how)?)
 }
 
-/// The text that is refused where a comparison of two texts is.
-fn refused_caps<'a>(matches: &ArgMatches<'a>, printed: &Printed) -> &'a str {
-    if printed.text.as_str().starts_with("refused new ") {
-        value_of(matches, "new")
-    } else {
-        value_of(matches, "old")
-    }
+/// The text that is refused where a comparison of two texts is, which is the old one where both are.
+fn refused_caps<'a>(alloc: Global, old: &'a str, new: &'a str) -> Result<&'a str, OutOfMemory> {
+    let old_is_refused = explain_text(alloc, old, Format::Text)?.fails;
+    Ok(if old_is_refused { old } else { new })
 }
 
 /// The answer of `osdgate compare`.
@@ -188,7 +225,11 @@ pub(crate) fn answered_compare<'a, F: InputFiles, R: Read>(
         return Err(NoAnswer::Words(BadWords::Registry));
     };
     let check = matches.get_flag("check");
-    let how = Comparison { registry, check };
+    let how = Comparison {
+        registry,
+        check,
+        format: format_of(matches)?,
+    };
     if let Some(paths) = matches.get_strs("auth") {
         return Ok(Answered {
             printed: printed_files(alloc, files, reader, paths, how)?,
@@ -198,9 +239,9 @@ pub(crate) fn answered_compare<'a, F: InputFiles, R: Read>(
     }
     let (old, new) = (value_of(matches, "old"), value_of(matches, "new"));
     let printed = compare_text(alloc, old, new, how)?;
-    let caps = refused_caps(matches, &printed);
+    let caps = refused_caps(alloc, old, new)?;
     Ok(Answered {
-        note: refusal_line(alloc, caps, &printed)?,
+        note: refusal_line(alloc, caps)?,
         printed,
         caps,
     })

@@ -2,7 +2,10 @@
 
 ghost use Rattle.std.specs.Prelude.{◌≤◌};
 
-use crate::answers::{Answered, answered_compare, answered_explain, answered_verdict};
+use crate::answers::{
+    Answered, answered_compare, answered_completions, answered_explain, answered_man,
+    answered_verdict,
+};
 use crate::arguments::whole_command;
 use crate::input_files::InputFiles;
 use crate::no_answer::NoAnswer;
@@ -86,6 +89,8 @@ fn answer_matches<'a, F: InputFiles, R: Read>(
         Some(("explain", inner)) => answered_explain(alloc, inner),
         Some(("compare", inner)) => answered_compare(alloc, files, reader, inner),
         Some(("who", inner)) => answered_who(alloc, files, reader, inner),
+        Some(("completions", inner)) => answered_completions(alloc, inner),
+        Some(("man", _)) => answered_man(alloc),
         _ => Err(NoAnswer::Words(BadWords::Command)),
     }
 }

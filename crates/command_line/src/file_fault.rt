@@ -13,6 +13,7 @@ pub(crate) enum Purpose {
     /// The entities as they are to be.
     NewEntities,
     Pools,
+    Requests,
 }
 
 /// The forms in which entities are read.
@@ -78,6 +79,10 @@ pub(crate) enum FileFault {
     NoApplications(usize),
     /// This pool has the name of an earlier one.
     DoubledPool(usize),
+    /// This line, counted from 1, has a quote that is not closed, or a backslash at its end.
+    OpenQuote(usize),
+    /// This line is no request.
+    NoRequest { line: usize, why: String },
     /// A growth was refused, which is no fault of the text.
     OutOfMemory,
 }
@@ -101,14 +106,16 @@ impl Purpose {
             Purpose::OldEntities => "the old file",
             Purpose::NewEntities => "the new file",
             Purpose::Pools => "the pools file",
+            Purpose::Requests => "the requests file",
         }
     }
 
-    /// Which command prints what is read.
-    pub(crate) fn command(self) -> &'static str {
+    /// Which command prints what is read, if one does.
+    pub(crate) fn command(self) -> Option<&'static str> {
         match self {
-            Purpose::Pools => "ceph osd dump --format json",
-            _ => "ceph auth ls --format json",
+            Purpose::Requests => None,
+            Purpose::Pools => Some("ceph osd dump --format json"),
+            _ => Some("ceph auth ls --format json"),
         }
     }
 }
@@ -222,6 +229,8 @@ impl fmt::Display for FileFault {
             FileFault::DoubledPool(number) => {
                 write!(f, "has the name of an earlier pool in pool {number}")
             }
+            FileFault::OpenQuote(line) => write!(f, "has an open quote in line {line}"),
+            FileFault::NoRequest { line, why } => write!(f, "has no request in line {line}: {why}"),
             FileFault::OutOfMemory => write!(f, "OutOfMemory"),
         }
     }

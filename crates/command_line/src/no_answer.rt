@@ -59,11 +59,10 @@ impl fmt::Display for BadFile {
             let name = self.purpose.name();
             write!(f, "{name} {path} {fault}")?;
         }
-        if fault.is_of_form() {
-            let command = self.purpose.command();
-            write!(f, "; `{command}` prints what is read")?;
+        match self.purpose.command() {
+            Some(command) if fault.is_of_form() => write!(f, "; `{command}` prints what is read"),
+            _ => Ok(()),
         }
-        Ok(())
     }
 }
 

@@ -1,9 +1,11 @@
 //! The way out where a text is refused that was meant for another daemon, or uses a profile that is not there.
 
-use cap_text::{CapFault, FaultKind, parse};
+use cap_text::{CapFault, CapList, FaultKind, Grant, parse};
 use common_types::OutOfMemory;
-use gate_text::Printed;
-use std::alloc::Global;
+use std::alloc::{AllocError, Global};
+
+/// The built-in profiles.
+const PROFILES: [&str; 4] = ["read-only", "read-write", "rbd-read-only", "rbd"];
 
 const KNOWN_PROFILES: &str =
     "osdgate: the profiles here are read-only, read-write, rbd-read-only and rbd; Ceph has others, and one that it does not know grants nothing there\n";
@@ -43,22 +45,26 @@ fn way_out(caps: &str, fault: CapFault) -> &'static str {
     ""
 }
 
+/// Whether a list uses a profile that is not built in.
+fn uses_unknown(list: &CapList) -> bool {
+    list.grants().iter().any(|grant| match grant {
+        Grant::Profile(used) => !PROFILES.iter().any(|name| *name == used.name.as_str()),
+        Grant::Allow(_) => false,
+    })
+}
+
 /// A line on a text that is refused, or nothing: what the profiles are, or for which daemon the text is.
-pub(crate) fn refusal_line(
-    alloc: Global,
-    caps: &str,
-    printed: &Printed,
-) -> Result<String, OutOfMemory> {
-    let text = printed.text.as_str();
-    let told = if !text.starts_with("refused ") {
-        ""
-    } else if text.contains(" G1 ") || text.starts_with("refused G1 ") {
-        KNOWN_PROFILES
-    } else {
-        match parse(alloc, caps) {
-            Ok(_) => "",
-            Err(fault) => way_out(caps, fault),
-        }
+pub(crate) fn refusal_line(alloc: Global, caps: &str) -> Result<String, OutOfMemory> {
+    let told = match parse(alloc, caps) {
+        Ok(list) if uses_unknown(&list) => KNOWN_PROFILES,
+        Ok(_) => "",
+        Err(
+            CapFault {
+                kind: FaultKind::OutOfMemory,
+                ..
+            },
+        ) => return Err(AllocError),
+        Err(fault) => way_out(caps, fault),
     };
     String::from_str(alloc, told)
 }

@@ -23,6 +23,10 @@ pub(crate) enum BadWords {
     Call,
     /// There is no class registry of this name.
     Registry,
+    /// There is no format of this name.
+    Format,
+    /// There are no completions for this shell.
+    Shell,
     /// Tags are given, and a file of pools too.
     PoolTags,
     /// Two files are standard input.
@@ -45,6 +49,8 @@ impl BadWords {
                 "a `--call` is CLASS.METHOD and `:r`, `:w` or `:rw`, and then `:listed` where the class is on the default list"
             }
             BadWords::Registry => "a registry is `all` or `own`",
+            BadWords::Format => "a format is `text` or `json`",
+            BadWords::Shell => "a shell is `bash`, `zsh` or `fish`",
             BadWords::PoolTags => "a pool of `--pools` has the tags of the file, and no `--tag`",
             BadWords::OneInput => "one file can be standard input, and not two",
             BadWords::Command => "there is no such command",
@@ -60,6 +66,17 @@ pub(crate) enum NoRequest {
     Told(String),
     /// A growth was refused.
     OutOfMemory,
+}
+
+impl NoRequest {
+    /// Why, without the program's name.
+    pub(crate) fn why(self, alloc: Global) -> Result<String, OutOfMemory> {
+        match self {
+            NoRequest::Words(bad) => String::from_str(alloc, bad.text()),
+            NoRequest::Told(line) => Ok(line),
+            NoRequest::OutOfMemory => Err(AllocError),
+        }
+    }
 }
 
 impl From<AllocError> for NoRequest {
@@ -102,6 +119,14 @@ impl<'p> RequestWords<'p> {
     /// The pool of the file, where one is given.
     pub(crate) fn pool(&self) -> Option<&'p Pool> {
         self.pool
+    }
+
+    /// Whether the words name this pool of a file.
+    pub(crate) fn is_of(&self, pool: &Pool) -> bool {
+        match self.pool {
+            Some(own) => own.name.as_str() == pool.name.as_str(),
+            None => false,
+        }
     }
 
     /// What the words ask for, at these times.

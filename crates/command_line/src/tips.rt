@@ -25,3 +25,19 @@ pub(crate) fn without_value_tip(alloc: Global, error: &Error) -> Result<String, 
     }
     Ok(kept)
 }
+
+/// What clap says first, on one line.
+pub(crate) fn first_words(alloc: Global, error: &Error) -> Result<String, OutOfMemory> {
+    let said = format!(in alloc; "{error}")?;
+    let mut words = String::new(alloc);
+    for line in said.as_str().lines() {
+        if line.is_empty() {
+            break;
+        }
+        if !words.is_empty() {
+            words.push_str(" ")?;
+        }
+        words.push_str(line.strip_prefix("error: ").unwrap_or(line.trim()))?;
+    }
+    Ok(words)
+}

@@ -3,12 +3,15 @@
 ghost use Rattle.std.specs.Prelude.{◌≡◌, ◌++◌, ◌||◌, [], true, false, IfOk, OnOk, option_copied, string_bytes};
 ghost use Rattle.std.specs.Str.{bytes_eq};
 ghost use Rattle.gate_text.specs.Entities as spec;
-ghost use Rattle.gate_text.specs.Entities.{AreAllTold, IsBothTold, IsChangeTold, IsEntitiesAnswer, IsNewTold, IsOldTold, IsPairTold, unjudged_line};
+ghost use Rattle.gate_text.specs.Entities.{AreAllTold, IsBothTold, IsChangeTold, IsEntitiesAnswer, IsNewTold, IsOldTold, IsPairTold};
 
 use crate::caret::push_shown_text;
 use crate::compare::{Change, Relation, TextFault, changes, fails_check, push_number, ticket_of};
+use crate::compare_json::{change_piece, unjudged_piece};
 use crate::comparison::Comparison;
+use crate::document::entities_by;
 use crate::entity::{Entity, find};
+use crate::format::Format;
 use crate::printed::Printed;
 use common_types::OutOfMemory;
 use std::alloc::{AllocError, Global};
@@ -64,8 +67,39 @@ fn change_lines(
     Ok(text)
 }
 
+/// The same as a piece of a document.
+fn change_json(
+    alloc: Global,
+    pair: &Pair<'_>,
+    relation: Relation,
+    change: &Change,
+) -> Result<String, OutOfMemory>
+    ensures { IfOk result (λ text. string_bytes text ≡ spec.change_piece pair.now.name.now (spec.word_of pair.now.presence relation) change.now.gained.items change.now.lost.items) }
+{
+    match word_of(pair.presence, relation) {
+        Some(word) => change_piece(alloc, pair.name, word, change),
+        None => Ok(String::new(alloc)),
+    }
+}
+
+/// What is told of an entity's change, as a text or as a piece of a document.
+fn change_by(
+    alloc: Global,
+    pair: &Pair<'_>,
+    relation: Relation,
+    change: &Change,
+    format: Format,
+) -> Result<String, OutOfMemory>
+    ensures { IfOk result (λ text. string_bytes text ≡ spec.change_by format pair.now.name.now (spec.word_of pair.now.presence relation) change.now.gained.items change.now.lost.items) }
+{
+    match format {
+        Format::Text => change_lines(alloc, pair, relation, change),
+        Format::Json => change_json(alloc, pair, relation, change),
+    }
+}
+
 /// What became of the text of an entity that is not judged.
-fn became(presence: Presence) -> &'static str
+pub(crate) fn became(presence: Presence) -> &'static str
     ensures { result.now ≡ spec.became presence }
 {
     match presence {
@@ -76,13 +110,13 @@ fn became(presence: Presence) -> &'static str
 }
 
 /// The line of an entity of which a text is refused.
-fn unjudged_pair(
+fn unjudged_line(
     alloc: Global,
     name: &str,
     presence: Presence,
     fault: TextFault,
-) -> Result<Printed, OutOfMemory>
-    ensures { IfOk result (λ printed. (string_bytes printed.text ≡ unjudged_line name.now presence fault) × (printed.fails ≡ true)) }
+) -> Result<String, OutOfMemory>
+    ensures { IfOk result (λ text. string_bytes text ≡ spec.unjudged_line name.now presence fault) }
 {
     let mut text = String::new(alloc);
     push_shown_text(&mut text, name)?;
@@ -91,7 +125,38 @@ fn unjudged_pair(
     text.push_str(", ")?;
     text.push_str(became(presence))?;
     text.push_str("\n")?;
-    Ok(Printed { text, fails: true })
+    Ok(text)
+}
+
+/// The same as a text or as a piece of a document.
+fn unjudged_by(
+    alloc: Global,
+    name: &str,
+    presence: Presence,
+    fault: TextFault,
+    format: Format,
+) -> Result<String, OutOfMemory>
+    ensures { IfOk result (λ text. string_bytes text ≡ spec.unjudged_by format name.now presence fault) }
+{
+    match format {
+        Format::Text => unjudged_line(alloc, name, presence, fault),
+        Format::Json => unjudged_piece(alloc, name, presence, fault),
+    }
+}
+
+/// What is told of an entity of which a text is refused, which fails.
+fn unjudged_pair(
+    alloc: Global,
+    pair: &Pair<'_>,
+    fault: TextFault,
+    format: Format,
+) -> Result<Printed, OutOfMemory>
+    ensures { IfOk result (λ printed. (string_bytes printed.text ≡ spec.unjudged_by format pair.now.name.now pair.now.presence fault) × (printed.fails ≡ true)) }
+{
+    Ok(Printed {
+        text: unjudged_by(alloc, pair.name, pair.presence, fault, format)?,
+        fails: true,
+    })
 }
 
 /// What is told of an entity whose texts come to these tickets.
@@ -106,7 +171,7 @@ fn changed_pair(
 {
     let change = changes(alloc, how.registry, old, new)?;
     let relation = change.relation();
-    let text = change_lines(alloc, pair, relation, &change)?;
+    let text = change_by(alloc, pair, relation, &change, how.format)?;
     let fails = fails_check(how.check, relation);
     Ok(Printed { text, fails })
 }
@@ -118,12 +183,12 @@ fn told_pair(alloc: Global, pair: &Pair<'_>, how: Comparison) -> Result<Printed,
     let old = match ticket_of(alloc, pair.old) {
         Ok(ticket) => ticket,
         Err(TextFault::OutOfMemory) => return Err(AllocError),
-        Err(fault) => return unjudged_pair(alloc, pair.name, pair.presence, fault),
+        Err(fault) => return unjudged_pair(alloc, pair, fault, how.format),
     };
     match ticket_of(alloc, pair.new) {
         Ok(new) => changed_pair(alloc, pair, &old, &new, how),
         Err(TextFault::OutOfMemory) => Err(AllocError),
-        Err(fault) => unjudged_pair(alloc, pair.name, pair.presence, fault),
+        Err(fault) => unjudged_pair(alloc, pair, fault, how.format),
     }
 }
 
@@ -255,6 +320,9 @@ fn new_told(
 ///
 /// Where a list has a name twice, an entity of the other list is compared with the first of them. A name's bytes
 /// outside 32 to 126 are shown as `\x` and two hexadecimal digits.
+///
+/// As a document it has the member `entities`, of whose items each has `entity`, `change`, which is WORD, and `gained` and
+/// `lost`, of whose items each has `path` and `example`; or `entity`, `change`, `fault`, and `byte` where one is at fault.
 pub fn compare_entities(
     alloc: Global,
     old: &[Entity],
@@ -263,8 +331,11 @@ pub fn compare_entities(
 ) -> Result<Printed, OutOfMemory>
     ensures { IfOk result (λ printed. IsEntitiesAnswer how old.now new.now (string_bytes printed.text) printed.fails) }
 {
-    let mut printed = old_told(alloc, old, new, how)?;
-    let told = new_told(alloc, old, new, how)?;
-    push_told(&mut printed, &told)?;
-    Ok(printed)
+    let mut told = old_told(alloc, old, new, how)?;
+    let of_new = new_told(alloc, old, new, how)?;
+    push_told(&mut told, &of_new)?;
+    Ok(Printed {
+        text: entities_by(alloc, told.text, how.format)?,
+        fails: told.fails,
+    })
 }

@@ -2,7 +2,7 @@
 
 use common_types::OutOfMemory;
 use compare_core::Registry;
-use gate_text::{Comparison, compare_text};
+use gate_text::{Comparison, Format, compare_text};
 use std::alloc::Global;
 use std::process::Abort;
 use std::test::Fail;
@@ -19,6 +19,7 @@ fn expect(
     let how = Comparison {
         registry,
         check: false,
+        format: Format::Text,
     };
     for (old, new, text) in rows {
         let printed = compare_text(alloc, old, new, how)?;
