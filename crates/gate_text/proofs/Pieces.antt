@@ -1,30 +1,17 @@
--- Pieces of a document, and the numbers above a table.
-use Rattle.std.proofs.Common.{◌≡◌, ◌≢◌, ℕ, ◌+◌, List, [], ◌∷◌, ◌++◌, Bool, true, false, cond, ◌==◌, Option, None, Some, Bor, MatchOption, refl, sym, ap, ◌∙◌, append_assoc, add-one, arith, codes, decimal, drop, length, lit<}
+-- Pieces of a document.
+use Rattle.std.proofs.Common.{◌≡◌, ◌≢◌, ℕ, ◌+◌, List, [], ◌∷◌, Bool, true, false, cond, ◌==◌, Option, None, Some, Bor, MatchOption, refl, ap, arith, drop, length, lit<}
 use Rattle.std.specs.Str.Pattern.{FindsCharPrefix}
 use Rattle.std.proofs.lemmas.Str.Pattern.{strip_prefix_char}
 use Rattle.gate_text.specs.Documents.{without_comma}
-use Rattle.gate_text.specs.Table.{numbers_to}
 
-pub behind_comma : (pieces rest : List ℕ) → pieces ≡ 44 ∷ rest → rest ≡ without_comma pieces
-behind_comma pieces rest is = sym (ap without_comma is)
-
-pub no_comma : (pieces : List ℕ) → ((rest : List ℕ) → pieces ≢ 44 ∷ rest) → pieces ≡ without_comma pieces
+-- what does not begin with a comma stays
+no_comma : (pieces : List ℕ) → ((rest : List ℕ) → pieces ≢ 44 ∷ rest) → pieces ≡ without_comma pieces
 no_comma [] none = refl
 no_comma (byte ∷ bytes) none = go (byte == 44) refl
   where
     go : (t : Bool) → (byte == 44) ≡ t → byte ∷ bytes ≡ cond t bytes (byte ∷ bytes)
     go true e = let is : byte ≡ 44 = grind arith in absurd (none bytes (ap (λ b. b ∷ bytes) is))
     go false e = refl
-
-numbers_step : (n : ℕ) → numbers_to (n + 1) ≡ numbers_to n ++ (codes " " ++ decimal (n + 1))
-numbers_step n = rw add-one refl
-
--- one more number is written
-pub next_number : (initial text new : List ℕ) (n : ℕ) → text ≡ initial ++ numbers_to n → new ≡ text ++ (codes " " ++ decimal (n + 1)) → new ≡ initial ++ numbers_to (n + 1)
-next_number initial text new n so_far is =
-    is
-    ∙ (ap (λ t. t ++ (codes " " ++ decimal (n + 1))) so_far
-    ∙ (append_assoc initial (numbers_to n) (codes " " ++ decimal (n + 1)) ∙ ap (λ numbers. initial ++ numbers) (sym (numbers_step n))))
 
 -- nothing is left out
 pub nothing_stripped : (r : Option (Bor (List ℕ))) (pieces : List ℕ)

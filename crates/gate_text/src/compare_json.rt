@@ -31,7 +31,8 @@ fn examples_value(alloc: Global, examples: &[Example]) -> Result<Value, OutOfMem
 {
     let mut items = Vec::new(alloc);
     for example in examples {
-        items.push(example_value(alloc, example)?)?;
+        let value = example_value(alloc, example)?;
+        items.push(value)?;
     }
     Ok(Value::from(items))
 }

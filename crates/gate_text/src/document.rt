@@ -151,7 +151,8 @@ fn answers_value(alloc: Global, answers: &[Answer]) -> Result<Value, OutOfMemory
 {
     let mut items = Vec::new(alloc);
     for answer in answers {
-        items.push(answer_value(alloc, answer)?)?;
+        let value = answer_value(alloc, answer)?;
+        items.push(value)?;
     }
     Ok(Value::from(items))
 }

@@ -96,8 +96,10 @@ fn row_of(
 ) -> Result<String, OutOfMemory>
     ensures { IfOk result (λ text. IsRow format requests.now entity.now (string_bytes text)) }
 {
-    let answers = answers_to(alloc, entity.osd.as_str(), requests)?;
-    row_by(alloc, entity.name.as_str(), answers.as_slice(), format)
+    let caps = entity.osd.as_str();
+    let name = entity.name.as_str();
+    let answers = answers_to(alloc, caps, requests)?;
+    row_by(alloc, name, answers.as_slice(), format)
 }
 
 /// The row of each entity, in order.

@@ -77,7 +77,7 @@ const ROWS: &[Row; 14] = &[
             "requests",
         ],
         "entity 1\nclient.app allow\n",
-        "",
+        "osdgate: pool data has no application\n",
         0,
     ),
     (
