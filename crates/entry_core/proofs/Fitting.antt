@@ -1,17 +1,20 @@
 -- Logs that are fitted to parts.
-use Rattle.std.proofs.Common.{◌≡◌, ℕ, suc, ◌+◌, ◌-◌, ◌<◌, ◌≤◌, List, [], ◌∷◌, ◌++◌, Bool, true, false, ◌&&◌, ◌==◌, cond, leb, Some, None, length, take, drop, get_or, min, not, refl, sym, ap, ◌∙◌, subst, append-nil, append_assoc, arith, add-one}
+use Rattle.std.proofs.Common.{◌≡◌, ℕ, suc, ◌+◌, ◌-◌, ◌<◌, ◌≤◌, List, [], ◌∷◌, ◌++◌, Bool, true, false, ◌&&◌, ◌||◌, ◌==◌, cond, map, leb, Some, None, length, take, drop, get_or, min, not, refl, sym, ap, ◌∙◌, subst, append-nil, append_assoc, arith, add-one}
 use Rattle.std.specs.Cmp.{unsigned_Decides}
 use Rattle.std.proofs.lemmas.Bool.{eq-eqb}
 use Rattle.std.proofs.lemmas.Bool.Decides.{nat_tests}
-use Rattle.std.proofs.lemmas.List.{take_all, length-append, length-drop, length-map, map-append, drop-append-le, take-append-drop}
+use Rattle.std.proofs.lemmas.List.{take_all, take_more, drop_all, drop-drop, length-append, length-drop, length-map, length-take-le, map-append, drop-append-le, take-append-drop}
 use Prim.Native.Nat.{zero}
 use Rattle.std.proofs.Math.Seq.{drop-cons, take-append_seam, drop-append_seam}
 use Rattle.entry_core.specs.Request.{Sealed}
-use Rattle.entry_core.specs.Log.{Legal, LegalFrom, Decision, decision, decide, ids, is_in}
+use Rattle.entry_core.specs.Deciding.{store_of}
+use Rattle.entry_core.specs.Log.{Legal, LegalFrom, decide, ids, is_in}
 use Rattle.entry_core.specs.Fitting.{requests_of, part_of, agreed, are_new, decided_behind, kept, can_fit, fitted}
-use Rattle.entry_core.specs.FittingLaws.{SameNext, FitGivesTheLog, FitOfNothing, FittedIsLegal}
+use Rattle.entry_core.specs.FittingLaws.{SameNext, NearlyBegins, FitGivesTheLog, FitOfNothing, FittedIsLegal}
+use Rattle.entry_core.specs.Steps.{decided_on}
 use Rattle.entry_core.specs.declared.entry.Entry.{Entry}
 use Rattle.entry_core.proofs.LegalLogs.{legal_front, legal_rest, ids-push, behind_again, new_again, legal_behind}
+use Rattle.entry_core.proofs.Stepping.{behind_on, requests_on}
 
 le_true : (a b : ℕ) → a ≤ b → leb a b ≡ true
 le_true a b h = grind (arith, nat_tests)
@@ -77,8 +80,8 @@ fit_near front (m ∷ []) [] from mine other one within same = fit_apart front (
 fit_near front (m ∷ []) (o ∷ os) from mine other one within same = fit_next front m o os from mine other within same (m.sealed.id == o.sealed.id) refl
 fit_near front (m ∷ n ∷ ms) behind from mine other one within same = absurd (omega arith)
 
-pub fit_gives_the_log : FitGivesTheLog
-fit_gives_the_log mine other from legal legal_other near =
+near_fits : (mine other : List Entry) (from : ℕ) → Legal mine → Legal other → NearlyBegins mine other from → fitted mine from (part_of other from) ≡ Some other
+near_fits mine other from legal legal_other near =
     (λ i. fitted (sym near.mine_is i) from (part_of (sym near.other_is i) from))
     ∙ fit_near near.front near.last near.behind from (subst Legal (sym near.mine_is) legal) (subst Legal (sym near.other_is) legal_other) near.one near.within near.same
     ∙ ap (λ l. Some l) near.other_is
@@ -86,6 +89,77 @@ fit_gives_the_log mine other from legal legal_other near =
 agreed_none : (es : List Entry) → agreed es [] ≡ 0
 agreed_none [] = refl
 agreed_none (e ∷ es) = refl
+
+stops_by : (b : Bool) (e : Entry) (es : List Entry) (s : Sealed) (part : List Sealed) → (e.sealed.id == s.id) ≡ b → agreed (drop (agreed es part) es) (drop (agreed es part) part) ≡ 0
+    → let n = cond b (suc (agreed es part)) 0 in agreed (drop n (e ∷ es)) (drop n (s ∷ part)) ≡ 0
+stops_by true e es s part is more = more
+stops_by false e es s part is more = ap (λ b. cond b (suc (agreed es part)) 0) is
+
+-- behind what agrees nothing agrees
+agreed_stops : (es : List Entry) (part : List Sealed) → agreed (drop (agreed es part) es) (drop (agreed es part) part) ≡ 0
+agreed_stops [] part = refl
+agreed_stops (e ∷ es) [] = refl
+agreed_stops (e ∷ es) (s ∷ part) = stops_by (e.sealed.id == s.id) e es s part refl (agreed_stops es part)
+
+agreed_within : (es : List Entry) (part : List Sealed) → agreed es part ≤ length es
+agreed_within [] part = omega arith
+agreed_within (e ∷ es) [] = omega arith
+agreed_within (e ∷ es) (s ∷ part) = within_by (e.sealed.id == s.id) (agreed es part) (length es) (agreed_within es part)
+  where
+    within_by : (b : Bool) (n l : ℕ) → n ≤ l → cond b (suc n) 0 ≤ suc l
+    within_by true n l h = omega arith
+    within_by false n l h = omega arith
+
+none_same : (last behind : List Entry) → agreed last (requests_of behind) ≡ 0 → SameNext last behind
+none_same [] behind none = tt
+none_same (e ∷ es) [] none = tt
+none_same (e ∷ es) (f ∷ more) none = λ same.
+    let one : (e.sealed.id == f.sealed.id) ≡ true = eq-eqb e.sealed.id f.sealed.id same in
+    let some : suc (agreed es (requests_of more)) ≡ 0 = ap (λ b. cond b (suc (agreed es (requests_of more))) 0) (sym one) ∙ none in
+    absurd (omega arith)
+
+both_of : (a b : Bool) → (a && b) ≡ true → (a ≡ true) × (b ≡ true)
+both_of true b h = (refl, h)
+both_of false b h = absurd (cc)
+
+true_le : (a b : ℕ) → leb a b ≡ true → a ≤ b
+true_le a b h = grind (arith, nat_tests)
+
+gives_by : (b : Bool) (x y : List Entry) → cond b (Some x) None ≡ Some y → (b ≡ true) × (x ≡ y)
+gives_by true x y is = (refl, cc)
+gives_by false x y is = absurd (cc)
+
+fit_is_near : (mine other : List Entry) (from : ℕ) → fitted mine from (part_of other from) ≡ Some other → NearlyBegins mine other from
+fit_is_near mine other from is =
+    let part : List Sealed = part_of other from in
+    let a : ℕ = agreed (drop from mine) part in
+    let k : ℕ = kept mine from part in
+    let rest : List Sealed = drop a part in
+    let front : List Entry = take k mine in
+    let gives = gives_by (can_fit mine from part) (decided_behind front rest) other is in
+    let tests = both_of (leb from (length mine)) _ gives.0 in
+    let within : from ≤ length mine = true_le from (length mine) tests.0 in
+    let one : length mine ≤ k + 1 = true_le (length mine) (k + 1) (both_of (leb (length mine) (k + 1)) _ tests.1).0 in
+    let behind : List Entry = decided_on (store_of front) rest in
+    let most : a ≤ length (drop from mine) = agreed_within (drop from mine) part in
+    let left : length (drop from mine) ≡ length mine - from = length-drop from mine in
+    let taken : length front ≡ k = length-take-le k mine (omega arith) in
+    let dropped : length (drop k mine) ≡ length mine - k = length-drop k mine in
+    let none : agreed (drop k mine) (requests_of behind) ≡ 0 =
+    (λ i. agreed (sym (drop-drop a from mine) i) (requests_on (store_of front) rest i)) ∙ agreed_stops (drop from mine) part in
+    record {
+      front = front;
+      last = drop k mine;
+      behind = behind;
+      mine_is = take-append-drop k mine;
+      other_is = sym (behind_on front rest) ∙ gives.1;
+      one = omega arith;
+      within = omega arith;
+      same = none_same (drop k mine) behind none;
+    }
+
+pub fit_gives_the_log : FitGivesTheLog
+fit_gives_the_log mine other from legal legal_other = (fit_is_near mine other from, near_fits mine other from legal legal_other)
 
 pub fit_of_nothing : FitOfNothing
 fit_of_nothing log =
@@ -130,15 +204,6 @@ agreed_end (e ∷ es) [] p h = at p
 agreed_end (e ∷ es) (s ∷ part) zero h = absurd (omega arith)
 agreed_end (e ∷ es) (s ∷ part) (suc p) h = agreed_end es part p (omega arith)
 
--- the next request of a part, at a log
-pub new_at : (log : List Entry) (part : List Sealed) (p : ℕ) (s : Sealed) → p < length part → s ≡ get_or part p s → are_new (ids log) (drop p part) ≡ (not (is_in (ids log) s.id) && are_new (ids log ++ s.id ∷ []) (drop (suc p) part))
-new_at log part p s within is =
-    ap (are_new (ids log)) (drop-cons part p s within) ∙ (λ i. not (is_in (ids log) (sym is i).id) && are_new (ids log ++ (sym is i).id ∷ []) (drop (suc p) part))
-
-pub behind_at : (log : List Entry) (part : List Sealed) (p : ℕ) (s : Sealed) → p < length part → s ≡ get_or part p s → decided_behind log (drop p part) ≡ decided_behind (log ++ decide log s ∷ []) (drop (suc p) part)
-behind_at log part p s within is =
-    ap (decided_behind log) (drop-cons part p s within) ∙ (λ i. decided_behind (log ++ decide log (sym is i) ∷ []) (drop (suc p) part))
-
 pub not_true : (b : Bool) → not b ≡ true → b ≡ false
 not_true true h = sym h
 not_true false h = refl
@@ -147,18 +212,70 @@ pub not_false : (b : Bool) → not b ≡ false → b ≡ true
 not_false true h = refl
 not_false false h = sym h
 
+-- the numbers of requests
+abbrev pub numbers_of : List Sealed → List ℕ
+numbers_of part = map (λ (s : Sealed). s.id) part
+
+or_assoc : (a b c : Bool) → ((a || b) || c) ≡ (a || (b || c))
+or_assoc true b c = refl
+or_assoc false b c = refl
+
+pub is_in-append : (a b : List ℕ) (x : ℕ) → is_in (a ++ b) x ≡ (is_in a x || is_in b x)
+is_in-append [] b x = refl
+is_in-append (y ∷ a) b x = ap (λ c. (y == x) || c) (is_in-append a b x) ∙ sym (or_assoc (y == x) (is_in a x) (is_in b x))
+
+-- the next request of a part is new to some numbers, and those behind it are
+pub new_at : (before : List ℕ) (part : List Sealed) (p : ℕ) (s : Sealed) → p < length part → s ≡ get_or part p s → are_new before (drop p part) ≡ (not (is_in before s.id) && are_new (before ++ s.id ∷ []) (drop (suc p) part))
+new_at before part p s within is =
+    ap (are_new before) (drop-cons part p s within) ∙ (λ i. not (is_in before (sym is i).id) && are_new (before ++ (sym is i).id ∷ []) (drop (suc p) part))
+
+numbers_of-more : (part : List Sealed) (p : ℕ) (s : Sealed) → p < length part → s ≡ get_or part p s → numbers_of (take (p + 1) part) ≡ numbers_of (take p part) ++ s.id ∷ []
+numbers_of-more part p s within is =
+    ap numbers_of (take_more part p s within) ∙ map-append (λ (x : Sealed). x.id) (take p part) (get_or part p s ∷ []) ∙ ap (λ (x : Sealed). numbers_of (take p part) ++ x.id ∷ []) (sym is)
+
+-- how far a part was looked at: what is left is new where all is, and a set has the numbers so far
+pub record AreSeen (front : List ℕ) (part : List Sealed) (has : ℕ → Bool) (p : ℕ) : Type 0 where
+  pub new : are_new (front ++ numbers_of (take p part)) (drop p part) ≡ are_new front part
+  pub seen : (q : ℕ) → has q ≡ is_in (numbers_of (take p part)) q
+
+pub none_seen : (front : List ℕ) (part : List Sealed) (has : ℕ → Bool) → ((q : ℕ) → has q ≡ false) → AreSeen front part has 0
+none_seen front [] has h = record { new = ap (λ l. are_new l []) (append-nil front); seen = h }
+none_seen front (s ∷ part) has h = record { new = ap (λ l. are_new l (s ∷ part)) (append-nil front); seen = h }
+
+stands_by : (a b : Bool) (c : Bool) → (a || b) ≡ true → (not (a || b) && c) ≡ false
+stands_by a b c h = λ i. not (h i) && c
+
+-- a number that stands already
+pub seen_twice : (front : List ℕ) (part : List Sealed) (has : ℕ → Bool) (p : ℕ) (s : Sealed) → p < length part → s ≡ get_or part p s → AreSeen front part has p → (is_in front s.id || has s.id) ≡ true → are_new front part ≡ false
+seen_twice front part has p s within is so_far stands =
+    let there : is_in (front ++ numbers_of (take p part)) s.id ≡ true = is_in-append front (numbers_of (take p part)) s.id ∙ ap (λ b. is_in front s.id || b) (sym (so_far.seen s.id)) ∙ stands in
+    sym so_far.new ∙ new_at (front ++ numbers_of (take p part)) part p s within is ∙ ap (λ b. not b && are_new ((front ++ numbers_of (take p part)) ++ s.id ∷ []) (drop (suc p) part)) there
+
 fresh_by : (a b : Bool) → a ≡ false → (not a && b) ≡ b
 fresh_by a b h = λ i. not (h i) && b
 
--- one more request decided
-pub record More (log log' : List Entry) (part : List Sealed) (p : ℕ) : Type 0 where
-  pub new : are_new (ids log') (drop (p + 1) part) ≡ are_new (ids log) (drop p part)
-  pub all : decided_behind log' (drop (p + 1) part) ≡ decided_behind log (drop p part)
+or_false : (b : Bool) → (b || false) ≡ b
+or_false true = refl
+or_false false = refl
 
-pub decide_more : (log log' : List Entry) (part : List Sealed) (p : ℕ) (s : Sealed) (d : Decision) → p < length part → s ≡ get_or part p s → is_in (ids log) s.id ≡ false → d ≡ decision log s → log' ≡ log ++ d.entry ∷ [] → More log log' part p
-decide_more log log' part p s d within is fresh decided grown =
-    let next : log' ≡ log ++ decide log s ∷ [] = grown ∙ ap (λ (x : Decision). log ++ x.entry ∷ []) decided in
+put_by : (b c : Bool) → cond b true c ≡ (c || (b || false))
+put_by true true = refl
+put_by true false = refl
+put_by false true = refl
+put_by false false = refl
+
+-- one more number
+pub see_more : (front : List ℕ) (part : List Sealed) (has has' : ℕ → Bool) (p : ℕ) (s : Sealed) → p < length part → s ≡ get_or part p s → AreSeen front part has p → is_in front s.id ≡ false → has s.id ≡ false → ((q : ℕ) → has' q ≡ cond (s.id == q) true (has q))
+    → AreSeen front part has' (p + 1)
+see_more front part has has' p s within is so_far off unseen put =
+    let n : List ℕ = numbers_of (take p part) in
+    let fresh : is_in (front ++ n) s.id ≡ false = is_in-append front n s.id ∙ (λ i. off i || (sym (so_far.seen s.id) ∙ unseen) i) in
+    let more : numbers_of (take (p + 1) part) ≡ n ++ s.id ∷ [] = numbers_of-more part p s within is in
     record {
-      new = (λ i. are_new (ids (next i)) (drop (add-one p i) part)) ∙ ap (λ l. are_new l (drop (suc p) part)) (ids-push log (decide log s)) ∙ sym (new_at log part p s within is ∙ fresh_by (is_in (ids log) s.id) _ fresh);
-      all = (λ i. decided_behind (next i) (drop (add-one p i) part)) ∙ sym (behind_at log part p s within is);
+      new = (λ i. are_new (front ++ more i) (drop (add-one p i) part)) ∙ ap (λ l. are_new l (drop (suc p) part)) (sym (append_assoc front n (s.id ∷ [])))
+          ∙ sym (fresh_by (is_in (front ++ n) s.id) _ fresh) ∙ sym (new_at (front ++ n) part p s within is) ∙ so_far.new;
+      seen = λ q. put q ∙ ap (cond (s.id == q) true) (so_far.seen q) ∙ put_by (s.id == q) (is_in n q) ∙ sym (is_in-append n (s.id ∷ []) q) ∙ ap (λ l. is_in l q) (sym more);
     }
+
+pub all_seen : (front : List ℕ) (part : List Sealed) (has : ℕ → Bool) (p : ℕ) → p ≡ length part → AreSeen front part has p → are_new front part ≡ true
+all_seen front part has p end so_far = sym so_far.new ∙ ap (are_new (front ++ numbers_of (take p part))) (drop_all p part (omega arith))

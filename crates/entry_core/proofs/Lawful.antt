@@ -79,7 +79,8 @@ judged_step : (b : Bool) (store : Store) (s : Sealed) (report : Reply) → is_do
 judged_step true store s report h = performed_step store s s.work
 judged_step false store s report h = refused_step store s s.work report h
 
-answer_step : (store : Store) (s : Sealed) → stepped store s s.work (answer_on store s).reply ≡ changed store (name_of s) (answer_on store s).change
+-- what was decided on a store, once it is an entry, changes the store as it says
+pub answer_step : (store : Store) (s : Sealed) → stepped store s s.work (answer_on store s).reply ≡ changed store (name_of s) (answer_on store s).change
 unfolding answer_on
 answer_step store s = judged_step (is_allowed_sealed s) store s (Denied (report_of s.ticket (target_of s) (needs_for s.work) s.tick)) refl
 

@@ -6,5 +6,6 @@ pub mod Listing
 pub mod Locality
 pub mod Places
 pub mod Pushing
+pub mod Stepping
 pub mod Stores
 pub mod TextSets

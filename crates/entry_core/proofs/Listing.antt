@@ -2,9 +2,10 @@
 use Rattle.std.proofs.Common.{◌≡◌, ℕ, List, [], ◌∷◌, Bool, true, false, ◌||◌, ◌&&◌, cond, Option, Some, None, is_some, map, T, refl, sym, ap, ◌∙◌}
 use Rattle.std.specs.Arc.{arc_value}
 use Rattle.std.specs.Option.{option_map}
-use Rattle.std.specs.List.{list_any, filter, AllByRecursion}
+use Rattle.std.specs.List.{list_any, filter, All, AllByRecursion}
+use Rattle.std.proofs.lemmas.List.Elements.{All-head, All-tail}
 use Rattle.std.specs.List.Sorted.{IsStrictlySortedBy}
-use Rattle.std.specs.Map.{lookup, keys_of}
+use Rattle.std.specs.Map.{lookup}
 use Rattle.std.specs.FinMap.{empty, get, keys, entries, find, is_sorted, get-empty, get-insert, get-from_entries, entries_sorted, same_map, contains_key-keys}
 use Rattle.std.specs.FinMap.Entries.{below_all}
 use Rattle.std.specs.Ordering.{eq_by_cmp, is_eq, is_lt, ordering_then}
@@ -12,7 +13,8 @@ use Rattle.std.specs.Cmp.Lexicographic.{nat_list_cmp_total, nat_list_eq_equiv, t
 use Rattle.std.specs.Str.{bytes_eq}
 use Rattle.std.specs.declared.cmp.Ordering.{Ordering}
 use Rattle.std.specs.declared.cmp.Ordering.TheVariants.{Less, Equal, Greater}
-use Rattle.std.proofs.lemmas.Map.Made.{is_some-lookup}
+use Rattle.std.specs.declared.alloc.Global.{Global}
+use Rattle.std.specs.declared.sync.Arc.{Arc}
 use Rattle.object_core.specs.Content.{Content}
 use Rattle.entry_core.specs.Request.{Sealed}
 use Rattle.entry_core.specs.Store.{ObjectName, bytes_cmp, name_cmp}
@@ -20,7 +22,7 @@ use Rattle.entry_core.specs.Names.{is_same, is_same-ties, is_same_equiv, same_fr
 use Rattle.entry_core.specs.Deciding.{is_listed, names_in}
 use Rattle.entry_core.specs.Laws.{ListingsAreSorted}
 use Rattle.entry_core.specs.Stored.{Texts, StoredObjects, objects_of, marked_text, with_text, collected}
-use Rattle.entry_core.proofs.Stores.{get-objects_of}
+use Rattle.entry_core.proofs.Stores.{get-objects_of, held}
 use Rattle.entry_core.proofs.TextSets.{bytes_apart, marked, marked_or, set_of, keys-sorted}
 
 -- a test over two lists with the same elements
@@ -58,6 +60,11 @@ both_ways false false f g = refl
 any_same : (t : ObjectName → Bool) (xs ys : List ObjectName) → ((q : ObjectName) → list_any (is_same q) xs ≡ list_any (is_same q) ys) → list_any t xs ≡ list_any t ys
 any_same t xs ys h = both_ways _ _ (any_moves t xs ys (λ q r. sym (h q) ∙ r)) (any_moves t ys xs (λ q r. h q ∙ r))
 
+-- the names that have an object
+abbrev pub live : StoredObjects → List ObjectName
+live [] = []
+live (e ∷ es) = cond (is_some e.1) (e.0 ∷ live es) (live es)
+
 any_ties : (q : ObjectName) (xs : List ObjectName) → list_any (is_same q) xs ≡ list_any (eq_by_cmp name_cmp q) xs
 any_ties q [] = refl
 any_ties q (x ∷ xs) = λ i. is_same-ties q x i || any_ties q xs i
@@ -66,10 +73,43 @@ is_some-map : {A B : Type 0} (f : A → B) (o : Option A) → is_some (option_ma
 is_some-map f None = refl
 is_some-map f (Some a) = refl
 
--- the hash map and the store have the same names
-same_keys : (es : StoredObjects) (q : ObjectName) → list_any (is_same q) (keys_of es) ≡ list_any (is_same q) (keys (objects_of es))
-same_keys es q =
-    sym (is_some-lookup (is_same q) es) ∙ sym (is_some-map arc_value (lookup (is_same q) es)) ∙ ap is_some (sym (get-objects_of es q))
+-- each name is found with what stands behind it
+abbrev pub IsFound : StoredObjects → ObjectName × Option (Arc Content Global) → Type 0
+IsFound all e = lookup (is_same e.0) all ≡ Some e.1
+
+abbrev pub AreFound : StoredObjects → StoredObjects → Type 0
+AreFound all es = All (IsFound all) es
+
+live_by : (b c r x : Bool) → (b ≡ true → c ≡ true → x ≡ true) → (r ≡ true → x ≡ true) → (q : ObjectName) (n : ObjectName) (ns : List ObjectName) → is_same q n ≡ c → list_any (is_same q) ns ≡ r → list_any (is_same q) (cond b (n ∷ ns) ns) ≡ true → x ≡ true
+live_by true true r x one more q n ns same rest h = one refl refl
+live_by true false r x one more q n ns same rest h = more (sym rest ∙ ap (λ d. d || list_any (is_same q) ns) (sym same) ∙ h)
+live_by false c r x one more q n ns same rest h = more (sym rest ∙ h)
+
+live_found : (all es : StoredObjects) → AreFound all es → (q : ObjectName) → list_any (is_same q) (live es) ≡ true → is_some (held (lookup (is_same q) all)) ≡ true
+live_found all [] found q h = absurd (cc)
+live_found all (e ∷ es) found q h =
+    live_by (is_some e.1) (is_same q e.0) (list_any (is_same q) (live es)) (is_some (held (lookup (is_same q) all)))
+    (λ some same. ap (λ n. is_some (held (lookup (is_same n) all))) (same_from_is_same q e.0 same) ∙ ap (λ o. is_some (held o)) (All-head (IsFound all) e es found) ∙ is_some-map arc_value e.1 ∙ some)
+    (λ r. live_found all es (All-tail (IsFound all) e es found) q r) q e.0 (live es) refl refl h
+
+live_more : (b c : Bool) (q : ObjectName) (n : ObjectName) (ns : List ObjectName) → is_same q n ≡ c → list_any (is_same q) ns ≡ true → list_any (is_same q) (cond b (n ∷ ns) ns) ≡ true
+live_more true c q n ns same h = or_right (is_same q n) _ h
+live_more false c q n ns same h = h
+
+found_by : (c : Bool) (o : Option (Arc Content Global)) (p : Option (Option (Arc Content Global))) (q n : ObjectName) (ns : List ObjectName) → is_same q n ≡ c → (is_some (held p) ≡ true → list_any (is_same q) ns ≡ true)
+    → is_some (held (cond c (Some o) p)) ≡ true → list_any (is_same q) (cond (is_some o) (n ∷ ns) ns) ≡ true
+found_by true (Some a) p q n ns same more h = ap (λ d. d || list_any (is_same q) ns) same
+found_by true None p q n ns same more h = absurd (cc)
+found_by false o p q n ns same more h = live_more (is_some o) false q n ns same (more h)
+
+found_live : (es : StoredObjects) (q : ObjectName) → is_some (held (lookup (is_same q) es)) ≡ true → list_any (is_same q) (live es) ≡ true
+found_live [] q h = absurd (cc)
+found_live (e ∷ es) q h = found_by (is_same q e.0) e.1 (lookup (is_same q) es) q e.0 (live es) refl (found_live es q) h
+
+-- the hash map and the store have the same names of objects
+same_keys : (es : StoredObjects) → AreFound es es → (q : ObjectName) → list_any (is_same q) (live es) ≡ list_any (is_same q) (keys (objects_of es))
+same_keys es found q =
+    both_ways _ _ (live_found es es found q) (found_live es q) ∙ ap is_some (sym (get-objects_of es q))
     ∙ contains_key-keys (objects_of es) q ∙ sym (any_ties q (keys (objects_of es)))
 
 -- a name that is listed under this text
@@ -88,7 +128,21 @@ get_if : (b : Bool) (m : Texts) (t q : List ℕ) → get (cond b (with_text m t)
 get_if true m t q = get-insert nat_list_cmp_total m t tt q
 get_if false m t q = refl
 
-get-collected : (p : ObjectName → Bool) (m : Texts) (ns : List ObjectName) (q : List ℕ) → get (collected p m ns) q ≡ cond (list_any (under p q) ns) (Some tt) (get m q)
+-- the set with the names that are listed of these
+abbrev collected_of : (ObjectName → Bool) → Texts → List ObjectName → Texts
+collected_of p texts [] = texts
+collected_of p texts (n ∷ ns) = collected_of p (cond (p n) (with_text texts n.name) texts) ns
+
+live_step : (b : Bool) (p : ObjectName → Bool) (m : Texts) (n : ObjectName) (es : StoredObjects) → ((m : Texts) → collected p m es ≡ collected_of p m (live es))
+    → collected p (cond (b && p n) (with_text m n.name) m) es ≡ collected_of p m (cond b (n ∷ live es) (live es))
+live_step true p m n es more = more (cond (p n) (with_text m n.name) m)
+live_step false p m n es more = more m
+
+collected-live : (p : ObjectName → Bool) (m : Texts) (es : StoredObjects) → collected p m es ≡ collected_of p m (live es)
+collected-live p m [] = refl
+collected-live p m (e ∷ es) = live_step (is_some e.1) p m e.0 es (λ x. collected-live p x es)
+
+get-collected : (p : ObjectName → Bool) (m : Texts) (ns : List ObjectName) (q : List ℕ) → get (collected_of p m ns) q ≡ cond (list_any (under p q) ns) (Some tt) (get m q)
 get-collected p m [] q = refl
 get-collected p m (n ∷ ns) q =
     get-collected p (cond (p n) (with_text m n.name) m) ns q
@@ -181,14 +235,15 @@ unfolding names_in
 names_in-sorted store s = names-sorted s (entries store) (entries_sorted store)
 
 -- the names that were collected from the hash map are those of the piece
-same_sets : (p : ObjectName → Bool) (es : StoredObjects) → collected p empty (keys_of es) ≡ set_of (names_by p (keys (objects_of es)))
-same_sets p es =
-    same_map nat_list_cmp_total bytes_apart _ _
-    (λ q. get-collected p empty (keys_of es) q ∙ ap (cond (list_any (under p q) (keys_of es)) (Some tt)) (get-empty bytes_cmp q)
-    ∙ ap marked (any_same (under p q) (keys_of es) (keys (objects_of es)) (same_keys es))
+same_sets : (p : ObjectName → Bool) (es : StoredObjects) → AreFound es es → collected p empty es ≡ set_of (names_by p (keys (objects_of es)))
+same_sets p es found =
+    collected-live p empty es
+    ∙ same_map nat_list_cmp_total bytes_apart _ _
+    (λ q. get-collected p empty (live es) q ∙ ap (cond (list_any (under p q) (live es)) (Some tt)) (get-empty bytes_cmp q)
+    ∙ ap marked (any_same (under p q) (live es) (keys (objects_of es)) (same_keys es found))
     ∙ sym (get-from_entries nat_list_cmp_total _ q ∙ find-set_of q (names_by p (keys (objects_of es))) ∙ ap marked (any-filter p q (keys (objects_of es)))))
 
-pub collected_names : (s : Sealed) (es : StoredObjects) (texts : Texts) → texts ≡ collected (is_listed s) empty (keys_of es) → keys texts ≡ names_in (objects_of es) s
+pub collected_names : (s : Sealed) (es : StoredObjects) (texts : Texts) → AreFound es es → texts ≡ collected (is_listed s) empty es → keys texts ≡ names_in (objects_of es) s
 unfolding names_in
-collected_names s es texts h =
-    ap keys (h ∙ same_sets (is_listed s) es) ∙ keys-sorted _ (names-sorted s (entries (objects_of es)) (entries_sorted (objects_of es)))
+collected_names s es texts found h =
+    ap keys (h ∙ same_sets (is_listed s) es found) ∙ keys-sorted _ (names-sorted s (entries (objects_of es)) (entries_sorted (objects_of es)))

@@ -1,20 +1,27 @@
--- What a push and a step back keep of a log's index and objects.
+-- What a push, a fit and a step back keep of a log's index and objects.
 use Rattle.std.proofs.Common.{◌≡◌, ℕ, ◌+◌, ◌-◌, ◌<◌, List, [], ◌∷◌, ◌++◌, Bool, true, false, cond, ◌==◌, Option, Some, None, is_some, length, get_or, take, refl, sym, ap, ◌∙◌, subst, arith}
 use Rattle.std.specs.Cmp.{unsigned_Decides}
-use Rattle.std.proofs.lemmas.List.{length-append, take_more, take_all}
+use Rattle.std.proofs.lemmas.List.{take_more, take_all}
 use Rattle.std.specs.List.{AllZip}
 use Rattle.std.specs.Map.{lookup}
 use Rattle.std.specs.Option.{option_map}
-use Rattle.entry_core.specs.Store.{Store}
+use Rattle.entry_core.specs.Request.{Sealed}
+use Rattle.entry_core.specs.Store.{Store, ObjectName}
 use Rattle.entry_core.specs.Deciding.{Decision, store_of, name_of}
+use Rattle.entry_core.specs.Fitting.{are_new, decided_behind, requests_of}
 use Rattle.entry_core.specs.Laws.{changed}
 use Rattle.entry_core.specs.Log.{Legal, decision, ids, is_in}
-use Rattle.entry_core.specs.Stored.{IsStored, LeadsBack, place_in, decided_of, change_of}
+use Rattle.entry_core.specs.Steps.{LastLeadsBack, decided_on, entries_of, last_back, left_by}
+use Rattle.entry_core.specs.Stored.{IsReady, IsStored, KeepsNames, LeadsBack, LeadsTo, Places, place_in, decided_of, change_of, store_in}
 use Rattle.entry_core.specs.declared.entry.Entry.{Entry}
 use Rattle.entry_core.specs.declared.decided.ObjectChange.{ObjectChange}
+use Rattle.entry_core.specs.declared.decided.ObjectChange.TheVariants as left
+use Rattle.entry_core.specs.declared.objects.Objects.{Objects}
+use Rattle.entry_core.specs.declared.steps.Step.{Step}
 use Rattle.entry_core.proofs.Lawful.{decision_tells_the_store}
-use Rattle.entry_core.proofs.LegalLogs.{StandsAt, legal_at, legal_front, legal_push}
+use Rattle.entry_core.proofs.LegalLogs.{first_new, ids-push, legal_behind, legal_push, legal_rest, rest_new}
 use Rattle.entry_core.proofs.Places.{is_in-place, place_push}
+use Rattle.entry_core.proofs.Stepping.{back-push, back_of_steps, behind_on, left-append, still_back}
 
 -- the objects after what was decided
 store_after : (log : List Entry) (store store' : Store) (entry : Entry) (left : ObjectChange) → store ≡ store_of log → decided_of entry left ≡ decision log entry.sealed
@@ -22,35 +29,50 @@ store_after : (log : List Entry) (store store' : Store) (entry : Entry) (left : 
 store_after log store store' entry left made told h =
     h ∙ (λ i. changed (made i) (name_of entry.sealed) (told i).change) ∙ sym (decision_tells_the_store log entry.sealed) ∙ ap (λ (d : Decision). store_of (log ++ d.entry ∷ [])) (sym told)
 
-nothing_ends : (b : List Entry) (y : Entry) → [] ≡ b ++ y ∷ [] → ⊥
-nothing_ends b y h = let l : 0 ≡ length (b ++ y ∷ []) = ap length h in let m : length (b ++ y ∷ []) ≡ length b + 1 = length-append b (y ∷ []) in omega arith
-
--- logs with a last entry are equal where both parts are
-split_last : (a b : List Entry) (x y : Entry) → a ++ x ∷ [] ≡ b ++ y ∷ [] → (a ≡ b) × (x ≡ y)
-split_last [] [] x y h = (refl, cc)
-split_last [] (f ∷ b) x y h = absurd (nothing_ends b y (cc))
-split_last (e ∷ a) [] x y h = let rest : a ++ x ∷ [] ≡ [] = cc in absurd (nothing_ends a x (sym rest))
-split_last (e ∷ a) (f ∷ b) x y h =
-    let first : e ≡ f = cc in
-    let rest : a ++ x ∷ [] ≡ b ++ y ∷ [] = cc in
-    let r = split_last a b x y rest in
-    ((λ i. first i ∷ r.0 i), r.1)
-
-pub after_push : (log : List Entry) (index : List (ℕ × ℕ)) (store : Store) (kept : Option ObjectChange) (entry : Entry) (left : ObjectChange) (decided : Decision) → IsStored log index store kept → decided_of entry left ≡ decided → decided ≡ decision log decided.entry.sealed → is_in (ids log) decided.entry.sealed.id ≡ false
-    → (log' : List Entry) (index' : List (ℕ × ℕ)) (store' : Store) (back : ObjectChange) → log' ≡ log ++ entry ∷ [] → ((id : ℕ) → lookup (λ n. id == n) index' ≡ cond (entry.sealed.id == id) (Some (length log)) (lookup (λ n. id == n) index))
-    → store' ≡ changed store (name_of entry.sealed) (change_of left) → changed store' (name_of entry.sealed) (change_of back) ≡ store → IsStored log' index' store' (Some back)
-after_push log index store kept entry left decided stored parts here new log' index' store' back grown indexed changed_to undone =
+pub after_push : (log : List Entry) (index : List (ℕ × ℕ)) (objects : Objects) (kept : Option ObjectChange) (entry : Entry) (left : ObjectChange) (decided : Decision) → IsStored log index objects kept → decided_of entry left ≡ decided → decided ≡ decision log decided.entry.sealed → is_in (ids log) decided.entry.sealed.id ≡ false
+    → (log' : List Entry) (index' : List (ℕ × ℕ)) (objects' : Objects) (back : ObjectChange) → log' ≡ log ++ entry ∷ [] → ((id : ℕ) → lookup (λ n. id == n) index' ≡ cond (entry.sealed.id == id) (Some (length log)) (lookup (λ n. id == n) index))
+    → store_in objects' ≡ changed (store_in objects) (name_of entry.sealed) (change_of left) → LeadsTo objects' (store_in objects) (name_of entry.sealed) back → IsStored log' index' objects' (Some back)
+after_push log index objects kept entry left decided stored parts here new log' index' objects' back grown indexed changed_to leads =
     let told : decided_of entry left ≡ decision log entry.sealed = parts ∙ here ∙ ap (λ (d : Decision). decision log d.entry.sealed) (sym parts) in
     let fresh : is_in (ids log) entry.sealed.id ≡ false = ap (λ (d : Decision). is_in (ids log) d.entry.sealed.id) parts ∙ new in
-    let made : store' ≡ store_of log' = store_after log store store' entry left stored.made told changed_to ∙ ap store_of (sym grown) in
     record {
       places = λ id. indexed id ∙ ap (cond (entry.sealed.id == id) (Some (length log))) (stored.places id) ∙ sym (place_push log entry id fresh) ∙ ap (λ l. place_in l id) (sym grown);
-      made = made;
+      made = store_after log (store_in objects) (store_in objects') entry left stored.made told changed_to ∙ ap store_of (sym grown);
       legal = subst Legal (sym grown) (legal_push [] log entry stored.legal fresh (ap (λ (d : Decision). d.entry) told));
-      back = λ front e is.
-          let last = split_last front log e entry (is ∙ grown) in
-          (λ i. changed (sym made i) (name_of (last.1 i).sealed) (change_of back)) ∙ undone ∙ stored.made ∙ ap store_of (sym last.0);
+      back = subst (λ l. LeadsBack objects' l (Some back)) (sym grown) (back-push log objects' entry back (subst (λ s. LeadsTo objects' s (name_of entry.sealed) back) stored.made leads));
     }
+
+-- the same log, whose objects have more names at most
+pub still_stored : (log log' : List Entry) (index index' : List (ℕ × ℕ)) (objects objects' : Objects) (back : Option ObjectChange) → IsStored log index objects back → log' ≡ log → ((id : ℕ) → lookup (λ n. id == n) index' ≡ lookup (λ n. id == n) index)
+    → store_in objects' ≡ store_in objects → KeepsNames objects objects' → IsStored log' index' objects' back
+still_stored log log' index index' objects objects' back stored same_log same_index same_store keeps = record {
+  places = λ id. same_index id ∙ stored.places id ∙ ap (λ l. place_in l id) (sym same_log);
+  made = same_store ∙ stored.made ∙ ap store_of (sym same_log);
+  legal = subst Legal (sym same_log) stored.legal;
+  back = subst (λ l. LeadsBack objects' l back) (sym same_log) (still_back objects objects' log back same_store keeps stored.back);
+}
+
+-- the log of the entries of some steps
+pub steps_behind : (log : List Entry) (store : Store) (part : List Sealed) (steps : List Step) → store ≡ store_of log → entries_of steps ≡ decided_on store part → log ++ entries_of steps ≡ decided_behind log part
+steps_behind log store part steps made entries = ap (λ l. log ++ l) (entries ∙ ap (λ s. decided_on s part) made) ∙ sym (behind_on log part)
+
+pub after_steps : (log : List Entry) (objects : Objects) (store : Store) (part : List Sealed) (steps : List Step) → Legal log → store ≡ store_of log → are_new (ids log) part ≡ true → entries_of steps ≡ decided_on store part
+    → store_in objects ≡ left_by store (entries_of steps) → LastLeadsBack objects store steps
+    → (log' : List Entry) (index' : List (ℕ × ℕ)) (back' : Option ObjectChange) → log' ≡ log ++ entries_of steps → Places index' log' → back' ≡ last_back None steps → IsStored log' index' objects back'
+after_steps log objects store part steps legal made new entries left leads log' index' back' grown places is_back = record {
+  places = places;
+  made = left ∙ ap (λ s. left_by s (entries_of steps)) made ∙ sym (left-append log (entries_of steps)) ∙ ap store_of (sym grown);
+  legal = subst Legal (sym (grown ∙ steps_behind log store part steps made entries)) (legal_behind log part legal new);
+  back =
+  subst (λ b. LeadsBack objects log' b) (sym is_back)
+  (subst (λ l. LeadsBack objects l (last_back None steps)) (sym grown) (back_of_steps log objects steps (subst (λ s. LastLeadsBack objects s steps) made leads)));
+}
+
+-- a log by its last entry
+pub whole_of : (log : List Entry) (last : Entry) → 0 < length log → last ≡ get_or log (length log - 1) last → take (length log - 1) log ++ last ∷ [] ≡ log
+whole_of log last some is =
+    let n : ℕ = length log - 1 in
+    ap (λ x. take n log ++ x ∷ []) is ∙ sym (take_more log n last (omega arith)) ∙ take_all (n + 1) log (omega arith)
 
 not_there : (o : Option ℕ) → is_some o ≡ false → None ≡ o
 not_there None h = refl
@@ -61,29 +83,32 @@ gone_by front last id n new true is =
     not_there (place_in front id) (sym (is_in-place front id) ∙ ap (is_in (ids front)) (sym ((unsigned_Decides last.sealed.id id).0 is)) ∙ new)
 gone_by front last id n new false is = refl
 
-pub after_back : (log : List Entry) (index : List (ℕ × ℕ)) (store : Store) (kept : Option ObjectChange) (last : Entry) (back : ObjectChange) → IsStored log index store kept → 0 < length log → last ≡ get_or log (length log - 1) last → LeadsBack log (Some back)
-    → (log' : List Entry) (index' : List (ℕ × ℕ)) (store' : Store) → log' ≡ take (length log - 1) log → ((id : ℕ) → lookup (λ n. id == n) index' ≡ cond (last.sealed.id == id) None (lookup (λ n. id == n) index))
-    → store' ≡ changed store (name_of last.sealed) (change_of back) → IsStored log' index' store' None
-after_back log index store kept last back stored some is leads log' index' store' cut indexed changed_to =
-    let n : ℕ = length log - 1 in
-    let front : List Entry = take n log in
-    let within : n < length log = omega arith in
-    let whole : front ++ last ∷ [] ≡ log = ap (λ x. front ++ x ∷ []) is ∙ sym (take_more log n last within) ∙ take_all (n + 1) log (omega arith) in
-    let stands : StandsAt front last = legal_at log n last stored.legal within is in
-    record {
-      places = λ id.
-          indexed id ∙ ap (cond (last.sealed.id == id) None) (stored.places id ∙ ap (λ l. place_in l id) (sym whole) ∙ place_push front last id stands.new)
-          ∙ gone_by front last id (length front) stands.new (last.sealed.id == id) refl ∙ ap (λ l. place_in l id) (sym cut);
-      made = changed_to ∙ ap (λ s. changed s (name_of last.sealed) (change_of back)) stored.made ∙ leads front last whole ∙ ap store_of (sym cut);
-      legal = subst Legal (sym cut) (legal_front [] front (last ∷ []) (subst Legal (sym whole) stored.legal));
-      back = tt;
-    }
+-- an index without the last entry's number
+pub places_back : (log : List Entry) (index index' : List (ℕ × ℕ)) (front : List Entry) (last : Entry) → front ++ last ∷ [] ≡ log → is_in (ids front) last.sealed.id ≡ false → Places index log
+    → ((id : ℕ) → lookup (λ n. id == n) index' ≡ cond (last.sealed.id == id) None (lookup (λ n. id == n) index)) → Places index' front
+places_back log index index' front last whole new places indexed id =
+    indexed id ∙ ap (cond (last.sealed.id == id) None) (places id ∙ ap (λ l. place_in l id) (sym whole) ∙ place_push front last id new)
+    ∙ gone_by front last id (length front) new (last.sealed.id == id) refl
+
+-- the number of a legal log's last entry is new to those before it
+pub last_new : (front : List Entry) (last : Entry) → Legal (front ++ last ∷ []) → is_in (ids front) last.sealed.id ≡ false
+last_new front last legal = (legal_rest [] front (last ∷ []) legal).0
 
 -- changes that are alike lead back alike
-pub same_back : (log : List Entry) (a b : Option ObjectChange) → option_map change_of a ≡ option_map change_of b → LeadsBack log b → LeadsBack log a
-same_back log None b h leads = tt
-same_back log (Some a) None h leads = absurd (cc)
-same_back log (Some a) (Some b) h leads = λ front e is. let alike : change_of a ≡ change_of b = cc in ap (changed (store_of log) (name_of e.sealed)) alike ∙ leads front e is
+ready_alike : (objects : Objects) (name : ObjectName) (a b : ObjectChange) → change_of a ≡ change_of b → IsReady objects name b → IsReady objects name a
+ready_alike objects name left.Kept b h ready = tt
+ready_alike objects name (left.Became None) b h ready = tt
+ready_alike objects name (left.Became (Some x)) left.Kept h ready = absurd (cc)
+ready_alike objects name (left.Became (Some x)) (left.Became None) h ready = absurd (cc)
+ready_alike objects name (left.Became (Some x)) (left.Became (Some y)) h ready = ready
+
+pub same_back : (objects : Objects) (log : List Entry) (a b : Option ObjectChange) → option_map change_of a ≡ option_map change_of b → LeadsBack objects log b → LeadsBack objects log a
+same_back objects log None b h leads = tt
+same_back objects log (Some a) None h leads = absurd (cc)
+same_back objects log (Some a) (Some b) h leads = λ front e is.
+    let alike : change_of a ≡ change_of b = cc in
+    let to = leads front e is in
+    record { ready = ready_alike objects (name_of e.sealed) a b alike to.ready; store = ap (changed (store_in objects) (name_of e.sealed)) alike ∙ to.store }
 
 pub same_pairs : (es fs : List (ℕ × ℕ)) → AllZip (λ p q. (q.0 ≡ p.0) × (q.1 ≡ p.1)) es fs → fs ≡ es
 same_pairs [] [] h = refl
@@ -92,11 +117,23 @@ same_pairs (e ∷ es) [] h = absurd h
 same_pairs (e ∷ es) (f ∷ fs) h = λ i. (h.0.0 i, h.0.1 i) ∷ same_pairs es fs h.1 i
 
 -- equal parts stand for the log, too
-pub after_copy : (log log' : List Entry) (index index' : List (ℕ × ℕ)) (store store' : Store) (kept kept' : Option ObjectChange) → IsStored log index store kept → log' ≡ log → index' ≡ index → store' ≡ store → option_map change_of kept' ≡ option_map change_of kept
-    → IsStored log' index' store' kept'
-after_copy log log' index index' store store' kept kept' stored same_log same_index same_store alike = record {
-  places = λ id. ap (lookup (λ n. id == n)) same_index ∙ stored.places id ∙ ap (λ l. place_in l id) (sym same_log);
-  made = same_store ∙ stored.made ∙ ap store_of (sym same_log);
-  legal = subst Legal (sym same_log) stored.legal;
-  back = subst (λ l. LeadsBack l kept') (sym same_log) (same_back log kept' kept alike stored.back);
-}
+pub after_copy : (log log' : List Entry) (index index' : List (ℕ × ℕ)) (objects objects' : Objects) (kept kept' : Option ObjectChange) → IsStored log index objects kept → log' ≡ log → index' ≡ index → store_in objects' ≡ store_in objects → KeepsNames objects objects' → option_map change_of kept' ≡ option_map change_of kept
+    → IsStored log' index' objects' kept'
+after_copy log log' index index' objects objects' kept kept' stored same_log same_index same_store keeps alike =
+    let still = still_stored log log' index index' objects objects' kept stored same_log (λ id. ap (lookup (λ n. id == n)) same_index) same_store keeps in
+    record { places = still.places; made = still.made; legal = still.legal; back = same_back objects' log' kept' kept alike still.back }
+
+-- one more step of those that are added: its number is new, and those behind it stay new
+pub record MoreAdded (log log' : List Entry) (index' : List (ℕ × ℕ)) (steps : List Step) : Type 0 where
+  pub places : Places index' log'
+  pub new : are_new (ids log') (requests_of (entries_of steps)) ≡ true
+
+pub add_step : (log : List Entry) (index : List (ℕ × ℕ)) (s : Step) (steps : List Step) → Places index log → are_new (ids log) (requests_of (entries_of (s ∷ steps))) ≡ true → (log' : List Entry) (index' : List (ℕ × ℕ)) → log' ≡ log ++ s.entry ∷ []
+    → ((id : ℕ) → lookup (λ n. id == n) index' ≡ cond (s.entry.sealed.id == id) (Some (length log)) (lookup (λ n. id == n) index)) → MoreAdded log log' index' steps
+add_step log index s steps places new log' index' grown indexed =
+    let fresh : is_in (ids log) s.entry.sealed.id ≡ false = first_new (is_in (ids log) s.entry.sealed.id) _ new in
+    let rest : are_new (ids log ++ s.entry.sealed.id ∷ []) (requests_of (entries_of steps)) ≡ true = rest_new (is_in (ids log) s.entry.sealed.id) _ new in
+    record {
+      places = λ id. indexed id ∙ ap (cond (s.entry.sealed.id == id) (Some (length log))) (places id) ∙ sym (place_push log s.entry id fresh) ∙ ap (λ l. place_in l id) (sym grown);
+      new = ap (λ l. are_new (ids l) (requests_of (entries_of steps))) grown ∙ ap (λ l. are_new l (requests_of (entries_of steps))) (ids-push log s.entry) ∙ rest;
+    }

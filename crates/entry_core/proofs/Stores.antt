@@ -1,76 +1,117 @@
 -- The hash map of objects, seen as the store.
-use Rattle.std.proofs.Common.{◌≡◌, [], ◌∷◌, Bool, true, false, cond, Option, Some, None, map, refl, sym, ap, ◌∙◌}
+use Rattle.std.proofs.Common.{◌≡◌, [], ◌∷◌, Bool, true, false, cond, Option, Some, None, is_some, refl, sym, ap, ◌∙◌, subst}
 use Rattle.std.specs.Arc.{arc_value}
-use Rattle.std.specs.Option.{option_map, option_copied}
+use Rattle.std.specs.Option.{option_map, option_copied, option_flatten}
 use Rattle.std.specs.List.{AllZip}
 use Rattle.std.specs.Map.{lookup}
 use Rattle.std.specs.Borrow.{Bor}
-use Rattle.std.specs.FinMap.{from_entries, get, insert, remove, find, get-from_entries, get-insert, get-remove, same_map}
+use Rattle.std.specs.FinMap.{get, get-empty, get-insert, get-remove, same_map}
 use Rattle.std.specs.Ordering.{eq_by_cmp}
 use Rattle.std.specs.declared.alloc.Global.{Global}
 use Rattle.std.specs.declared.sync.Arc.{Arc}
 use Rattle.object_core.specs.Content.{Content}
 use Rattle.entry_core.specs.Store.{Store, ObjectName, name_cmp, with_object}
 use Rattle.entry_core.specs.Names.{name_cmp_total, same_names, is_same, is_same-ties, is_same_equiv, same_from_is_same}
-use Rattle.entry_core.specs.Stored.{StoredObjects, objects_of}
+use Rattle.entry_core.specs.Laws.{changed}
+use Rattle.entry_core.specs.Stored.{StoredObjects, IsReady, change_of, has_name, objects_of, store_in}
+use Rattle.entry_core.specs.declared.decided.ObjectChange.{ObjectChange}
+use Rattle.entry_core.specs.declared.decided.ObjectChange.TheVariants as left
+use Rattle.entry_core.specs.declared.objects.Objects.{Objects}
 
-mapped_by : (b c : Bool) (a : Arc Content Global) (x : Option Content) (y : Option (Arc Content Global)) → b ≡ c → x ≡ option_map arc_value y → cond b (Some (arc_value a)) x ≡ option_map arc_value (cond c (Some a) y)
-mapped_by b true a x y e h = ap (λ t. cond t (Some (arc_value a)) x) e
-mapped_by b false a x y e h = ap (λ t. cond t (Some (arc_value a)) x) e ∙ h
+-- what stands at each name after a change of one object
+pub get-with_object : (store : Store) (k q : ObjectName) (o : Option Content) → get (with_object store k o) q ≡ cond (eq_by_cmp name_cmp q k) o (get store q)
+get-with_object store k q (Some c) = get-insert name_cmp_total store k c q
+get-with_object store k q None = get-remove name_cmp_total store k q
 
-find-lookup : (es : StoredObjects) (q : ObjectName) → find name_cmp q (map (λ e. (e.0, arc_value e.1)) es) ≡ option_map arc_value (lookup (is_same q) es)
-find-lookup [] q = refl
-find-lookup (e ∷ es) q = mapped_by (eq_by_cmp name_cmp q e.0) (is_same q e.0) e.1 _ _ (sym (is_same-ties q e.0)) (find-lookup es q)
+-- the object behind what a look-up found
+abbrev pub held : Option (Option (Arc Content Global)) → Option Content
+held o = option_map arc_value (option_flatten o)
+
+held_by : (b c : Bool) (o : Option (Arc Content Global)) (x : Option Content) (y : Option (Option (Arc Content Global))) → b ≡ c → x ≡ held y → cond b (option_map arc_value o) x ≡ held (cond c (Some o) y)
+held_by b true o x y e h = ap (λ t. cond t (option_map arc_value o) x) e
+held_by b false o x y e h = ap (λ t. cond t (option_map arc_value o) x) e ∙ h
 
 -- a look-up in the store is one in the hash map
-pub get-objects_of : (es : StoredObjects) (q : ObjectName) → get (objects_of es) q ≡ option_map arc_value (lookup (is_same q) es)
-get-objects_of es q = get-from_entries name_cmp_total _ q ∙ find-lookup es q
-
-changed_by : (b c : Bool) (o p : Option (Arc Content Global)) (w : Option Content) → c ≡ b → option_map arc_value o ≡ w → option_map arc_value (cond b o p) ≡ cond c w (option_map arc_value p)
-changed_by true c o p w e h = h ∙ ap (λ t. cond t w (option_map arc_value p)) (sym e)
-changed_by false c o p w e h = ap (λ t. cond t w (option_map arc_value p)) (sym e)
-
--- what a change of the hash map at one name does to the store at each name
-after_change : (es fs : StoredObjects) (k : ObjectName) (o : Option (Arc Content Global)) (w : Option Content) (q : ObjectName) → option_map arc_value o ≡ w → lookup (is_same q) fs ≡ cond (is_same k q) o (lookup (is_same q) es)
-    → get (objects_of fs) q ≡ cond (eq_by_cmp name_cmp q k) w (get (objects_of es) q)
-after_change es fs k o w q h is =
-    get-objects_of fs q ∙ ap (option_map arc_value) is ∙ changed_by (is_same k q) (eq_by_cmp name_cmp q k) o (lookup (is_same q) es) w (sym (is_same-ties q k) ∙ is_same_equiv.symm q k) h
-    ∙ ap (cond (eq_by_cmp name_cmp q k) w) (sym (get-objects_of es q))
-
-pub after_insert : (es fs : StoredObjects) (k : ObjectName) (a : Arc Content Global) → ((q : ObjectName) → lookup (is_same q) fs ≡ cond (is_same k q) (Some a) (lookup (is_same q) es)) → objects_of fs ≡ insert (objects_of es) k (arc_value a)
-after_insert es fs k a h = same_map name_cmp_total same_names _ _ (λ q. after_change es fs k (Some a) (Some (arc_value a)) q refl (h q) ∙ sym (get-insert name_cmp_total (objects_of es) k (arc_value a) q))
-
-pub after_remove : (es fs : StoredObjects) (k : ObjectName) → ((q : ObjectName) → lookup (is_same q) fs ≡ cond (is_same k q) None (lookup (is_same q) es)) → objects_of fs ≡ remove (objects_of es) k
-after_remove es fs k h = same_map name_cmp_total same_names _ _ (λ q. after_change es fs k None None q refl (h q) ∙ sym (get-remove name_cmp_total (objects_of es) k q))
+pub get-objects_of : (es : StoredObjects) (q : ObjectName) → get (objects_of es) q ≡ held (lookup (is_same q) es)
+get-objects_of [] q = get-empty name_cmp q
+get-objects_of (e ∷ es) q = get-with_object (objects_of es) e.0 q (option_map arc_value e.1) ∙ held_by (eq_by_cmp name_cmp q e.0) (is_same q e.0) e.1 _ _ (sym (is_same-ties q e.0)) (get-objects_of es q)
 
 -- what a look-up lends
 pub copied : (r : Option (Bor (Arc Content Global))) → option_map (λ a. arc_value a.now) r ≡ option_map arc_value (option_copied r)
 copied None = refl
 copied (Some a) = refl
 
--- a clone of the hash map stands for the same store
-abbrev pair : ObjectName × Arc Content Global → ObjectName × Content
-pair e = (e.0, arc_value e.1)
+changed_by : (b c : Bool) (o : Option (Arc Content Global)) (p : Option (Option (Arc Content Global))) → c ≡ b → held (cond b (Some o) p) ≡ cond c (option_map arc_value o) (held p)
+changed_by true c o p e = ap (λ t. cond t (option_map arc_value o) (held p)) (sym e)
+changed_by false c o p e = ap (λ t. cond t (option_map arc_value o) (held p)) (sym e)
 
-same_pairs : (es fs : StoredObjects) → AllZip (λ p q. (q.0 ≡ p.0) × (arc_value q.1 ≡ arc_value p.1)) es fs → map pair fs ≡ map pair es
-same_pairs [] [] h = refl
-same_pairs [] (f ∷ fs) h = absurd h
-same_pairs (e ∷ es) [] h = absurd h
-same_pairs (e ∷ es) (f ∷ fs) h = λ i. (h.0.0 i, h.0.1 i) ∷ same_pairs es fs h.1 i
+-- a hash map with something else behind one name
+pub after_put : (es fs : StoredObjects) (k : ObjectName) (o : Option (Arc Content Global)) → ((q : ObjectName) → lookup (is_same q) fs ≡ cond (is_same k q) (Some o) (lookup (is_same q) es)) → objects_of fs ≡ with_object (objects_of es) k (option_map arc_value o)
+after_put es fs k o h =
+    same_map name_cmp_total same_names _ _
+    (λ q. get-objects_of fs q ∙ ap held (h q)
+    ∙ changed_by (is_same k q) (eq_by_cmp name_cmp q k) o (lookup (is_same q) es) (sym (is_same-ties q k) ∙ is_same_equiv.symm q k)
+    ∙ ap (cond (eq_by_cmp name_cmp q k) (option_map arc_value o)) (sym (get-objects_of es q))
+    ∙ sym (get-with_object (objects_of es) k q (option_map arc_value o)))
 
-pub after_clone : (es fs : StoredObjects) → AllZip (λ p q. (q.0 ≡ p.0) × (arc_value q.1 ≡ arc_value p.1)) es fs → objects_of fs ≡ objects_of es
-after_clone es fs h = ap from_entries (same_pairs es fs h)
+still_by : (b : Bool) (o : Option (Arc Content Global)) (p : Option (Option (Arc Content Global))) → is_some p ≡ true → is_some (cond b (Some o) p) ≡ true
+still_by true o p h = refl
+still_by false o p h = h
 
--- what stands at each name after a change of one object
-get-with_object : (store : Store) (k q : ObjectName) (o : Option Content) → get (with_object store k o) q ≡ cond (eq_by_cmp name_cmp q k) o (get store q)
-get-with_object store k q (Some c) = get-insert name_cmp_total store k c q
-get-with_object store k q None = get-remove name_cmp_total store k q
+-- its names are those of before, and this one
+pub names_after_put : (es fs : StoredObjects) (k : ObjectName) (o : Option (Arc Content Global)) → ((q : ObjectName) → lookup (is_same q) fs ≡ cond (is_same k q) (Some o) (lookup (is_same q) es))
+    → (q : ObjectName) → is_some (lookup (is_same q) es) ≡ true → is_some (lookup (is_same q) fs) ≡ true
+names_after_put es fs k o h q there = ap is_some (h q) ∙ still_by (is_same k q) o (lookup (is_same q) es) there
 
+pub known_after_put : (es fs : StoredObjects) (k : ObjectName) (o : Option (Arc Content Global)) → ((q : ObjectName) → lookup (is_same q) fs ≡ cond (is_same k q) (Some o) (lookup (is_same q) es)) → is_some (lookup (is_same k) fs) ≡ true
+known_after_put es fs k o h = ap is_some (h k) ∙ ap (λ b. is_some (cond b (Some o) (lookup (is_same k) es))) (is_same_equiv.refl k)
+
+-- nothing put behind a name that is not there
+absent_by : (b : Bool) (store : Store) (k q : ObjectName) → eq_by_cmp name_cmp q k ≡ b → get store k ≡ None → cond b None (get store q) ≡ get store q
+absent_by true store k q tied h = sym h ∙ ap (get store) (sym (same_from_is_same q k (is_same-ties q k ∙ tied)))
+absent_by false store k q tied h = refl
+
+pub none_put : (es : StoredObjects) (k : ObjectName) → lookup (is_same k) es ≡ None → with_object (objects_of es) k None ≡ objects_of es
+none_put es k h =
+    same_map name_cmp_total same_names _ _
+    (λ q. get-with_object (objects_of es) k q None ∙ absent_by (eq_by_cmp name_cmp q k) (objects_of es) k q refl (get-objects_of es k ∙ ap held h))
+
+-- a change that needs no name more, behind a name that is not there
+nothing_put : (objects : Objects) (name : ObjectName) (object : Option (Arc Content Global)) → IsReady objects name (left.Became object) → None ≡ lookup (is_same name) objects.map.entries → store_in objects ≡ with_object (store_in objects) name (option_map arc_value object)
+nothing_put objects name None ready none = sym (none_put objects.map.entries name (sym none))
+nothing_put objects name (Some a) ready none = let e : false ≡ true = ap is_some none ∙ ready in absurd (cc)
+
+pub not_there_put : (objects : Objects) (name : ObjectName) (change : ObjectChange) (object : Option (Arc Content Global)) → change ≡ left.Became object → IsReady objects name change → None ≡ lookup (is_same name) objects.map.entries → store_in objects ≡ changed (store_in objects) name (change_of change)
+not_there_put objects name change object is ready none = nothing_put objects name object (subst (IsReady objects name) is ready) none ∙ ap (λ (l : ObjectChange). changed (store_in objects) name (change_of l)) (sym is)
+
+pub ready_known : (objects : Objects) (name : ObjectName) (object : Option (Arc Content Global)) → has_name objects name ≡ true → IsReady objects name (left.Became object)
+ready_known objects name None known = tt
+ready_known objects name (Some a) known = known
+
+-- a clone of the hash map, by what a clone of an object is: it stands for the same store, and has the same names
+pub objects_of-clone : (R : Option (Arc Content Global) → Option (Arc Content Global) → Type 0) → ((a b : Option (Arc Content Global)) → R a b → option_map arc_value b ≡ option_map arc_value a) → (es fs : StoredObjects) → AllZip (λ p q. (q.0 ≡ p.0) × R p.1 q.1) es fs → objects_of fs ≡ objects_of es
+objects_of-clone R same [] [] h = refl
+objects_of-clone R same [] (f ∷ fs) h = absurd h
+objects_of-clone R same (e ∷ es) [] h = absurd h
+objects_of-clone R same (e ∷ es) (f ∷ fs) h = λ i. with_object (objects_of-clone R same es fs h.1 i) (h.0.0 i) (same e.1 f.1 h.0.1 i)
+
+there_by : (b : Bool) (x y : Option (Arc Content Global)) (p r : Option (Option (Arc Content Global))) → (is_some p ≡ true → is_some r ≡ true) → is_some (cond b (Some x) p) ≡ true → is_some (cond b (Some y) r) ≡ true
+there_by true x y p r more h = refl
+there_by false x y p r more h = more h
+
+pub names_of-clone : (R : Option (Arc Content Global) → Option (Arc Content Global) → Type 0) → (es fs : StoredObjects) → AllZip (λ p q. (q.0 ≡ p.0) × R p.1 q.1) es fs → (q : ObjectName) → is_some (lookup (is_same q) es) ≡ true → is_some (lookup (is_same q) fs) ≡ true
+names_of-clone R [] [] h q there = there
+names_of-clone R [] (f ∷ fs) h q there = absurd h
+names_of-clone R (e ∷ es) [] h q there = absurd h
+names_of-clone R (e ∷ es) (f ∷ fs) h q there =
+    ap (λ n. is_some (cond (is_same q n) (Some f.1) (lookup (is_same q) fs))) h.0.0
+    ∙ there_by (is_same q e.0) e.1 f.1 (lookup (is_same q) es) (lookup (is_same q) fs) (names_of-clone R es fs h.1 q) there
+
+-- the object that was there before, put again, gives the store that was there before
 there_again : (b : Bool) (store : Store) (k q : ObjectName) (w o : Option Content) → eq_by_cmp name_cmp q k ≡ b → o ≡ get store k → cond b o (cond b w (get store q)) ≡ get store q
 there_again true store k q w o tied h = h ∙ ap (get store) (sym (same_from_is_same q k (is_same-ties q k ∙ tied)))
 there_again false store k q w o tied h = refl
 
--- the object that was there before, put again, gives the store that was there before
 pub put_again : (store store' : Store) (k : ObjectName) (w o : Option Content) → store' ≡ with_object store k w → o ≡ get store k → with_object store' k o ≡ store
 put_again store store' k w o is h =
     ap (λ s. with_object s k o) is

@@ -1,6 +1,6 @@
 -- Statement: contracts of public calls use it.
 -- Laws of parts and fitting.
-use Rattle.std.specs.Prelude.{◌≡◌, ℕ, ◌≤◌, Some, List, [], ◌∷◌, ◌++◌, length}
+use Rattle.std.specs.Prelude.{◌≡◌, ◌↔◌, ℕ, ◌≤◌, Some, List, [], ◌∷◌, ◌++◌, length}
 use Rattle.entry_core.specs.Request.{Sealed}
 use Rattle.entry_core.specs.Log.{Legal}
 use Rattle.entry_core.specs.Fitting.{part_of, fitted}
@@ -23,9 +23,9 @@ pub record NearlyBegins (mine other : List Entry) (from : ℕ) : Type 0 where
   pub within : from ≤ length front
   pub same : SameNext last behind
 
--- a legal log that is fitted to the part of another, with which it nearly begins, becomes the other
+-- a legal log that is fitted to the part of another legal one becomes the other exactly where the two nearly begin alike
 abbrev pub FitGivesTheLog : Type 0
-FitGivesTheLog = (mine other : List Entry) (from : ℕ) → Legal mine → Legal other → NearlyBegins mine other from → fitted mine from (part_of other from) ≡ Some other
+FitGivesTheLog = (mine other : List Entry) (from : ℕ) → Legal mine → Legal other → (fitted mine from (part_of other from) ≡ Some other) ↔ NearlyBegins mine other from
 
 -- an empty part behind a log changes nothing
 abbrev pub FitOfNothing : Type 0

@@ -10,5 +10,6 @@ pub mod Names
 pub mod Replies
 pub mod Request
 pub mod Sealing
+pub mod Steps
 pub mod Store
 pub mod Stored

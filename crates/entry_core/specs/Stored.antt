@@ -1,9 +1,9 @@
 -- Refinement: only contracts inside the crate use it.
 -- How a log keeps its objects and where its entries stand.
-use Rattle.std.specs.Prelude.{◌≡◌, ℕ, ◌+◌, ◌==◌, if◌then◌else◌, List, [], ◌∷◌, ◌++◌, Bool, Option, Some, None, map, String, string_bytes}
+use Rattle.std.specs.Prelude.{◌≡◌, ℕ, ◌+◌, ◌==◌, if◌then◌else◌, List, [], ◌∷◌, ◌++◌, Bool, true, ◌&&◌, Option, Some, None, is_some, map, String, string_bytes}
 use Rattle.std.specs.Arc.{arc_value}
 use Rattle.std.specs.FinSet as set
-use Rattle.std.specs.FinMap.{FinMap, from_entries, insert}
+use Rattle.std.specs.FinMap.{FinMap, empty, from_entries, insert}
 use Rattle.std.specs.Coded.{Coded, coded_list, coded_ℕ}
 use Rattle.std.specs.Map.{lookup}
 use Rattle.std.specs.declared.alloc.Global.{Global}
@@ -12,20 +12,35 @@ use Rattle.object_core.specs.Content.{Content}
 use Rattle.std.specs.Option.{option_map}
 use Rattle.object_core.specs.declared.outcome.Change.{Change}
 use Rattle.object_core.specs.declared.outcome.Change.TheVariants as change
-use Rattle.entry_core.specs.Store.{Store, ObjectName, bytes_cmp}
+use Rattle.entry_core.specs.Store.{Store, ObjectName, bytes_cmp, with_object}
+use Rattle.entry_core.specs.Names.{is_same}
 use Rattle.entry_core.specs.Deciding.{Decision, store_of, name_of}
 use Rattle.entry_core.specs.Laws.{changed}
 use Rattle.entry_core.specs.Log.{Legal}
 use Rattle.entry_core.specs.declared.entry.Entry.{Entry}
 use Rattle.entry_core.specs.declared.decided.ObjectChange.{ObjectChange}
 use Rattle.entry_core.specs.declared.decided.ObjectChange.TheVariants as left
+use Rattle.entry_core.specs.declared.objects.Objects.{Objects}
 
+-- by each name that ever had an object, that object, or nothing where it was removed
 abbrev pub StoredObjects : Type 0
-StoredObjects = List (ObjectName × Arc Content Global)
+StoredObjects = List (ObjectName × Option (Arc Content Global))
 
 -- the objects of a hash map, whatever their order there
 abbrev pub objects_of : StoredObjects → Store
-objects_of entries = from_entries (map (λ e. (e.0, arc_value e.1)) entries)
+objects_of [] = empty
+objects_of (e ∷ es) = with_object (objects_of es) e.0 (option_map arc_value e.1)
+
+abbrev pub store_in : Objects → Store
+store_in objects = objects_of objects.map.entries
+
+-- whether a name stands there, with an object or without one
+abbrev pub has_name : Objects → ObjectName → Bool
+has_name objects name = is_some (lookup (is_same name) objects.map.entries)
+
+-- each name that stood there still does
+abbrev pub KeepsNames : Objects → Objects → Type 0
+KeepsNames old new = (name : ObjectName) → has_name old name ≡ true → has_name new name ≡ true
 
 -- what is left of the object
 abbrev pub change_of : ObjectChange → Change
@@ -40,17 +55,32 @@ abbrev pub place_in : List Entry → ℕ → Option ℕ
 place_in [] id = None
 place_in (e ∷ es) id = if e.sealed.id == id then Some 0 else option_map (λ n. n + 1) (place_in es id)
 
+-- an index finds just the entries' numbers
+abbrev pub Places : List (ℕ × ℕ) → List Entry → Type 0
+Places index log = (id : ℕ) → lookup (λ n. id == n) index ≡ place_in log id
+
+-- a change of an object for which no name has to be added
+abbrev pub IsReady : Objects → ObjectName → ObjectChange → Type 0
+IsReady objects name left.Kept = Unit {0}
+IsReady objects name (left.Became None) = Unit {0}
+IsReady objects name (left.Became (Some object)) = has_name objects name ≡ true
+
+-- a change of an object that leads back to a store, and takes no memory
+pub record LeadsTo (objects : Objects) (before : Store) (name : ObjectName) (back : ObjectChange) : Type 0 where
+  pub ready : IsReady objects name back
+  pub store : changed (store_in objects) name (change_of back) ≡ before
+
 -- this change of the last entry's object, where it is known, leads back to the store before that entry
-abbrev pub LeadsBack : List Entry → Option ObjectChange → Type 0
-LeadsBack log None = Unit {0}
-LeadsBack log (Some back) = (front : List Entry) (e : Entry) → front ++ e ∷ [] ≡ log → changed (store_of log) (name_of e.sealed) (change_of back) ≡ store_of front
+abbrev pub LeadsBack : Objects → List Entry → Option ObjectChange → Type 0
+LeadsBack objects log None = Unit {0}
+LeadsBack objects log (Some back) = (front : List Entry) (e : Entry) → front ++ e ∷ [] ≡ log → LeadsTo objects (store_of front) (name_of e.sealed) back
 
 -- a log's index finds just the entries' numbers, and its objects are the store that the entries make; the log is legal
-pub record IsStored (log : List Entry) (index : List (ℕ × ℕ)) (objects : Store) (kept : Option ObjectChange) : Type 0 where
-  pub places : (id : ℕ) → lookup (λ n. id == n) index ≡ place_in log id
-  pub made : objects ≡ store_of log
+pub record IsStored (log : List Entry) (index : List (ℕ × ℕ)) (objects : Objects) (kept : Option ObjectChange) : Type 0 where
+  pub places : Places index log
+  pub made : store_in objects ≡ store_of log
   pub legal : Legal log
-  pub back : LeadsBack log kept
+  pub back : LeadsBack objects log kept
 
 -- a set of texts: a map with nothing at each
 abbrev pub Texts : Type 0
@@ -68,7 +98,7 @@ with_text texts text = insert texts text tt
 abbrev pub texts_of : List (String Global) → Texts
 texts_of texts = from_entries (map (λ t. marked_text (string_bytes t)) texts)
 
--- the set with the names that a piece lists, one after another
-abbrev pub collected : (ObjectName → Bool) → Texts → List ObjectName → Texts
+-- the set with the names of objects that a piece lists, one after another
+abbrev pub collected : (ObjectName → Bool) → Texts → StoredObjects → Texts
 collected is_listed texts [] = texts
-collected is_listed texts (n ∷ ns) = collected is_listed (if is_listed n then with_text texts n.name else texts) ns
+collected is_listed texts (e ∷ es) = collected is_listed (if is_some e.1 && is_listed e.0 then with_text texts e.0.name else texts) es

@@ -7,6 +7,7 @@ ghost use Rattle.std.specs.FinMap.{get};
 ghost use Rattle.object_core.specs.Effect.{effect};
 ghost use Rattle.object_core.specs.ToldEffects.{after};
 ghost use Rattle.entry_core.specs.Deciding.{answered, decision_on, name_of, ran, with_answer};
+ghost use Rattle.entry_core.specs.Stored.{store_in};
 
 use crate::decided::{Decided, ObjectChange};
 use crate::entry::Entry;
@@ -64,7 +65,7 @@ fn run(
     sealed: &Sealed,
     ops: &[Op],
 ) -> Result<Decided, OutOfMemory>
-    ensures { IfOk result (λ d. d ≡ with_answer sealed.now (ran (effect (get objects.now (name_of sealed.now)) ops.now))) }
+    ensures { IfOk result (λ d. d ≡ with_answer sealed.now (ran (effect (get (store_in objects.now) (name_of sealed.now)) ops.now))) }
 {
     let stored = objects.get(sealed.name());
     match run_vector(alloc, look(stored), ops)? {
@@ -87,7 +88,7 @@ pub(crate) fn decide(
     objects: &Objects,
     sealed: &Sealed,
 ) -> Result<Decided, OutOfMemory>
-    ensures { IfOk result (λ d. d ≡ decision_on objects.now sealed.now) }
+    ensures { IfOk result (λ d. d ≡ decision_on (store_in objects.now) sealed.now) }
 {
     if !sealed.is_allowed() {
         return answer(sealed, Reply::Denied(sealed.report(alloc)?));

@@ -40,7 +40,7 @@ pub fn listings_are_sorted()
     ensures { ListingsAreSorted }
 {}
 
-/// A log that is fitted to the part of another, with which it nearly begins, becomes the other.
+/// A log that is fitted to the part of another becomes the other exactly where the two nearly begin alike.
 pub fn fit_gives_the_log()
     ensures { FitGivesTheLog }
 {}

@@ -17,6 +17,7 @@ mod objects;
 mod reply;
 mod sealed;
 mod sealed_parts;
+mod steps;
 mod texts;
 
 pub use boxed_log::BoxedLog;

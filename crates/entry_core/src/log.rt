@@ -7,7 +7,9 @@ ghost use Rattle.entry_core.specs.Log.{Legal, decision, reply_in, is_in, ids};
 ghost use Rattle.entry_core.specs.Fitting as fitting;
 ghost use Rattle.entry_core.specs.Fitting.{are_new, decided_behind, fitted, last_id, part_of};
 ghost use Rattle.std.specs.Option.{option_map};
-ghost use Rattle.entry_core.specs.Stored.{LeadsBack, change_of, place_in};
+ghost use Rattle.entry_core.specs.Deciding.{store_of};
+ghost use Rattle.entry_core.specs.Steps.{entries_of, last_back};
+ghost use Rattle.entry_core.specs.Stored.{LeadsBack, Places, change_of, place_in, store_in};
 
 use crate::decided::{Decided, ObjectChange};
 use crate::deciding::decide;
@@ -17,9 +19,10 @@ use crate::id_hasher::IdHash;
 use crate::objects::Objects;
 use crate::reply::Reply;
 use crate::sealed::Sealed;
-use common_types::{Items, TryCopy};
+use crate::steps::{Step, decide_again, decide_all};
+use common_types::{OutOfMemory, TryCopy};
 use std::alloc::{AllocError, Global};
-use std::collections::HashMap;
+use std::collections::{HashMap, HashSet};
 use std::marker::Model;
 
 /// The entries that one copy of a group holds, in order, with the objects that they make. Contracts see the entries.
@@ -74,7 +77,8 @@ impl Log {
 
     /// Its entries in order.
     pub fn entries(&self) -> &[Entry]
-        ensures { result.now ≡ self.now }
+        ensures value { result.now ≡ self.now }
+        ensures legal { Legal result.now }
     {
         self.entries.as_slice()
     }
@@ -97,9 +101,9 @@ impl Log {
     }
 
     /// Its requests after a place, which another log can be fitted to. They share their parts with the log.
-    pub fn part(&self, from: usize) -> Result<Items<Sealed>, AllocError>
+    pub fn part(&self, from: usize) -> Result<Vec<Sealed>, OutOfMemory>
         requires { from ≤ length self.now }
-        ensures { IfOk result (λ part. part ≡ part_of self.now from) }
+        ensures { IfOk result (λ part. part.items ≡ part_of self.now from) }
     {
         requests_of(self.allocator(), &self.entries()[from..])
     }
@@ -166,91 +170,81 @@ impl Log {
         Ok(())
     }
 
-    // Drops the last entry, whose object becomes what it was before.
-    fn go_back(&mut self, back: ObjectChange) -> Result<(), AllocError>
-        requires some { 0 < length self.old }
-        requires back { LeadsBack self.old (Some back) }
-        ensures ok { OnOk result (self.new ≡ take (length self.old - 1) self.old) }
-        ensures err { OnErr result (self.new ≡ self.old) }
+    // Whether no id stands twice where these requests come behind the first entries.
+    fn are_new(&self, kept: usize, part: &[Sealed]) -> Result<bool, OutOfMemory>
+        ensures { IfOk result (λ new. new ≡ are_new (ids (take kept self.now)) part.now) }
     {
-        let last = self.len() - 1;
-        let sealed = self.entries()[last].sealed.copy()?;
-        let _ = self.objects.change(sealed.name(), back)?;
-        let _ = self.index.remove(&sealed.id());
-        self.entries.truncate(last);
-        self.back = None;
-        Ok(())
-    }
-
-    // Drops the last entry. Where it is not known what its object was before, the earlier requests are decided again.
-    fn drop_last(&mut self) -> Result<(), AllocError>
-        requires { 0 < length self.old }
-        ensures ok { OnOk result (self.new ≡ take (length self.old - 1) self.old) }
-        ensures err { OnErr result (self.new ≡ self.old) }
-    {
-        match &self.back {
-            Some(back) => {
-                let back = back.share()?;
-                self.go_back(back)
-            }
-            None => {
-                let last = self.len() - 1;
-                *self = decided_again(self.allocator(), &self.entries()[..last])?;
-                Ok(())
-            }
-        }
-    }
-
-    // A log of all its entries, or of all but the last.
-    fn beginning(&self, kept: usize) -> Result<Log, AllocError>
-        requires within { kept ≤ length self.now }
-        requires one { length self.now ≤ kept + 1 }
-        ensures { IfOk result (λ log. log ≡ take kept self.now) }
-    {
-        let mut log = self.copy()?;
-        if kept < log.len() {
-            log.drop_last()?;
-        }
-        Ok(log)
-    }
-
-    // Decides requests and adds them, and says whether their ids are new. Otherwise the log may have some of them.
-    fn decide_all(&mut self, part: &[Sealed]) -> Result<bool, AllocError>
-        ensures new { IfOk result (λ new. new ≡ are_new (ids self.old) part.now) }
-        ensures all { IfOk result (λ new. new ≡ true → self.new ≡ decided_behind self.old part.now) }
-    {
+        let mut seen: HashSet<Id, IdHash> = HashSet::with_hasher(self.allocator(), IdHash::new());
         for sealed in part {
-            if self.contains(sealed.id()) {
+            let id = sealed.id();
+            if self.is_before(kept, id) {
                 return Ok(false);
             }
-            let decided = self.decide(sealed)?;
-            self.push(decided)?;
+            if !seen.insert(id)? {
+                return Ok(false);
+            }
         }
         Ok(true)
     }
 
-    // Decides requests behind the first entries, and drops the last entry where it is not one of these.
-    fn decide_behind(&mut self, kept: usize, part: &[Sealed]) -> Result<bool, AllocError>
-        requires within { kept ≤ length self.old }
-        requires one { length self.old ≤ kept + 1 }
-        ensures fits { IfOk result (λ fits. fits ≡ are_new (ids (take kept self.old)) part.now) }
-        ensures log { IfOk result (λ fits. self.new ≡ (if fits then decided_behind (take kept self.old) part.now else self.old)) }
+    // Whether the request of an id stands among the first entries.
+    fn is_before(&self, kept: usize, id: Id) -> bool
+        ensures { result ≡ is_in (ids (take kept self.now)) id }
+    {
+        match self.place_of(id) {
+            None => false,
+            Some(place) => place < kept,
+        }
+    }
+
+    // Decides requests and adds them, of which there is one at least.
+    fn push_all(&mut self, part: &[Sealed]) -> Result<(), OutOfMemory>
+        requires { are_new (ids self.old) part.now ≡ true }
+        ensures ok { OnOk result (self.new ≡ decided_behind self.old part.now) }
         ensures err { OnErr result (self.new ≡ self.old) }
     {
-        let mut log = self.beginning(kept)?;
-        let fits = log.decide_all(part)?;
-        if fits {
-            *self = log;
+        self.entries.reserve(part.len())?;
+        self.index.reserve(part.len())?;
+        let steps = decide_all(*self.entries.allocator(), &mut self.objects, part)?;
+        self.back = append_all(&mut self.entries, &mut self.index, steps);
+        Ok(())
+    }
+
+    // Drops the last entry, and decides requests in its place, if there are any. To drop it takes no memory, where it is
+    // known what its object was before.
+    fn replace_last(&mut self, part: &[Sealed]) -> Result<(), OutOfMemory>
+        requires some { 0 < length self.old }
+        requires new { are_new (ids (take (length self.old - 1) self.old)) part.now ≡ true }
+        ensures ok { OnOk result (self.new ≡ decided_behind (take (length self.old - 1) self.old) part.now) }
+        ensures err { OnErr result (self.new ≡ self.old) }
+    {
+        self.entries.reserve(part.len())?;
+        self.index.reserve(part.len())?;
+        let alloc = *self.entries.allocator();
+        let back = known_back(alloc, self.entries.as_slice(), &mut self.objects, self.back.take())?;
+        let last = self.entries.len() - 1;
+        let sealed = &self.entries[last].sealed;
+        let again = self.objects.exchange(sealed.name(), back);
+        match decide_all(alloc, &mut self.objects, part) {
+            Ok(steps) => {
+                drop_last(&mut self.entries, &mut self.index);
+                self.back = append_all(&mut self.entries, &mut self.index, steps);
+                Ok(())
+            }
+            Err(refused) => {
+                self.back = Some(self.objects.exchange(sealed.name(), again));
+                Err(refused)
+            }
         }
-        Ok(fits)
     }
 
     /// Fits the log to a part of another one, from a place on: the part's first requests that this log has at the same
     /// places, by their ids, are passed over; the entries behind them are dropped; the rest is decided and added.
     ///
     /// It answers false, and changes nothing, where the place is behind the log's end, where more than one entry would
-    /// be dropped, or where an id would stand twice. Where memory is wanting, nothing changes either.
-    pub fn fit(&mut self, from: usize, part: &[Sealed]) -> Result<bool, AllocError>
+    /// be dropped, or where an id would stand twice. Where memory is wanting, nothing changes either. It asks for no group:
+    /// that the requests are of one is for who sealed them.
+    pub fn fit(&mut self, from: usize, part: &[Sealed]) -> Result<bool, OutOfMemory>
         ensures fits { IfOk result (λ fits. fits ≡ is_some (fitted self.old from part.now)) }
         ensures log { OnOk result (self.new ≡ unwrap_or (fitted self.old from part.now) self.old) }
         ensures err { OnErr result (self.new ≡ self.old) }
@@ -260,22 +254,28 @@ impl Log {
         }
         let agreed = agreed(&self.entries()[from..], part);
         let kept = from + agreed;
-        if self.len() > kept + 1 {
+        let rest = &part[agreed..];
+        if self.len() > kept + 1 || !self.are_new(kept, rest)? {
             return Ok(false);
         }
-        self.decide_behind(kept, &part[agreed..])
+        if kept < self.len() {
+            self.replace_last(rest)?;
+        } else if !rest.is_empty() {
+            self.push_all(rest)?;
+        }
+        Ok(true)
     }
 }
 
 /// The requests of entries.
-fn requests_of(alloc: Global, entries: &[Entry]) -> Result<Items<Sealed>, AllocError>
-    ensures { IfOk result (λ requests. requests ≡ fitting.requests_of entries.now) }
+fn requests_of(alloc: Global, entries: &[Entry]) -> Result<Vec<Sealed>, OutOfMemory>
+    ensures { IfOk result (λ requests. requests.items ≡ fitting.requests_of entries.now) }
 {
     let mut requests = Vec::with_capacity(alloc, entries.len())?;
     for entry in entries {
         requests.push(entry.sealed.copy()?)?;
     }
-    Ok(Items::from_vec(requests))
+    Ok(requests)
 }
 
 /// How many requests of a part these entries begin with.
@@ -293,17 +293,27 @@ fn agreed(entries: &[Entry], part: &[Sealed]) -> usize
     most
 }
 
-/// The log of these entries, whose requests are decided again.
-fn decided_again(alloc: Global, entries: &[Entry]) -> Result<Log, AllocError>
-    requires { Legal entries.now }
-    ensures { IfOk result (λ log. log ≡ entries.now) }
+/// What undoes the last entry. Where that is missing, the requests are decided again, which gives the objects again, too.
+fn known_back(
+    alloc: Global,
+    entries: &[Entry],
+    objects: &mut Objects,
+    back: Option<ObjectChange>,
+) -> Result<ObjectChange, OutOfMemory>
+    requires legal { Legal entries.now }
+    requires made { store_in objects.old ≡ store_of entries.now }
+    requires back { LeadsBack objects.old entries.now back }
+    ensures made { store_in objects.new ≡ store_of entries.now }
+    ensures back { IfOk result (λ known. LeadsBack objects.new entries.now (Some known)) }
 {
-    let mut log = Log::new(alloc);
-    for entry in entries {
-        let decided = log.decide(&entry.sealed)?;
-        log.push(decided)?;
+    match back {
+        Some(back) => Ok(back),
+        None => {
+            let (found, back) = decide_again(alloc, entries)?;
+            *objects = found;
+            Ok(back)
+        }
     }
-    Ok(log)
 }
 
 /// Equal entries.
@@ -332,11 +342,51 @@ fn append(entries: &mut Vec<Entry>, index: &mut HashMap<Id, usize, IdHash>, entr
     requires entries { vec_len entries.old < vec_capacity entries.old }
     requires index { 0 < spare index.old }
     ensures entries { entries.new.items ≡ entries.old.items ++ entry ∷ [] }
+    ensures len { vec_len entries.new ≡ vec_len entries.old + 1 }
+    ensures capacity { vec_capacity entries.new ≡ vec_capacity entries.old }
+    ensures spare { spare index.old ≤ spare index.new + 1 }
     ensures index { (id : ℕ) → lookup (λ n. id == n) index.new.entries
         ≡ (if entry.sealed.id == id then Some (length entries.old.items) else lookup (λ n. id == n) index.old.entries) }
 {
     let _ = index.insert(entry.sealed.id(), entries.len());
     entries.push_reserved(entry);
+}
+
+/// Adds the entries of steps behind the others, and gives what undoes the last one. There is room for them.
+fn append_all(
+    entries: &mut Vec<Entry>,
+    index: &mut HashMap<Id, usize, IdHash>,
+    steps: Vec<Step>,
+) -> Option<ObjectChange>
+    requires entries { vec_len entries.old + vec_len steps ≤ vec_capacity entries.old }
+    requires index { vec_len steps ≤ spare index.old }
+    requires places { Places index.old.entries entries.old.items }
+    requires new { are_new (ids entries.old.items) (fitting.requests_of (entries_of steps.items)) ≡ true }
+    ensures entries { entries.new.items ≡ entries.old.items ++ entries_of steps.items }
+    ensures places { Places index.new.entries entries.new.items }
+    ensures back { result ≡ last_back None steps.items }
+{
+    let mut back = None;
+    for step in steps {
+        append(entries, index, step.entry);
+        back = Some(step.back);
+    }
+    back
+}
+
+/// Drops the last entry.
+fn drop_last(entries: &mut Vec<Entry>, index: &mut HashMap<Id, usize, IdHash>)
+    requires some { 0 < vec_len entries.old }
+    requires legal { Legal entries.old.items }
+    requires places { Places index.old.entries entries.old.items }
+    ensures entries { entries.new.items ≡ take (vec_len entries.old - 1) entries.old.items }
+    ensures capacity { vec_capacity entries.new ≡ vec_capacity entries.old }
+    ensures places { Places index.new.entries entries.new.items }
+    ensures spare { spare index.old ≤ spare index.new }
+{
+    if let Some(entry) = entries.pop() {
+        let _ = index.remove(&entry.sealed.id());
+    }
 }
 
 impl TryCopy for Log {

@@ -302,7 +302,7 @@ fn expect_two(rt: &impl Abort, alloc: Global, log: &Log) -> Result<(), Fail> {
 /// Whether the last entry of a log has this id.
 fn is_last(log: &Log, id: Id) -> bool {
     match log.last_entry() {
-        Some(entry) => entry.sealed.id() == id,
+        Some(entry) => entry.sealed.id() == id && log.last() == Some(id),
         None => false,
     }
 }
@@ -320,6 +320,112 @@ fn entries_are_found(rt: HostRuntime) -> Result<(), Fail> {
     expect(&rt, rt.alloc(), &mut log, TWO, None)?;
     expect_copy(&rt, rt.alloc(), &log)?;
     expect_two(&rt, rt.alloc(), &log)
+}
+
+const FIRST: Row = (1, "allow rw", "x", Append, Gives(""));
+const SECOND: Row = (2, "allow rw", "x", Append, Gives(""));
+const THIRD: Row = (3, "allow rw", "x", Append, Gives(""));
+const FOURTH: Row = (4, "allow rw", "x", Append, Gives(""));
+const REMOVAL: Row = (5, "allow rw", "x", Remove, Gives(""));
+const DENIED: Row = (6, "allow r", "x", Append, Denies(Condition::Write));
+
+/// The requests of a log, those of another one, from which place on the other's are fitted to it, whether they fit, and
+/// then the last request and what a read of the object gives.
+type Fit = (
+    &'static [Row],
+    &'static [Row],
+    usize,
+    bool,
+    Option<u32>,
+    Says,
+);
+
+const FITS: &[Fit; 14] = &[
+    // The last entry gives way to another one, to none, and to more, behind which it comes again.
+    (&[FIRST, SECOND], &[FIRST, THIRD], 1, true, Some(3), Gives("aa")),
+    (&[FIRST, SECOND], &[FIRST], 0, true, Some(1), Gives("a")),
+    (&[FIRST, SECOND], &[FIRST, THIRD, SECOND], 1, true, Some(2), Gives("aaa")),
+    // It made the object, removed it, was denied.
+    (&[FIRST], &[], 0, true, None, Fails(2)),
+    (&[FIRST, REMOVAL], &[FIRST, THIRD], 1, true, Some(3), Gives("aa")),
+    (&[FIRST, REMOVAL], &[FIRST], 1, true, Some(1), Gives("a")),
+    (&[FIRST, DENIED], &[FIRST, THIRD], 0, true, Some(3), Gives("aa")),
+    // None gives way.
+    (&[FIRST], &[FIRST, REMOVAL, THIRD], 1, true, Some(3), Gives("a")),
+    (&[FIRST, SECOND], &[FIRST, SECOND], 0, true, Some(2), Gives("aa")),
+    (&[FIRST, SECOND], &[FIRST, SECOND], 2, true, Some(2), Gives("aa")),
+    // The place is behind the end, two would be dropped, an id would stand twice, also behind one that is new.
+    (&[FIRST], &[FIRST, SECOND, THIRD], 2, false, Some(1), Gives("a")),
+    (&[FIRST, SECOND, THIRD], &[FIRST, FOURTH], 0, false, Some(3), Gives("aaa")),
+    (&[FIRST, SECOND], &[THIRD, FOURTH, FIRST], 2, false, Some(2), Gives("aa")),
+    (&[FIRST, SECOND], &[THIRD, FOURTH, REMOVAL, FIRST], 2, false, Some(2), Gives("aa")),
+];
+
+/// A log of the requests of rows.
+fn log_of(alloc: Global, rows: &[Row]) -> Result<Log, NeedsFault> {
+    let mut log = Log::new(alloc);
+    for row in rows {
+        let sealed = sealed(alloc, row, None)?;
+        add(&mut log, &sealed)?;
+    }
+    Ok(log)
+}
+
+/// Fits a log to the part of another one.
+fn fit(alloc: Global, log: &mut Log, rows: &[Row], from: usize) -> Result<bool, NeedsFault> {
+    let other = log_of(alloc, rows)?;
+    if from > other.len() {
+        return Ok(false);
+    }
+    let part = other.part(from)?;
+    Ok(log.fit(from, part.as_slice())?)
+}
+
+/// Whether this is a log's last request, and a read of the object says this.
+fn ends(alloc: Global, log: &Log, last: Option<u32>, says: Says) -> Result<bool, NeedsFault> {
+    let read = sealed(alloc, &(9, "allow rw", "x", Read, says), None)?;
+    let decided = log.decide(&read)?;
+    let right = match (log.last(), last) {
+        (None, None) => true,
+        (Some(id), Some(number)) => id == Id::new(1, number),
+        _ => false,
+    };
+    Ok(right && is_said(&decided.entry().reply, says))
+}
+
+/// Whether a fit goes as it says.
+fn fits(alloc: Global, row: &Fit) -> Result<bool, NeedsFault> {
+    let (mine, other, from, wanted, last, says) = *row;
+    let mut log = log_of(alloc, mine)?;
+    let right = fit(alloc, &mut log, other, from)? == wanted;
+    Ok(right && ends(alloc, &log, last, says)?)
+}
+
+#[test]
+fn logs_are_fitted_to_parts(rt: HostRuntime) -> Result<(), Fail> {
+    for row in FITS {
+        let right = fits(rt.alloc(), row)?;
+        assert!(rt; right, "{} {}", row.0.len(), row.2);
+    }
+    Ok(())
+}
+
+/// A log that dropped an entry and then drops the one before it, whose object has to be found.
+fn goes_back_twice(alloc: Global, dropped: Row) -> Result<bool, NeedsFault> {
+    let mut log = log_of(alloc, &[FIRST, dropped, THIRD])?;
+    let right = fit(alloc, &mut log, &[FIRST, dropped], 2)?;
+    let mut log = log.copy()?;
+    let again = fit(alloc, &mut log, &[FIRST, FOURTH], 1)?;
+    Ok(right && again && ends(alloc, &log, Some(4), Gives("aa"))?)
+}
+
+#[test]
+fn what_a_dropped_entry_left_is_found_again(rt: HostRuntime) -> Result<(), Fail> {
+    for dropped in [SECOND, REMOVAL, DENIED] {
+        let right = goes_back_twice(rt.alloc(), dropped)?;
+        assert!(rt; right, "{}", dropped.0);
+    }
+    Ok(())
 }
 
 /// A log of one entry, on the heap.

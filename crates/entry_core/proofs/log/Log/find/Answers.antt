@@ -10,4 +10,4 @@ pub returns-in-Some : goal.returns-in-Some
 returns-in-Some c =
     let entry = c.index-entries-place in
     ap (λ (e : Entry). Some e.reply) (sym entry.is)
-    ∙ sym (found_at_all c.args.self.now c.args.id c.in-Some.place entry.result (sym c.place_of.ensures.place ∙ c.in-Some.is) (entry.is ∙ ap (λ l. get_or l c.in-Some.place entry.result) c.entries.ensures))
+    ∙ sym (found_at_all c.args.self.now c.args.id c.in-Some.place entry.result (sym c.place_of.ensures.place ∙ c.in-Some.is) (entry.is ∙ ap (λ l. get_or l c.in-Some.place entry.result) c.entries.ensures.value))

@@ -11,7 +11,7 @@ returns-in-Some c =
     let entry = c.index-entries-place in
     let front : c.in-Some.place < length c.args.self.now - 1 = omega arith in
     ap (λ (e : Entry). Some e.reply) (sym entry.is)
-    ∙ sym (found_in_front c.args.self.now (length c.args.self.now - 1) c.args.id c.in-Some.place entry.result (sym c.place_of.ensures.place ∙ c.in-Some.is) front (entry.is ∙ ap (λ l. get_or l c.in-Some.place entry.result) c.entries.ensures))
+    ∙ sym (found_in_front c.args.self.now (length c.args.self.now - 1) c.args.id c.in-Some.place entry.result (sym c.place_of.ensures.place ∙ c.in-Some.is) front (entry.is ∙ ap (λ l. get_or l c.in-Some.place entry.result) c.entries.ensures.value))
 
 pub returns-in-Some-2 : goal.returns-in-Some-2
 returns-in-Some-2 c =

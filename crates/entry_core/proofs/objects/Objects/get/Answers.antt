@@ -1,9 +1,13 @@
 use Rattle.std.proofs.Common.{◌∙◌, sym, ap}
 use Rattle.std.specs.Arc.{arc_value}
 use Rattle.std.specs.Option.{option_map}
-use Rattle.std.specs.FinMap.{get}
-use Rattle.entry_core.proofs.Stores.{get-objects_of, copied}
+use Rattle.entry_core.proofs.Stores.{copied, get-objects_of, held}
 use Rattle.entry_core.proofs.objects.Objects.get.Goals as goal
 
-pub returns : goal.returns
-returns c = copied c.get.result ∙ ap (option_map arc_value) c.get.ensures.value ∙ sym (get-objects_of c.self.inside.map.entries c.args.name.now) ∙ ap (λ s. get s c.args.name.now) c.self.view_is
+pub returns-in-None : goal.returns-in-None
+returns-in-None c = ap held c.in-None.ensures.value ∙ sym (get-objects_of c.args.self.now.map.entries c.args.name.now)
+
+pub returns-in-Some : goal.returns-in-Some
+returns-in-Some c =
+    copied c.as_ref.result ∙ ap (option_map arc_value) c.as_ref.ensures.value ∙ ap held c.in-Some.ensures.value
+    ∙ sym (get-objects_of c.args.self.now.map.entries c.args.name.now)
