@@ -19,7 +19,7 @@ use Rattle.entry_core.specs.declared.decided.ObjectChange.TheVariants as left
 use Rattle.entry_core.specs.declared.objects.Objects.{Objects}
 use Rattle.entry_core.specs.declared.steps.Step.{Step}
 use Rattle.entry_core.proofs.Lawful.{decision_tells_the_store}
-use Rattle.entry_core.proofs.LegalLogs.{first_new, ids-push, legal_behind, legal_push, legal_rest, rest_new}
+use Rattle.entry_core.proofs.LegalLogs.{first_new, ids-push, legal_behind, legal_front, legal_push, legal_rest, rest_new}
 use Rattle.entry_core.proofs.Places.{is_in-place, place_push}
 use Rattle.entry_core.proofs.Stepping.{back-push, back_of_steps, behind_on, left-append, still_back}
 
@@ -69,10 +69,9 @@ after_steps log objects store part steps legal made new entries left leads log' 
 }
 
 -- a log by its last entry
-pub whole_of : (log : List Entry) (last : Entry) → 0 < length log → last ≡ get_or log (length log - 1) last → take (length log - 1) log ++ last ∷ [] ≡ log
-whole_of log last some is =
-    let n : ℕ = length log - 1 in
-    ap (λ x. take n log ++ x ∷ []) is ∙ sym (take_more log n last (omega arith)) ∙ take_all (n + 1) log (omega arith)
+pub whole_of : (log : List Entry) (kept : ℕ) (last : Entry) → length log ≡ kept + 1 → last ≡ get_or log kept last → take kept log ++ last ∷ [] ≡ log
+whole_of log kept last one is =
+    ap (λ x. take kept log ++ x ∷ []) is ∙ sym (take_more log kept last (omega arith)) ∙ take_all (kept + 1) log (omega arith)
 
 not_there : (o : Option ℕ) → is_some o ≡ false → None ≡ o
 not_there None h = refl
@@ -122,6 +121,45 @@ pub after_copy : (log log' : List Entry) (index index' : List (ℕ × ℕ)) (obj
 after_copy log log' index index' objects objects' kept kept' stored same_log same_index same_store keeps alike =
     let still = still_stored log log' index index' objects objects' kept stored same_log (λ id. ap (lookup (λ n. id == n)) same_index) same_store keeps in
     record { places = still.places; made = still.made; legal = still.legal; back = same_back objects' log' kept' kept alike still.back }
+
+-- the step back from the last entry, and what it needs
+pub back_at : (objects : Objects) (log : List Entry) (back : ObjectChange) (kept : ℕ) (last : Entry) → length log ≡ kept + 1 → last ≡ get_or log kept last → LeadsBack objects log (Some back) → LeadsTo objects (store_of (take kept log)) (name_of last.sealed) back
+back_at objects log back kept last one is leads = leads (take kept log) last (whole_of log kept last one is)
+
+back_from : (objects : Objects) (log : List Entry) (back : ObjectChange) (kept : ℕ) (last : Entry) → length log ≡ kept + 1 → last ≡ get_or log kept last → LeadsTo objects (store_of (take kept log)) (name_of last.sealed) back → LeadsBack objects log (Some back)
+back_from objects log back kept last one is leads =
+    subst (λ l. LeadsBack objects l (Some back)) (whole_of log kept last one is) (back-push (take kept log) objects last back leads)
+
+-- the last entry's object is put back, and at last done again: the log is as it was
+pub after_refusal : (log : List Entry) (index : List (ℕ × ℕ)) (known undone refused objects : Objects) (kept : ℕ) (last : Entry) (name : ObjectName) (back again back' : ObjectChange) → Legal log → Places index log → length log ≡ kept + 1 → last ≡ get_or log kept last → name ≡ name_of last.sealed
+    → store_in known ≡ store_of log → LeadsBack known log (Some back) → store_in undone ≡ changed (store_in known) name (change_of back) → LeadsTo undone (store_in known) name again → store_in refused ≡ store_in undone
+    → store_in objects ≡ changed (store_in refused) name (change_of again) → LeadsTo objects (store_in refused) name back' → IsStored log index objects (Some back')
+after_refusal log index known undone refused objects kept last name back again back' legal places one is named made leads went again_leads same redone back_leads =
+    let to : LeadsTo known (store_of (take kept log)) (name_of last.sealed) back = back_at known log back kept last one is leads in
+    let front : store_in refused ≡ store_of (take kept log) = same ∙ went ∙ ap (λ n. changed (store_in known) n (change_of back)) named ∙ to.store in
+    record {
+      places = places;
+      made = redone ∙ ap (λ s. changed s name (change_of again)) same ∙ again_leads.store ∙ made;
+      legal = legal;
+      back = back_from objects log back' kept last one is (subst (λ n. LeadsTo objects (store_of (take kept log)) n back') named (subst (λ s. LeadsTo objects s name back') front back_leads));
+    }
+
+-- the last entry's object is put back, and requests are decided in its place
+pub record Replaced (log : List Entry) (kept : ℕ) (part : List Sealed) (log' : List Entry) (index' : List (ℕ × ℕ)) (objects : Objects) (back' : Option ObjectChange) : Type 0 where
+  pub stored : IsStored log' index' objects back'
+  pub same : log' ≡ decided_behind (take kept log) part
+
+pub after_replaced : (log : List Entry) (known undone objects : Objects) (kept : ℕ) (last : Entry) (name : ObjectName) (back : ObjectChange) (part : List Sealed) (steps : List Step) → Legal log → length log ≡ kept + 1 → last ≡ get_or log kept last → name ≡ name_of last.sealed
+    → LeadsBack known log (Some back) → store_in undone ≡ changed (store_in known) name (change_of back) → are_new (ids (take kept log)) part ≡ true → entries_of steps ≡ decided_on (store_in undone) part → store_in objects ≡ left_by (store_in undone) (entries_of steps)
+    → LastLeadsBack objects (store_in undone) steps → (log' : List Entry) (index' : List (ℕ × ℕ)) (back' : Option ObjectChange) → log' ≡ take kept log ++ entries_of steps → Places index' log' → back' ≡ last_back None steps → Replaced log kept part log' index' objects back'
+after_replaced log known undone objects kept last name back part steps legal one is named leads went new entries left last_leads log' index' back' grown places is_back =
+    let to : LeadsTo known (store_of (take kept log)) (name_of last.sealed) back = back_at known log back kept last one is leads in
+    let made : store_in undone ≡ store_of (take kept log) = went ∙ ap (λ n. changed (store_in known) n (change_of back)) named ∙ to.store in
+    let front : Legal (take kept log) = legal_front [] (take kept log) (last ∷ []) (subst Legal (sym (whole_of log kept last one is)) legal) in
+    record {
+      stored = after_steps (take kept log) objects (store_in undone) part steps front made new entries left last_leads log' index' back' grown places is_back;
+      same = grown ∙ steps_behind (take kept log) (store_in undone) part steps made entries;
+    }
 
 -- one more step of those that are added: its number is new, and those behind it stay new
 pub record MoreAdded (log log' : List Entry) (index' : List (ℕ × ℕ)) (steps : List Step) : Type 0 where

@@ -95,6 +95,14 @@ objects_of-clone R same [] (f ∷ fs) h = absurd h
 objects_of-clone R same (e ∷ es) [] h = absurd h
 objects_of-clone R same (e ∷ es) (f ∷ fs) h = λ i. with_object (objects_of-clone R same es fs h.1 i) (h.0.0 i) (same e.1 f.1 h.0.1 i)
 
+-- clones of an object that is there or not, by their cases
+pub clone_by : (R : Option (Arc Content Global) → Option (Arc Content Global) → Type 0) → ((b : Arc Content Global) → R None (Some b) → ⊥) → ((a : Arc Content Global) → R (Some a) None → ⊥) → ((a b : Arc Content Global) → R (Some a) (Some b) → arc_value b ≡ arc_value a)
+    → (a b : Option (Arc Content Global)) → R a b → option_map arc_value b ≡ option_map arc_value a
+clone_by R first second both None None h = refl
+clone_by R first second both None (Some b) h = absurd (first b h)
+clone_by R first second both (Some a) None h = absurd (second a h)
+clone_by R first second both (Some a) (Some b) h = ap (λ (x : Content). Some x) (both a b h)
+
 there_by : (b : Bool) (x y : Option (Arc Content Global)) (p r : Option (Option (Arc Content Global))) → (is_some p ≡ true → is_some r ≡ true) → is_some (cond b (Some x) p) ≡ true → is_some (cond b (Some y) r) ≡ true
 there_by true x y p r more h = refl
 there_by false x y p r more h = more h

@@ -210,20 +210,19 @@ impl Log {
         Ok(())
     }
 
-    // Drops the last entry, and decides requests in its place, if there are any. To drop it takes no memory, where it is
-    // known what its object was before.
-    fn replace_last(&mut self, part: &[Sealed]) -> Result<(), OutOfMemory>
-        requires some { 0 < length self.old }
-        requires new { are_new (ids (take (length self.old - 1) self.old)) part.now ≡ true }
-        ensures ok { OnOk result (self.new ≡ decided_behind (take (length self.old - 1) self.old) part.now) }
+    // Drops the last entry, and decides requests in its place, if there are any. Where it is known what undoes that entry,
+    // to drop it takes no memory.
+    fn replace_last(&mut self, kept: usize, part: &[Sealed]) -> Result<(), OutOfMemory>
+        requires last { length self.old ≡ kept + 1 }
+        requires new { are_new (ids (take kept self.old)) part.now ≡ true }
+        ensures ok { OnOk result (self.new ≡ decided_behind (take kept self.old) part.now) }
         ensures err { OnErr result (self.new ≡ self.old) }
     {
         self.entries.reserve(part.len())?;
         self.index.reserve(part.len())?;
         let alloc = *self.entries.allocator();
         let back = known_back(alloc, self.entries.as_slice(), &mut self.objects, self.back.take())?;
-        let last = self.entries.len() - 1;
-        let sealed = &self.entries[last].sealed;
+        let sealed = &self.entries[kept].sealed;
         let again = self.objects.exchange(sealed.name(), back);
         match decide_all(alloc, &mut self.objects, part) {
             Ok(steps) => {
@@ -236,6 +235,23 @@ impl Log {
                 Err(refused)
             }
         }
+    }
+
+    // Decides requests behind the first entries, which are all but one at most.
+    fn decide_behind(&mut self, kept: usize, part: &[Sealed]) -> Result<(), OutOfMemory>
+        requires within { kept ≤ length self.old }
+        requires one { length self.old ≤ kept + 1 }
+        requires new { are_new (ids (take kept self.old)) part.now ≡ true }
+        ensures ok { OnOk result (self.new ≡ decided_behind (take kept self.old) part.now) }
+        ensures err { OnErr result (self.new ≡ self.old) }
+    {
+        if kept < self.len() {
+            return self.replace_last(kept, part);
+        }
+        if part.is_empty() {
+            return Ok(());
+        }
+        self.push_all(part)
     }
 
     /// Fits the log to a part of another one, from a place on: the part's first requests that this log has at the same
@@ -255,14 +271,13 @@ impl Log {
         let agreed = agreed(&self.entries()[from..], part);
         let kept = from + agreed;
         let rest = &part[agreed..];
-        if self.len() > kept + 1 || !self.are_new(kept, rest)? {
+        if self.len() > kept + 1 {
             return Ok(false);
         }
-        if kept < self.len() {
-            self.replace_last(rest)?;
-        } else if !rest.is_empty() {
-            self.push_all(rest)?;
+        if !self.are_new(kept, rest)? {
+            return Ok(false);
         }
+        self.decide_behind(kept, rest)?;
         Ok(true)
     }
 }
