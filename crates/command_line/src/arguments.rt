@@ -21,15 +21,26 @@ const RUN_EXAMPLE: &str = "Example: osdgate run incident.txt";
 
 const THREADS_EXAMPLE: &str = "Example: osdgate threads 4";
 
+const COMPLETIONS_EXAMPLE: &str = "Example: source <(osdgate completions bash)";
+
 const WORKERS_HELP: &str = "How many workers there are, 1 to 8, each on a thread of its own";
 
 const SCRIPT_HELP: &str = "The script, standard input where it is `-` or not given";
 
 const AUTH_HELP: &str =
-    "What `ceph auth ls --format json` or `ceph auth get NAME --format json` prints, `-` for standard input";
+    "What `ceph auth ls`, `ceph auth export` or `ceph auth get NAME` prints, with or without `--format json`, or a keyring; `-` for standard input";
 
 const AUTHS_HELP: &str =
-    "A file as `ceph auth ls --format json` prints it, the present one and then the one that is to take its place, `-` for standard input";
+    "A file of entities as `osdgate who` takes it, the present one and then the one that is to take its place, `-` for standard input";
+
+const POOLS_HELP: &str =
+    "What `ceph osd dump --format json` or `ceph osd pool ls detail --format json` prints, `-` for standard input: the pool must be one of these, and has its tags";
+
+const REQUESTS_HELP: &str =
+    "A file with a request a line, in the words of `osdgate verdict`, in the place of the options of one, `-` for standard input: prints a table of entities and requests";
+
+const FORMAT_HELP: &str =
+    "How the answer is printed: as `text`, as where none is given, or as a `json` document";
 
 const REGISTRY_HELP: &str =
     "Whose class methods requests call: those of `all` class registries, as where none is given, or this program's `own`";
@@ -43,11 +54,13 @@ enum Takes {
     Value(&'static str),
     /// Values that may be given, each with the option's name.
     Values(&'static str),
+    /// A value that must be given, under this name in help, unless the words name a file of requests.
+    NeededOnce(&'static str),
     /// Nothing.
     Nothing,
 }
 
-use Takes::{Needed, Nothing, Value, Values};
+use Takes::{Needed, NeededOnce, Nothing, Value, Values};
 
 /// An option's name, what it takes, and its help.
 type OptionRow = (&'static str, Takes, &'static str);
@@ -77,13 +90,18 @@ const CALL_HELP: &str =
 
 const CAPS: OptionRow = ("caps", Needed("TEXT"), "The capability text");
 
+const POOLS: OptionRow = ("pools", Value("FILE"), POOLS_HELP);
+
+const FORMAT: OptionRow = ("format", Value("text|json"), FORMAT_HELP);
+
 /// The options of `osdgate verdict`.
-const VERDICT: [OptionRow; 10] = [
+const VERDICT: [OptionRow; 12] = [
     CAPS,
     POOL,
     OBJECT,
     NAMESPACE,
     TAG,
+    POOLS,
     (
         "until",
         Value("TICK"),
@@ -96,6 +114,7 @@ const VERDICT: [OptionRow; 10] = [
     ),
     READ,
     WRITE,
+    FORMAT,
     (
         "check",
         Nothing,
@@ -103,21 +122,34 @@ const VERDICT: [OptionRow; 10] = [
     ),
 ];
 
-/// The options of `osdgate who`, but for the last.
-const WHO: [OptionRow; 8] = [
+/// The options of a line of a file of requests.
+const REQUEST: [OptionRow; 6] = [POOL, OBJECT, NAMESPACE, TAG, READ, WRITE];
+
+/// The options of `osdgate who`, but for the last two.
+const WHO: [OptionRow; 10] = [
     ("auth", Needed("FILE"), AUTH_HELP),
-    POOL,
-    OBJECT,
+    ("pool", NeededOnce("POOL"), "The pool"),
+    ("object", NeededOnce("OBJECT"), "The object's name"),
     NAMESPACE,
     TAG,
+    POOLS,
     READ,
     WRITE,
+    FORMAT,
     (
         "known",
         Nothing,
         "Entities whose texts are refused are left out, and the status is 0",
     ),
 ];
+
+/// Whether this is an option's name.
+pub(crate) fn is_option(word: &str) -> bool {
+    VERDICT.iter().any(|row| row.0 == word)
+        || WHO.iter().any(|row| row.0 == word)
+        || word == "all"
+        || word == "requests"
+}
 
 /// An option whose value is taken as it is, also where it begins with a dash.
 fn text_option<'a>(alloc: Global, name: &'a str, value: &'a str, help: &'a str) -> Arg<'a> {
@@ -136,12 +168,15 @@ fn flag<'a>(alloc: Global, name: &'a str, help: &'a str) -> Arg<'a> {
         .help(help)
 }
 
-fn option<'a>(alloc: Global, (name, takes, help): OptionRow) -> Arg<'a> {
+fn option<'a>(alloc: Global, (name, takes, help): OptionRow) -> Result<Arg<'a>, AllocError> {
     match takes {
-        Needed(value) => text_option(alloc, name, value, help).required(true),
-        Value(value) => text_option(alloc, name, value, help),
-        Values(value) => text_option(alloc, name, value, help).action(ArgAction::Append),
-        Nothing => flag(alloc, name, help),
+        Needed(value) => Ok(text_option(alloc, name, value, help).required(true)),
+        NeededOnce(value) => {
+            text_option(alloc, name, value, help).required_unless_present("requests")
+        }
+        Value(value) => Ok(text_option(alloc, name, value, help)),
+        Values(value) => Ok(text_option(alloc, name, value, help).action(ArgAction::Append)),
+        Nothing => Ok(flag(alloc, name, help)),
     }
 }
 
@@ -152,7 +187,7 @@ fn with_options<'a>(
 ) -> Result<Command<'a>, AllocError> {
     let mut command = command;
     for row in options {
-        command = command.arg(option(alloc, *row))?;
+        command = command.arg(option(alloc, *row)?)?;
     }
     Ok(command)
 }
@@ -167,6 +202,14 @@ fn with_calls<'a>(alloc: Global, command: Command<'a>) -> Result<Command<'a>, Al
     command.arg(stated)?.arg(calls)
 }
 
+/// The words of a line of a file of requests.
+pub(crate) fn request_command<'a>(alloc: Global) -> Result<Command<'a>, AllocError> {
+    let command = Command::new(alloc, "request")
+        .no_binary_name(true)
+        .disable_help_flag(true);
+    with_calls(alloc, with_options(alloc, command, &REQUEST)?)
+}
+
 fn verdict_command<'a>(alloc: Global) -> Result<Command<'a>, AllocError> {
     let command = Command::new(alloc, "verdict")
         .about("Tells whether a capability text allows a request, and why not")
@@ -174,19 +217,36 @@ fn verdict_command<'a>(alloc: Global) -> Result<Command<'a>, AllocError> {
     with_calls(alloc, with_options(alloc, command, &VERDICT)?)
 }
 
+/// A file of requests, in the place of the options of one.
+fn requests_option<'a>(alloc: Global) -> Result<Arg<'a>, AllocError> {
+    let one = [
+        "pool",
+        "object",
+        "namespace",
+        "tag",
+        "read",
+        "write",
+        "call",
+        "calls",
+    ];
+    text_option(alloc, "requests", "FILE", REQUESTS_HELP).conflicts_with_all(one.as_slice())
+}
+
 fn who_command<'a>(alloc: Global) -> Result<Command<'a>, AllocError> {
     let command = Command::new(alloc, "who")
         .about("Tells which entities of a file may do what a request asks for")
         .after_help(WHO_EXAMPLE);
     let all = flag(alloc, "all", "Prints each entity with its answer");
-    with_calls(alloc, with_options(alloc, command, &WHO)?)?.arg(all)
+    with_calls(alloc, with_options(alloc, command, &WHO)?)?
+        .arg(requests_option(alloc)?)?
+        .arg(all)
 }
 
 fn explain_command<'a>(alloc: Global) -> Result<Command<'a>, AllocError> {
     let command = Command::new(alloc, "explain")
         .about("Prints the canonical form of a capability text, and the grants that it comes to")
         .after_help(EXPLAIN_EXAMPLE);
-    with_options(alloc, command, &[CAPS])
+    with_options(alloc, command, &[CAPS, FORMAT])
 }
 
 /// The present text, which comes with the new one, or else files do.
@@ -224,10 +284,11 @@ fn compare_command<'a>(alloc: Global) -> Result<Command<'a>, AllocError> {
         )
         .after_help(COMPARE_EXAMPLE);
     let registry = text_option(alloc, "registry", "all|own", REGISTRY_HELP);
-    with_texts(alloc, command)?
+    let command = with_texts(alloc, command)?
         .arg(files_option(alloc)?)?
         .arg(registry)?
-        .arg(check)
+        .arg(check)?;
+    with_options(alloc, command, &[FORMAT])
 }
 
 fn run_command<'a>(alloc: Global) -> Result<Command<'a>, AllocError> {
@@ -259,6 +320,22 @@ fn threads_command<'a>(alloc: Global) -> Result<Command<'a>, AllocError> {
         .arg(moves)
 }
 
+fn completions_command<'a>(alloc: Global) -> Result<Command<'a>, AllocError> {
+    let shell = Arg::new(alloc, "shell")
+        .action(ArgAction::Set)
+        .value_name("SHELL")
+        .required(true)
+        .help("The shell: bash, zsh or fish");
+    Command::new(alloc, "completions")
+        .about("Prints completions for a shell")
+        .after_help(COMPLETIONS_EXAMPLE)
+        .arg(shell)
+}
+
+fn man_command<'a>(alloc: Global) -> Command<'a> {
+    Command::new(alloc, "man").about("Prints the man page")
+}
+
 /// The commands, in the order of help.
 #[derive(Clone, Copy)]
 enum Kind {
@@ -268,15 +345,19 @@ enum Kind {
     Who,
     Run,
     Threads,
+    Completions,
+    Man,
 }
 
-const KINDS: [Kind; 6] = [
+const KINDS: [Kind; 8] = [
     Kind::Verdict,
     Kind::Explain,
     Kind::Compare,
     Kind::Who,
     Kind::Run,
     Kind::Threads,
+    Kind::Completions,
+    Kind::Man,
 ];
 
 fn command_of<'a>(alloc: Global, kind: Kind) -> Result<Command<'a>, AllocError> {
@@ -287,6 +368,8 @@ fn command_of<'a>(alloc: Global, kind: Kind) -> Result<Command<'a>, AllocError> 
         Kind::Who => who_command(alloc),
         Kind::Run => run_command(alloc),
         Kind::Threads => threads_command(alloc),
+        Kind::Completions => completions_command(alloc),
+        Kind::Man => Ok(man_command(alloc)),
     }
 }
 
@@ -296,8 +379,7 @@ pub(crate) fn whole_command<'a>(alloc: Global) -> Result<Command<'a>, AllocError
         .about("The access gate of a replicated object store")
         .version(VERSION)
         .after_help(VERDICT_EXAMPLE)
-        .subcommand_required(true)
-        .disable_help_subcommand(true);
+        .subcommand_required(true);
     for kind in KINDS {
         command = command.subcommand(command_of(alloc, kind)?)?;
     }

@@ -1,154 +1,28 @@
-//! Files of entities, as `ceph auth ls` and `ceph auth get` print them.
+//! Files of entities, in the forms in which Ceph prints them. No key is kept.
 
-use common_types::OutOfMemory;
+use crate::file_fault::{FileFault, Form, Likeness, Place};
+use crate::input_files::without_mark;
+use crate::keyring::keyring_entities;
+use crate::listing::{HEAD, is_entity_name, listed_entities};
 use gate_text::{Entity, find};
 use serde_json::Value;
-use std::alloc::{AllocFailed, Global};
-use std::io::Read;
-use std::{fmt, fs, io};
-
-/// The most bytes that a file of entities may have: 64 MiB.
-const MOST_BYTES: u64 = 67_108_864;
-
-/// Files by their paths.
-pub trait InputFiles {
-    /// The bytes of a file: all of them, or one more than `most` where it has more. It is an error where the file cannot be read.
-    fn read_bytes(&self, path: &str, most: u64) -> io::Result<Vec<u8>>;
-}
-
-/// The files of the program's host.
-impl InputFiles for HostRuntime {
-    fn read_bytes(&self, path: &str, most: u64) -> io::Result<Vec<u8>> {
-        read_most(self.alloc(), fs::open(self, path)?, most)
-    }
-}
-
-/// What a reader has left: all of it, or one byte more than `most` where it has more.
-fn read_most<R: Read + Drop>(alloc: Global, reader: R, most: u64) -> io::Result<Vec<u8>> {
-    let mut bytes = Vec::new(alloc);
-    let mut limited = reader.take(most.saturating_add(1));
-    limited.read_to_end(&mut bytes)?;
-    Ok(bytes)
-}
-
-/// The text of a file of entities, or of `reader` where the path is `-`.
-pub(crate) fn read_text<F: InputFiles, R: Read>(
-    alloc: Global,
-    files: &F,
-    reader: &mut R,
-    path: &str,
-) -> Result<String, AuthFault> {
-    let bytes = if path == "-" {
-        read_most(alloc, reader.by_ref(), MOST_BYTES)?
-    } else {
-        files.read_bytes(path, MOST_BYTES)?
-    };
-    if bytes.len() as u64 > MOST_BYTES {
-        return Err(AuthFault::TooLong);
-    }
-    match String::from_utf8(bytes) {
-        Ok(text) => Ok(text),
-        Err(_) => Err(AuthFault::NotUtf8),
-    }
-}
-
-/// Why a text has no entities. None of the text stands in it.
-#[derive(Debug, Drop)]
-pub(crate) enum AuthFault {
-    /// It cannot be read.
-    Unread(io::Error),
-    /// It has more than 67,108,864 bytes.
-    TooLong,
-    /// It is no UTF-8.
-    NotUtf8,
-    /// It is no JSON. Lines and columns count from 1; column 0 is the end of the line before.
-    NotJson { line: usize, column: usize },
-    /// It is neither an entry, nor a list of entries, nor an object with such a list under `auth_dump`.
-    NoEntries,
-    /// This entry, counted from 1, has no text under `entity`.
-    NoEntity(usize),
-    /// This entry has no object under `caps`.
-    NoCaps(usize),
-    /// What this entry has under `osd` in its `caps` is no text.
-    NoText(usize),
-    /// This entry has the name of an earlier one.
-    Doubled(usize),
-    /// A growth was refused, which is no fault of the text.
-    OutOfMemory,
-}
-
-impl From<OutOfMemory> for AuthFault {
-    fn from(_error: OutOfMemory) -> AuthFault {
-        AuthFault::OutOfMemory
-    }
-}
-
-impl<T: Drop> From<AllocFailed<T>> for AuthFault {
-    fn from(_error: AllocFailed<T>) -> AuthFault {
-        AuthFault::OutOfMemory
-    }
-}
-
-impl From<io::Error> for AuthFault {
-    fn from(error: io::Error) -> AuthFault {
-        if error.kind() == io::ErrorKind::OutOfMemory {
-            return AuthFault::OutOfMemory;
-        }
-        AuthFault::Unread(error)
-    }
-}
-
-impl From<serde_json::Error> for AuthFault {
-    fn from(error: serde_json::Error) -> AuthFault {
-        if error.is_memory() {
-            return AuthFault::OutOfMemory;
-        }
-        AuthFault::NotJson {
-            line: error.line(),
-            column: error.column(),
-        }
-    }
-}
-
-impl fmt::Display for AuthFault {
-    fn fmt<W: fmt::Write>(&self, f: &mut fmt::Formatter<W>) -> fmt::Result {
-        match self {
-            AuthFault::Unread(error) => write!(f, "cannot be read: {error}"),
-            AuthFault::TooLong => write!(f, "has more than 67108864 bytes"),
-            AuthFault::NotUtf8 => write!(f, "cannot be read: stream did not contain valid UTF-8"),
-            AuthFault::NotJson { line, column } => {
-                write!(f, "is no JSON at line {line}, column {column}")
-            }
-            AuthFault::NoEntries => write!(f, "has no list of entries"),
-            AuthFault::NoEntity(number) => write!(f, "has no text `entity` in entry {number}"),
-            AuthFault::NoCaps(number) => write!(f, "has no object `caps` in entry {number}"),
-            AuthFault::NoText(number) => write!(
-                f,
-                "has an `osd` that is no text in entry {number}"
-            ),
-            AuthFault::Doubled(number) => {
-                write!(f, "has the name of an earlier entry in entry {number}")
-            }
-            AuthFault::OutOfMemory => write!(f, "OutOfMemory"),
-        }
-    }
-}
+use std::alloc::Global;
 
 /// The osd text of an entry's `caps`, empty where there is none.
-fn osd_text(caps: &Value, number: usize) -> Result<&str, AuthFault> {
+fn osd_text(caps: &Value, number: usize) -> Result<&str, FileFault> {
     match caps.get("osd") {
         None => Ok(""),
-        Some(osd) => osd.as_str().ok_or(AuthFault::NoText(number)),
+        Some(osd) => osd.as_str().ok_or(FileFault::NoText(number)),
     }
 }
 
 /// The entity of an entry with this number.
-fn entity_of(alloc: Global, entry: &Value, number: usize) -> Result<Entity, AuthFault> {
+fn entity_of(alloc: Global, entry: &Value, number: usize) -> Result<Entity, FileFault> {
     let Some(name) = entry.get("entity").and_then(Value::as_str) else {
-        return Err(AuthFault::NoEntity(number));
+        return Err(FileFault::NoEntity(number));
     };
     let Some(caps) = entry.get("caps").filter(|caps| caps.is_object()) else {
-        return Err(AuthFault::NoCaps(number));
+        return Err(FileFault::NoCaps(number));
     };
     Ok(Entity {
         name: String::from_str(alloc, name)?,
@@ -156,22 +30,26 @@ fn entity_of(alloc: Global, entry: &Value, number: usize) -> Result<Entity, Auth
     })
 }
 
-fn entities_of_list(alloc: Global, entries: &[Value]) -> Result<Vec<Entity>, AuthFault> {
+fn entities_of_list(alloc: Global, entries: &[Value]) -> Result<Vec<Entity>, FileFault> {
     let mut entities: Vec<Entity> = Vec::new(alloc);
     for entry in entries {
         let number = entities.len().saturating_add(1);
-        let entity = entity_of(alloc, entry, number)?;
-        if find(entities.as_slice(), entity.name.as_str()).is_some() {
-            return Err(AuthFault::Doubled(number));
-        }
-        entities.push(entity)?;
+        push_entity(&mut entities, entity_of(alloc, entry, number)?)?;
     }
     Ok(entities)
 }
 
-/// The entities of a text, in its order: of an object with a list under `auth_dump`, as `ceph auth ls` prints it,
-/// of a list, as `ceph auth get` prints it, or of one entry.
-pub(crate) fn entities_of(alloc: Global, text: &str) -> Result<Vec<Entity>, AuthFault> {
+/// Adds an entity to those before it, none of which may have its name.
+pub(crate) fn push_entity(entities: &mut Vec<Entity>, entity: Entity) -> Result<(), FileFault> {
+    if find(entities.as_slice(), entity.name.as_str()).is_some() {
+        return Err(FileFault::Doubled(entities.len().saturating_add(1)));
+    }
+    Ok(entities.push(entity)?)
+}
+
+/// The entities of a JSON text: of an object with a list under `auth_dump`, as `ceph auth ls` prints it, of a list, as
+/// `ceph auth get` prints it, or of one entry.
+fn json_entities(alloc: Global, text: &str) -> Result<Vec<Entity>, FileFault> {
     let value = Value::from_str(alloc, text)?;
     let entries = value.get("auth_dump").unwrap_or(&value);
     match entries.as_array() {
@@ -181,6 +59,74 @@ pub(crate) fn entities_of(alloc: Global, text: &str) -> Result<Vec<Entity>, Auth
             entities.push(entity_of(alloc, &value, 1)?)?;
             Ok(entities)
         }
-        None => Err(AuthFault::NoEntries),
+        None => Err(FileFault::NoEntries),
+    }
+}
+
+/// Whether a line says nothing: it is blank, or a comment as keyrings have them.
+pub(crate) fn is_nothing(line: &str) -> bool {
+    let words = line.trim();
+    words.is_empty() || words.starts_with('#') || words.starts_with(';')
+}
+
+/// The form of a text behind a `[`: a keyring's where a name follows.
+fn bracket_form(behind: &str) -> Form {
+    match behind.trim_start().chars().next() {
+        Some('a'..='z' | 'A'..='Z') => Form::Keyring,
+        _ => Form::Json,
+    }
+}
+
+/// What a line looks like that begins none of the forms.
+fn likeness_of(words: &str) -> Likeness {
+    if words.starts_with('<') {
+        Likeness::Xml
+    } else if words.starts_with("---") || words.ends_with(':') {
+        Likeness::Yaml
+    } else if words.starts_with("allow ") || words.starts_with("profile ") {
+        Likeness::CapabilityText
+    } else if words.starts_with("Error ") {
+        Likeness::CephError
+    } else {
+        Likeness::Nothing
+    }
+}
+
+/// The form of a text that begins with these words, or nothing where it is in none.
+fn form_of_words(words: &str) -> Option<Form> {
+    if let Some(behind) = words.strip_prefix('[') {
+        return Some(bracket_form(behind));
+    }
+    if words == HEAD || is_entity_name(words) {
+        return Some(Form::Listing);
+    }
+    match words.chars().next() {
+        Some('{' | '"' | '0'..='9') => Some(Form::Json),
+        _ => None,
+    }
+}
+
+/// The form of a text, by its first line that says something.
+fn form_of(text: &str) -> Result<Form, FileFault> {
+    for (index, line) in text.lines().enumerate() {
+        if is_nothing(line) {
+            continue;
+        }
+        let words = line.trim();
+        return form_of_words(words).ok_or(FileFault::Looks {
+            like: likeness_of(words),
+            at: Place::of_line(index, line),
+        });
+    }
+    Err(FileFault::Empty)
+}
+
+/// The entities of a text, in its order and by its form.
+pub(crate) fn entities_of(alloc: Global, text: &str) -> Result<Vec<Entity>, FileFault> {
+    let text = without_mark(text);
+    match form_of(text)? {
+        Form::Json => json_entities(alloc, text),
+        Form::Keyring => keyring_entities(alloc, text),
+        Form::Listing => listed_entities(alloc, text),
     }
 }

@@ -2,21 +2,22 @@
 
 ghost use Rattle.std.specs.Prelude.{◌≤◌};
 
+use crate::answers::{
+    Answered, answered_compare, answered_completions, answered_explain, answered_man,
+    answered_verdict,
+};
 use crate::arguments::whole_command;
-use crate::auth_file::{AuthFault, InputFiles, entities_of, read_text};
-use crate::notes::{note_of, unjudged_line, without_controls};
+use crate::input_files::InputFiles;
+use crate::no_answer::NoAnswer;
 use crate::read_words::WordsFault;
-use crate::request_words::{BadWords, NoRequest, RequestWords, number_of, times_of, value_of};
+use crate::request_words::{BadWords, number_of, value_of};
 use crate::run::{RunFault, run_path};
+use crate::tips::complaint;
+use crate::who::answered_who;
 use clap::error::ErrorKind;
 use clap::{ArgMatches, Error};
-use common_types::OutOfMemory;
-use compare_core::Registry;
-use gate_text::{
-    Answer, Asked, Comparison, Entity, Printed, Times, Verdict, answer, compare_entities,
-    compare_text, explain_text, point_at_fault, text_of, who_text,
-};
-use std::alloc::{AllocError, AllocFailed, Global};
+use gate_text::point_at_fault;
+use std::alloc::Global;
 use std::convert::AsStr;
 use std::fmt;
 use std::io::{Read, Write};
@@ -30,69 +31,8 @@ const BAD_COMMAND_LINE: u8 = 2;
 
 const WANT_OF_MEMORY: &str = "refused OutOfMemory\n";
 
-/// For ever, and at once.
-const ALWAYS: Times = Times {
-    until: None,
-    tick: 0,
-};
-
-/// Why a file has no entities.
-#[derive(Drop)]
-struct FileFault {
-    /// What the file is called.
-    file: &'static str,
-    fault: AuthFault,
-}
-
-/// Why words have no answer.
-#[derive(Drop)]
-enum NoAnswer {
-    /// They are no command line, or ask for help: clap says it.
-    Clap(Error),
-    /// Clap takes them, and yet they are no command line.
-    Words(BadWords),
-    /// A file has no entities.
-    File(FileFault),
-    /// A growth was refused.
-    OutOfMemory,
-}
-
-impl From<Error> for NoAnswer {
-    fn from(error: Error) -> NoAnswer {
-        NoAnswer::Clap(error)
-    }
-}
-
-impl From<NoRequest> for NoAnswer {
-    fn from(why: NoRequest) -> NoAnswer {
-        match why {
-            NoRequest::Words(bad) => NoAnswer::Words(bad),
-            NoRequest::OutOfMemory => NoAnswer::OutOfMemory,
-        }
-    }
-}
-
-impl From<AllocError> for NoAnswer {
-    fn from(_error: AllocError) -> NoAnswer {
-        NoAnswer::OutOfMemory
-    }
-}
-
-impl<T: Drop> From<AllocFailed<T>> for NoAnswer {
-    fn from(_error: AllocFailed<T>) -> NoAnswer {
-        NoAnswer::OutOfMemory
-    }
-}
-
-/// What a command prints, and beside it what standard error tells.
-#[derive(Drop)]
-struct Answered<'a> {
-    printed: Printed,
-    /// The capability text in which a fault is shown.
-    caps: &'a str,
-    /// What else is told, or nothing.
-    note: String,
-}
+const OSDS_FIRST: &str =
+    "osdgate: a script's first command is `osds N`, which says how many daemons there are\n";
 
 /// What words come to.
 #[derive(Drop)]
@@ -115,167 +55,17 @@ fn workers_of(matches: &ArgMatches<'_>) -> Option<u32> {
     }
 }
 
-/// The answer of `osdgate verdict`.
-fn answer_verdict(alloc: Global, matches: &ArgMatches<'_>) -> Result<Answer, NoAnswer> {
-    let Some(times) = times_of(matches) else {
-        return Err(NoAnswer::Words(BadWords::Time));
-    };
-    let request = RequestWords::of(alloc, matches)?;
-    let caps = value_of(matches, "caps");
-    Ok(answer(alloc, caps, &request.asked(matches, times))?)
-}
-
-/// What `osdgate verdict` prints. With a check a denial fails.
-fn printed_verdict(alloc: Global, matches: &ArgMatches<'_>) -> Result<Printed, NoAnswer> {
-    let answer = answer_verdict(alloc, matches)?;
-    let denied = matches!(answer, Ok(Verdict::Denied(_)));
-    Ok(Printed {
-        text: text_of(alloc, &answer)?,
-        fails: answer.is_err() || (denied && matches.get_flag("check")),
-    })
-}
-
-/// The entities of a file, or of standard input where the path is `-`.
-fn read_entities<F: InputFiles, R: Read>(
-    alloc: Global,
-    files: &F,
-    reader: &mut R,
-    path: &str,
-) -> Result<Vec<Entity>, AuthFault> {
-    let text = read_text(alloc, files, reader, path)?;
-    entities_of(alloc, text.as_str())
-}
-
-/// The entities of the file that is called so.
-fn entities_in<F: InputFiles, R: Read>(
-    alloc: Global,
-    files: &F,
-    reader: &mut R,
-    path: &str,
-    file: &'static str,
-) -> Result<Vec<Entity>, NoAnswer> {
-    match read_entities(alloc, files, reader, path) {
-        Ok(entities) => Ok(entities),
-        Err(AuthFault::OutOfMemory) => Err(NoAnswer::OutOfMemory),
-        Err(fault) => Err(NoAnswer::File(FileFault { file, fault })),
-    }
-}
-
-/// What `osdgate who` prints of these entities, and what else is told. Where it leaves out entities without a verdict it
-/// tells which, and fails unless those that are known were asked for.
-fn told_who(
-    alloc: Global,
-    matches: &ArgMatches<'_>,
-    entities: &[Entity],
-    asked: &Asked<'_>,
-) -> Result<(Printed, String), NoAnswer> {
-    let all = matches.get_flag("all");
-    let mut printed = who_text(alloc, entities, asked, all)?;
-    let mut note = note_of(alloc, matches, &printed)?;
-    if !all && !printed.fails {
-        let unjudged = unjudged_line(alloc, entities, asked)?;
-        printed.fails = !unjudged.is_empty() && !matches.get_flag("known");
-        note.push_str(unjudged.as_str())?;
-    }
-    Ok((printed, note))
-}
-
-/// What `osdgate who` prints, and what else is told.
-fn printed_who<F: InputFiles, R: Read>(
-    alloc: Global,
-    files: &F,
-    reader: &mut R,
-    matches: &ArgMatches<'_>,
-) -> Result<(Printed, String), NoAnswer> {
-    let request = RequestWords::of(alloc, matches)?;
-    let path = value_of(matches, "auth");
-    let entities = entities_in(alloc, files, reader, path, "the file")?;
-    told_who(
-        alloc,
-        matches,
-        entities.as_slice(),
-        &request.asked(matches, ALWAYS),
-    )
-}
-
-/// The answer of `osdgate who`, in which no capability text is shown.
-fn answered_who<'a, F: InputFiles, R: Read>(
-    alloc: Global,
-    files: &F,
-    reader: &mut R,
-    matches: &ArgMatches<'_>,
-) -> Result<Answered<'a>, NoAnswer> {
-    let (printed, note) = printed_who(alloc, files, reader, matches)?;
-    Ok(Answered {
-        printed,
-        caps: "",
-        note,
-    })
-}
-
-/// The class registry of a comparison, every one where none is given, or nothing where there is none of this name.
-fn registry_of(matches: &ArgMatches<'_>) -> Option<Registry> {
-    match matches.get_str("registry") {
-        None | Some("all") => Some(Registry::Every),
-        Some("own") => Some(Registry::Own),
-        Some(_) => None,
-    }
-}
-
-/// What `osdgate compare` prints of two files.
-fn printed_files<F: InputFiles, R: Read>(
-    alloc: Global,
-    files: &F,
-    reader: &mut R,
-    paths: &[&str],
-    how: Comparison,
-) -> Result<Printed, NoAnswer> {
-    let (old, new) = match paths {
-        [old, new] if *old != "-" || *new != "-" => (*old, *new),
-        _ => return Err(NoAnswer::Words(BadWords::Files)),
-    };
-    let old = entities_in(alloc, files, reader, old, "the old file")?;
-    let new = entities_in(alloc, files, reader, new, "the new file")?;
-    Ok(compare_entities(alloc, old.as_slice(), new.as_slice(), how)?)
-}
-
-/// What `osdgate compare` prints.
-fn printed_comparison<F: InputFiles, R: Read>(
-    alloc: Global,
-    files: &F,
-    reader: &mut R,
-    matches: &ArgMatches<'_>,
-) -> Result<Printed, NoAnswer> {
-    let Some(registry) = registry_of(matches) else {
-        return Err(NoAnswer::Words(BadWords::Registry));
-    };
-    let check = matches.get_flag("check");
-    let how = Comparison { registry, check };
-    if let Some(paths) = matches.get_strs("auth") {
-        return printed_files(alloc, files, reader, paths, how);
-    }
-    let old = value_of(matches, "old");
-    let new = value_of(matches, "new");
-    Ok(compare_text(alloc, old, new, how)?)
-}
-
-/// The text that is refused where a comparison of two texts is.
-fn refused_caps<'a>(matches: &ArgMatches<'a>, printed: &Printed) -> &'a str {
-    if printed.text.as_str().starts_with("refused new ") {
-        value_of(matches, "new")
-    } else {
-        value_of(matches, "old")
-    }
-}
-
 /// Tells how a script ended, and answers the status.
 fn finish_script<E: Write>(ended: Result<(), RunFault>, err: &mut E) -> u8
     ensures { result ≤ 2 }
 {
     match ended {
         Ok(()) => return DONE,
-        Err(RunFault::Script(fault)) => {
+        Err(RunFault::Script { fault, no_osds }) => {
             let _ = write!(err, "osdgate: {fault}\n");
+            if no_osds {
+                let _ = write_out(err, OSDS_FIRST);
+            }
         }
         Err(RunFault::Unread(error)) => {
             let _ = write!(err, "osdgate: the script cannot be read: {error}\n");
@@ -295,32 +85,12 @@ fn answer_matches<'a, F: InputFiles, R: Read>(
     reader: &mut R,
 ) -> Result<Answered<'a>, NoAnswer> {
     match matches.subcommand() {
-        Some(("verdict", inner)) => {
-            let printed = printed_verdict(alloc, inner)?;
-            Ok(Answered {
-                note: note_of(alloc, inner, &printed)?,
-                printed,
-                caps: value_of(inner, "caps"),
-            })
-        }
-        Some(("explain", inner)) => {
-            let caps = value_of(inner, "caps");
-            Ok(Answered {
-                printed: explain_text(alloc, caps)?,
-                caps,
-                note: String::new(alloc),
-            })
-        }
-        Some(("compare", inner)) => {
-            let printed = printed_comparison(alloc, files, reader, inner)?;
-            let caps = refused_caps(inner, &printed);
-            Ok(Answered {
-                printed,
-                caps,
-                note: String::new(alloc),
-            })
-        }
+        Some(("verdict", inner)) => answered_verdict(alloc, files, reader, inner),
+        Some(("explain", inner)) => answered_explain(alloc, inner),
+        Some(("compare", inner)) => answered_compare(alloc, files, reader, inner),
         Some(("who", inner)) => answered_who(alloc, files, reader, inner),
+        Some(("completions", inner)) => answered_completions(alloc, inner),
+        Some(("man", _)) => answered_man(alloc),
         _ => Err(NoAnswer::Words(BadWords::Command)),
     }
 }
@@ -387,12 +157,6 @@ fn finish_answer<O: Write, E: Write>(
     status
 }
 
-/// What clap says of words that it does not take.
-fn complaint(alloc: Global, error: &Error) -> Result<String, OutOfMemory> {
-    let said = format!(in alloc; "{error}")?;
-    without_controls(alloc, said.as_str())
-}
-
 /// What clap says of words that it does not take, or the help that they ask for.
 fn finish_error<O: Write, E: Write>(alloc: Global, error: &Error, out: &mut O, err: &mut E) -> u8
     ensures { result ≤ 2 }
@@ -401,11 +165,13 @@ fn finish_error<O: Write, E: Write>(alloc: Global, error: &Error, out: &mut O, e
         return finish(WANT_OF_MEMORY, FAULT, out, err);
     }
     if error.use_stderr() {
-        let Ok(said) = complaint(alloc, error) else {
-            return finish(WANT_OF_MEMORY, FAULT, out, err);
+        return match complaint(alloc, error) {
+            Ok(text) => {
+                let _ = write_out(err, text.as_str());
+                BAD_COMMAND_LINE
+            }
+            Err(_) => finish(WANT_OF_MEMORY, FAULT, out, err),
         };
-        let _ = write_out(err, said.as_str());
-        return BAD_COMMAND_LINE;
     }
     if write!(out, "{error}").is_ok() {
         DONE
@@ -486,11 +252,15 @@ pub fn run_command<
         Ok(Done::Script(ended)) => finish_script(ended, err),
         Ok(Done::Workers { count, moves }) => finish_workload(&workload(count, moves), out, err),
         Err(NoAnswer::Words(bad)) => {
-            let _ = write_out(err, bad.text());
+            let _ = write!(err, "osdgate: {}\n", bad.text());
             BAD_COMMAND_LINE
         }
-        Err(NoAnswer::File(fault)) => {
-            let _ = write!(err, "osdgate: {} {}\n", fault.file, fault.fault);
+        Err(NoAnswer::Told(why)) => {
+            let _ = write!(err, "osdgate: {why}\n");
+            BAD_COMMAND_LINE
+        }
+        Err(NoAnswer::File(bad)) => {
+            let _ = write!(err, "osdgate: {bad}\n");
             FAULT
         }
         Err(NoAnswer::OutOfMemory) => finish(WANT_OF_MEMORY, FAULT, out, err),

@@ -1,12 +1,16 @@
 //! What standard error tells beside an answer.
 
+use crate::arguments::is_option;
+use crate::profile_notes::push_name;
 use crate::request_words::{asks_nothing, call_of};
+use crate::who::ALWAYS;
 use clap::ArgMatches;
-use common_types::OutOfMemory;
-use gate_text::{Asked, Entity, Printed, answer};
+use common_types::{OutOfMemory, Tags};
+use gate_text::{Answer, Asked, Entity, VerdictFault, answer};
 use object_core::{NeedsFault, needs_of, registry};
 use std::alloc::{AllocError, Global};
 use std::fmt::Write;
+use verdict_core::Target;
 
 const ASKS_NOTHING: &str = "osdgate: the request asks nothing; did you forget --read?\n";
 
@@ -20,8 +24,12 @@ fn is_unknown(alloc: Global, word: &str) -> Result<bool, OutOfMemory> {
     }
 }
 
-/// The line that tells which call the class registry does not have, which it has, and what to do.
+/// The line that tells which call the class registry does not have, which it has, and what to do. A word that is an option
+/// without its dashes is told so.
 fn unknown_line(alloc: Global, word: &str) -> Result<String, OutOfMemory> {
+    if is_option(word) {
+        return format!(in alloc; "osdgate: {word} is no call; the option is --{word}\n");
+    }
     let mut line = String::from_str(alloc, "osdgate: the class registry has no ")?;
     push_name(&mut line, word)?;
     line.push_str(", only")?;
@@ -46,39 +54,38 @@ fn unknown_call(alloc: Global, matches: &ArgMatches<'_>) -> Result<String, OutOf
     Ok(String::new(alloc))
 }
 
+/// What came of a request.
+#[derive(Clone, Copy, Debug, PartialEq, Eq)]
+pub(crate) enum Outcome {
+    Answered,
+    /// Its calls are refused.
+    NoCalls,
+    /// The capability text is refused.
+    NoGrants,
+}
+
+impl Outcome {
+    pub(crate) fn of(answer: &Answer) -> Outcome {
+        match answer {
+            Ok(_) => Outcome::Answered,
+            Err(VerdictFault::Calls(_)) => Outcome::NoCalls,
+            Err(_) => Outcome::NoGrants,
+        }
+    }
+}
+
 /// A line on the call that the class registry does not have, where that is why there is no answer; one on a request that
 /// asks nothing, where there is an answer; or nothing.
 pub(crate) fn note_of(
     alloc: Global,
     matches: &ArgMatches<'_>,
-    printed: &Printed,
+    outcome: Outcome,
 ) -> Result<String, OutOfMemory> {
-    if printed.text.as_str().starts_with("refused N3 ") {
-        return unknown_call(alloc, matches);
+    match outcome {
+        Outcome::NoCalls => unknown_call(alloc, matches),
+        Outcome::Answered if asks_nothing(matches) => String::from_str(alloc, ASKS_NOTHING),
+        _ => Ok(String::new(alloc)),
     }
-    if asks_nothing(matches) && !printed.text.as_str().starts_with("refused ") {
-        return String::from_str(alloc, ASKS_NOTHING);
-    }
-    Ok(String::new(alloc))
-}
-
-/// A text with a `?` for each control character of it but a line's end, so that words from outside cannot move the cursor.
-pub(crate) fn without_controls(alloc: Global, text: &str) -> Result<String, OutOfMemory> {
-    let mut shown = String::new(alloc);
-    for letter in text.chars() {
-        let moves = letter < ' ' || ('\u{7f}'..='\u{9f}').contains(&letter);
-        shown.push(if moves && letter != '\n' { '?' } else { letter })?;
-    }
-    Ok(shown)
-}
-
-/// Adds a name, each character of it outside of ASCII's printed ones as a `?`.
-fn push_name(line: &mut String, name: &str) -> Result<(), OutOfMemory> {
-    for letter in name.chars() {
-        let plain = (' '..='~').contains(&letter);
-        line.push(if plain { letter } else { '?' })?;
-    }
-    Ok(())
 }
 
 /// Adds an entity and the number of the fault for which it has no verdict; answers whether it has none.
@@ -101,16 +108,31 @@ fn push_unjudged(
     Ok(true)
 }
 
+/// What asks for nothing, so that a text alone can be the reason that there is no verdict.
+fn nothing_asked<'a>(tags: &'a Tags) -> Asked<'a> {
+    Asked {
+        target: Target {
+            pool: "",
+            tags,
+            namespace: "",
+            object: "",
+        },
+        reads: false,
+        writes: false,
+        calls: &[],
+        stated: &[],
+        times: ALWAYS,
+    }
+}
+
 /// A line on the entities that have no verdict, since their texts are refused, or nothing.
-pub(crate) fn unjudged_line(
-    alloc: Global,
-    entities: &[Entity],
-    asked: &Asked<'_>,
-) -> Result<String, OutOfMemory> {
+pub(crate) fn unjudged_line(alloc: Global, entities: &[Entity]) -> Result<String, OutOfMemory> {
+    let tags = Tags::from_vec(Vec::new(alloc));
+    let asked = nothing_asked(&tags);
     let mut names = String::new(alloc);
     let mut count = 0usize;
     for entity in entities {
-        if push_unjudged(&mut names, alloc, entity, asked)? {
+        if push_unjudged(&mut names, alloc, entity, &asked)? {
             count = count.saturating_add(1);
         }
     }

@@ -1,5 +1,6 @@
 //! Requests as words of the command line.
 
+use crate::pools_file::{Pool, no_pool_line, pool_of};
 use clap::ArgMatches;
 use common_types::{AppTags, Name, OutOfMemory, Pairs, Tags};
 use gate_text::{Asked, Times};
@@ -22,34 +23,60 @@ pub(crate) enum BadWords {
     Call,
     /// There is no class registry of this name.
     Registry,
+    /// There is no format of this name.
+    Format,
+    /// There are no completions for this shell.
+    Shell,
+    /// Tags are given, and a file of pools too.
+    PoolTags,
+    /// Two files are standard input.
+    OneInput,
     /// There is no such command.
     Command,
 }
 
 impl BadWords {
+    /// The line that tells of it, behind the program's name.
     pub(crate) fn text(self) -> &'static str {
         match self {
-            BadWords::Tag => "osdgate: a tag with a `:` needs a `=` behind it\n",
-            BadWords::Time => "osdgate: a time is a decimal number below 2^64, without a sign\n",
+            BadWords::Tag => "a tag with a `:` needs a `=` behind it",
+            BadWords::Time => "a time is a decimal number below 2^64, without a sign",
             BadWords::Files => {
-                "osdgate: a comparison of files needs `--auth` twice, and standard input once at most\n"
+                "a comparison of files needs `--auth` twice, and standard input once at most"
             }
-            BadWords::Workers => "osdgate: there are 1 to 8 workers\n",
+            BadWords::Workers => "there are 1 to 8 workers",
             BadWords::Call => {
-                "osdgate: a `--call` is CLASS.METHOD and `:r`, `:w` or `:rw`, and then `:listed` where the class is on the default list\n"
+                "a `--call` is CLASS.METHOD and `:r`, `:w` or `:rw`, and then `:listed` where the class is on the default list"
             }
-            BadWords::Registry => "osdgate: a registry is `all` or `own`\n",
-            BadWords::Command => "osdgate: there is no such command\n",
+            BadWords::Registry => "a registry is `all` or `own`",
+            BadWords::Format => "a format is `text` or `json`",
+            BadWords::Shell => "a shell is `bash`, `zsh` or `fish`",
+            BadWords::PoolTags => "a pool of `--pools` has the tags of the file, and no `--tag`",
+            BadWords::OneInput => "one file can be standard input, and not two",
+            BadWords::Command => "there is no such command",
         }
     }
 }
 
 /// Why words are no request.
-#[derive(Clone, Copy, Debug)]
+#[derive(Debug, Drop)]
 pub(crate) enum NoRequest {
     Words(BadWords),
+    /// The same, where this tells why.
+    Told(String),
     /// A growth was refused.
     OutOfMemory,
+}
+
+impl NoRequest {
+    /// Why, without the program's name.
+    pub(crate) fn why(self, alloc: Global) -> Result<String, OutOfMemory> {
+        match self {
+            NoRequest::Words(bad) => String::from_str(alloc, bad.text()),
+            NoRequest::Told(line) => Ok(line),
+            NoRequest::OutOfMemory => Err(AllocError),
+        }
+    }
 }
 
 impl From<AllocError> for NoRequest {
@@ -66,19 +93,40 @@ impl<T: Drop> From<AllocFailed<T>> for NoRequest {
 
 /// What a request's words have to own.
 #[derive(Drop)]
-pub(crate) struct RequestWords {
+pub(crate) struct RequestWords<'p> {
     tags: Tags,
+    /// The pool of a file, whose own tags take the place of these.
+    pool: Option<&'p Pool>,
     calls: Vec<Op>,
     stated: Vec<ClassCall>,
 }
 
-impl RequestWords {
-    pub(crate) fn of(alloc: Global, matches: &ArgMatches<'_>) -> Result<RequestWords, NoRequest> {
+impl<'p> RequestWords<'p> {
+    /// What the words ask for. Where a file of pools is given, their pool is one of them.
+    pub(crate) fn of(
+        alloc: Global,
+        matches: &ArgMatches<'_>,
+        pools: Option<&'p [Pool]>,
+    ) -> Result<RequestWords<'p>, NoRequest> {
         Ok(RequestWords {
             tags: tags_asked(alloc, matches)?,
+            pool: pool_asked(alloc, matches, pools)?,
             calls: calls_of(alloc, matches)?,
             stated: stated_of(alloc, matches)?,
         })
+    }
+
+    /// The pool of the file, where one is given.
+    pub(crate) fn pool(&self) -> Option<&'p Pool> {
+        self.pool
+    }
+
+    /// Whether the words name this pool of a file.
+    pub(crate) fn is_of(&self, pool: &Pool) -> bool {
+        match self.pool {
+            Some(own) => own.name.as_str() == pool.name.as_str(),
+            None => false,
+        }
     }
 
     /// What the words ask for, at these times.
@@ -86,7 +134,7 @@ impl RequestWords {
         Asked {
             target: Target {
                 pool: value_of(matches, "pool"),
-                tags: &self.tags,
+                tags: self.pool.map_or(&self.tags, |pool| &pool.tags),
                 namespace: value_of(matches, "namespace"),
                 object: value_of(matches, "object"),
             },
@@ -242,6 +290,25 @@ fn tags_asked(alloc: Global, matches: &ArgMatches<'_>) -> Result<Tags, NoRequest
         }
     }
     Ok(Tags::from_vec(tags))
+}
+
+/// The pool of a file that the words name, where a file is given. Its tags are the file's.
+fn pool_asked<'p>(
+    alloc: Global,
+    matches: &ArgMatches<'_>,
+    pools: Option<&'p [Pool]>,
+) -> Result<Option<&'p Pool>, NoRequest> {
+    let Some(pools) = pools else {
+        return Ok(None);
+    };
+    if matches.get_strs("tag").is_some() {
+        return Err(NoRequest::Words(BadWords::PoolTags));
+    }
+    let name = value_of(matches, "pool");
+    match pool_of(pools, name) {
+        Some(pool) => Ok(Some(pool)),
+        None => Err(NoRequest::Told(no_pool_line(alloc, pools, name)?)),
+    }
 }
 
 /// Whether a request neither reads, writes nor calls anything.

@@ -1,10 +1,11 @@
 //! `osdgate run`: a script from a file or from standard input, and what it prints.
 
-use crate::auth_file::InputFiles;
+use crate::input_files::InputFiles;
+use script_text::{Lines, ScriptFault, read_script};
 use std::alloc::Global;
 use std::io;
 use std::io::{ErrorKind, Read, Write};
-use world_script::{ScriptFault, run_script};
+use world_script::run_script;
 
 /// The most bytes that a script may have; one that has more is S2.
 const MOST_BYTES: u64 = 1_048_576;
@@ -14,8 +15,8 @@ const MOST_BYTES: u64 = 1_048_576;
 pub(crate) enum RunFault {
     /// The file cannot be read: nothing was run.
     Unread(io::Error),
-    /// The script ended early.
-    Script(ScriptFault),
+    /// The script ended early, at its first command where that is not `osds` and should be.
+    Script { fault: ScriptFault, no_osds: bool },
     /// A growth was refused before the script began.
     OutOfMemory,
 }
@@ -29,9 +30,35 @@ impl From<io::Error> for RunFault {
     }
 }
 
-impl From<ScriptFault> for RunFault {
-    fn from(fault: ScriptFault) -> RunFault {
-        RunFault::Script(fault)
+/// Whether a script ended at its first command, which is not `osds`.
+fn has_no_osds(script: &[u8], fault: ScriptFault) -> bool {
+    let mut lines = Lines::new(script);
+    for _ in 0..script.len() {
+        match lines.next_line() {
+            None => return false,
+            Some(line) if line.is_blank() => continue,
+            Some(line) => {
+                return fault == ScriptFault::BadLine(line.number)
+                    && !line.text.starts_with(b"osds ");
+            }
+        }
+    }
+    false
+}
+
+/// Runs a script, and writes to `out` what its lines print.
+fn run_bytes<O: Write>(alloc: Global, script: &[u8], out: &mut O) -> Result<(), RunFault> {
+    let mut reader = script;
+    if let Err(fault) = run_script(alloc, &mut reader, out) {
+        let no_osds = has_no_osds(script, fault);
+        return Err(RunFault::Script { fault, no_osds });
+    }
+    match out.flush() {
+        Ok(()) => Ok(()),
+        Err(_) => Err(RunFault::Script {
+            fault: ScriptFault::Write,
+            no_osds: false,
+        }),
     }
 }
 
@@ -43,14 +70,18 @@ pub(crate) fn run_path<F: InputFiles, R: Read, O: Write>(
     reader: &mut R,
     out: &mut O,
 ) -> Result<(), RunFault> {
-    if path == "-" {
-        run_script(alloc, reader, out)?;
+    let script = if path == "-" {
+        match read_script(alloc, reader) {
+            Ok(script) => script,
+            Err(fault) => {
+                return Err(RunFault::Script {
+                    fault,
+                    no_osds: false,
+                });
+            }
+        }
     } else {
-        let script = files.read_bytes(path, MOST_BYTES)?;
-        run_script(alloc, &mut script.as_slice(), out)?;
-    }
-    match out.flush() {
-        Ok(()) => Ok(()),
-        Err(_) => Err(RunFault::Script(ScriptFault::Write)),
-    }
+        files.read_bytes(path, MOST_BYTES)?
+    };
+    run_bytes(alloc, script.as_slice(), out)
 }

@@ -1,15 +1,15 @@
 -- What the examples of two tickets say of both.
-use Rattle.std.proofs.Common.{◌≡◌, ◌↔◌, ℕ, List, [], ◌∷◌, ◌++◌, Bool, ◌&&◌, Result, Ok, Err, IfOk, codes, refl, arith}
+use Rattle.std.proofs.Common.{◌≡◌, ◌↔◌, ℕ, List, [], ◌∷◌, Bool, ◌&&◌, Result, Ok, Err, IfOk, refl, arith}
 use Rattle.std.specs.List.{All}
 use Rattle.grant_core.specs.Flat.{Flat}
 use Rattle.compare_core.specs.Widening.{IsGainedBy, WidensBy, request_of}
 use Rattle.compare_core.specs.declared.comparing.Example.{Example}
-use Rattle.gate_text.specs.Entities.{IsChangeTold, change_lines, word_of}
+use Rattle.gate_text.specs.Entities.{IsChangeTold, change_by, word_of}
 use Rattle.compare_core.specs.declared.registry.Registry.{Registry}
 use Rattle.gate_text.specs.declared.comparison.Comparison.{Comparison}
 use Rattle.gate_text.specs.declared.compare.Change.{Change}
 use Rattle.gate_text.specs.declared.compare_auth.Presence.{Presence}
-use Rattle.gate_text.specs.Compared.{IsRelation, IsChange, IsCompared, relation_of, relation_word, is_any, is_wider, example_lines}
+use Rattle.gate_text.specs.Compared.{IsRelation, IsChange, IsCompared, compared_by, relation_of, is_any, is_wider}
 
 -- the first of some examples is gained
 first : (registry : Registry) (old new : Flat) (example : Example) (examples : List Example) → All (λ e. IsGainedBy registry old new (request_of e)) (example ∷ examples) → WidensBy registry old new
@@ -23,7 +23,7 @@ stands registry old new (e ∷ es) [] no_gain no_loss gains loses = (first regis
 stands registry old new (e ∷ es) (d ∷ ds) no_gain no_loss gains loses = (first registry old new e es gains, first registry new old d ds loses)
 
 pub compared_lines : (how : Comparison) (old new : Flat) (change : Change) (text : List ℕ) (fails : Bool) → IsChange how.registry old new change
-    → text ≡ relation_word (relation_of (is_any change.gained.items) (is_any change.lost.items)) ++ (codes "\n" ++ example_lines change.gained.items change.lost.items)
+    → text ≡ compared_by how.format (relation_of (is_any change.gained.items) (is_any change.lost.items)) change.gained.items change.lost.items
     → fails ≡ (how.check && is_wider (relation_of (is_any change.gained.items) (is_any change.lost.items))) → IsCompared how old new text fails
 compared_lines how old new change text fails is printed ends = record {
   relation = relation_of (is_any change.gained.items) (is_any change.lost.items);
@@ -37,7 +37,7 @@ compared_lines how old new change text fails is printed ends = record {
 }
 
 pub change_told : (how : Comparison) (presence : Presence) (name : List ℕ) (old new : Flat) (change : Change) (text : List ℕ) (fails : Bool) → IsChange how.registry old new change
-    → text ≡ change_lines name (word_of presence (relation_of (is_any change.gained.items) (is_any change.lost.items))) change.gained.items change.lost.items
+    → text ≡ change_by how.format name (word_of presence (relation_of (is_any change.gained.items) (is_any change.lost.items))) change.gained.items change.lost.items
     → fails ≡ (how.check && is_wider (relation_of (is_any change.gained.items) (is_any change.lost.items))) → IsChangeTold how presence name old new text fails
 change_told how presence name old new change text fails is printed ends = record {
   relation = relation_of (is_any change.gained.items) (is_any change.lost.items);

@@ -1,4 +1,8 @@
+pub mod Answers
 pub mod Comparisons
 pub mod EachTold
+pub mod Items
+pub mod NoFloats
+pub mod Pieces
 pub mod Quotes
 pub mod Told

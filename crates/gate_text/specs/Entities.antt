@@ -4,17 +4,23 @@
 use Rattle.std.specs.Prelude.{ℕ, ◌≡◌, ◌≢◌, ◌⊎◌, ◌&&◌, ◌||◌, List, [], ◌∷◌, ◌++◌, Bool, true, false, Option, Some, None, codes, string_bytes}
 use Rattle.std.specs.List.{find}
 use Rattle.std.specs.Str.{bytes_eq}
+use Rattle.serde_json.specs.Data.{Data, object, string, number, unsigned, member, no_members}
+use Rattle.cap_text.specs.FaultText as cap
 use Rattle.grant_core.specs.Flat.{Flat}
+use Rattle.grant_core.specs.Text as profiles
 use Rattle.compare_core.specs.Widening.{AnswersBy}
 use Rattle.compare_core.specs.declared.comparing.Example.{Example}
 use Rattle.gate_text.specs.Caret.{shown}
-use Rattle.gate_text.specs.Compared.{ComesTo, IsFaultOf, IsRelation, indented_lines, is_wider, refused_side, relation_word}
+use Rattle.gate_text.specs.Compared.{ComesTo, IsFaultOf, IsRelation, examples_document, fault_number, indented_lines, is_wider, relation_word}
+use Rattle.gate_text.specs.Documents.{entities_by, piece}
 use Rattle.gate_text.specs.declared.comparison.Comparison.{Comparison}
+use Rattle.gate_text.specs.declared.format.Format.{Format}
+use Rattle.gate_text.specs.declared.format.Format.TheVariants.{Text, Json}
 use Rattle.gate_text.specs.declared.entity.Entity.{Entity}
 use Rattle.gate_text.specs.declared.compare.Relation.{Relation}
 use Rattle.gate_text.specs.declared.compare.Relation.TheVariants.{Same, Narrower, Wider, Different}
 use Rattle.gate_text.specs.declared.compare.TextFault.{TextFault}
-use Rattle.gate_text.specs.declared.compare.TextFault.TheVariants.{OutOfMemory}
+use Rattle.gate_text.specs.declared.compare.TextFault.TheVariants.{Spelling, Expansion, OutOfMemory}
 use Rattle.gate_text.specs.declared.compare_auth.Presence.{Presence}
 use Rattle.gate_text.specs.declared.compare_auth.Presence.TheVariants.{Both, New, Gone}
 
@@ -36,9 +42,46 @@ abbrev pub change_lines : List ℕ → Option (List ℕ) → List Example → Li
 change_lines name None gained lost = []
 change_lines name (Some word) gained lost = shown name ++ (codes " " ++ (word ++ (codes "\n" ++ indented_lines gained lost)))
 
--- the line of an entity of which a text has no grants
-abbrev pub refused_line : List ℕ → List ℕ → TextFault → List ℕ
-refused_line name side fault = shown name ++ (codes " " ++ refused_side side fault)
+-- what became of the text of an entity that is not judged
+abbrev pub became : Presence → List ℕ
+became Both = codes "text changed"
+became New = codes "new"
+became Gone = codes "gone"
+
+-- the line of an entity of which a text has no grants here: the number of the fault, and what became of the text
+abbrev pub unjudged_line : List ℕ → Presence → TextFault → List ℕ
+unjudged_line name presence fault =
+    shown name ++ (codes " not judged: " ++ (fault_number fault ++ (codes ", " ++ (became presence ++ codes "\n"))))
+
+-- the same as a piece of a document
+abbrev pub change_document : List ℕ → List ℕ → List Example → List Example → Data
+change_document name word gained lost =
+    object
+    (member (codes "change") (string word)
+    (member (codes "entity") (string name) (member (codes "gained") (examples_document gained) (member (codes "lost") (examples_document lost) no_members))))
+
+abbrev pub change_piece : List ℕ → Option (List ℕ) → List Example → List Example → List ℕ
+change_piece name None gained lost = []
+change_piece name (Some word) gained lost = piece (change_document name word gained lost)
+
+abbrev pub change_by : Format → List ℕ → Option (List ℕ) → List Example → List Example → List ℕ
+change_by Text name word gained lost = change_lines name word gained lost
+change_by Json name word gained lost = change_piece name word gained lost
+
+-- the whole fault, and its byte where one is at fault
+abbrev pub unjudged_document : List ℕ → Presence → TextFault → Data
+unjudged_document name presence (Spelling fault) =
+    object
+    (member (codes "byte") (number (unsigned fault.at))
+    (member (codes "change") (string (became presence)) (member (codes "entity") (string name) (member (codes "fault") (string (cap.fault_text fault)) no_members))))
+unjudged_document name presence (Expansion fault) =
+    object (member (codes "change") (string (became presence)) (member (codes "entity") (string name) (member (codes "fault") (string (profiles.fault_text fault)) no_members)))
+unjudged_document name presence OutOfMemory =
+    object (member (codes "change") (string (became presence)) (member (codes "entity") (string name) (member (codes "fault") (string (codes "OutOfMemory")) no_members)))
+
+abbrev pub unjudged_by : Format → List ℕ → Presence → TextFault → List ℕ
+unjudged_by Text name presence fault = unjudged_line name presence fault
+unjudged_by Json name presence fault = piece (unjudged_document name presence fault)
 
 -- How the rights of an entity change. It fails where a check was asked for and the new grants allow what the old ones deny.
 pub record IsChangeTold (how : Comparison) (presence : Presence) (name : List ℕ) (old new : Flat) (text : List ℕ) (fails : Bool) : Type 0 where
@@ -48,7 +91,7 @@ pub record IsChangeTold (how : Comparison) (presence : Presence) (name : List �
   pub stands : IsRelation how.registry old new relation
   pub gains : AnswersBy how.registry old new gained
   pub loses : AnswersBy how.registry new old lost
-  pub printed : text ≡ change_lines name (word_of presence relation) gained lost
+  pub printed : text ≡ change_by how.format name (word_of presence relation) gained lost
   pub ends : fails ≡ (how.check && is_wider relation)
 
 -- both texts come to grants
@@ -59,26 +102,31 @@ pub record AreRightsTold (how : Comparison) (presence : Presence) (name old new 
   pub new_comes : ComesTo new new_grants
   pub told : IsChangeTold how presence name old_grants new_grants text fails
 
--- a text has no grants
-pub record IsFaultTold (name caps side text : List ℕ) (fails : Bool) : Type 0 where
+-- a text has no grants, which fails
+pub record IsUnjudgedTold (format : Format) (presence : Presence) (name caps text : List ℕ) (fails : Bool) : Type 0 where
   pub fault : TextFault
   pub is : IsFaultOf caps fault
   pub real : fault ≢ OutOfMemory
-  pub printed : text ≡ refused_line name side fault
+  pub printed : text ≡ unjudged_by format name presence fault
   pub ends : fails ≡ true
 
--- what is told of an entity with an old and a new text, of which the old one is refused first
+-- what is told of an entity with an old and a new text, of which the old one's fault comes first
 abbrev pub IsPairTold : Comparison → Presence → List ℕ → List ℕ → List ℕ → List ℕ → Bool → Type 0
 IsPairTold how presence name old new text fails =
     AreRightsTold how presence name old new text fails
-    ⊎ (IsFaultTold name old (codes "old") text fails
-    ⊎ (((grants : Flat) × ComesTo old grants) × IsFaultTold name new (codes "new") text fails))
+    ⊎ (IsUnjudgedTold how.format presence name old text fails
+    ⊎ (((grants : Flat) × ComesTo old grants) × IsUnjudgedTold how.format presence name new text fails))
+
+-- Of an entity whose texts are the same, byte for byte, nothing is told: whoever reads them, they give the same rights.
+abbrev pub IsBothTold : Bool → Comparison → List ℕ → List ℕ → List ℕ → List ℕ → Bool → Type 0
+IsBothTold true how name old new text fails = (text ≡ []) × (fails ≡ false)
+IsBothTold false how name old new text fails = IsPairTold how Both name old new text fails
 
 -- an entity of the old list, by what the new list has under its name; one that is gone is compared with the empty text
 abbrev pub IsOldToldBy : Comparison → Option Entity → Entity → List ℕ → Bool → Type 0
 IsOldToldBy how None entity text fails = IsPairTold how Gone (string_bytes entity.name) (string_bytes entity.osd) [] text fails
 IsOldToldBy how (Some other) entity text fails =
-    IsPairTold how Both (string_bytes entity.name) (string_bytes entity.osd) (string_bytes other.osd) text fails
+    IsBothTold (bytes_eq (string_bytes entity.osd) (string_bytes other.osd)) how (string_bytes entity.name) (string_bytes entity.osd) (string_bytes other.osd) text fails
 
 abbrev pub IsOldTold : Comparison → List Entity → Entity → List ℕ → Bool → Type 0
 IsOldTold how new entity text fails = IsOldToldBy how (entity_in new (string_bytes entity.name)) entity text fails
@@ -106,5 +154,5 @@ pub record IsEntitiesAnswer (how : Comparison) (old new : List Entity) (text : L
   pub new_fails : Bool
   pub old_told : AreAllTold (IsOldTold how new) old old_text old_fails
   pub new_told : AreAllTold (IsNewTold how old) new new_text new_fails
-  pub printed : text ≡ old_text ++ new_text
+  pub printed : text ≡ entities_by how.format (old_text ++ new_text)
   pub ends : fails ≡ (old_fails || new_fails)

@@ -8,4 +8,6 @@ pub mod Calls
 pub mod Request
 pub mod Compared
 pub mod Who
+pub mod Table
 pub mod Entities
+pub mod Documents

@@ -1,6 +1,7 @@
 -- Statement: contracts of public calls use it.
 -- Which entities may, and what is printed of each (this project's profile). Every line ends with byte 10.
 use Rattle.std.specs.Prelude.{ℕ, ◌≡◌, ◌⊎◌, Bool, true, false, List, [], ◌∷◌, ◌++◌, Option, Some, None, Result, Ok, Err, codes, flat_map, string_bytes, if◌then◌else◌}
+use Rattle.serde_json.specs.Data.{Data, object, string, member, no_members}
 use Rattle.cap_text.specs.Grammar.{Spells}
 use Rattle.cap_text.specs.declared.grant.Grant.{Grant}
 use Rattle.object_core.specs.Faults as vectors
@@ -10,8 +11,11 @@ use Rattle.verdict_core.specs.declared.request.Condition.{Condition}
 use Rattle.gate_text.specs.Answer.{IsAnswer, answer_of}
 use Rattle.gate_text.specs.Asked.{Asked, calls_fault}
 use Rattle.gate_text.specs.Caret.{shown}
+use Rattle.gate_text.specs.Documents.{entities_by, entity_document, json_line, piece}
 use Rattle.gate_text.specs.Text.{fault_text, refused_text}
 use Rattle.gate_text.specs.declared.entity.Entity.{Entity}
+use Rattle.gate_text.specs.declared.format.Format.{Format}
+use Rattle.gate_text.specs.declared.format.Format.TheVariants.{Text, Json}
 use Rattle.gate_text.specs.declared.verdict.Verdict.{Verdict}
 use Rattle.gate_text.specs.declared.verdict.Verdict.TheVariants.{Allowed, Denied}
 use Rattle.gate_text.specs.declared.verdict.VerdictFault.{VerdictFault}
@@ -22,12 +26,6 @@ May caps asked = (grants : List Grant) × Spells caps grants × (answer_of grant
 
 abbrev pub name_line : List ℕ → List ℕ
 name_line name = shown name ++ codes "\n"
-
--- an entity that may has a line, any other has none
-abbrev pub IsListed : Asked → Entity → List ℕ → Type 0
-IsListed asked entity text =
-    (May (string_bytes entity.osd) asked × (text ≡ name_line (string_bytes entity.name)))
-    ⊎ ((¬ May (string_bytes entity.osd) asked) × (text ≡ []))
 
 -- a report's line, indented
 abbrev pub indented_line : List ℕ × Condition → List ℕ
@@ -43,37 +41,66 @@ answer_lines (Err fault) = refused_text (fault_text fault)
 abbrev pub answered_lines : List ℕ → Result Verdict VerdictFault → List ℕ
 answered_lines name answer = shown name ++ (codes " " ++ answer_lines answer)
 
--- the name of one that may
-abbrev pub listed_lines : List ℕ → Result Verdict VerdictFault → List ℕ
-listed_lines name (Ok Allowed) = name_line name
-listed_lines name (Ok (Denied report)) = []
-listed_lines name (Err fault) = []
+-- the same as a text or as a piece of a document
+abbrev pub answered_by : Format → List ℕ → Result Verdict VerdictFault → List ℕ
+answered_by Text name answer = answered_lines name answer
+answered_by Json name answer = piece (entity_document name answer)
 
-abbrev pub told : Bool → List ℕ → Result Verdict VerdictFault → List ℕ
-told all name answer = if all then answered_lines name answer else listed_lines name answer
+-- the name of one that may
+abbrev pub listed_by : Format → List ℕ → List ℕ
+listed_by Text name = name_line name
+listed_by Json name = piece (entity_document name (Ok Allowed))
+
+-- one that may is listed, and any other is not
+abbrev pub listed : Format → List ℕ → Result Verdict VerdictFault → List ℕ
+listed format name (Ok Allowed) = listed_by format name
+listed format name (Ok (Denied report)) = []
+listed format name (Err fault) = []
+
+abbrev pub told : Format → Bool → List ℕ → Result Verdict VerdictFault → List ℕ
+told format all name answer = if all then answered_by format name answer else listed format name answer
+
+-- an entity that may is listed, any other is not
+abbrev pub IsListed : Format → Asked → Entity → List ℕ → Type 0
+IsListed format asked entity text =
+    (May (string_bytes entity.osd) asked × (text ≡ listed_by format (string_bytes entity.name)))
+    ⊎ ((¬ May (string_bytes entity.osd) asked) × (text ≡ []))
 
 -- an entity's name and its answer are told
-abbrev pub IsAnsweredFor : Asked → Entity → List ℕ → Type 0
-IsAnsweredFor asked entity text =
+abbrev pub IsAnsweredFor : Format → Asked → Entity → List ℕ → Type 0
+IsAnsweredFor format asked entity text =
     (answer : Result Verdict VerdictFault) × IsAnswer (string_bytes entity.osd) asked answer
-    × (text ≡ answered_lines (string_bytes entity.name) answer)
+    × (text ≡ answered_by format (string_bytes entity.name) answer)
 
 -- what is told of an entity
-abbrev pub IsTold : Bool → Asked → Entity → List ℕ → Type 0
-IsTold true asked entity text = IsAnsweredFor asked entity text
-IsTold false asked entity text = IsListed asked entity text
+abbrev pub IsTold : Format → Bool → Asked → Entity → List ℕ → Type 0
+IsTold format true asked entity text = IsAnsweredFor format asked entity text
+IsTold format false asked entity text = IsListed format asked entity text
 
 -- what is told of each entity, in order
-abbrev pub AreTold : Bool → Asked → List Entity → List ℕ → Type 0
-AreTold all asked [] text = text ≡ []
-AreTold all asked (entity ∷ entities) text =
-    (front rest : List ℕ) × IsTold all asked entity front × AreTold all asked entities rest × (text ≡ front ++ rest)
+abbrev pub AreInOrder : (Entity → List ℕ → Type 0) → List Entity → List ℕ → Type 0
+AreInOrder IsOne [] text = text ≡ []
+AreInOrder IsOne (entity ∷ entities) text =
+    (front rest : List ℕ) × IsOne entity front × AreInOrder IsOne entities rest × (text ≡ front ++ rest)
+
+-- what is printed of each entity
+abbrev pub AreTold : Format → Bool → Asked → List Entity → List ℕ → Type 0
+AreTold format all asked entities text =
+    (pieces : List ℕ) × AreInOrder (IsTold format all asked) entities pieces × (text ≡ entities_by format pieces)
+
+-- why calls are refused
+abbrev pub calls_document : NeedsFault → Data
+calls_document fault = object (member (codes "fault") (string (vectors.text_of fault)) no_members)
+
+abbrev pub calls_by : Format → NeedsFault → List ℕ
+calls_by Text fault = refused_text (vectors.text_of fault)
+calls_by Json fault = json_line (calls_document fault)
 
 -- calls that are refused are asked of nobody
-abbrev pub IsWhoOf : Option NeedsFault → List Entity → Asked → Bool → List ℕ → Bool → Type 0
-IsWhoOf (Some fault) entities asked all text fails = (text ≡ refused_text (vectors.text_of fault)) × (fails ≡ true)
-IsWhoOf None entities asked all text fails = AreTold all asked entities text × (fails ≡ false)
+abbrev pub IsWhoOf : Format → Option NeedsFault → List Entity → Asked → Bool → List ℕ → Bool → Type 0
+IsWhoOf format (Some fault) entities asked all text fails = (text ≡ calls_by format fault) × (fails ≡ true)
+IsWhoOf format None entities asked all text fails = AreTold format all asked entities text × (fails ≡ false)
 
 -- what is printed of some entities and a request, and whether the command fails
-abbrev pub IsWho : List Entity → Asked → Bool → List ℕ → Bool → Type 0
-IsWho entities asked all text fails = IsWhoOf (calls_fault asked) entities asked all text fails
+abbrev pub IsWho : Format → List Entity → Asked → Bool → List ℕ → Bool → Type 0
+IsWho format entities asked all text fails = IsWhoOf format (calls_fault asked) entities asked all text fails

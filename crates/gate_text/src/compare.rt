@@ -3,11 +3,13 @@
 ghost use Rattle.std.specs.Prelude.{◌≡◌, ◌≤◌, ◌++◌, ◌&&◌, true, codes, length, string_bytes, IfOk, IfErr, OnOk};
 ghost use Rattle.std.specs.List.{flat_map};
 ghost use Rattle.gate_text.specs.Compared as spec;
-ghost use Rattle.gate_text.specs.Compared.{ComesTo, IsChange, IsCompareAnswer, IsFaultOf, refused_side};
+ghost use Rattle.gate_text.specs.Compared.{ComesTo, IsChange, IsCompareAnswer, IsFaultOf};
 ghost use Rattle.gate_text.specs.Request.{example_line};
 
+use crate::compare_json::{compared_json, side_json};
 use crate::comparison::Comparison;
 use crate::expanded;
+use crate::format::Format;
 use crate::printed::Printed;
 use crate::request::push_example;
 use cap_text::{CapFault, CapList, FaultKind, parse};
@@ -143,6 +145,28 @@ fn push_examples(text: &mut String, sign: &str, examples: &[Example]) -> Result<
     Ok(())
 }
 
+/// What stands before the first blank of a text.
+pub(crate) fn first_word(text: &str) -> &str
+    ensures { result.now ≡ spec.first_word text.now }
+{
+    match text.split_once(' ') {
+        Some((word, _)) => word,
+        None => text,
+    }
+}
+
+/// Adds a fault's number, with which its printed form begins.
+pub(crate) fn push_number(
+    text: &mut String,
+    alloc: Global,
+    fault: TextFault,
+) -> Result<(), OutOfMemory>
+    ensures { OnOk result (string_bytes text.new ≡ string_bytes text.old ++ spec.fault_number fault) }
+{
+    let printed = format!(in alloc; "{fault}")?;
+    text.push_str(first_word(printed.as_str()))
+}
+
 /// The ticket of a list of grants, by the built-in profiles.
 fn ticket_of_list(alloc: Global, list: &CapList) -> Result<Ticket, TextFault>
     ensures ticket { IfOk result (λ ticket. spec.Expands list.now ticket.grants) }
@@ -187,12 +211,32 @@ pub(crate) fn changes(
     })
 }
 
-/// The line of a side that is refused.
-fn refused(alloc: Global, side: &str, fault: TextFault) -> Result<Printed, OutOfMemory>
-    ensures { IfOk result (λ printed. (string_bytes printed.text ≡ refused_side side.now fault) × (printed.fails ≡ true)) }
+/// What is printed of a side that is refused.
+fn refused_by(
+    alloc: Global,
+    side: &str,
+    fault: TextFault,
+    format: Format,
+) -> Result<String, OutOfMemory>
+    ensures { IfOk result (λ text. string_bytes text ≡ spec.side_by format side.now fault) }
+{
+    match format {
+        Format::Text => format!(in alloc; "refused {side} {fault}\n"),
+        Format::Json => side_json(alloc, side, fault),
+    }
+}
+
+/// The same, which fails.
+fn refused(
+    alloc: Global,
+    side: &str,
+    fault: TextFault,
+    format: Format,
+) -> Result<Printed, OutOfMemory>
+    ensures { IfOk result (λ printed. (string_bytes printed.text ≡ spec.side_by format side.now fault) × (printed.fails ≡ true)) }
 {
     Ok(Printed {
-        text: format!(in alloc; "refused {side} {fault}\n")?,
+        text: refused_by(alloc, side, fault, format)?,
         fails: true,
     })
 }
@@ -201,6 +245,31 @@ pub(crate) fn fails_check(check: bool, relation: Relation) -> bool
     ensures { result ≡ (check && spec.is_wider relation) }
 {
     check && relation.is_wider()
+}
+
+/// The relation on a line, and the examples.
+fn compared_text(alloc: Global, relation: Relation, change: &Change) -> Result<String, OutOfMemory>
+    ensures { IfOk result (λ text. string_bytes text ≡ spec.compared_text relation change.now.gained.items change.now.lost.items) }
+{
+    let mut text = String::from_str(alloc, relation.word())?;
+    text.push_str("\n")?;
+    change.push_lines(&mut text)?;
+    Ok(text)
+}
+
+/// The same as a text or as a document.
+fn compared_by(
+    alloc: Global,
+    relation: Relation,
+    change: &Change,
+    format: Format,
+) -> Result<String, OutOfMemory>
+    ensures { IfOk result (λ text. string_bytes text ≡ spec.compared_by format relation change.now.gained.items change.now.lost.items) }
+{
+    match format {
+        Format::Text => compared_text(alloc, relation, change),
+        Format::Json => compared_json(alloc, relation, change),
+    }
 }
 
 /// The relation and the examples. It fails where a check was asked for and the new ticket is wider.
@@ -214,9 +283,7 @@ fn compared(
 {
     let change = changes(alloc, how.registry, old, new)?;
     let relation = change.relation();
-    let mut text = String::from_str(alloc, relation.word())?;
-    text.push_str("\n")?;
-    change.push_lines(&mut text)?;
+    let text = compared_by(alloc, relation, &change, how.format)?;
     let fails = fails_check(how.check, relation);
     Ok(Printed { text, fails })
 }
@@ -227,6 +294,9 @@ fn compared(
 /// `- PATH REQUEST`, where REQUEST is what `osdgate verdict` takes, quoted for a shell. A text that has no grants
 /// is refused, the old one first, which fails. With a check it fails too where the new text allows something that
 /// the old one denies.
+///
+/// As a document it has the members `relation`, and `gained` and `lost`, of whose items each has `path` and `example`; or
+/// `side` and `fault`, and `byte` where one is at fault.
 pub fn compare_text(
     alloc: Global,
     old: &str,
@@ -238,11 +308,11 @@ pub fn compare_text(
     let old_ticket = match ticket_of(alloc, old) {
         Ok(ticket) => ticket,
         Err(TextFault::OutOfMemory) => return Err(AllocError),
-        Err(fault) => return refused(alloc, "old", fault),
+        Err(fault) => return refused(alloc, "old", fault, how.format),
     };
     match ticket_of(alloc, new) {
         Ok(ticket) => compared(alloc, &old_ticket, &ticket, how),
         Err(TextFault::OutOfMemory) => Err(AllocError),
-        Err(fault) => refused(alloc, "new", fault),
+        Err(fault) => refused(alloc, "new", fault, how.format),
     }
 }

@@ -1,13 +1,17 @@
 //! What changes between two lists of entities.
 
-ghost use Rattle.std.specs.Prelude.{◌≡◌, ◌++◌, ◌||◌, true, codes, IfOk, OnOk, option_copied, string_bytes};
+ghost use Rattle.std.specs.Prelude.{◌≡◌, ◌++◌, ◌||◌, [], true, false, IfOk, OnOk, option_copied, string_bytes};
+ghost use Rattle.std.specs.Str.{bytes_eq};
 ghost use Rattle.gate_text.specs.Entities as spec;
-ghost use Rattle.gate_text.specs.Entities.{AreAllTold, IsChangeTold, IsEntitiesAnswer, IsNewTold, IsOldTold, IsPairTold, refused_line};
+ghost use Rattle.gate_text.specs.Entities.{AreAllTold, IsBothTold, IsChangeTold, IsEntitiesAnswer, IsNewTold, IsOldTold, IsPairTold};
 
 use crate::caret::push_shown_text;
-use crate::compare::{Change, Relation, TextFault, changes, fails_check, ticket_of};
+use crate::compare::{Change, Relation, TextFault, changes, fails_check, push_number, ticket_of};
+use crate::compare_json::{change_piece, unjudged_piece};
 use crate::comparison::Comparison;
+use crate::document::entities_by;
 use crate::entity::{Entity, find};
+use crate::format::Format;
 use crate::printed::Printed;
 use common_types::OutOfMemory;
 use std::alloc::{AllocError, Global};
@@ -63,19 +67,96 @@ fn change_lines(
     Ok(text)
 }
 
-/// The line of an entity that is refused.
-fn refused_pair(
+/// The same as a piece of a document.
+fn change_json(
+    alloc: Global,
+    pair: &Pair<'_>,
+    relation: Relation,
+    change: &Change,
+) -> Result<String, OutOfMemory>
+    ensures { IfOk result (λ text. string_bytes text ≡ spec.change_piece pair.now.name.now (spec.word_of pair.now.presence relation) change.now.gained.items change.now.lost.items) }
+{
+    match word_of(pair.presence, relation) {
+        Some(word) => change_piece(alloc, pair.name, word, change),
+        None => Ok(String::new(alloc)),
+    }
+}
+
+/// What is told of an entity's change, as a text or as a piece of a document.
+fn change_by(
+    alloc: Global,
+    pair: &Pair<'_>,
+    relation: Relation,
+    change: &Change,
+    format: Format,
+) -> Result<String, OutOfMemory>
+    ensures { IfOk result (λ text. string_bytes text ≡ spec.change_by format pair.now.name.now (spec.word_of pair.now.presence relation) change.now.gained.items change.now.lost.items) }
+{
+    match format {
+        Format::Text => change_lines(alloc, pair, relation, change),
+        Format::Json => change_json(alloc, pair, relation, change),
+    }
+}
+
+/// What became of the text of an entity that is not judged.
+pub(crate) fn became(presence: Presence) -> &'static str
+    ensures { result.now ≡ spec.became presence }
+{
+    match presence {
+        Presence::Both => "text changed",
+        Presence::New => "new",
+        Presence::Gone => "gone",
+    }
+}
+
+/// The line of an entity of which a text is refused.
+fn unjudged_line(
     alloc: Global,
     name: &str,
-    side: &str,
+    presence: Presence,
     fault: TextFault,
-) -> Result<Printed, OutOfMemory>
-    ensures { IfOk result (λ printed. (string_bytes printed.text ≡ refused_line name.now side.now fault) × (printed.fails ≡ true)) }
+) -> Result<String, OutOfMemory>
+    ensures { IfOk result (λ text. string_bytes text ≡ spec.unjudged_line name.now presence fault) }
 {
     let mut text = String::new(alloc);
     push_shown_text(&mut text, name)?;
-    write!(text, " refused {side} {fault}\n")?;
-    Ok(Printed { text, fails: true })
+    text.push_str(" not judged: ")?;
+    push_number(&mut text, alloc, fault)?;
+    text.push_str(", ")?;
+    text.push_str(became(presence))?;
+    text.push_str("\n")?;
+    Ok(text)
+}
+
+/// The same as a text or as a piece of a document.
+fn unjudged_by(
+    alloc: Global,
+    name: &str,
+    presence: Presence,
+    fault: TextFault,
+    format: Format,
+) -> Result<String, OutOfMemory>
+    ensures { IfOk result (λ text. string_bytes text ≡ spec.unjudged_by format name.now presence fault) }
+{
+    match format {
+        Format::Text => unjudged_line(alloc, name, presence, fault),
+        Format::Json => unjudged_piece(alloc, name, presence, fault),
+    }
+}
+
+/// What is told of an entity of which a text is refused, which fails.
+fn unjudged_pair(
+    alloc: Global,
+    pair: &Pair<'_>,
+    fault: TextFault,
+    format: Format,
+) -> Result<Printed, OutOfMemory>
+    ensures { IfOk result (λ printed. (string_bytes printed.text ≡ spec.unjudged_by format pair.now.name.now pair.now.presence fault) × (printed.fails ≡ true)) }
+{
+    Ok(Printed {
+        text: unjudged_by(alloc, pair.name, pair.presence, fault, format)?,
+        fails: true,
+    })
 }
 
 /// What is told of an entity whose texts come to these tickets.
@@ -90,7 +171,7 @@ fn changed_pair(
 {
     let change = changes(alloc, how.registry, old, new)?;
     let relation = change.relation();
-    let text = change_lines(alloc, pair, relation, &change)?;
+    let text = change_by(alloc, pair, relation, &change, how.format)?;
     let fails = fails_check(how.check, relation);
     Ok(Printed { text, fails })
 }
@@ -102,12 +183,36 @@ fn told_pair(alloc: Global, pair: &Pair<'_>, how: Comparison) -> Result<Printed,
     let old = match ticket_of(alloc, pair.old) {
         Ok(ticket) => ticket,
         Err(TextFault::OutOfMemory) => return Err(AllocError),
-        Err(fault) => return refused_pair(alloc, pair.name, "old", fault),
+        Err(fault) => return unjudged_pair(alloc, pair, fault, how.format),
     };
     match ticket_of(alloc, pair.new) {
         Ok(new) => changed_pair(alloc, pair, &old, &new, how),
         Err(TextFault::OutOfMemory) => Err(AllocError),
-        Err(fault) => refused_pair(alloc, pair.name, "new", fault),
+        Err(fault) => unjudged_pair(alloc, pair, fault, how.format),
+    }
+}
+
+/// Nothing, which does not fail.
+fn nothing(alloc: Global) -> Printed
+    ensures text { string_bytes result.text ≡ [] }
+    ensures fails { result.fails ≡ false }
+{
+    Printed {
+        text: String::new(alloc),
+        fails: false,
+    }
+}
+
+/// What is told of an entity that both lists have: nothing where its texts are the same, byte for byte, since whoever
+/// reads them, they give the same rights.
+fn told_both(alloc: Global, pair: &Pair<'_>, how: Comparison) -> Result<Printed, OutOfMemory>
+    requires { pair.now.presence ≡ Presence.Both }
+    ensures { IfOk result (λ printed. IsBothTold (bytes_eq pair.now.old.now pair.now.new.now) how pair.now.name.now pair.now.old.now pair.now.new.now (string_bytes printed.text) printed.fails) }
+{
+    if pair.old == pair.new {
+        Ok(nothing(alloc))
+    } else {
+        told_pair(alloc, pair, how)
     }
 }
 
@@ -134,7 +239,7 @@ fn told_of_old(
                 new: other.osd.as_str(),
                 ..gone
             };
-            told_pair(alloc, &both, how)
+            told_both(alloc, &both, how)
         }
     }
 }
@@ -156,10 +261,7 @@ fn told_of_new(
     };
     match find(old, added.name) {
         None => told_pair(alloc, &added, how),
-        Some(_) => Ok(Printed {
-            text: String::new(alloc),
-            fails: false,
-        }),
+        Some(_) => Ok(nothing(alloc)),
     }
 }
 
@@ -182,10 +284,7 @@ fn old_told(
 ) -> Result<Printed, OutOfMemory>
     ensures { IfOk result (λ printed. AreAllTold (IsOldTold how new.now) old.now (string_bytes printed.text) printed.fails) }
 {
-    let mut printed = Printed {
-        text: String::new(alloc),
-        fails: false,
-    };
+    let mut printed = nothing(alloc);
     for entity in old {
         let told = told_of_old(alloc, entity, new, how)?;
         push_told(&mut printed, &told)?;
@@ -202,10 +301,7 @@ fn new_told(
 ) -> Result<Printed, OutOfMemory>
     ensures { IfOk result (λ printed. AreAllTold (IsNewTold how old.now) new.now (string_bytes printed.text) printed.fails) }
 {
-    let mut printed = Printed {
-        text: String::new(alloc),
-        fails: false,
-    };
+    let mut printed = nothing(alloc);
     for entity in new {
         let told = told_of_new(alloc, entity, old, how)?;
         push_told(&mut printed, &told)?;
@@ -217,11 +313,16 @@ fn new_told(
 /// each of the new list alone, a line `ENTITY WORD`, and below it, indented by two blanks, the lines of
 /// `compare_text` for its texts. WORD is `narrower`, `wider` or `different`, or `new` or `gone` where one list alone
 /// has the entity, which is compared with no grants then. An entity that both have with the same rights has no
-/// line. Where a text has no grants, the entity's line is `ENTITY refused SIDE FAULT`, which fails. With a check it
-/// fails too where an entity's new text allows something that its old one denies.
+/// line, nor has one whose texts are the same, byte for byte, whether they are refused here or not. Where another text
+/// is refused, the entity's line is `ENTITY not judged: NUMBER, text changed` (or `new` or `gone`), by the number of the
+/// first fault, which fails. With a check it fails too where an entity's new text allows something that its old one
+/// denies.
 ///
 /// Where a list has a name twice, an entity of the other list is compared with the first of them. A name's bytes
 /// outside 32 to 126 are shown as `\x` and two hexadecimal digits.
+///
+/// As a document it has the member `entities`, of whose items each has `entity`, `change`, which is WORD, and `gained` and
+/// `lost`, of whose items each has `path` and `example`; or `entity`, `change`, `fault`, and `byte` where one is at fault.
 pub fn compare_entities(
     alloc: Global,
     old: &[Entity],
@@ -230,8 +331,11 @@ pub fn compare_entities(
 ) -> Result<Printed, OutOfMemory>
     ensures { IfOk result (λ printed. IsEntitiesAnswer how old.now new.now (string_bytes printed.text) printed.fails) }
 {
-    let mut printed = old_told(alloc, old, new, how)?;
-    let told = new_told(alloc, old, new, how)?;
-    push_told(&mut printed, &told)?;
-    Ok(printed)
+    let mut told = old_told(alloc, old, new, how)?;
+    let of_new = new_told(alloc, old, new, how)?;
+    push_told(&mut told, &of_new)?;
+    Ok(Printed {
+        text: entities_by(alloc, told.text, how.format)?,
+        fails: told.fails,
+    })
 }

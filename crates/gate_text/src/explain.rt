@@ -1,14 +1,14 @@
 //! What a capability text comes to.
 
 ghost use Rattle.std.specs.Prelude.{◌≡◌, ◌++◌, true, is_some, IfOk, OnOk, string_bytes, flat_map};
-ghost use Rattle.cap_text.specs.FaultText as cap;
 ghost use Rattle.grant_core.specs.BuiltIn.{built_in};
 ghost use Rattle.grant_core.specs.Refusal.{expand_refusal};
-ghost use Rattle.grant_core.specs.Text as profiles;
-ghost use Rattle.gate_text.specs.Explain.{IsExplainText, explained_text, grant_line, list_text};
-ghost use Rattle.gate_text.specs.Text.{refused_text};
+ghost use Rattle.gate_text.specs.Explain as spec;
+ghost use Rattle.gate_text.specs.Explain.{IsExplainText, explained_text, grant_line, list_by};
 
+use crate::document::{expansion_json, explained_json, spelling_json};
 use crate::expanded::ticket_of;
+use crate::format::Format;
 use crate::printed::Printed;
 use cap_text::{AllowGrant, CapFault, CapList, FaultKind, parse, print, push_allow};
 use common_types::OutOfMemory;
@@ -37,7 +37,7 @@ fn push_grants(text: &mut String, grants: &[(Path, AllowGrant)]) -> Result<(), O
 }
 
 /// The canonical form of a list on a line, and a line for each grant that it comes to.
-fn explained_text(
+fn text_of_grants(
     alloc: Global,
     list: &CapList,
     grants: &[(Path, AllowGrant)],
@@ -50,37 +50,65 @@ fn explained_text(
     Ok(text)
 }
 
+/// The same as a text or as a document.
+fn explained_by(
+    alloc: Global,
+    list: &CapList,
+    grants: &[(Path, AllowGrant)],
+    format: Format,
+) -> Result<String, OutOfMemory>
+    ensures { IfOk result (λ text. string_bytes text ≡ spec.explained_by format list.now grants.now) }
+{
+    match format {
+        Format::Text => text_of_grants(alloc, list, grants),
+        Format::Json => explained_json(alloc, list, grants),
+    }
+}
+
+/// Why a list is not expanded.
+fn expansion_by(alloc: Global, fault: ExpandFault, format: Format) -> Result<String, OutOfMemory>
+    ensures { IfOk result (λ text. string_bytes text ≡ spec.expansion_by format fault) }
+{
+    match format {
+        Format::Text => format!(in alloc; "refused {fault}\n"),
+        Format::Json => expansion_json(alloc, fault),
+    }
+}
+
+/// Why a text spells no list.
+fn spelling_by(alloc: Global, fault: CapFault, format: Format) -> Result<String, OutOfMemory>
+    ensures { IfOk result (λ text. string_bytes text ≡ spec.spelling_by format fault) }
+{
+    match format {
+        Format::Text => format!(in alloc; "refused {fault}\n"),
+        Format::Json => spelling_json(alloc, fault),
+    }
+}
+
 /// What is printed of a list: by its expansion with the built-in profiles, or by why that is refused.
-fn explained_list(alloc: Global, list: &CapList) -> Result<Printed, OutOfMemory>
-    ensures text { IfOk result (λ printed. string_bytes printed.text ≡ list_text (expand_refusal built_in list.now) list.now) }
+fn explained_list(alloc: Global, list: &CapList, format: Format) -> Result<Printed, OutOfMemory>
+    ensures text { IfOk result (λ printed. string_bytes printed.text ≡ list_by format (expand_refusal built_in list.now) list.now) }
     ensures fails { IfOk result (λ printed. printed.fails ≡ is_some (expand_refusal built_in list.now)) }
 {
     match ticket_of(alloc, list, None) {
         Ok(ticket) => Ok(Printed {
-            text: explained_text(alloc, list, ticket.grants())?,
+            text: explained_by(alloc, list, ticket.grants(), format)?,
             fails: false,
         }),
         Err(ExpandFault::OutOfMemory) => Err(AllocError),
-        Err(fault) => refused_by_expansion(alloc, fault),
+        Err(fault) => Ok(Printed {
+            text: expansion_by(alloc, fault, format)?,
+            fails: true,
+        }),
     }
 }
 
-/// The line of a list that is not expanded.
-fn refused_by_expansion(alloc: Global, fault: ExpandFault) -> Result<Printed, OutOfMemory>
-    ensures { IfOk result (λ printed. (string_bytes printed.text ≡ refused_text (profiles.fault_text fault)) × (printed.fails ≡ true)) }
+/// What is printed of a text that spells no list.
+fn refused_text_of(alloc: Global, fault: CapFault, format: Format) -> Result<Printed, OutOfMemory>
+    ensures { IfOk result (λ printed. (string_bytes printed.text ≡ spec.spelling_by format fault) × (printed.fails ≡ true)) }
 {
     Ok(Printed {
-        text: format!(in alloc; "refused {fault}\n")?,
-        fails: true,
-    })
-}
-
-/// The line of a text that spells no list.
-fn refused_by_parse(alloc: Global, fault: CapFault) -> Result<Printed, OutOfMemory>
-    ensures { IfOk result (λ printed. (string_bytes printed.text ≡ refused_text (cap.fault_text fault)) × (printed.fails ≡ true)) }
-{
-    Ok(Printed {
-        text: format!(in alloc; "refused {fault}\n")?,
+        text: spelling_by(alloc, fault, format)?,
         fails: true,
     })
 }
@@ -88,18 +116,19 @@ fn refused_by_parse(alloc: Global, fault: CapFault) -> Result<Printed, OutOfMemo
 /// What the program prints to explain a capability text: its canonical form on a line, which is empty where it
 /// spells no grants, and a line `PATH GRANT` for each grant that it comes to with the built-in profiles; or
 /// `refused FAULT` where it spells no list or cannot be expanded, and then the command fails. Every line ends
-/// with a line feed.
-pub fn explain_text(alloc: Global, caps: &str) -> Result<Printed, OutOfMemory>
-    ensures { IfOk result (λ printed. IsExplainText caps.now (string_bytes printed.text) printed.fails) }
+/// with a line feed. As a document it has the members `canonical` and `grants`, or `fault`, and `byte` where one is at
+/// fault.
+pub fn explain_text(alloc: Global, caps: &str, format: Format) -> Result<Printed, OutOfMemory>
+    ensures { IfOk result (λ printed. IsExplainText format caps.now (string_bytes printed.text) printed.fails) }
 {
     match parse(alloc, caps) {
-        Ok(list) => explained_list(alloc, &list),
+        Ok(list) => explained_list(alloc, &list, format),
         Err(
             CapFault {
                 kind: FaultKind::OutOfMemory,
                 ..
             },
         ) => Err(AllocError),
-        Err(fault) => refused_by_parse(alloc, fault),
+        Err(fault) => refused_text_of(alloc, fault, format),
     }
 }

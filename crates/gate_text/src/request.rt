@@ -132,6 +132,14 @@ fn push_needs(line: &mut String, needs: &Needs) -> Result<(), OutOfMemory>
     push_calls(line, needs.calls.as_slice())
 }
 
+/// Adds the request of an example in words of a shell.
+pub(crate) fn push_request(line: &mut String, example: &Example) -> Result<(), OutOfMemory>
+    ensures { OnOk result (string_bytes line.new ≡ string_bytes line.old ++ (target_words example.now.target ++ needs_words example.now.needs)) }
+{
+    push_target(line, &example.target)?;
+    push_needs(line, &example.needs)
+}
+
 /// Adds the line of an example: the sign, the grant's path, and the request in words of a shell.
 pub(crate) fn push_example(
     line: &mut String,

@@ -4,10 +4,13 @@ ghost use Rattle.std.specs.Prelude.{◌≡◌, IfOk, Some, string_bytes};
 ghost use Rattle.gate_text.specs.Answer as spec;
 ghost use Rattle.gate_text.specs.Answer.{IsAnswer, IsVerdictText, answer_of, needed};
 ghost use Rattle.gate_text.specs.Asked.{calls_fault};
+ghost use Rattle.gate_text.specs.Documents.{answer_by};
 ghost use Rattle.gate_text.specs.Text as printed;
 
 use crate::asked::{Asked, needs_asked};
+use crate::document::answer_json;
 use crate::expanded::ticket_of;
+use crate::format::Format;
 use cap_text::{CapFault, CapList, FaultKind, parse};
 use common_types::OutOfMemory;
 use grant_core::ExpandFault;
@@ -129,7 +132,7 @@ pub fn answer(alloc: Global, caps: &str, asked: &Asked<'_>) -> Result<Answer, Ou
 }
 
 /// The text of an answer: the verdict's, or a line `refused FAULT`.
-pub fn text_of(alloc: Global, answer: &Answer) -> Result<String, OutOfMemory>
+fn lines_of(alloc: Global, answer: &Answer) -> Result<String, OutOfMemory>
     ensures { IfOk result (λ text. string_bytes text ≡ printed.answer_text answer.now) }
 {
     match answer {
@@ -138,10 +141,22 @@ pub fn text_of(alloc: Global, answer: &Answer) -> Result<String, OutOfMemory>
     }
 }
 
+/// What is printed of an answer: as a text the verdict's, or a line `refused FAULT`. As a document it has the member
+/// `verdict`; `report` at a denial, with `path` and `condition` of each grant; and `fault` at a refusal, and `byte` where one
+/// is at fault.
+pub fn text_of(alloc: Global, answer: &Answer, format: Format) -> Result<String, OutOfMemory>
+    ensures { IfOk result (λ text. string_bytes text ≡ answer_by format answer.now) }
+{
+    match format {
+        Format::Text => lines_of(alloc, answer),
+        Format::Json => answer_json(alloc, answer),
+    }
+}
+
 /// The whole text that the program prints for a capability text and a request: that of their answer.
 pub fn verdict_text(alloc: Global, caps: &str, asked: &Asked<'_>) -> Result<String, OutOfMemory>
     ensures { IfOk result (λ text. IsVerdictText caps.now asked.now (string_bytes text)) }
 {
     let answer = answer(alloc, caps, asked)?;
-    text_of(alloc, &answer)
+    lines_of(alloc, &answer)
 }

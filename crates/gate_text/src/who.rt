@@ -1,13 +1,14 @@
 //! Which entities may do what a request asks for.
 
 ghost use Rattle.std.specs.Prelude.{◌≡◌, ◌++◌, true, false, IfOk, OnOk, flat_map, string_bytes};
-ghost use Rattle.object_core.specs.Faults as vectors;
-ghost use Rattle.gate_text.specs.Text.{refused_text};
-ghost use Rattle.gate_text.specs.Who.{AreTold, IsWho, answer_lines, answered_lines, indented_line, listed_lines, told};
+ghost use Rattle.gate_text.specs.Documents.{entity_document, piece};
+ghost use Rattle.gate_text.specs.Who.{AreInOrder, AreTold, IsTold, IsWho, answer_lines, answered_by, answered_lines, calls_by, indented_line, listed, listed_by, name_line, told};
 
 use crate::asked::{Asked, needs_asked};
 use crate::caret::push_shown_text;
+use crate::document::{calls_json, entities_by, entity_piece};
 use crate::entity::Entity;
+use crate::format::Format;
 use crate::printed::Printed;
 use crate::verdict::{Answer, Verdict, answer};
 use common_types::OutOfMemory;
@@ -59,47 +60,129 @@ fn push_answered(text: &mut String, name: &str, answer: &Answer) -> Result<(), O
     push_answer(text, answer)
 }
 
-/// Adds the name of an entity that may.
-fn push_listed(text: &mut String, name: &str, answer: &Answer) -> Result<(), OutOfMemory>
-    ensures { OnOk result (string_bytes text.new ≡ string_bytes text.old ++ listed_lines name.now answer.now) }
+/// Adds the piece of an entity and its answer.
+fn push_entity(
+    text: &mut String,
+    alloc: Global,
+    name: &str,
+    answer: &Answer,
+) -> Result<(), OutOfMemory>
+    ensures { OnOk result (string_bytes text.new ≡ string_bytes text.old ++ piece (entity_document name.now answer.now)) }
+{
+    let piece = entity_piece(alloc, name, answer)?;
+    text.push_str(piece.as_str())
+}
+
+/// Adds an entity's name and its answer, as lines or as a piece of a document.
+fn push_answered_by(
+    text: &mut String,
+    alloc: Global,
+    name: &str,
+    answer: &Answer,
+    format: Format,
+) -> Result<(), OutOfMemory>
+    ensures { OnOk result (string_bytes text.new ≡ string_bytes text.old ++ answered_by format name.now answer.now) }
+{
+    match format {
+        Format::Text => push_answered(text, name, answer),
+        Format::Json => push_entity(text, alloc, name, answer),
+    }
+}
+
+/// Adds the line of an entity's name.
+fn push_name_line(text: &mut String, name: &str) -> Result<(), OutOfMemory>
+    ensures { OnOk result (string_bytes text.new ≡ string_bytes text.old ++ name_line name.now) }
+{
+    push_shown_text(text, name)?;
+    text.push_str("\n")
+}
+
+/// Adds an entity that may.
+fn push_listed_by(
+    text: &mut String,
+    alloc: Global,
+    name: &str,
+    format: Format,
+) -> Result<(), OutOfMemory>
+    ensures { OnOk result (string_bytes text.new ≡ string_bytes text.old ++ listed_by format name.now) }
+{
+    match format {
+        Format::Text => push_name_line(text, name),
+        Format::Json => push_entity(text, alloc, name, &Ok(Verdict::Allowed)),
+    }
+}
+
+/// Adds an entity, if its answer is that it may.
+fn push_listed(
+    text: &mut String,
+    alloc: Global,
+    name: &str,
+    answer: &Answer,
+    format: Format,
+) -> Result<(), OutOfMemory>
+    ensures { OnOk result (string_bytes text.new ≡ string_bytes text.old ++ listed format name.now answer.now) }
 {
     match answer {
-        Ok(Verdict::Allowed) => {
-            push_shown_text(text, name)?;
-            text.push_str("\n")
-        }
+        Ok(Verdict::Allowed) => push_listed_by(text, alloc, name, format),
         Ok(Verdict::Denied(_)) => Ok(()),
         Err(_) => Ok(()),
     }
 }
 
+/// How much is told of entities, and in which form.
+#[derive(Clone, Copy, Debug)]
+pub(crate) struct Telling {
+    /// Each entity and its answer, and not only those that may.
+    all: bool,
+    format: Format,
+}
+
 /// Adds what is told of an entity that has this answer: with `all` its name and the answer, and else its name
 /// where it may.
-fn push_told(text: &mut String, name: &str, answer: &Answer, all: bool) -> Result<(), OutOfMemory>
-    ensures { OnOk result (string_bytes text.new ≡ string_bytes text.old ++ told all name.now answer.now) }
+fn push_told(
+    text: &mut String,
+    alloc: Global,
+    name: &str,
+    answer: &Answer,
+    how: Telling,
+) -> Result<(), OutOfMemory>
+    ensures { OnOk result (string_bytes text.new ≡ string_bytes text.old ++ told how.format how.all name.now answer.now) }
 {
-    if all {
-        push_answered(text, name, answer)
+    if how.all {
+        push_answered_by(text, alloc, name, answer, how.format)
     } else {
-        push_listed(text, name, answer)
+        push_listed(text, alloc, name, answer, how.format)
     }
 }
 
-/// The text that tells of each entity, in order.
-fn told_text(
+/// What is told of each entity, in order.
+fn told_pieces(
     alloc: Global,
     entities: &[Entity],
     asked: &Asked<'_>,
-    all: bool,
+    how: Telling,
 ) -> Result<String, OutOfMemory>
-    ensures { IfOk result (λ text. AreTold all asked.now entities.now (string_bytes text)) }
+    ensures { IfOk result (λ text. AreInOrder (IsTold how.format how.all asked.now) entities.now (string_bytes text)) }
 {
     let mut text = String::new(alloc);
     for entity in entities {
         let answer = answer(alloc, entity.osd.as_str(), asked)?;
-        push_told(&mut text, entity.name.as_str(), &answer, all)?;
+        push_told(&mut text, alloc, entity.name.as_str(), &answer, how)?;
     }
     Ok(text)
+}
+
+/// What is printed of each entity.
+fn told_text(
+    alloc: Global,
+    entities: &[Entity],
+    asked: &Asked<'_>,
+    how: Telling,
+) -> Result<String, OutOfMemory>
+    ensures { IfOk result (λ text. AreTold how.format how.all asked.now entities.now (string_bytes text)) }
+{
+    let pieces = told_pieces(alloc, entities, asked, how)?;
+    entities_by(alloc, pieces, how.format)
 }
 
 /// What is printed where the calls are not refused.
@@ -107,22 +190,32 @@ fn asked_text(
     alloc: Global,
     entities: &[Entity],
     asked: &Asked<'_>,
-    all: bool,
+    how: Telling,
 ) -> Result<Printed, OutOfMemory>
-    ensures { IfOk result (λ printed. AreTold all asked.now entities.now (string_bytes printed.text) × (printed.fails ≡ false)) }
+    ensures { IfOk result (λ printed. AreTold how.format how.all asked.now entities.now (string_bytes printed.text) × (printed.fails ≡ false)) }
 {
     Ok(Printed {
-        text: told_text(alloc, entities, asked, all)?,
+        text: told_text(alloc, entities, asked, how)?,
         fails: false,
     })
 }
 
-/// The line of calls that are refused.
-fn refused_calls(alloc: Global, fault: NeedsFault) -> Result<Printed, OutOfMemory>
-    ensures { IfOk result (λ printed. (string_bytes printed.text ≡ refused_text (vectors.text_of fault)) × (printed.fails ≡ true)) }
+/// What is printed of calls that are refused.
+fn calls_by(alloc: Global, fault: NeedsFault, format: Format) -> Result<String, OutOfMemory>
+    ensures { IfOk result (λ text. string_bytes text ≡ calls_by format fault) }
+{
+    match format {
+        Format::Text => format!(in alloc; "refused {fault}\n"),
+        Format::Json => calls_json(alloc, fault),
+    }
+}
+
+/// The same, which fails.
+fn refused_calls(alloc: Global, fault: NeedsFault, format: Format) -> Result<Printed, OutOfMemory>
+    ensures { IfOk result (λ printed. (string_bytes printed.text ≡ calls_by format fault) × (printed.fails ≡ true)) }
 {
     Ok(Printed {
-        text: format!(in alloc; "refused {fault}\n")?,
+        text: calls_by(alloc, fault, format)?,
         fails: true,
     })
 }
@@ -131,18 +224,20 @@ fn refused_calls(alloc: Global, fault: NeedsFault) -> Result<Printed, OutOfMemor
 /// order. With `all` each entity has its name and its answer, a denial's report indented by two blanks. Calls that
 /// are refused are asked of nobody: then the fault is printed, which fails.
 ///
-/// A name's bytes outside 32 to 126 are shown as `\x` and two hexadecimal digits.
+/// A name's bytes outside 32 to 126 are shown as `\x` and two hexadecimal digits. As a document it has the member
+/// `entities`, of whose items each has `entity` and `answer`, which is the document of a verdict; or `fault`.
 pub fn who_text(
     alloc: Global,
     entities: &[Entity],
     asked: &Asked<'_>,
     all: bool,
+    format: Format,
 ) -> Result<Printed, OutOfMemory>
-    ensures { IfOk result (λ printed. IsWho entities.now asked.now all (string_bytes printed.text) printed.fails) }
+    ensures { IfOk result (λ printed. IsWho format entities.now asked.now all (string_bytes printed.text) printed.fails) }
 {
     match needs_asked(alloc, asked) {
-        Ok(_) => asked_text(alloc, entities, asked, all),
+        Ok(_) => asked_text(alloc, entities, asked, Telling { all, format }),
         Err(NeedsFault::OutOfMemory) => Err(AllocError),
-        Err(fault) => refused_calls(alloc, fault),
+        Err(fault) => refused_calls(alloc, fault, format),
     }
 }

@@ -20,7 +20,7 @@ type Row = (&'static [&'static str], &'static str, &'static str, u8);
 /// What every command reads on standard input.
 const INPUT: &str = "osds 1\n";
 
-const ROWS: &[Row; 12] = &[
+const ROWS: &[Row; 14] = &[
     (
         &[
             "osdgate", "verdict", "--caps", "allow r", "--pool", "data", "--object", "x", "--write",
@@ -62,8 +62,29 @@ const ROWS: &[Row; 12] = &[
             "osdgate", "who", "--auth", "-", "--pool", "data", "--object", "x", "--write",
         ],
         "",
-        "osdgate: the file is no JSON at line 1, column 1\n",
+        "osdgate: standard input is in no form that is read at line 1, column 1; `ceph auth ls --format json` prints what is read\n",
         1,
+    ),
+    (
+        &[
+            "osdgate",
+            "who",
+            "--auth",
+            "app",
+            "--pools",
+            "pools",
+            "--requests",
+            "requests",
+        ],
+        "entity 1\nclient.app allow\n",
+        "osdgate: pool data has no application\n",
+        0,
+    ),
+    (
+        &["osdgate", "explain", "--caps", "", "--format", "json"],
+        "{\"canonical\":\"\",\"grants\":[]}\n",
+        "",
+        0,
     ),
     (&["osdgate", "run", "script"], "epoch 1\nepoch 2\n", "", 0),
     (&["osdgate", "run"], "epoch 1\n", "", 0),

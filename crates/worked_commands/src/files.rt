@@ -12,10 +12,15 @@ pub(super) struct TestFiles {
 /// An entity that may read and write a pool.
 const APP: &str = r#"[{"entity":"client.app","key":"","caps":{"osd":"allow rw pool=data"}}]"#;
 
+/// A pool without applications.
+const POOLS: &str = r#"[{"pool_name":"data","application_metadata":{}}]"#;
+
 fn file_of(path: &str) -> Option<&'static str> {
     match path {
         "app" => Some(APP),
         "nobody" => Some("[]"),
+        "pools" => Some(POOLS),
+        "requests" => Some("--pool data --object x --write"),
         "script" => Some("osds 2\nosd down 1\n"),
         _ => None,
     }

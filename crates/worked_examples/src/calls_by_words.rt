@@ -2,7 +2,7 @@
 
 use common_types::OutOfMemory;
 use compare_core::Registry;
-use gate_text::{Comparison, compare_text};
+use gate_text::{Comparison, Format, compare_text};
 use std::alloc::Global;
 use std::process::Abort;
 use std::test::Fail;
@@ -19,6 +19,7 @@ fn expect(
     let how = Comparison {
         registry,
         check: false,
+        format: Format::Text,
     };
     for (old, new, text) in rows {
         let printed = compare_text(alloc, old, new, how)?;
@@ -27,7 +28,7 @@ fn expect(
     Ok(())
 }
 
-const OVER_EVERY_REGISTRY: &[Row; 9] = &[
+const OVER_EVERY_REGISTRY: &[Row; 11] = &[
     (
         "allow rw pool=vms",
         "allow rw pool=vms, allow pool vms class rbd",
@@ -72,6 +73,16 @@ const OVER_EVERY_REGISTRY: &[Row; 9] = &[
         "",
         "allow class 'a\"b' \"it's\"",
         "wider\n+ 1 --pool a --namespace a --object a --call ''\\''a\"b'\\'''.'it'\\''s':r\n",
+    ),
+    (
+        "",
+        "allow class 'a.b' 'get:r'",
+        "wider\n+ 1 --pool a --namespace a --object a --call '\"a.b\"'.'get:r':r\n",
+    ),
+    (
+        "",
+        "allow class rbd 'get:rw:listed'",
+        "wider\n+ 1 --pool a --namespace a --object a --call rbd.'get:rw:listed':r\n",
     ),
 ];
 

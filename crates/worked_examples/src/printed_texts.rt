@@ -3,8 +3,8 @@
 use common_types::{OutOfMemory, Tags};
 use compare_core::Registry;
 use gate_text::{
-    Asked, Comparison, Entity, Printed, Times, compare_entities, compare_text, explain_text, find,
-    point_at_fault, verdict_text, who_text,
+    Asked, Comparison, Entity, Format, Printed, Times, answer, compare_entities, compare_text,
+    explain_text, find, point_at_fault, text_of, verdict_text, who_table, who_text,
 };
 use std::alloc::Global;
 use std::test::Fail;
@@ -17,6 +17,7 @@ const CAPS: &str = "allow rw pool=data";
 const CHECKED: Comparison = Comparison {
     registry: Registry::Every,
     check: true,
+    format: Format::Text,
 };
 
 /// A write to the object x of a pool.
@@ -70,7 +71,7 @@ fn is_pointed_at(alloc: Global, caps: &str, below: &str) -> bool {
 #[test]
 fn texts_print(rt: HostRuntime) -> Result<(), Fail> {
     let alloc = rt.alloc();
-    let explained = explain_text(alloc, CAPS)?;
+    let explained = explain_text(alloc, CAPS, Format::Text)?;
     assert!(rt;
         is_printed(
             explained,
@@ -99,14 +100,50 @@ fn one(alloc: Global, name: &str) -> Result<Vec<Entity>, OutOfMemory> {
     Ok(entities)
 }
 
+/// For ever, and at once.
+const ALWAYS: Times = Times {
+    until: None,
+    tick: 0,
+};
+
 /// Who of one entity may write to the pool data.
 fn who(alloc: Global, entities: &[Entity]) -> Result<Printed, OutOfMemory> {
     let tags = Tags::from_vec(Vec::new(alloc));
-    let times = Times {
-        until: None,
-        tick: 0,
-    };
-    who_text(alloc, entities, &write("data", &tags, times), true)
+    let asked = write("data", &tags, ALWAYS);
+    who_text(alloc, entities, &asked, true, Format::Text)
+}
+
+/// What some entities may do of writes to the pools data and logs.
+fn table(alloc: Global, entities: &[Entity], format: Format) -> Result<String, OutOfMemory> {
+    let tags = Tags::from_vec(Vec::new(alloc));
+    let requests = [write("data", &tags, ALWAYS), write("logs", &tags, ALWAYS)];
+    who_table(alloc, entities, requests.as_slice(), format)
+}
+
+/// The document of a verdict on a write to this pool.
+fn document(alloc: Global, pool: &str) -> Result<String, OutOfMemory> {
+    let tags = Tags::from_vec(Vec::new(alloc));
+    let answer = answer(alloc, CAPS, &write(pool, &tags, ALWAYS))?;
+    text_of(alloc, &answer, Format::Json)
+}
+
+/// The table of an entity as a document.
+const TABLE: &str =
+    "{\"entities\":[{\"answers\":[{\"verdict\":\"allow\"},{\"report\":[{\"condition\":\"pool\",\"path\":\"1\"}],\"verdict\":\"deny\"}],\"entity\":\"client.app\"}]}\n";
+
+#[test]
+fn tables_and_documents_print(rt: HostRuntime) -> Result<(), Fail> {
+    let alloc = rt.alloc();
+    let app = one(alloc, "client.app")?;
+    let text = table(alloc, app.as_slice(), Format::Text)?;
+    assert_eq!(rt; text.as_str(), "entity 1 2\nclient.app allow deny\n");
+    let text = table(alloc, app.as_slice(), Format::Json)?;
+    assert_eq!(rt; text.as_str(), TABLE);
+    assert_eq!(rt;
+        document(alloc, "data")?.as_str(),
+        "{\"verdict\":\"allow\"}\n"
+    );
+    Ok(())
 }
 
 /// Whether an entity of this name and text is found.

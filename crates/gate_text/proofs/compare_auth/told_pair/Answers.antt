@@ -4,9 +4,9 @@ use Rattle.gate_text.proofs.compare_auth.told_pair.Goals as goal
 
 pub returns : goal.returns
 returns c =
-    ok_also c.refused_pair-in-Err-ticket_of.result
+    ok_also c.unjudged_pair-in-Err-ticket_of.result
     (λ printed h. inr (inr ((_, c.in-Ok.ensures.ticket), record { fault = c.in-Err-ticket_of.fault; is = c.in-Err-ticket_of.ensures.refused; real = search rules; printed = h.0; ends = h.1 })))
-    c.refused_pair-in-Err-ticket_of.ensures
+    c.unjudged_pair-in-Err-ticket_of.ensures
 
 pub returns-in-Ok-ticket_of : goal.returns-in-Ok-ticket_of
 returns-in-Ok-ticket_of c =

@@ -13,4 +13,4 @@ told caps asked answer (Ok t) is same = (answer, is, same)
 told caps asked answer (Err e) is same = same
 
 pub returns : goal.returns
-returns c = told _ _ _ c.text_of.result c.in_ok-answer.ensures c.text_of.ensures
+returns c = told _ _ _ c.lines_of.result c.in_ok-answer.ensures c.lines_of.ensures

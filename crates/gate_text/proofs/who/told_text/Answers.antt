@@ -1,17 +1,6 @@
-use Rattle.std.proofs.Common.{arith, subst, ap, ◌∙◌, ◌++◌, string_bytes}
-use Rattle.gate_text.specs.Answer.{IsAnswer}
-use Rattle.gate_text.specs.Asked.{Asked}
-use Rattle.gate_text.specs.Who.{told}
-use Rattle.gate_text.proofs.Told.{next_told, told_whole}
+use Rattle.std.proofs.Common.{string_bytes}
+use Rattle.gate_text.proofs.Comparisons.{ok_also}
 use Rattle.gate_text.proofs.who.told_text.Goals as goal
 
-pub loop-entity-preserved : goal.loop-entity-preserved
-loop-entity-preserved c =
-    let asked : Asked = c.args.asked.now in
-    next_told c.args.all asked c.args.entities.now c.loop-entity.entity-index c.entity-item.result _ _ _ (omega arith) c.entity-item.is c.loop-entity.invariant
-    (subst (λ osd. IsAnswer osd asked c.in_ok-answer.answer) c.as_str.ensures.value c.in_ok-answer.ensures)
-    (c.in_ok-push_told.ensures ∙ ap (λ name. string_bytes c.loop-entity.text ++ told c.args.all name c.in_ok-answer.answer) c.as_str-in-loop-entity.ensures.value)
-
 pub returns : goal.returns
-returns c =
-    told_whole c.args.all _ c.args.entities.now c.loop-entity.entity-index _ c.loop-entity-test.false c.loop-entity.invariant
+returns c = ok_also c.entities_by.result (λ text h. (string_bytes c.in_ok-pieces.pieces, c.in_ok-pieces.ensures, h)) c.entities_by.ensures

@@ -1,0 +1,237 @@
+//! Why a file cannot be used, and which file it is.
+
+use common_types::OutOfMemory;
+use std::alloc::AllocFailed;
+use std::{fmt, io};
+
+/// What a file is read for.
+#[derive(Clone, Copy, Debug, PartialEq, Eq)]
+pub(crate) enum Purpose {
+    Entities,
+    /// The entities as they are.
+    OldEntities,
+    /// The entities as they are to be.
+    NewEntities,
+    Pools,
+    Requests,
+}
+
+/// The forms in which entities are read.
+#[derive(Clone, Copy, Debug, PartialEq, Eq)]
+pub(crate) enum Form {
+    /// As `ceph auth ls --format json` and `ceph auth get NAME --format json` print them.
+    Json,
+    /// As `ceph auth export` and `ceph auth get NAME` print them, and as keyrings have them.
+    Keyring,
+    /// As `ceph auth ls` prints them.
+    Listing,
+}
+
+/// What a text in none of these forms looks like.
+#[derive(Clone, Copy, Debug, PartialEq, Eq)]
+pub(crate) enum Likeness {
+    Xml,
+    Yaml,
+    CapabilityText,
+    CephError,
+    Nothing,
+}
+
+/// A place of a text, lines and columns counted from 1.
+#[derive(Clone, Copy, Debug, PartialEq, Eq)]
+pub(crate) struct Place {
+    pub(crate) line: usize,
+    pub(crate) column: usize,
+}
+
+/// Why a text is not what it is read for. None of the text stands in it.
+#[derive(Debug, Drop)]
+pub(crate) enum FileFault {
+    /// It cannot be read.
+    Unread(io::Error),
+    /// It has more than 67,108,864 bytes.
+    TooLong,
+    /// It is no UTF-8.
+    NotUtf8,
+    /// It has nothing but blanks and comments.
+    Empty,
+    /// It is no JSON. Lines and columns count from 1; column 0 is the end of the line before.
+    NotJson(Place),
+    /// It is in no form that is read, and looks like something else.
+    Looks { like: Likeness, at: Place },
+    /// A line breaks the form that the text is in.
+    BadLine { form: Form, at: Place },
+    /// It is neither an entry, nor a list of entries, nor an object with such a list under `auth_dump`.
+    NoEntries,
+    /// This entry, counted from 1, has no text under `entity`.
+    NoEntity(usize),
+    /// This entry has no object under `caps`.
+    NoCaps(usize),
+    /// What this entry has under `osd` in its `caps` is no text.
+    NoText(usize),
+    /// This entry has the name of an earlier one.
+    Doubled(usize),
+    /// It is neither a list of pools nor an object with such a list under `pools`.
+    NoPools,
+    /// This pool, counted from 1, has no text under `pool_name`.
+    NoPoolName(usize),
+    /// What this pool has under `application_metadata` is no object of objects of texts.
+    NoApplications(usize),
+    /// This pool has the name of an earlier one.
+    DoubledPool(usize),
+    /// This line, counted from 1, has a quote that is not closed, or a backslash at its end.
+    OpenQuote(usize),
+    /// This line is no request.
+    NoRequest { line: usize, why: String },
+    /// A growth was refused, which is no fault of the text.
+    OutOfMemory,
+}
+
+impl Place {
+    /// The first byte of a line that is no blank, by the line's number counted from 0.
+    pub(crate) fn of_line(index: usize, line: &str) -> Place {
+        let blanks = line.len().saturating_sub(line.trim_start().len());
+        Place {
+            line: index.saturating_add(1),
+            column: blanks.saturating_add(1),
+        }
+    }
+}
+
+impl Purpose {
+    /// What a file is called, in front of its path.
+    pub(crate) fn name(self) -> &'static str {
+        match self {
+            Purpose::Entities => "the file",
+            Purpose::OldEntities => "the old file",
+            Purpose::NewEntities => "the new file",
+            Purpose::Pools => "the pools file",
+            Purpose::Requests => "the requests file",
+        }
+    }
+
+    /// Which command prints what is read, if one does.
+    pub(crate) fn command(self) -> Option<&'static str> {
+        match self {
+            Purpose::Requests => None,
+            Purpose::Pools => Some("ceph osd dump --format json"),
+            _ => Some("ceph auth ls --format json"),
+        }
+    }
+}
+
+impl FileFault {
+    /// Whether the text is in another form than those that are read.
+    pub(crate) fn is_of_form(&self) -> bool {
+        matches!(
+            self,
+            FileFault::NotUtf8
+                | FileFault::Empty
+                | FileFault::NotJson(_)
+                | FileFault::Looks { .. }
+                | FileFault::NoEntries
+                | FileFault::NoPools
+        )
+    }
+}
+
+impl From<OutOfMemory> for FileFault {
+    fn from(_error: OutOfMemory) -> FileFault {
+        FileFault::OutOfMemory
+    }
+}
+
+impl<T: Drop> From<AllocFailed<T>> for FileFault {
+    fn from(_error: AllocFailed<T>) -> FileFault {
+        FileFault::OutOfMemory
+    }
+}
+
+impl From<io::Error> for FileFault {
+    fn from(error: io::Error) -> FileFault {
+        if error.kind() == io::ErrorKind::OutOfMemory {
+            return FileFault::OutOfMemory;
+        }
+        FileFault::Unread(error)
+    }
+}
+
+impl From<serde_json::Error> for FileFault {
+    fn from(error: serde_json::Error) -> FileFault {
+        if error.is_memory() {
+            return FileFault::OutOfMemory;
+        }
+        FileFault::NotJson(Place {
+            line: error.line(),
+            column: error.column(),
+        })
+    }
+}
+
+impl fmt::Display for Place {
+    fn fmt<W: fmt::Write>(&self, f: &mut fmt::Formatter<W>) -> fmt::Result {
+        let line = self.line;
+        let column = self.column;
+        write!(f, "at line {line}, column {column}")
+    }
+}
+
+impl fmt::Display for Form {
+    fn fmt<W: fmt::Write>(&self, f: &mut fmt::Formatter<W>) -> fmt::Result {
+        match self {
+            Form::Json => write!(f, "JSON"),
+            Form::Keyring => write!(f, "a keyring"),
+            Form::Listing => write!(f, "what `ceph auth ls` prints"),
+        }
+    }
+}
+
+impl fmt::Display for Likeness {
+    fn fmt<W: fmt::Write>(&self, f: &mut fmt::Formatter<W>) -> fmt::Result {
+        match self {
+            Likeness::Xml => write!(f, "looks like XML"),
+            Likeness::Yaml => write!(f, "looks like YAML"),
+            Likeness::CapabilityText => write!(f, "looks like a capability text"),
+            Likeness::CephError => write!(f, "looks like an error of ceph's"),
+            Likeness::Nothing => write!(f, "is in no form that is read"),
+        }
+    }
+}
+
+impl fmt::Display for FileFault {
+    fn fmt<W: fmt::Write>(&self, f: &mut fmt::Formatter<W>) -> fmt::Result {
+        match self {
+            FileFault::Unread(error) => write!(f, "cannot be read: {error}"),
+            FileFault::TooLong => write!(f, "has more than 67108864 bytes"),
+            FileFault::NotUtf8 => write!(f, "cannot be read: stream did not contain valid UTF-8"),
+            FileFault::Empty => write!(f, "is empty"),
+            FileFault::NotJson(at) => write!(f, "is no JSON {at}"),
+            FileFault::Looks { like, at } => write!(f, "{like} {at}"),
+            FileFault::BadLine { form, at } => write!(f, "is not {form} {at}"),
+            FileFault::NoEntries => write!(f, "has no list of entries"),
+            FileFault::NoEntity(number) => write!(f, "has no text `entity` in entry {number}"),
+            FileFault::NoCaps(number) => write!(f, "has no object `caps` in entry {number}"),
+            FileFault::NoText(number) => write!(
+                f,
+                "has an `osd` that is no text in entry {number}"
+            ),
+            FileFault::Doubled(number) => {
+                write!(f, "has the name of an earlier entry in entry {number}")
+            }
+            FileFault::NoPools => write!(f, "has no list of pools"),
+            FileFault::NoPoolName(number) => write!(f, "has no text `pool_name` in pool {number}"),
+            FileFault::NoApplications(number) => {
+                write!(
+                    f,
+                    "has no object of objects of texts `application_metadata` in pool {number}"
+                )
+            }
+            FileFault::DoubledPool(number) => {
+                write!(f, "has the name of an earlier pool in pool {number}")
+            }
+            FileFault::OpenQuote(line) => write!(f, "has an open quote in line {line}"),
+            FileFault::NoRequest { line, why } => write!(f, "has no request in line {line}: {why}"),
+            FileFault::OutOfMemory => write!(f, "OutOfMemory"),
+        }
+    }
+}

@@ -1,0 +1,95 @@
+//! Why words have no answer.
+
+use crate::file_fault::{FileFault, Purpose};
+use crate::profile_notes::push_name;
+use crate::request_words::{BadWords, NoRequest};
+use clap::Error;
+use common_types::OutOfMemory;
+use std::alloc::{AllocError, AllocFailed, Global};
+use std::fmt;
+
+/// A file that is not what it is read for.
+#[derive(Drop)]
+pub(crate) struct BadFile {
+    purpose: Purpose,
+    /// Its path, as it is shown.
+    path: String,
+    fault: FileFault,
+}
+
+/// Why words have no answer.
+#[derive(Drop)]
+pub(crate) enum NoAnswer {
+    /// They are no command line, or ask for help: clap says it.
+    Clap(Error),
+    /// Clap takes them, and yet they are no command line.
+    Words(BadWords),
+    /// The same, where this tells why.
+    Told(String),
+    /// A file is not what it is read for.
+    File(BadFile),
+    /// A growth was refused.
+    OutOfMemory,
+}
+
+impl BadFile {
+    pub(crate) fn of(
+        alloc: Global,
+        purpose: Purpose,
+        path: &str,
+        fault: FileFault,
+    ) -> Result<BadFile, OutOfMemory> {
+        let mut shown = String::new(alloc);
+        push_name(&mut shown, path)?;
+        Ok(BadFile {
+            purpose,
+            path: shown,
+            fault,
+        })
+    }
+}
+
+impl fmt::Display for BadFile {
+    fn fmt<W: fmt::Write>(&self, f: &mut fmt::Formatter<W>) -> fmt::Result {
+        let path = self.path.as_str();
+        let fault = &self.fault;
+        if path == "-" {
+            write!(f, "standard input {fault}")?;
+        } else {
+            let name = self.purpose.name();
+            write!(f, "{name} {path} {fault}")?;
+        }
+        match self.purpose.command() {
+            Some(command) if fault.is_of_form() => write!(f, "; `{command}` prints what is read"),
+            _ => Ok(()),
+        }
+    }
+}
+
+impl From<Error> for NoAnswer {
+    fn from(error: Error) -> NoAnswer {
+        NoAnswer::Clap(error)
+    }
+}
+
+impl From<NoRequest> for NoAnswer {
+    fn from(why: NoRequest) -> NoAnswer {
+        match why {
+            NoRequest::Words(bad) => NoAnswer::Words(bad),
+            NoRequest::Told(line) => NoAnswer::Told(line),
+            NoRequest::OutOfMemory => NoAnswer::OutOfMemory,
+        }
+    }
+}
+
+impl From<AllocError> for NoAnswer {
+    fn from(_error: AllocError) -> NoAnswer {
+        NoAnswer::OutOfMemory
+    }
+}
+
+impl<T: Drop> From<AllocFailed<T>> for NoAnswer {
+    fn from(_error: AllocFailed<T>) -> NoAnswer {
+        NoAnswer::OutOfMemory
+    }
+}
