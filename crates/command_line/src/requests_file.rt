@@ -104,7 +104,7 @@ pub(crate) fn all_requests<'p>(
 pub(crate) fn all_asked<'a>(
     alloc: Global,
     requests: &'a [RequestWords<'_>],
-    lines: &[RequestMatches<'a>],
+    lines: &'a [RequestMatches<'_>],
 ) -> Result<Vec<Asked<'a>>, OutOfMemory> {
     let mut all = Vec::new(alloc);
     for (request, line) in requests.iter().zip(lines) {
