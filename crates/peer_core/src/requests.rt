@@ -49,7 +49,7 @@ impl State {
     fn reply_to_last(&self, sent: &mut Items<Sent>) -> Result<(), OutOfMemory>
         ensures { OnOk result (sent.new ≡ sent.old ++ replies self.now (last self.now.log)) }
     {
-        match self.log.last() {
+        match self.log.last_entry() {
             Some(entry) => sent.push(reply_to(self.number, &entry.sealed, &entry.reply)?),
             None => Ok(()),
         }
@@ -151,7 +151,7 @@ impl State {
     fn append_again(&self, holders: &ActingSet, sent: &mut Items<Sent>) -> Result<(), OutOfMemory>
         ensures { OnOk result (sent.new ≡ sent.old ++ rules.append_again self.now (last self.now.log) (missing self.now holders.now)) }
     {
-        match self.log.last() {
+        match self.log.last_entry() {
             Some(entry) => self.send_append(self.log.len(), &entry.sealed, holders, sent),
             None => Ok(()),
         }
