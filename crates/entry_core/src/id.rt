@@ -22,6 +22,7 @@ pub struct Id {
 
 impl Model for Id {
     ghost use Rattle.std.specs.Prelude.{ℕ, ◌<◌};
+    ghost use Rattle.entry_core.specs.Request.{numbers};
 
     ghost Value = { ℕ };
 
