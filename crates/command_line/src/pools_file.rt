@@ -2,10 +2,10 @@
 
 use crate::file_fault::FileFault;
 use crate::input_files::without_mark;
+use crate::profile_notes::push_name;
 use common_types::{AppTags, Name, OutOfMemory, Pairs, Tags};
 use serde_json::Value;
 use std::alloc::Global;
-use std::fmt::Write;
 
 /// A pool of a cluster.
 #[derive(Drop)]
@@ -85,16 +85,21 @@ pub(crate) fn pools_of(alloc: Global, text: &str) -> Result<Vec<Pool>, FileFault
 
 /// Adds an application, and behind it its pairs.
 fn push_application(line: &mut String, app: &AppTags) -> Result<(), OutOfMemory> {
-    line.push_str(app.application.as_str())?;
+    push_name(line, app.application.as_str())?;
     for (key, value) in app.pairs.as_slice() {
-        write!(line, " {}={}", key.as_str(), value.as_str())?;
+        line.push_str(" ")?;
+        push_name(line, key.as_str())?;
+        line.push_str("=")?;
+        push_name(line, value.as_str())?;
     }
     Ok(())
 }
 
 /// A line that tells which applications were taken of a pool.
 pub(crate) fn taken_line(alloc: Global, pool: &Pool) -> Result<String, OutOfMemory> {
-    let mut line = format!(in alloc; "osdgate: pool {} has ", pool.name.as_str())?;
+    let mut line = String::from_str(alloc, "osdgate: pool ")?;
+    push_name(&mut line, pool.name.as_str())?;
+    line.push_str(" has ")?;
     match pool.tags.len() {
         0 => line.push_str("no application")?,
         1 => line.push_str("the application ")?,
@@ -116,9 +121,12 @@ pub(crate) fn no_pool_line(
     pools: &[Pool],
     name: &str,
 ) -> Result<String, OutOfMemory> {
-    let mut line = format!(in alloc; "the pools file has no pool {name}, only")?;
+    let mut line = String::from_str(alloc, "the pools file has no pool ")?;
+    push_name(&mut line, name)?;
+    line.push_str(", only")?;
     for pool in pools {
-        write!(line, " {}", pool.name.as_str())?;
+        line.push_str(" ")?;
+        push_name(&mut line, pool.name.as_str())?;
     }
     Ok(line)
 }

@@ -35,7 +35,7 @@ pub(crate) fn complaint(alloc: Global, error: &Error) -> Result<String, OutOfMem
     Ok(kept)
 }
 
-/// What clap says first, on one line.
+/// What clap says first, on one line, without control characters of the words that it repeats.
 pub(crate) fn first_words(alloc: Global, error: &Error) -> Result<String, OutOfMemory> {
     let said = format!(in alloc; "{error}")?;
     let mut words = String::new(alloc);
@@ -46,7 +46,10 @@ pub(crate) fn first_words(alloc: Global, error: &Error) -> Result<String, OutOfM
         if !words.is_empty() {
             words.push_str(" ")?;
         }
-        words.push_str(line.strip_prefix("error: ").unwrap_or(line.trim()))?;
+        push_shown(
+            &mut words,
+            line.strip_prefix("error: ").unwrap_or(line.trim()),
+        )?;
     }
     Ok(words)
 }

@@ -36,21 +36,25 @@ fn inputs(matches: &ArgMatches<'_>) -> usize {
 /// What is printed of entities and a request, and what is told of the request.
 fn answered_request<'a>(
     alloc: Global,
-    matches: &ArgMatches<'a>,
+    matches: &ArgMatches<'_>,
+    request: &RequestWords<'_>,
     entities: &[Entity],
-    pools: Option<&[Pool]>,
     format: Format,
 ) -> Result<Answered<'a>, NoAnswer> {
-    let request = RequestWords::of(alloc, matches, pools)?;
-    let asked = request.asked(matches, ALWAYS);
     let all = matches.get_flag("all");
-    let printed = who_text(alloc, entities, &asked, all, format)?;
+    let printed = who_text(
+        alloc,
+        entities,
+        &request.asked(matches, ALWAYS),
+        all,
+        format,
+    )?;
     let outcome = if printed.fails {
         Outcome::NoCalls
     } else {
         Outcome::Answered
     };
-    let mut note = tags_line(alloc, &request)?;
+    let mut note = tags_line(alloc, request)?;
     note.push_str(note_of(alloc, matches, outcome)?.as_str())?;
     Ok(Answered {
         printed,
@@ -126,12 +130,50 @@ fn tell_entities(
     Ok(())
 }
 
+/// The answer of `osdgate who` of one request. Its words are looked at before the file of entities is.
+fn answered_one<'a, F: InputFiles, R: Read>(
+    alloc: Global,
+    files: &F,
+    reader: &mut R,
+    matches: &ArgMatches<'_>,
+    pools: Option<&[Pool]>,
+    format: Format,
+) -> Result<Answered<'a>, NoAnswer> {
+    let request = RequestWords::of(alloc, matches, pools)?;
+    let path = value_of(matches, "auth");
+    let entities = entities_in(alloc, files, reader, Purpose::Entities, path)?;
+    let mut answered = answered_request(alloc, matches, &request, entities.as_slice(), format)?;
+    if !answered.printed.fails {
+        tell_entities(alloc, &mut answered, matches, entities.as_slice())?;
+    }
+    Ok(answered)
+}
+
+/// The answer of `osdgate who` of each request of a file.
+fn answered_each<'a, F: InputFiles, R: Read>(
+    alloc: Global,
+    files: &F,
+    reader: &mut R,
+    matches: &ArgMatches<'_>,
+    pools: Option<&[Pool]>,
+    format: Format,
+) -> Result<Answered<'a>, NoAnswer> {
+    let path = value_of(matches, "auth");
+    let entities = entities_in(alloc, files, reader, Purpose::Entities, path)?;
+    let entities = entities.as_slice();
+    let path = value_of(matches, "requests");
+    let text = text_in(alloc, files, reader, Purpose::Requests, path)?;
+    let mut answered = answered_requests(alloc, path, text.as_str(), entities, pools, format)?;
+    tell_entities(alloc, &mut answered, matches, entities)?;
+    Ok(answered)
+}
+
 /// The answer of `osdgate who`: of one request, or of each of a file.
 pub(crate) fn answered_who<'a, F: InputFiles, R: Read>(
     alloc: Global,
     files: &F,
     reader: &mut R,
-    matches: &ArgMatches<'a>,
+    matches: &ArgMatches<'_>,
 ) -> Result<Answered<'a>, NoAnswer> {
     if inputs(matches) > 1 {
         return Err(NoAnswer::Words(BadWords::OneInput));
@@ -139,19 +181,9 @@ pub(crate) fn answered_who<'a, F: InputFiles, R: Read>(
     let format = format_of(matches)?;
     let pools = pools_given(alloc, files, reader, matches)?;
     let pools = pools.as_ref().map(Vec::as_slice);
-    let path = value_of(matches, "auth");
-    let entities = entities_in(alloc, files, reader, Purpose::Entities, path)?;
-    let entities = entities.as_slice();
-    let mut answered = match matches.get_str("requests") {
-        None => answered_request(alloc, matches, entities, pools, format)?,
-        Some(path) => {
-            let text = text_in(alloc, files, reader, Purpose::Requests, path)?;
-            answered_requests(alloc, path, text.as_str(), entities, pools, format)?
-        }
-    };
-    let asked_nobody = answered.printed.fails && matches.get_str("requests").is_none();
-    if !asked_nobody {
-        tell_entities(alloc, &mut answered, matches, entities)?;
+    if matches.get_str("requests").is_some() {
+        answered_each(alloc, files, reader, matches, pools, format)
+    } else {
+        answered_one(alloc, files, reader, matches, pools, format)
     }
-    Ok(answered)
 }
