@@ -1,6 +1,5 @@
 //! Entities as plain `ceph auth ls` prints them.
 
-use crate::auth_file::push_entity;
 use crate::file_fault::{FileFault, Form, Place};
 use crate::keyring::give_text;
 use gate_text::Entity;
@@ -57,7 +56,7 @@ fn take_line(alloc: Global, entities: &mut Vec<Entity>, line: &str) -> Result<bo
         name: String::from_str(alloc, name)?,
         osd: String::new(alloc),
     };
-    push_entity(entities, entity)?;
+    entities.push(entity)?;
     Ok(true)
 }
 

@@ -1,14 +1,6 @@
-use Rattle.std.proofs.Common.{ap, ◌∙◌, string_bytes}
-use Rattle.gate_text.specs.Table.{table_by}
+use Rattle.std.proofs.Common.{string_bytes}
 use Rattle.gate_text.proofs.Comparisons.{ok_also}
 use Rattle.gate_text.proofs.table.who_table.Goals as goal
 
 pub returns : goal.returns
-returns c =
-    ok_also c.table_by.result
-    (λ text h. (
-      string_bytes c.in_ok-rows.rows,
-      c.in_ok-rows.ensures,
-      h ∙ ap (λ count. table_by c.args.format count (string_bytes c.in_ok-rows.rows)) c.len.ensures,
-    ))
-    c.table_by.ensures
+returns c = ok_also c.table_by.result (λ text h. (string_bytes c.in_ok-rows.rows, c.in_ok-rows.ensures, h)) c.table_by.ensures
