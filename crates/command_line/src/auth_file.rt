@@ -4,11 +4,9 @@ use crate::file_fault::{FileFault, Form, Likeness, Place};
 use crate::input_files::without_mark;
 use crate::keyring::keyring_entities;
 use crate::listing::{HEAD, is_entity_name, listed_entities};
-use common_types::OutOfMemory;
-use gate_text::Entity;
+use gate_text::{Entity, find};
 use serde_json::Value;
 use std::alloc::Global;
-use std::collections::HashSet;
 
 /// The osd text of an entry's `caps`, empty where there is none.
 fn osd_text(caps: &Value, number: usize) -> Result<&str, FileFault> {
@@ -36,22 +34,17 @@ fn entities_of_list(alloc: Global, entries: &[Value]) -> Result<Vec<Entity>, Fil
     let mut entities: Vec<Entity> = Vec::new(alloc);
     for entry in entries {
         let number = entities.len().saturating_add(1);
-        entities.push(entity_of(alloc, entry, number)?)?;
+        push_entity(&mut entities, entity_of(alloc, entry, number)?)?;
     }
     Ok(entities)
 }
 
-/// The number of the first entity that has the name of an earlier one, or nothing.
-fn doubled(alloc: Global, entities: &[Entity]) -> Result<Option<usize>, OutOfMemory> {
-    let mut names = HashSet::new(alloc);
-    let mut number = 0usize;
-    for entity in entities {
-        number = number.saturating_add(1);
-        if !names.insert(entity.name.as_str())? {
-            return Ok(Some(number));
-        }
+/// Adds an entity to those before it, none of which may have its name.
+pub(crate) fn push_entity(entities: &mut Vec<Entity>, entity: Entity) -> Result<(), FileFault> {
+    if find(entities.as_slice(), entity.name.as_str()).is_some() {
+        return Err(FileFault::Doubled(entities.len().saturating_add(1)));
     }
-    Ok(None)
+    Ok(entities.push(entity)?)
 }
 
 /// The entities of a JSON text: of an object with a list under `auth_dump`, as `ceph auth ls` prints it, of a list, as
@@ -128,20 +121,12 @@ fn form_of(text: &str) -> Result<Form, FileFault> {
     Err(FileFault::Empty)
 }
 
-/// The entities of a text, in its order and by its form, also where some have one name.
-fn all_entities(alloc: Global, text: &str) -> Result<Vec<Entity>, FileFault> {
+/// The entities of a text, in its order and by its form.
+pub(crate) fn entities_of(alloc: Global, text: &str) -> Result<Vec<Entity>, FileFault> {
+    let text = without_mark(text);
     match form_of(text)? {
         Form::Json => json_entities(alloc, text),
         Form::Keyring => keyring_entities(alloc, text),
         Form::Listing => listed_entities(alloc, text),
-    }
-}
-
-/// The entities of a text, in its order and by its form, no two of one name.
-pub(crate) fn entities_of(alloc: Global, text: &str) -> Result<Vec<Entity>, FileFault> {
-    let entities = all_entities(alloc, without_mark(text))?;
-    match doubled(alloc, entities.as_slice())? {
-        Some(number) => Err(FileFault::Doubled(number)),
-        None => Ok(entities),
     }
 }

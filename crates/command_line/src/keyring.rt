@@ -1,6 +1,6 @@
 //! Entities as keyrings have them, and as `ceph auth export` and `ceph auth get` print them.
 
-use crate::auth_file::is_nothing;
+use crate::auth_file::{is_nothing, push_entity};
 use crate::file_fault::{FileFault, Form, Place};
 use common_types::OutOfMemory;
 use gate_text::Entity;
@@ -100,7 +100,7 @@ fn take_line(alloc: Global, entities: &mut Vec<Entity>, words: &str) -> Result<b
                 name: String::from_str(alloc, name)?,
                 osd: String::new(alloc),
             };
-            entities.push(entity)?;
+            push_entity(entities, entity)?;
             Ok(true)
         }
         Some(Line::Osd(value)) => match text_of(alloc, value)? {

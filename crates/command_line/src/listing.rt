@@ -1,5 +1,6 @@
 //! Entities as plain `ceph auth ls` prints them.
 
+use crate::auth_file::push_entity;
 use crate::file_fault::{FileFault, Form, Place};
 use crate::keyring::give_text;
 use gate_text::Entity;
@@ -56,7 +57,7 @@ fn take_line(alloc: Global, entities: &mut Vec<Entity>, line: &str) -> Result<bo
         name: String::from_str(alloc, name)?,
         osd: String::new(alloc),
     };
-    entities.push(entity)?;
+    push_entity(entities, entity)?;
     Ok(true)
 }
 
