@@ -1,10 +1,11 @@
 //! Files of entities, in the forms in which Ceph prints them. No key is kept.
 
+use crate::entity_list::EntityList;
 use crate::file_fault::{FileFault, Form, Likeness, Place};
 use crate::input_files::without_mark;
 use crate::keyring::keyring_entities;
 use crate::listing::{HEAD, is_entity_name, listed_entities};
-use gate_text::{Entity, find};
+use gate_text::Entity;
 use serde_json::Value;
 use std::alloc::Global;
 
@@ -31,20 +32,12 @@ fn entity_of(alloc: Global, entry: &Value, number: usize) -> Result<Entity, File
 }
 
 fn entities_of_list(alloc: Global, entries: &[Value]) -> Result<Vec<Entity>, FileFault> {
-    let mut entities: Vec<Entity> = Vec::new(alloc);
+    let mut entities = EntityList::new(alloc);
     for entry in entries {
-        let number = entities.len().saturating_add(1);
-        push_entity(&mut entities, entity_of(alloc, entry, number)?)?;
+        let entity = entity_of(alloc, entry, entities.next_number())?;
+        entities.push(alloc, entity)?;
     }
-    Ok(entities)
-}
-
-/// Adds an entity to those before it, none of which may have its name.
-pub(crate) fn push_entity(entities: &mut Vec<Entity>, entity: Entity) -> Result<(), FileFault> {
-    if find(entities.as_slice(), entity.name.as_str()).is_some() {
-        return Err(FileFault::Doubled(entities.len().saturating_add(1)));
-    }
-    Ok(entities.push(entity)?)
+    Ok(entities.into_vec())
 }
 
 /// The entities of a JSON text: of an object with a list under `auth_dump`, as `ceph auth ls` prints it, of a list, as

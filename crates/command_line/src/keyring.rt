@@ -1,6 +1,7 @@
 //! Entities as keyrings have them, and as `ceph auth export` and `ceph auth get` print them.
 
-use crate::auth_file::{is_nothing, push_entity};
+use crate::auth_file::is_nothing;
+use crate::entity_list::EntityList;
 use crate::file_fault::{FileFault, Form, Place};
 use common_types::OutOfMemory;
 use gate_text::Entity;
@@ -92,7 +93,7 @@ fn text_of(alloc: Global, value: &str) -> Result<Option<String>, OutOfMemory> {
 }
 
 /// Takes a line that says something; whether it is a line of a keyring there.
-fn take_line(alloc: Global, entities: &mut Vec<Entity>, words: &str) -> Result<bool, FileFault> {
+fn take_line(alloc: Global, entities: &mut EntityList, words: &str) -> Result<bool, FileFault> {
     match line_of(words) {
         None => Ok(false),
         Some(Line::Entity(name)) => {
@@ -100,31 +101,20 @@ fn take_line(alloc: Global, entities: &mut Vec<Entity>, words: &str) -> Result<b
                 name: String::from_str(alloc, name)?,
                 osd: String::new(alloc),
             };
-            push_entity(entities, entity)?;
+            entities.push(alloc, entity)?;
             Ok(true)
         }
         Some(Line::Osd(value)) => match text_of(alloc, value)? {
-            Some(text) => Ok(give_text(entities, text)),
+            Some(text) => Ok(entities.give_text(text)),
             None => Ok(false),
         },
         Some(Line::Other) => Ok(!entities.is_empty()),
     }
 }
 
-/// Gives the last entity its text; whether there is one, which had none before.
-pub(crate) fn give_text(entities: &mut Vec<Entity>, text: String) -> bool {
-    match entities.last_mut() {
-        Some(entity) if entity.osd.is_empty() => {
-            entity.osd = text;
-            true
-        }
-        _ => false,
-    }
-}
-
 /// The entities of a keyring, in its order.
 pub(crate) fn keyring_entities(alloc: Global, text: &str) -> Result<Vec<Entity>, FileFault> {
-    let mut entities = Vec::new(alloc);
+    let mut entities = EntityList::new(alloc);
     for (index, line) in text.lines().enumerate() {
         if !is_nothing(line) && !take_line(alloc, &mut entities, line.trim())? {
             return Err(FileFault::BadLine {
@@ -133,5 +123,5 @@ pub(crate) fn keyring_entities(alloc: Global, text: &str) -> Result<Vec<Entity>,
             });
         }
     }
-    Ok(entities)
+    Ok(entities.into_vec())
 }

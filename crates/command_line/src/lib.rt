@@ -9,6 +9,7 @@ mod arguments;
 mod auth_file;
 mod command;
 mod completions;
+mod entity_list;
 mod file_fault;
 mod input_files;
 mod keyring;

@@ -1,8 +1,7 @@
 //! Entities as plain `ceph auth ls` prints them.
 
-use crate::auth_file::push_entity;
+use crate::entity_list::EntityList;
 use crate::file_fault::{FileFault, Form, Place};
-use crate::keyring::give_text;
 use gate_text::Entity;
 use std::alloc::Global;
 
@@ -23,11 +22,7 @@ pub(crate) fn is_entity_name(words: &str) -> bool {
 
 /// Takes an indented line below an entity's name; whether it is one of a listing. The text for object stores goes to the
 /// last entity; a key, and a text for another service, are not kept.
-fn take_indented(
-    alloc: Global,
-    entities: &mut Vec<Entity>,
-    words: &str,
-) -> Result<bool, FileFault> {
+fn take_indented(alloc: Global, entities: &mut EntityList, words: &str) -> Result<bool, FileFault> {
     if words.starts_with("key:") || words.starts_with("auid:") {
         return Ok(!entities.is_empty());
     }
@@ -35,14 +30,14 @@ fn take_indented(
         return Ok(false);
     };
     match behind.split_once("] ") {
-        Some(("osd", text)) => Ok(give_text(entities, String::from_str(alloc, text)?)),
+        Some(("osd", text)) => Ok(entities.give_text(String::from_str(alloc, text)?)),
         Some(_) => Ok(!entities.is_empty()),
         None => Ok(false),
     }
 }
 
 /// Takes a line that is not blank; whether it is one of a listing.
-fn take_line(alloc: Global, entities: &mut Vec<Entity>, line: &str) -> Result<bool, FileFault> {
+fn take_line(alloc: Global, entities: &mut EntityList, line: &str) -> Result<bool, FileFault> {
     if line.starts_with(' ') || line.starts_with('\t') {
         return take_indented(alloc, entities, line.trim());
     }
@@ -57,13 +52,13 @@ fn take_line(alloc: Global, entities: &mut Vec<Entity>, line: &str) -> Result<bo
         name: String::from_str(alloc, name)?,
         osd: String::new(alloc),
     };
-    push_entity(entities, entity)?;
+    entities.push(alloc, entity)?;
     Ok(true)
 }
 
 /// The entities of a listing, in its order.
 pub(crate) fn listed_entities(alloc: Global, text: &str) -> Result<Vec<Entity>, FileFault> {
-    let mut entities = Vec::new(alloc);
+    let mut entities = EntityList::new(alloc);
     for (index, line) in text.lines().enumerate() {
         if !line.trim().is_empty() && !take_line(alloc, &mut entities, line)? {
             return Err(FileFault::BadLine {
@@ -72,5 +67,5 @@ pub(crate) fn listed_entities(alloc: Global, text: &str) -> Result<Vec<Entity>, 
             });
         }
     }
-    Ok(entities)
+    Ok(entities.into_vec())
 }

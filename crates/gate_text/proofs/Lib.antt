@@ -2,6 +2,7 @@ pub mod Answers
 pub mod Comparisons
 pub mod EachTold
 pub mod Items
+pub mod FirstPlaces
 pub mod NoFloats
 pub mod Pieces
 pub mod Quotes

@@ -11,3 +11,4 @@ pub mod Who
 pub mod Table
 pub mod Entities
 pub mod Documents
+pub mod FirstPlaces

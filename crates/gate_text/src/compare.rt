@@ -2,6 +2,7 @@
 
 ghost use Rattle.std.specs.Prelude.{◌≡◌, ◌≤◌, ◌++◌, ◌&&◌, true, codes, length, string_bytes, IfOk, IfErr, OnOk};
 ghost use Rattle.std.specs.List.{flat_map};
+ghost use Rattle.grant_core.specs.BuiltIn.{built_in};
 ghost use Rattle.gate_text.specs.Compared as spec;
 ghost use Rattle.gate_text.specs.Compared.{ComesTo, IsChange, IsCompareAnswer, IsFaultOf};
 ghost use Rattle.gate_text.specs.Request.{example_line};
@@ -15,7 +16,7 @@ use crate::request::push_example;
 use cap_text::{CapFault, CapList, FaultKind, parse};
 use common_types::OutOfMemory;
 use compare_core::{Example, Registry, widening_by};
-use grant_core::ExpandFault;
+use grant_core::{ExpandFault, ProfileTable};
 use std::alloc::{AllocError, Global};
 use std::fmt;
 use verdict_core::Ticket;
@@ -168,11 +169,16 @@ pub(crate) fn push_number(
 }
 
 /// The ticket of a list of grants, by the built-in profiles.
-fn ticket_of_list(alloc: Global, list: &CapList) -> Result<Ticket, TextFault>
+fn ticket_of_list(
+    alloc: Global,
+    profiles: &ProfileTable,
+    list: &CapList,
+) -> Result<Ticket, TextFault>
+    requires { profiles.now ≡ built_in }
     ensures ticket { IfOk result (λ ticket. spec.Expands list.now ticket.grants) }
     ensures refused { IfErr result (λ fault. spec.IsExpansionFault list.now fault) }
 {
-    match expanded::ticket_of(alloc, list, None) {
+    match expanded::ticket_of(alloc, profiles, list, None) {
         Ok(ticket) => Ok(ticket),
         Err(ExpandFault::OutOfMemory) => Err(TextFault::OutOfMemory),
         Err(fault) => Err(TextFault::Expansion(fault)),
@@ -180,12 +186,17 @@ fn ticket_of_list(alloc: Global, list: &CapList) -> Result<Ticket, TextFault>
 }
 
 /// The ticket that a capability text comes to, by the built-in profiles.
-pub(crate) fn ticket_of(alloc: Global, caps: &str) -> Result<Ticket, TextFault>
+pub(crate) fn ticket_of(
+    alloc: Global,
+    profiles: &ProfileTable,
+    caps: &str,
+) -> Result<Ticket, TextFault>
+    requires { profiles.now ≡ built_in }
     ensures ticket { IfOk result (λ ticket. ComesTo caps.now ticket.grants) }
     ensures refused { IfErr result (λ fault. IsFaultOf caps.now fault) }
 {
     match parse(alloc, caps) {
-        Ok(list) => ticket_of_list(alloc, &list),
+        Ok(list) => ticket_of_list(alloc, profiles, &list),
         Err(
             CapFault {
                 kind: FaultKind::OutOfMemory,
@@ -305,12 +316,13 @@ pub fn compare_text(
 ) -> Result<Printed, OutOfMemory>
     ensures { IfOk result (λ printed. IsCompareAnswer how old.now new.now (string_bytes printed.text) printed.fails) }
 {
-    let old_ticket = match ticket_of(alloc, old) {
+    let profiles = ProfileTable::builtin(alloc)?;
+    let old_ticket = match ticket_of(alloc, &profiles, old) {
         Ok(ticket) => ticket,
         Err(TextFault::OutOfMemory) => return Err(AllocError),
         Err(fault) => return refused(alloc, "old", fault, how.format),
     };
-    match ticket_of(alloc, new) {
+    match ticket_of(alloc, &profiles, new) {
         Ok(ticket) => compared(alloc, &old_ticket, &ticket, how),
         Err(TextFault::OutOfMemory) => Err(AllocError),
         Err(fault) => refused(alloc, "new", fault, how.format),

@@ -2,6 +2,7 @@
 
 ghost use Rattle.std.specs.Prelude.{◌≡◌, ◌++◌, ◌||◌, [], true, false, IfOk, OnOk, option_copied, string_bytes};
 ghost use Rattle.std.specs.Str.{bytes_eq};
+ghost use Rattle.grant_core.specs.BuiltIn.{built_in};
 ghost use Rattle.gate_text.specs.Entities as spec;
 ghost use Rattle.gate_text.specs.Entities.{AreAllTold, IsBothTold, IsChangeTold, IsEntitiesAnswer, IsNewTold, IsOldTold, IsPairTold};
 
@@ -10,10 +11,12 @@ use crate::compare::{Change, Relation, TextFault, changes, fails_check, push_num
 use crate::compare_json::{change_piece, unjudged_piece};
 use crate::comparison::Comparison;
 use crate::document::entities_by;
-use crate::entity::{Entity, find};
+use crate::entity::Entity;
 use crate::format::Format;
+use crate::named::NamedEntities;
 use crate::printed::Printed;
 use common_types::OutOfMemory;
+use grant_core::ProfileTable;
 use std::alloc::{AllocError, Global};
 use std::fmt::Write;
 use verdict_core::Ticket;
@@ -177,15 +180,21 @@ fn changed_pair(
 }
 
 /// What is told of an entity, and whether it fails.
-fn told_pair(alloc: Global, pair: &Pair<'_>, how: Comparison) -> Result<Printed, OutOfMemory>
+fn told_pair(
+    alloc: Global,
+    profiles: &ProfileTable,
+    pair: &Pair<'_>,
+    how: Comparison,
+) -> Result<Printed, OutOfMemory>
+    requires { profiles.now ≡ built_in }
     ensures { IfOk result (λ printed. IsPairTold how pair.now.presence pair.now.name.now pair.now.old.now pair.now.new.now (string_bytes printed.text) printed.fails) }
 {
-    let old = match ticket_of(alloc, pair.old) {
+    let old = match ticket_of(alloc, profiles, pair.old) {
         Ok(ticket) => ticket,
         Err(TextFault::OutOfMemory) => return Err(AllocError),
         Err(fault) => return unjudged_pair(alloc, pair, fault, how.format),
     };
-    match ticket_of(alloc, pair.new) {
+    match ticket_of(alloc, profiles, pair.new) {
         Ok(new) => changed_pair(alloc, pair, &old, &new, how),
         Err(TextFault::OutOfMemory) => Err(AllocError),
         Err(fault) => unjudged_pair(alloc, pair, fault, how.format),
@@ -205,24 +214,32 @@ fn nothing(alloc: Global) -> Printed
 
 /// What is told of an entity that both lists have: nothing where its texts are the same, byte for byte, since whoever
 /// reads them, they give the same rights.
-fn told_both(alloc: Global, pair: &Pair<'_>, how: Comparison) -> Result<Printed, OutOfMemory>
-    requires { pair.now.presence ≡ Presence.Both }
+fn told_both(
+    alloc: Global,
+    profiles: &ProfileTable,
+    pair: &Pair<'_>,
+    how: Comparison,
+) -> Result<Printed, OutOfMemory>
+    requires profiles { profiles.now ≡ built_in }
+    requires both { pair.now.presence ≡ Presence.Both }
     ensures { IfOk result (λ printed. IsBothTold (bytes_eq pair.now.old.now pair.now.new.now) how pair.now.name.now pair.now.old.now pair.now.new.now (string_bytes printed.text) printed.fails) }
 {
     if pair.old == pair.new {
         Ok(nothing(alloc))
     } else {
-        told_pair(alloc, pair, how)
+        told_pair(alloc, profiles, pair, how)
     }
 }
 
 /// What is told of an entity of the old list.
 fn told_of_old(
     alloc: Global,
+    profiles: &ProfileTable,
     entity: &Entity,
-    new: &[Entity],
+    new: &NamedEntities<'_>,
     how: Comparison,
 ) -> Result<Printed, OutOfMemory>
+    requires { profiles.now ≡ built_in }
     ensures { IfOk result (λ printed. IsOldTold how new.now entity.now (string_bytes printed.text) printed.fails) }
 {
     let gone = Pair {
@@ -231,15 +248,15 @@ fn told_of_old(
         old: entity.osd.as_str(),
         new: "",
     };
-    match find(new, gone.name) {
-        None => told_pair(alloc, &gone, how),
+    match new.find(gone.name) {
+        None => told_pair(alloc, profiles, &gone, how),
         Some(other) => {
             let both = Pair {
                 presence: Presence::Both,
                 new: other.osd.as_str(),
                 ..gone
             };
-            told_both(alloc, &both, how)
+            told_both(alloc, profiles, &both, how)
         }
     }
 }
@@ -247,10 +264,12 @@ fn told_of_old(
 /// What is told of an entity of the new list, which is nothing where the old list has it.
 fn told_of_new(
     alloc: Global,
+    profiles: &ProfileTable,
     entity: &Entity,
-    old: &[Entity],
+    old: &NamedEntities<'_>,
     how: Comparison,
 ) -> Result<Printed, OutOfMemory>
+    requires { profiles.now ≡ built_in }
     ensures { IfOk result (λ printed. IsNewTold how old.now entity.now (string_bytes printed.text) printed.fails) }
 {
     let added = Pair {
@@ -259,8 +278,8 @@ fn told_of_new(
         old: "",
         new: entity.osd.as_str(),
     };
-    match find(old, added.name) {
-        None => told_pair(alloc, &added, how),
+    match old.find(added.name) {
+        None => told_pair(alloc, profiles, &added, how),
         Some(_) => Ok(nothing(alloc)),
     }
 }
@@ -278,15 +297,17 @@ fn push_told(printed: &mut Printed, told: &Printed) -> Result<(), OutOfMemory>
 /// What is told of the entities of the old list, in its order.
 fn old_told(
     alloc: Global,
+    profiles: &ProfileTable,
     old: &[Entity],
-    new: &[Entity],
+    new: &NamedEntities<'_>,
     how: Comparison,
 ) -> Result<Printed, OutOfMemory>
+    requires { profiles.now ≡ built_in }
     ensures { IfOk result (λ printed. AreAllTold (IsOldTold how new.now) old.now (string_bytes printed.text) printed.fails) }
 {
     let mut printed = nothing(alloc);
     for entity in old {
-        let told = told_of_old(alloc, entity, new, how)?;
+        let told = told_of_old(alloc, profiles, entity, new, how)?;
         push_told(&mut printed, &told)?;
     }
     Ok(printed)
@@ -295,15 +316,17 @@ fn old_told(
 /// What is told of the entities of the new list, in its order.
 fn new_told(
     alloc: Global,
-    old: &[Entity],
+    profiles: &ProfileTable,
+    old: &NamedEntities<'_>,
     new: &[Entity],
     how: Comparison,
 ) -> Result<Printed, OutOfMemory>
+    requires { profiles.now ≡ built_in }
     ensures { IfOk result (λ printed. AreAllTold (IsNewTold how old.now) new.now (string_bytes printed.text) printed.fails) }
 {
     let mut printed = nothing(alloc);
     for entity in new {
-        let told = told_of_new(alloc, entity, old, how)?;
+        let told = told_of_new(alloc, profiles, entity, old, how)?;
         push_told(&mut printed, &told)?;
     }
     Ok(printed)
@@ -331,8 +354,11 @@ pub fn compare_entities(
 ) -> Result<Printed, OutOfMemory>
     ensures { IfOk result (λ printed. IsEntitiesAnswer how old.now new.now (string_bytes printed.text) printed.fails) }
 {
-    let mut told = old_told(alloc, old, new, how)?;
-    let of_new = new_told(alloc, old, new, how)?;
+    let profiles = ProfileTable::builtin(alloc)?;
+    let by_old = NamedEntities::of(alloc, old)?;
+    let by_new = NamedEntities::of(alloc, new)?;
+    let mut told = old_told(alloc, &profiles, old, &by_new, how)?;
+    let of_new = new_told(alloc, &profiles, &by_old, new, how)?;
     push_told(&mut told, &of_new)?;
     Ok(Printed {
         text: entities_by(alloc, told.text, how.format)?,

@@ -25,16 +25,17 @@ fn ticket_by(
     Ok(Ticket::of(alloc, &tree, until)?)
 }
 
-/// The ticket of a list that is expanded by the built-in profiles.
+/// The ticket of a list that is expanded by the built-in profiles, which are made once for all texts.
 pub(crate) fn ticket_of(
     alloc: Global,
+    profiles: &ProfileTable,
     list: &CapList,
     until: Option<u64>,
 ) -> Result<Ticket, ExpandFault>
+    requires { profiles.now ≡ built_in }
     ensures ticket { IfOk result (λ ticket. ticket ≡ record { grants = flat built_in list.now; until = until }) }
     ensures accepted { OnOk result (expand_refusal built_in list.now ≡ None) }
     ensures refused { IfErr result (λ fault. fault ≢ ExpandFault.OutOfMemory → expand_refusal built_in list.now ≡ Some fault) }
 {
-    let table = ProfileTable::builtin(alloc)?;
-    ticket_by(alloc, &table, list, until)
+    ticket_by(alloc, profiles, list, until)
 }

@@ -12,7 +12,7 @@ use crate::format::Format;
 use crate::printed::Printed;
 use cap_text::{AllowGrant, CapFault, CapList, FaultKind, parse, print, push_allow};
 use common_types::OutOfMemory;
-use grant_core::{ExpandFault, Path};
+use grant_core::{ExpandFault, Path, ProfileTable};
 use std::alloc::{AllocError, Global};
 use std::fmt::{Display, Write};
 
@@ -90,7 +90,8 @@ fn explained_list(alloc: Global, list: &CapList, format: Format) -> Result<Print
     ensures text { IfOk result (λ printed. string_bytes printed.text ≡ list_by format (expand_refusal built_in list.now) list.now) }
     ensures fails { IfOk result (λ printed. printed.fails ≡ is_some (expand_refusal built_in list.now)) }
 {
-    match ticket_of(alloc, list, None) {
+    let profiles = ProfileTable::builtin(alloc)?;
+    match ticket_of(alloc, &profiles, list, None) {
         Ok(ticket) => Ok(Printed {
             text: explained_by(alloc, list, ticket.grants(), format)?,
             fails: false,

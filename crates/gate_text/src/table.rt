@@ -1,6 +1,7 @@
 //! What each of some entities may do of what some requests ask for.
 
 ghost use Rattle.std.specs.Prelude.{◌≡◌, ◌++◌, IfOk, OnOk, flat_map, length, string_bytes};
+ghost use Rattle.grant_core.specs.BuiltIn.{built_in};
 ghost use Rattle.gate_text.specs.Compared.{first_word};
 ghost use Rattle.gate_text.specs.Table as spec;
 ghost use Rattle.gate_text.specs.Table.{AreAnswers, IsRow, IsTable};
@@ -13,18 +14,25 @@ use crate::compare::first_word;
 use crate::document::{entities_by, row_piece};
 use crate::entity::Entity;
 use crate::format::Format;
-use crate::verdict::{Answer, Verdict, VerdictFault, answer};
+use crate::verdict::{Answer, Verdict, VerdictFault, answer_by};
 use common_types::OutOfMemory;
+use grant_core::ProfileTable;
 use std::alloc::Global;
 use std::fmt::Write;
 
 /// The answers of a capability text to some requests, in order.
-fn answers_to(alloc: Global, caps: &str, requests: &[Asked<'_>]) -> Result<Vec<Answer>, OutOfMemory>
+fn answers_to(
+    alloc: Global,
+    profiles: &ProfileTable,
+    caps: &str,
+    requests: &[Asked<'_>],
+) -> Result<Vec<Answer>, OutOfMemory>
+    requires { profiles.now ≡ built_in }
     ensures { IfOk result (λ answers. AreAnswers caps.now requests.now answers.items) }
 {
     let mut answers = Vec::new(alloc);
     for asked in requests {
-        let answer = answer(alloc, caps, asked)?;
+        let answer = answer_by(alloc, profiles, caps, asked)?;
         answers.push(answer)?;
     }
     Ok(answers)
@@ -90,15 +98,17 @@ fn row_by(
 /// An entity's row.
 fn row_of(
     alloc: Global,
+    profiles: &ProfileTable,
     entity: &Entity,
     requests: &[Asked<'_>],
     format: Format,
 ) -> Result<String, OutOfMemory>
+    requires { profiles.now ≡ built_in }
     ensures { IfOk result (λ text. IsRow format requests.now entity.now (string_bytes text)) }
 {
     let caps = entity.osd.as_str();
     let name = entity.name.as_str();
-    let answers = answers_to(alloc, caps, requests)?;
+    let answers = answers_to(alloc, profiles, caps, requests)?;
     row_by(alloc, name, answers.as_slice(), format)
 }
 
@@ -111,9 +121,10 @@ fn rows_of(
 ) -> Result<String, OutOfMemory>
     ensures { IfOk result (λ text. AreInOrder (IsRow format requests.now) entities.now (string_bytes text)) }
 {
+    let profiles = ProfileTable::builtin(alloc)?;
     let mut text = String::new(alloc);
     for entity in entities {
-        let row = row_of(alloc, entity, requests, format)?;
+        let row = row_of(alloc, &profiles, entity, requests, format)?;
         text.push_str(row.as_str())?;
     }
     Ok(text)

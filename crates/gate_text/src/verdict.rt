@@ -1,6 +1,7 @@
 //! What a capability text and a request come to, as a value and as a text.
 
 ghost use Rattle.std.specs.Prelude.{◌≡◌, IfOk, Some, string_bytes};
+ghost use Rattle.grant_core.specs.BuiltIn.{built_in};
 ghost use Rattle.gate_text.specs.Answer as spec;
 ghost use Rattle.gate_text.specs.Answer.{IsAnswer, IsVerdictText, answer_of, needed};
 ghost use Rattle.gate_text.specs.Asked.{calls_fault};
@@ -13,7 +14,7 @@ use crate::expanded::ticket_of;
 use crate::format::Format;
 use cap_text::{CapFault, CapList, FaultKind, parse};
 use common_types::OutOfMemory;
-use grant_core::ExpandFault;
+use grant_core::{ExpandFault, ProfileTable};
 use object_core::NeedsFault;
 use std::alloc::{AllocError, Global};
 use std::error::Error;
@@ -104,23 +105,34 @@ fn answer_ticket(alloc: Global, ticket: &Ticket, asked: &Asked<'_>) -> Result<An
 }
 
 /// The answer of a list of grants, which is its ticket's where it can be expanded by the built-in profiles.
-fn answer_list(alloc: Global, list: &CapList, asked: &Asked<'_>) -> Result<Answer, OutOfMemory>
+fn answer_list(
+    alloc: Global,
+    profiles: &ProfileTable,
+    list: &CapList,
+    asked: &Asked<'_>,
+) -> Result<Answer, OutOfMemory>
+    requires { profiles.now ≡ built_in }
     ensures { IfOk result (λ answer. answer ≡ answer_of list.now asked.now) }
 {
-    match ticket_of(alloc, list, asked.times.until) {
+    match ticket_of(alloc, profiles, list, asked.times.until) {
         Ok(ticket) => answer_ticket(alloc, &ticket, asked),
         Err(ExpandFault::OutOfMemory) => Err(AllocError),
         Err(fault) => Ok(Err(VerdictFault::Profiles(fault))),
     }
 }
 
-/// What a capability text and a request come to: a verdict; or the first of these that holds: the text spells no
-/// grants, they cannot be expanded by the built-in profiles, the calls are refused.
-pub fn answer(alloc: Global, caps: &str, asked: &Asked<'_>) -> Result<Answer, OutOfMemory>
+/// What a capability text and a request come to, by the built-in profiles, which are made once for all texts.
+pub(crate) fn answer_by(
+    alloc: Global,
+    profiles: &ProfileTable,
+    caps: &str,
+    asked: &Asked<'_>,
+) -> Result<Answer, OutOfMemory>
+    requires { profiles.now ≡ built_in }
     ensures { IfOk result (λ answer. IsAnswer caps.now asked.now answer) }
 {
     match parse(alloc, caps) {
-        Ok(list) => answer_list(alloc, &list, asked),
+        Ok(list) => answer_list(alloc, profiles, &list, asked),
         Err(
             CapFault {
                 kind: FaultKind::OutOfMemory,
@@ -129,6 +141,15 @@ pub fn answer(alloc: Global, caps: &str, asked: &Asked<'_>) -> Result<Answer, Ou
         ) => Err(AllocError),
         Err(fault) => Ok(Err(VerdictFault::Caps(fault))),
     }
+}
+
+/// What a capability text and a request come to: a verdict; or the first of these that holds: the text spells no
+/// grants, they cannot be expanded by the built-in profiles, the calls are refused.
+pub fn answer(alloc: Global, caps: &str, asked: &Asked<'_>) -> Result<Answer, OutOfMemory>
+    ensures { IfOk result (λ answer. IsAnswer caps.now asked.now answer) }
+{
+    let profiles = ProfileTable::builtin(alloc)?;
+    answer_by(alloc, &profiles, caps, asked)
 }
 
 /// The text of an answer: the verdict's, or a line `refused FAULT`.

@@ -10,9 +10,9 @@ use crate::document::{calls_json, entities_by, entity_piece};
 use crate::entity::Entity;
 use crate::format::Format;
 use crate::printed::Printed;
-use crate::verdict::{Answer, Verdict, answer};
+use crate::verdict::{Answer, Verdict, answer_by};
 use common_types::OutOfMemory;
-use grant_core::Path;
+use grant_core::{Path, ProfileTable};
 use object_core::NeedsFault;
 use std::alloc::{AllocError, Global};
 use std::fmt::Write;
@@ -164,9 +164,10 @@ fn told_pieces(
 ) -> Result<String, OutOfMemory>
     ensures { IfOk result (λ text. AreInOrder (IsTold how.format how.all asked.now) entities.now (string_bytes text)) }
 {
+    let profiles = ProfileTable::builtin(alloc)?;
     let mut text = String::new(alloc);
     for entity in entities {
-        let answer = answer(alloc, entity.osd.as_str(), asked)?;
+        let answer = answer_by(alloc, &profiles, entity.osd.as_str(), asked)?;
         push_told(&mut text, alloc, entity.name.as_str(), &answer, how)?;
     }
     Ok(text)
