@@ -147,7 +147,7 @@ answer() {
         exit
     fi
     if is_proved; then exec "$proved" "$@"; fi
-    has_quick || made_now=" and is made now, in about a minute"
+    has_quick || made_now=" and is made now, in one to five minutes"
     say "this answer comes from a quick build, which is not proved${made_now:-}; ./$name --prove makes the proved one${note:-}"
     if has_quick || build_quick; then exec "$quick" "$@"; fi
     try_once "$@"
