@@ -217,19 +217,25 @@ fn verdict_command<'a>(alloc: Global) -> Result<Command<'a>, AllocError> {
     with_calls(alloc, with_options(alloc, command, &VERDICT)?)
 }
 
+/// The words of one request, in whose place a file of requests is.
+const ONE_REQUEST: [&str; 8] = [
+    "pool",
+    "object",
+    "namespace",
+    "tag",
+    "read",
+    "write",
+    "call",
+    "calls",
+];
+
 /// A file of requests, in the place of the options of one.
 fn requests_option<'a>(alloc: Global) -> Result<Arg<'a>, AllocError> {
-    let one = [
-        "pool",
-        "object",
-        "namespace",
-        "tag",
-        "read",
-        "write",
-        "call",
-        "calls",
-    ];
-    text_option(alloc, "requests", "FILE", REQUESTS_HELP).conflicts_with_all(one.as_slice())
+    let mut file = text_option(alloc, "requests", "FILE", REQUESTS_HELP);
+    for name in ONE_REQUEST {
+        file = file.conflicts_with(name)?;
+    }
+    Ok(file)
 }
 
 fn who_command<'a>(alloc: Global) -> Result<Command<'a>, AllocError> {

@@ -53,17 +53,20 @@ fn uses_unknown(list: &CapList) -> bool {
     })
 }
 
+/// What is told of a list, or the empty text.
+fn of_profiles(list: &CapList) -> &'static str {
+    if uses_unknown(list) {
+        KNOWN_PROFILES
+    } else {
+        ""
+    }
+}
+
 /// A line on a text that is refused, or nothing: what the profiles are, or for which daemon the text is.
 pub(crate) fn refusal_line(alloc: Global, caps: &str) -> Result<String, OutOfMemory> {
     let told = match parse(alloc, caps) {
-        Ok(list) if uses_unknown(&list) => KNOWN_PROFILES,
-        Ok(_) => "",
-        Err(
-            CapFault {
-                kind: FaultKind::OutOfMemory,
-                ..
-            },
-        ) => return Err(AllocError),
+        Ok(list) => of_profiles(&list),
+        Err(fault) if fault.kind == FaultKind::OutOfMemory => return Err(AllocError),
         Err(fault) => way_out(caps, fault),
     };
     String::from_str(alloc, told)
