@@ -2,12 +2,11 @@
 
 use crate::tickets::ticket;
 use cap_text::AllowGrant;
-use common_types::{AppTags, Name, Pairs, Tags, TryCopy};
-use compare_core::{Registry, widening_by};
+use common_types::{AppTags, Name, OutOfMemory, Pairs, Tags, TryCopy};
+use compare_core::{Example, Registry, widening_by};
 use grant_core::Path;
 use object_core::registry;
 use std::alloc::Global;
-use std::fmt::Write;
 use std::process::Abort;
 use std::test::Fail;
 use verdict_core::{Calls, ClassCall, Needs, Target, Ticket, grants_allow};
@@ -60,55 +59,93 @@ fn pick(row: &mut u64, words: &[&'static str]) -> &'static str {
     words[(*row >> 33) as usize % words.len()]
 }
 
+/// The words of a grant, behind what stands before it.
+fn draw_grant(row: &mut u64, before: &'static str) -> [&'static str; 5] {
+    let access = pick(row, ACCESSES);
+    if pick(row, ["tag", "no", "no"].as_slice()) == "tag" {
+        [before, access, pick(row, NAMESPACES), pick(row, TAGS), ""]
+    } else {
+        let pool = pick(row, POOLS);
+        let namespace = pick(row, NAMESPACES);
+        [before, access, pool, namespace, pick(row, PREFIXES)]
+    }
+}
+
+fn push_all(text: &mut String, words: &[&str]) -> Result<(), OutOfMemory> {
+    for word in words {
+        text.push_str(word)?;
+    }
+    Ok(())
+}
+
 /// A text of up to three grants.
-fn draw_text(alloc: Global, row: &mut u64) -> Result<String, Fail> {
+fn draw_text(alloc: Global, row: &mut u64) -> Result<String, OutOfMemory> {
     let mut text = String::new(alloc);
     for before in ["allow ", ", allow ", ", allow "] {
         if pick(row, ["stop", "go", "go"].as_slice()) == "stop" {
             break;
         }
-        write!(text, "{before}{}", pick(row, ACCESSES))?;
-        if pick(row, ["tag", "no", "no"].as_slice()) == "tag" {
-            write!(text, "{}{}", pick(row, NAMESPACES), pick(row, TAGS))?;
-        } else {
-            write!(text, "{}{}", pick(row, POOLS), pick(row, NAMESPACES))?;
-            write!(text, "{}", pick(row, PREFIXES))?;
-        }
+        push_all(&mut text, draw_grant(row, before).as_slice())?;
     }
     Ok(text)
 }
 
-/// A pool's tags: an application, and a pair or none.
-fn tags_of(alloc: Global, application: &str, pair: Option<(&str, &str)>) -> Result<Tags, Fail> {
+/// An application of a pool, and the key and the value of its pair. One without a name is none, and a key without a name no pair.
+type TagRow = (&'static str, &'static str, &'static str);
+
+const ALL_TAGS: &[TagRow; 15] = &[
+    ("", "", ""),
+    ("p", "", ""),
+    ("p", "k", "v"),
+    ("p", "k", "w"),
+    ("p", "k", "z"),
+    ("p", "z", "v"),
+    ("p", "z", "w"),
+    ("p", "z", "z"),
+    ("q", "", ""),
+    ("q", "k", "v"),
+    ("q", "k", "w"),
+    ("q", "k", "z"),
+    ("q", "z", "v"),
+    ("q", "z", "w"),
+    ("q", "z", "z"),
+];
+
+fn pairs_of(alloc: Global, key: &str, value: &str) -> Result<Pairs, OutOfMemory> {
     let mut pairs = Vec::new(alloc);
-    if let Some((key, value)) = pair {
+    if !key.is_empty() {
         pairs.push((Name::new(alloc, key)?, Name::new(alloc, value)?))?;
     }
-    let app = AppTags {
-        application: Name::new(alloc, application)?,
-        pairs: Pairs::from_vec(pairs),
-    };
-    Ok(Tags::from_vec(vec![in alloc; app]?))
+    Ok(Pairs::from_vec(pairs))
 }
 
-fn all_tags(alloc: Global) -> Result<Vec<Tags>, Fail> {
+fn app_of(alloc: Global, row: &TagRow) -> Result<AppTags, OutOfMemory> {
+    Ok(AppTags {
+        application: Name::new(alloc, row.0)?,
+        pairs: pairs_of(alloc, row.1, row.2)?,
+    })
+}
+
+fn tags_of(alloc: Global, row: &TagRow) -> Result<Tags, OutOfMemory> {
+    let mut tags = Vec::new(alloc);
+    if !row.0.is_empty() {
+        tags.push(app_of(alloc, row)?)?;
+    }
+    Ok(Tags::from_vec(tags))
+}
+
+fn all_tags(alloc: Global) -> Result<Vec<Tags>, OutOfMemory> {
     let mut all = Vec::new(alloc);
-    all.push(Tags::from_vec(Vec::new(alloc)))?;
-    for application in ["p", "q"] {
-        all.push(tags_of(alloc, application, None)?)?;
-        for key in ["k", "z"] {
-            for value in ["v", "w", "z"] {
-                all.push(tags_of(alloc, application, Some((key, value)))?)?;
-            }
-        }
+    for row in ALL_TAGS {
+        all.push(tags_of(alloc, row)?)?;
     }
     Ok(all)
 }
 
-/// The registry's calls whose bits are set.
-fn some_calls(alloc: Global, bits: u8) -> Result<Calls, Fail> {
+/// The own registry's calls whose bits are set.
+fn own_calls(alloc: Global, bits: usize) -> Result<Calls, OutOfMemory> {
     let mut calls = Vec::new(alloc);
-    let mut bit = 1u8;
+    let mut bit = 1usize;
     for call in registry(alloc)?.as_slice() {
         if bits & bit != 0 {
             calls.push(call.copy()?)?;
@@ -118,60 +155,74 @@ fn some_calls(alloc: Global, bits: u8) -> Result<Calls, Fail> {
     Ok(Calls::from_vec(calls))
 }
 
-/// Each set of the own registry's three calls.
-fn own_sets(alloc: Global) -> Result<Vec<Calls>, Fail> {
-    let mut sets = Vec::new(alloc);
-    for bits in 0..8u8 {
-        sets.push(some_calls(alloc, bits)?)?;
-    }
-    Ok(sets)
-}
+/// The names of a call, and bits: its method reads, it writes, and its class is listed.
+type CallRow = (&'static str, &'static str, u8);
 
-/// A call of these names, whose method reads and writes and whose class is listed as the bits say.
-fn call_of(alloc: Global, (class, method): (&str, &str), bits: u8) -> Result<ClassCall, Fail> {
+/// Sets of calls over every registry: none; of each of four names, which are those of the texts and others, one that reads off
+/// the default list, and those on it that read, write or both; and one that reads with one of the names before that writes.
+const SETS: &[&[CallRow]; 21] = &[
+    &[],
+    &[("counter", "get", 1)],
+    &[("counter", "get", 5)],
+    &[("counter", "get", 6)],
+    &[("counter", "get", 7)],
+    &[("counter", "get", 5), ("z", "z", 6)],
+    &[("counter", "z", 1)],
+    &[("counter", "z", 5)],
+    &[("counter", "z", 6)],
+    &[("counter", "z", 7)],
+    &[("counter", "z", 5), ("counter", "get", 6)],
+    &[("vault", "z", 1)],
+    &[("vault", "z", 5)],
+    &[("vault", "z", 6)],
+    &[("vault", "z", 7)],
+    &[("vault", "z", 5), ("counter", "z", 6)],
+    &[("z", "z", 1)],
+    &[("z", "z", 5)],
+    &[("z", "z", 6)],
+    &[("z", "z", 7)],
+    &[("z", "z", 5), ("vault", "z", 6)],
+];
+
+fn call_of(alloc: Global, row: &CallRow) -> Result<ClassCall, OutOfMemory> {
     Ok(ClassCall {
-        class: Name::new(alloc, class)?,
-        method: Name::new(alloc, method)?,
-        class_reads: bits & 1 != 0,
-        class_writes: bits & 2 != 0,
-        listed: bits & 4 != 0,
+        class: Name::new(alloc, row.0)?,
+        method: Name::new(alloc, row.1)?,
+        class_reads: row.2 & 1 != 0,
+        class_writes: row.2 & 2 != 0,
+        listed: row.2 & 4 != 0,
     })
 }
 
-/// Classes and methods of the texts, and those that no text has.
-const CALL_NAMES: &[(&str, &str)] = &[
-    ("counter", "get"),
-    ("counter", "z"),
-    ("vault", "z"),
-    ("z", "z"),
-];
-
-/// No call; of each of these names one that reads off the default list, and those on it that read, write or both; and one
-/// that reads with one of the names before that writes.
-fn every_sets(alloc: Global) -> Result<Vec<Calls>, Fail> {
-    let mut sets = Vec::new(alloc);
-    sets.push(Calls::from_vec(Vec::new(alloc)))?;
-    let mut before = ("z", "z");
-    for names in CALL_NAMES {
-        for bits in [1u8, 5, 6, 7] {
-            sets.push(Calls::from_vec(vec![in alloc; call_of(alloc, *names, bits)?]?))?;
-        }
-        let two = vec![in alloc; call_of(alloc, *names, 5)?, call_of(alloc, before, 6)?]?;
-        sets.push(Calls::from_vec(two))?;
-        before = *names;
+fn calls_of(alloc: Global, rows: &[CallRow]) -> Result<Calls, OutOfMemory> {
+    let mut calls = Vec::new(alloc);
+    for row in rows {
+        calls.push(call_of(alloc, row)?)?;
     }
-    Ok(sets)
+    Ok(Calls::from_vec(calls))
+}
+
+/// The set of calls of this number over a registry, of which the own one has three, so eight sets.
+fn set_of(alloc: Global, registry: Registry, number: usize) -> Result<Calls, OutOfMemory> {
+    match registry {
+        Registry::Own => own_calls(alloc, number),
+        Registry::Every => match SETS.get(number) {
+            Some(rows) => calls_of(alloc, rows),
+            None => Ok(Calls::from_vec(Vec::new(alloc))),
+        },
+    }
 }
 
 /// All reads and writes, with each set of calls over a registry.
-fn all_needs(alloc: Global, registry: Registry) -> Result<Vec<Needs>, Fail> {
+fn all_needs(alloc: Global, registry: Registry) -> Result<Vec<Needs>, OutOfMemory> {
+    let sets = match registry {
+        Registry::Own => 8usize,
+        Registry::Every => SETS.len(),
+    };
     let mut all = Vec::new(alloc);
     for (reads, writes) in [(false, false), (true, false), (false, true), (true, true)] {
-        let sets = match registry {
-            Registry::Own => own_sets(alloc)?,
-            Registry::Every => every_sets(alloc)?,
-        };
-        for calls in sets {
+        for number in 0..sets {
+            let calls = set_of(alloc, registry, number)?;
             all.push(Needs {
                 reads,
                 writes,
@@ -189,12 +240,18 @@ fn shows_at(
     needs: &[Needs],
 ) -> bool {
     // (the first needs ask nothing, and tell whether the new grants match)
-    let matches = needs
-        .first()
-        .is_some_and(|nothing| grants_allow(new, target, nothing));
-    matches
-        && needs.iter().any(|needs| grants_allow(new, target, needs)
-            && !grants_allow(old.grants(), target, needs))
+    let [nothing, ..] = needs else {
+        return false;
+    };
+    if !grants_allow(new, target, nothing) {
+        return false;
+    }
+    for needs in needs {
+        if grants_allow(new, target, needs) && !grants_allow(old.grants(), target, needs) {
+            return true;
+        }
+    }
+    false
 }
 
 /// Whether some request over the alphabets is allowed by the new grants and denied by the old one.
@@ -219,36 +276,61 @@ fn gains(old: &Ticket, new: &[(Path, AllowGrant)], tags: &[Tags], needs: &[Needs
     false
 }
 
-/// The paths of the new text's grants that by themselves show something over the alphabets.
-fn found_by_looking(
-    alloc: Global,
-    needs: &[Needs],
-    old: &Ticket,
-    new: &Ticket,
-) -> Result<String, Fail> {
-    let tags = all_tags(alloc)?;
-    let mut paths = String::new(alloc);
-    for entry in new.grants() {
-        let one = vec![in alloc; (entry.0.copy()?, entry.1.copy()?)]?;
-        if gains(old, one.as_slice(), &tags, needs) {
-            write!(paths, "{} ", entry.0)?;
-        }
+/// Whether an example is of this one grant.
+fn is_of(example: Option<&Example>, one: &[(Path, AllowGrant)]) -> bool {
+    match (example, one) {
+        (Some(example), [grant]) => example.path.as_slice() == grant.0.as_slice(),
+        _ => false,
     }
-    Ok(paths)
 }
 
-fn found_by_widening(
+/// Whether the examples are of the new grants that by themselves show something over the alphabets, in their order.
+fn are_found(
+    examples: &[Example],
+    old: &Ticket,
+    new: &Ticket,
+    tags: &[Tags],
+    needs: &[Needs],
+) -> bool {
+    let mut told = examples.iter();
+    for one in new.grants().chunks(1) {
+        if gains(old, one, tags, needs) && !is_of(told.next(), one) {
+            return false;
+        }
+    }
+    told.next().is_none()
+}
+
+/// Whether a comparison finds what looking finds.
+fn is_the_same(
     alloc: Global,
     registry: Registry,
-    old: &str,
-    new: &Ticket,
-) -> Result<String, Fail> {
-    let old = ticket(alloc, old, None)?;
-    let mut paths = String::new(alloc);
-    for example in &widening_by(alloc, registry, &old, new)? {
-        write!(paths, "{} ", example.path)?;
+    texts: (&str, &str),
+    tags: &[Tags],
+    needs: &[Needs],
+) -> Result<bool, Fail> {
+    let old = ticket(alloc, texts.0, None)?;
+    let new = ticket(alloc, texts.1, None)?;
+    let examples = widening_by(alloc, registry, &old, &new)?;
+    Ok(are_found(examples.as_slice(), &old, &new, tags, needs))
+}
+
+fn expect_pairs(
+    rt: &impl Abort,
+    alloc: Global,
+    registry: Registry,
+    pairs: u32,
+    tags: &[Tags],
+    needs: &[Needs],
+) -> Result<(), Fail> {
+    let mut row = 20u64;
+    for _ in 0..pairs {
+        let old = draw_text(alloc, &mut row)?;
+        let new = draw_text(alloc, &mut row)?;
+        let right = is_the_same(alloc, registry, (old.as_str(), new.as_str()), tags, needs)?;
+        assert!(rt; right, "{old} to {new}");
     }
-    Ok(paths)
+    Ok(())
 }
 
 fn expect_the_same(
@@ -257,18 +339,9 @@ fn expect_the_same(
     registry: Registry,
     pairs: u32,
 ) -> Result<(), Fail> {
+    let tags = all_tags(alloc)?;
     let needs = all_needs(alloc, registry)?;
-    let mut row = 20u64;
-    for _ in 0..pairs {
-        let old_text = draw_text(alloc, &mut row)?;
-        let new_text = draw_text(alloc, &mut row)?;
-        let old = ticket(alloc, old_text.as_str(), None)?;
-        let new = ticket(alloc, new_text.as_str(), None)?;
-        let looked = found_by_looking(alloc, &needs, &old, &new)?;
-        let found = found_by_widening(alloc, registry, old_text.as_str(), &new)?;
-        assert_eq!(rt; found.as_str(), looked.as_str(), "{old_text} to {new_text}");
-    }
-    Ok(())
+    expect_pairs(rt, alloc, registry, pairs, &tags, &needs)
 }
 
 #[test]

@@ -4,8 +4,6 @@
 #![tactic(auto)]
 
 #[cfg(test)]
-mod calls_by_words;
-#[cfg(test)]
 mod capability_texts;
 #[cfg(test)]
 mod comparisons_by_force;

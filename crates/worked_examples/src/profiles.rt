@@ -1,42 +1,12 @@
-//! Worked examples.
+//! Profiles that are added, and what their uses come to. `sessions/texts/expanded.console` shows those that are built in.
 
-use cap_text::{Access, AllowGrant, CapList, NsMatch, parse};
+use cap_text::{CapList, parse, push_allow};
 use common_types::OutOfMemory;
 use grant_core::{ExpandFault, GrantTree, Path, ProfileTable, expand};
 use std::alloc::Global;
 use std::fmt::Write;
 use std::process::Abort;
 use std::test::Fail;
-
-fn write_namespace(shown: &mut String, namespace: &NsMatch) -> Result<(), OutOfMemory> {
-    match namespace {
-        NsMatch::Exact(name) => write!(shown, " namespace={}", name.as_str()),
-        NsMatch::Prefix(name) => write!(shown, " namespace={}*", name.as_str()),
-    }
-}
-
-fn write_grant(shown: &mut String, grant: &AllowGrant) -> Result<(), OutOfMemory> {
-    if let Access::Flags(flags) = &grant.access {
-        let word = match (flags.read, flags.write, flags.class_read, flags.class_write) {
-            (true, false, false, false) => "r",
-            (true, true, false, false) => "rw",
-            (true, false, true, false) => "r class-read",
-            (true, true, true, true) => "rwx",
-            _ => "others",
-        };
-        write!(shown, "allow {word}")?;
-    }
-    if let Some(pool) = &grant.pool {
-        write!(shown, " pool={}", pool.as_str())?;
-    }
-    if let Some(namespace) = &grant.namespace {
-        write_namespace(shown, namespace)?;
-    }
-    if grant.tag.is_some() {
-        write!(shown, " tag a b=c")?;
-    }
-    Ok(())
-}
 
 // The paths and the grants of a tree.
 fn show(alloc: Global, tree: &GrantTree) -> Result<String, OutOfMemory> {
@@ -46,7 +16,7 @@ fn show(alloc: Global, tree: &GrantTree) -> Result<String, OutOfMemory> {
             write!(shown, "; ")?;
         }
         write!(shown, "{path} ")?;
-        write_grant(&mut shown, grant)?;
+        push_allow(&mut shown, grant)?;
     }
     Ok(shown)
 }
@@ -113,17 +83,8 @@ const OWN: &[(&str, &str, &str); 1] = &[(
     "added",
 )];
 
-const USES: &[(&str, &str); 6] = &[
+const USES: &[(&str, &str); 3] = &[
     ("", ""),
-    ("allow r", "1 allow r"),
-    (
-        "profile read-only, profile read-write",
-        "1.1 allow r; 2.1 allow rw",
-    ),
-    (
-        "profile rbd pool=vms namespace=a",
-        "1.1.1 allow r class-read pool=vms namespace=a; 1.2 allow rwx pool=vms namespace=a",
-    ),
     (
         "profile own pool=q namespace=m",
         "1.1 allow r pool=own; 1.2 allow rw pool=q namespace=n; 1.3 allow rwx pool=q namespace=m; 1.4.1 allow r pool=p",

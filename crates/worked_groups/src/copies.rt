@@ -1,10 +1,9 @@
 use common_types::{Name, Tags};
-use entry_core::{BoxedLog, Id, Items, OutOfMemory, Sealed, TryCopy};
+use entry_core::{BoxedLog, Id, OutOfMemory, Sealed, TryCopy};
 use map_core::PoolView;
 use peer_core::{Body, Daemon, IntervalSets, Message, Party, Role, Sent};
 use place_core::ActingSet;
 use std::alloc::Global;
-use std::process::Abort;
 use std::test::Fail;
 use verdict_core::{SharedTicket, Ticket};
 
@@ -26,8 +25,27 @@ use Says::{Append, Appended, Info, Install, Installed, Query, Request, Sets};
 // What must be sent, to whom, in order.
 type Sends = &'static [(Party, &'static str)];
 
-// A message, and what must be sent.
-type Line = (Party, Says, Sends);
+// What happens to a daemon, or what must be seen of it.
+#[derive(Clone, Copy)]
+enum Line {
+    // A message, and what is sent.
+    On(Party, Says, Sends),
+    // What a kick sends.
+    Kick(Sends),
+    Restart,
+    // How many entries it has, how many of them are decided, and how many requests wait.
+    Counts(usize, usize, usize),
+    Entries(usize),
+    // Its number, its promise and its base.
+    Is(u8, u64, u64),
+    Base(u64),
+    Leads,
+    Idles,
+    // Its log has this request.
+    Has(u32),
+}
+
+use Line::{Base, Counts, Entries, Has, Idles, Is, Kick, Leads, On, Restart};
 
 const CLIENT: Party = Party::Client;
 
@@ -123,246 +141,257 @@ fn kind(body: &Body) -> &'static str {
     }
 }
 
-// What was sent must be these, in this order.
-fn expect_sent(rt: &impl Abort, sent: &Items<Sent>, want: Sends) {
-    assert_eq!(rt; sent.len(), want.len());
-    for (sent, (to, what)) in sent.as_slice().iter().zip(want) {
-        assert_eq!(rt; sent.to, *to);
-        assert_eq!(rt; kind(&sent.body), *what);
+// Whether what was sent is this, in this order.
+fn are_sent(sent: &[Sent], want: Sends) -> bool {
+    if sent.len() != want.len() {
+        return false;
     }
+    for (sent, (to, what)) in sent.iter().zip(want) {
+        if sent.to != *to || kind(&sent.body) != *what {
+            return false;
+        }
+    }
+    true
 }
 
-fn expect_kick(rt: &impl Abort, daemon: &Daemon, want: Sends) -> Result<(), Fail> {
-    let sent = daemon.kick()?;
-    expect_sent(rt, &sent, want);
-    Ok(())
-}
-
-fn expect_counts(rt: &impl Abort, daemon: &Daemon, entries: usize, decided: usize, waiting: usize) {
-    assert_eq!(rt; daemon.log().len(), entries);
-    assert_eq!(rt; daemon.decided().len(), decided);
-    assert_eq!(rt; daemon.waiting_count(), waiting);
-}
-
-// A message reaches a daemon.
-fn step(rt: &impl Abort, alloc: Global, daemon: &mut Daemon, line: Line) -> Result<(), Fail> {
-    let (from, says, want) = line;
+// Whether a message makes a daemon send this.
+fn does_send(
+    alloc: Global,
+    daemon: &mut Daemon,
+    from: Party,
+    says: Says,
+    want: Sends,
+) -> Result<bool, OutOfMemory> {
     let body = body(alloc, says)?;
     let sent = daemon.on(Message { from, body })?;
-    expect_sent(rt, &sent, want);
-    Ok(())
+    Ok(are_sent(sent.as_slice(), want))
 }
 
-// Messages reach a daemon, one after another.
-fn run(rt: &impl Abort, alloc: Global, daemon: &mut Daemon, lines: &[Line]) -> Result<(), Fail> {
-    for line in lines {
-        step(rt, alloc, daemon, *line)?;
+// Whether a daemon looks as a line says. One that asks for no look does.
+fn sees(daemon: &Daemon, line: Line) -> bool {
+    match line {
+        Counts(entries, decided, waiting) => {
+            daemon.log().len() == entries
+                && daemon.decided().len() == decided
+                && daemon.waiting_count() == waiting
+        }
+        Is(number, promise, base) => {
+            daemon.number() == number && daemon.promise() == promise && daemon.base() == base
+        }
+        Entries(count) => daemon.log().len() == count,
+        Base(base) => daemon.base() == base,
+        Leads => matches!(daemon.role(), Role::Active(None)),
+        Idles => matches!(daemon.role(), Role::Idle),
+        Has(number) => daemon.log().contains(Id::new(1, number)),
+        _ => true,
     }
-    Ok(())
+}
+
+// Whether a line goes as it says.
+fn goes(alloc: Global, daemon: &mut Daemon, line: Line) -> Result<bool, OutOfMemory> {
+    match line {
+        On(from, says, want) => does_send(alloc, daemon, from, says, want),
+        Kick(want) => Ok(are_sent(daemon.kick()?.as_slice(), want)),
+        Restart => {
+            daemon.restart();
+            Ok(true)
+        }
+        _ => Ok(sees(daemon, line)),
+    }
+}
+
+// How many of these lines go as they say, one after another, to the first that does not.
+fn run(alloc: Global, daemon: &mut Daemon, lines: &[Line]) -> Result<usize, OutOfMemory> {
+    for (gone, line) in lines.iter().enumerate() {
+        if !goes(alloc, daemon, *line)? {
+            return Ok(gone);
+        }
+    }
+    Ok(lines.len())
 }
 
 const APPENDS: Sends = &[(ONE, "append"), (TWO, "append")];
 
-// How daemon 0 of a set of three comes to lead interval 1.
-const LEADS: [Line; 5] = [
-    (
-        CLIENT,
-        Sets(1, &[0, 1, 2]),
-        &[(ONE, "query"), (TWO, "query")],
-    ),
-    (ONE, Info(1, 0, &[]), &[]),
-    (TWO, Info(1, 0, &[]), &[(ONE, "install"), (TWO, "install")]),
-    (ONE, Installed(1), &[]),
-    (TWO, Installed(1), &[]),
-];
+const QUERIES: Sends = &[(ONE, "query"), (TWO, "query")];
 
-// What a kick sends after each of these.
-const KICKS: [Sends; 5] = [
-    &[(ONE, "query"), (TWO, "query")],
-    &[(TWO, "query")],
-    &[(ONE, "install"), (TWO, "install")],
-    &[(TWO, "install")],
-    &[],
-];
+const INSTALLS: Sends = &[(ONE, "install"), (TWO, "install")];
 
-#[test]
-fn a_set_of_one_answers_at_once(rt: HostRuntime) -> Result<(), Fail> {
-    let mut one = Daemon::new(rt.alloc(), 0, 1);
-    let lines: [Line; 4] = [
-        (CLIENT, Sets(1, &[0]), &[]),
-        (CLIENT, Request(7), &[(CLIENT, "reply")]),
-        (CLIENT, Request(7), &[(CLIENT, "reply")]),
-        (CLIENT, Request(8), &[(CLIENT, "reply")]),
-    ];
-    run(&rt, rt.alloc(), &mut one, &lines)?;
-    expect_counts(&rt, &one, 2, 2, 0);
-    Ok(())
-}
+const REPLY: Sends = &[(CLIENT, "reply")];
+
+// A set of one answers at once.
+const ALONE: &[Line] = &[
+    On(CLIENT, Sets(1, &[0]), &[]),
+    On(CLIENT, Request(7), REPLY),
+    On(CLIENT, Request(7), REPLY),
+    On(CLIENT, Request(8), REPLY),
+    Counts(2, 2, 0),
+];
 
 // A request that comes to a leader of three is appended once, and answered when two have it.
-fn expect_appends(rt: &impl Abort, alloc: Global, leader: &mut Daemon) -> Result<(), Fail> {
-    run(rt, alloc, leader, &LEADS)?;
-    assert!(rt; matches!(leader.role(), Role::Active(None)));
-    let lines: [Line; 3] = [
-        (CLIENT, Request(7), APPENDS),
-        (CLIENT, Request(7), &[]),
-        (ONE, Appended(1, 1), &[]),
-    ];
-    run(rt, alloc, leader, &lines)?;
-    expect_counts(rt, leader, 1, 0, 0);
-    let lines: [Line; 2] = [
-        (TWO, Appended(1, 1), &[(CLIENT, "reply")]),
-        (CLIENT, Request(7), &[(CLIENT, "reply")]),
-    ];
-    run(rt, alloc, leader, &lines)?;
-    expect_counts(rt, leader, 1, 1, 0);
-    assert_eq!(rt;
-        (leader.number(), leader.promise(), leader.base()),
-        (0, 1, 1)
-    );
-    Ok(())
-}
-
-#[test]
-fn a_set_of_three_appends(rt: HostRuntime) -> Result<(), Fail> {
-    let mut leader = Daemon::new(rt.alloc(), 0, 2);
-    expect_appends(&rt, rt.alloc(), &mut leader)
-}
-
-// A second request waits until the first is decided, and is then appended.
-fn expect_turns(rt: &impl Abort, alloc: Global, leader: &mut Daemon) -> Result<(), Fail> {
-    run(rt, alloc, leader, &LEADS)?;
-    let lines: [Line; 4] = [
-        (CLIENT, Request(7), APPENDS),
-        (CLIENT, Request(8), &[]),
-        (CLIENT, Request(8), &[]),
-        (TWO, Appended(1, 1), &[]),
-    ];
-    run(rt, alloc, leader, &lines)?;
-    expect_counts(rt, leader, 1, 0, 1);
-    let want = &[(CLIENT, "reply"), (ONE, "append"), (TWO, "append")];
-    step(rt, alloc, leader, (ONE, Appended(1, 1), want))?;
-    expect_counts(rt, leader, 2, 1, 0);
-    Ok(())
-}
-
-#[test]
-fn requests_wait_for_their_turn(rt: HostRuntime) -> Result<(), Fail> {
-    let mut leader = Daemon::new(rt.alloc(), 0, 2);
-    expect_turns(&rt, rt.alloc(), &mut leader)
-}
-
-#[test]
-fn a_member_follows(rt: HostRuntime) -> Result<(), Fail> {
-    let mut member = Daemon::new(rt.alloc(), 1, 2);
-    let lines: [Line; 6] = [
-        (ZERO, Query(3), &[(ZERO, "info")]),
-        (ZERO, Query(2), &[]),
-        (ZERO, Install(3, &[5]), &[(ZERO, "installed")]),
-        (ZERO, Append(3, 2, 7), &[(ZERO, "appended")]),
-        (ZERO, Append(3, 2, 7), &[(ZERO, "appended")]),
-        (CLIENT, Request(9), &[(CLIENT, "not here")]),
-    ];
-    run(&rt, rt.alloc(), &mut member, &lines)?;
-    expect_counts(&rt, &member, 2, 0, 0);
-    assert_eq!(&rt;
-        (member.number(), member.promise(), member.base()),
-        (1, 3, 3)
-    );
-    Ok(())
-}
-
-#[test]
-fn the_greatest_base_is_chosen(rt: HostRuntime) -> Result<(), Fail> {
-    let mut leader = Daemon::new(rt.alloc(), 0, 2);
-    let lines: [Line; 3] = [
-        (
-            CLIENT,
-            Sets(2, &[0, 1, 2]),
-            &[(ONE, "query"), (TWO, "query")],
-        ),
-        (ONE, Info(2, 0, &[1, 2]), &[]),
-        (TWO, Info(2, 1, &[3]), &[(ONE, "install"), (TWO, "install")]),
-    ];
-    run(&rt, rt.alloc(), &mut leader, &lines)?;
-    assert!(&rt; leader.log().contains(Id::new(1, 3)));
-    assert_eq!(&rt; (leader.log().len(), leader.base()), (1, 2));
-    Ok(())
-}
-
-// A leader that restarts leads no more, and has what it had.
-fn expect_kept(rt: &impl Abort, alloc: Global, leader: &mut Daemon) -> Result<(), Fail> {
-    run(rt, alloc, leader, &LEADS)?;
-    step(rt, alloc, leader, (CLIENT, Request(7), APPENDS))?;
-    leader.restart();
-    step(rt, alloc, leader, (CLIENT, Sets(1, &[0, 1, 2]), &[]))?;
-    assert!(rt; matches!(leader.role(), Role::Idle));
-    assert_eq!(rt;
-        (leader.promise(), leader.base(), leader.log().len()),
-        (1, 1, 1)
-    );
-    Ok(())
-}
-
-#[test]
-fn a_restart_keeps_promise_base_and_log(rt: HostRuntime) -> Result<(), Fail> {
-    let mut leader = Daemon::new(rt.alloc(), 0, 2);
-    expect_kept(&rt, rt.alloc(), &mut leader)
-}
+const LED: &[Line] = &[
+    On(CLIENT, Sets(1, &[0, 1, 2]), QUERIES),
+    On(ONE, Info(1, 0, &[]), &[]),
+    On(TWO, Info(1, 0, &[]), INSTALLS),
+    On(ONE, Installed(1), &[]),
+    On(TWO, Installed(1), &[]),
+    Leads,
+    On(CLIENT, Request(7), APPENDS),
+    On(CLIENT, Request(7), &[]),
+    On(ONE, Appended(1, 1), &[]),
+    Counts(1, 0, 0),
+    On(TWO, Appended(1, 1), REPLY),
+    On(CLIENT, Request(7), REPLY),
+    Counts(1, 1, 0),
+    Is(0, 1, 1),
+];
 
 // After each message a kick sends again what was not answered.
-fn expect_kicks(rt: &impl Abort, alloc: Global, leader: &mut Daemon) -> Result<(), Fail> {
-    expect_kick(rt, leader, &[])?;
-    for (line, kick) in LEADS.iter().zip(&KICKS) {
-        step(rt, alloc, leader, *line)?;
-        expect_kick(rt, leader, *kick)?;
-    }
-    step(rt, alloc, leader, (CLIENT, Request(7), APPENDS))?;
-    step(rt, alloc, leader, (TWO, Appended(1, 1), &[]))?;
-    expect_kick(rt, leader, &[(ONE, "append")])
+const KICKED: &[Line] = &[
+    Kick(&[]),
+    On(CLIENT, Sets(1, &[0, 1, 2]), QUERIES),
+    Kick(QUERIES),
+    On(ONE, Info(1, 0, &[]), &[]),
+    Kick(&[(TWO, "query")]),
+    On(TWO, Info(1, 0, &[]), INSTALLS),
+    Kick(INSTALLS),
+    On(ONE, Installed(1), &[]),
+    Kick(&[(TWO, "install")]),
+    On(TWO, Installed(1), &[]),
+    Kick(&[]),
+    On(CLIENT, Request(7), APPENDS),
+    On(TWO, Appended(1, 1), &[]),
+    Kick(&[(ONE, "append")]),
+];
+
+// A second request waits until the first is decided, and is then appended.
+const IN_TURN: &[Line] = &[
+    On(CLIENT, Sets(1, &[0, 1, 2]), QUERIES),
+    On(ONE, Info(1, 0, &[]), &[]),
+    On(TWO, Info(1, 0, &[]), INSTALLS),
+    On(ONE, Installed(1), &[]),
+    On(TWO, Installed(1), &[]),
+    On(CLIENT, Request(7), APPENDS),
+    On(CLIENT, Request(8), &[]),
+    On(CLIENT, Request(8), &[]),
+    On(TWO, Appended(1, 1), &[]),
+    Counts(1, 0, 1),
+    On(
+        ONE,
+        Appended(1, 1),
+        &[(CLIENT, "reply"), (ONE, "append"), (TWO, "append")],
+    ),
+    Counts(2, 1, 0),
+];
+
+// A leader that restarts leads no more, and has what it had.
+const RESTARTED: &[Line] = &[
+    On(CLIENT, Sets(1, &[0, 1, 2]), QUERIES),
+    On(ONE, Info(1, 0, &[]), &[]),
+    On(TWO, Info(1, 0, &[]), INSTALLS),
+    On(ONE, Installed(1), &[]),
+    On(TWO, Installed(1), &[]),
+    On(CLIENT, Request(7), APPENDS),
+    Restart,
+    On(CLIENT, Sets(1, &[0, 1, 2]), &[]),
+    Idles,
+    Is(0, 1, 1),
+    Entries(1),
+];
+
+// The greatest base is chosen.
+const CHOSEN: &[Line] = &[
+    On(CLIENT, Sets(2, &[0, 1, 2]), QUERIES),
+    On(ONE, Info(2, 0, &[1, 2]), &[]),
+    On(TWO, Info(2, 1, &[3]), INSTALLS),
+    Has(3),
+    Entries(1),
+    Base(2),
+];
+
+// A member follows.
+const FOLLOWED: &[Line] = &[
+    On(ZERO, Query(3), &[(ZERO, "info")]),
+    On(ZERO, Query(2), &[]),
+    On(ZERO, Install(3, &[5]), &[(ZERO, "installed")]),
+    On(ZERO, Append(3, 2, 7), &[(ZERO, "appended")]),
+    On(ZERO, Append(3, 2, 7), &[(ZERO, "appended")]),
+    On(CLIENT, Request(9), &[(CLIENT, "not here")]),
+    Counts(2, 0, 0),
+    Is(1, 3, 3),
+];
+
+// Daemons by their numbers and their least sizes, and what happens to each.
+const DAEMONS: [(u8, usize, &[Line]); 7] = [
+    (0, 1, ALONE),
+    (0, 2, LED),
+    (0, 2, KICKED),
+    (0, 2, IN_TURN),
+    (0, 2, RESTARTED),
+    (0, 2, CHOSEN),
+    (1, 2, FOLLOWED),
+];
+
+// How many of the lines of a daemon go as they say.
+fn played(
+    alloc: Global,
+    number: u8,
+    min_size: usize,
+    lines: &[Line],
+) -> Result<usize, OutOfMemory> {
+    let mut daemon = Daemon::new(alloc, number, min_size);
+    run(alloc, &mut daemon, lines)
 }
 
 #[test]
-fn a_kick_sends_again_what_was_not_answered(rt: HostRuntime) -> Result<(), Fail> {
-    let mut leader = Daemon::new(rt.alloc(), 0, 2);
-    expect_kicks(&rt, rt.alloc(), &mut leader)
-}
-
-// The daemon sends what it is to send at a message, and says so in a copy of what it sends.
-fn expect_appends_in_copy(
-    rt: &impl Abort,
-    daemon: &mut Daemon,
-    message: Message,
-) -> Result<(), Fail> {
-    let sent = daemon.on(message)?;
-    expect_sent(rt, &sent.copy()?, APPENDS);
+fn daemons_answer_messages(rt: HostRuntime) -> Result<(), Fail> {
+    for (number, min_size, lines) in DAEMONS {
+        assert_eq!(rt;
+            played(rt.alloc(), number, min_size, lines)?,
+            lines.len(),
+            "{number}"
+        );
+    }
     Ok(())
 }
 
-// Two daemons do the same at a message and its copy.
-fn expect_same(
-    rt: &impl Abort,
-    alloc: Global,
-    leader: &mut Daemon,
+// Whether a daemon and its copy send the same at a message and its copy, also by a copy of what is sent.
+fn copies_send(
+    daemon: &mut Daemon,
     copy: &mut Daemon,
-) -> Result<(), Fail> {
+    message: Message,
+    want: Sends,
+) -> Result<bool, OutOfMemory> {
+    let copied = copy.on(message.copy()?)?.copy()?;
+    if !are_sent(copied.as_slice(), want) {
+        return Ok(false);
+    }
+    let sent = daemon.on(message)?;
+    Ok(are_sent(sent.as_slice(), want))
+}
+
+// Whether a copy of a leader does as the leader does.
+fn is_copied(alloc: Global, leader: &mut Daemon) -> Result<bool, OutOfMemory> {
     let message = Message {
         from: CLIENT,
         body: Body::Request(request(alloc, 7)?),
     };
-    expect_appends_in_copy(rt, copy, message.copy()?)?;
-    expect_appends_in_copy(rt, leader, message)
+    let mut copy = leader.copy()?;
+    copies_send(leader, &mut copy, message, APPENDS)
 }
 
-// A copy of a leader does as the leader does.
-fn expect_equal(rt: &impl Abort, alloc: Global, leader: &mut Daemon) -> Result<(), Fail> {
-    run(rt, alloc, leader, &LEADS)?;
-    let mut copy = leader.copy()?;
-    expect_same(rt, alloc, leader, &mut copy)
-}
+// How daemon 0 of a set of three comes to lead interval 1.
+const LEADING: &[Line] = &[
+    On(CLIENT, Sets(1, &[0, 1, 2]), QUERIES),
+    On(ONE, Info(1, 0, &[]), &[]),
+    On(TWO, Info(1, 0, &[]), INSTALLS),
+    On(ONE, Installed(1), &[]),
+    On(TWO, Installed(1), &[]),
+];
 
 #[test]
 fn copies_are_equal(rt: HostRuntime) -> Result<(), Fail> {
     let mut leader = Daemon::new(rt.alloc(), 0, 2);
-    expect_equal(&rt, rt.alloc(), &mut leader)
+    assert_eq!(rt; run(rt.alloc(), &mut leader, LEADING)?, 5);
+    assert!(rt; is_copied(rt.alloc(), &mut leader)?);
+    Ok(())
 }

@@ -1,9 +1,7 @@
 mod limits;
 mod moves;
-mod peering;
-mod recovery;
+mod moving;
 mod requests;
 mod schedules;
-mod serving;
 mod sets;
 mod steps;

@@ -1,11 +1,11 @@
-//! Logs: requests that are decided one after another, and what they are answered.
+//! Logs by each call: what is sealed, decided, found and copied. `sessions/logs` shows what requests are answered, one after another.
 
 ghost use Rattle.std.specs.Prelude.{◌≤◌, IfOk};
 
-use crate::operations::{append, call};
+use crate::operations::append;
 use crate::tickets::ticket_of;
-use Says::{Denies, Fails, Gives, Lists};
-use Work::{Add, Append, Get, List, Read, Remove, Stat};
+use Says::{Denies, Gives, Lists};
+use Work::{Append, List, Read};
 use common_types::{Name, Tags};
 use entry_core::{
     BoxedLog, Entry, Id, Items, Log, OutOfMemory, Reply, Sealed, TryCopy, reply_number,
@@ -25,20 +25,15 @@ const TICK: u64 = 9;
 enum Work {
     Append,
     Read,
-    Stat,
-    Remove,
-    Add,
-    Get,
     List(u32),
 }
 
-/// What is answered: an output, a condition of a denial that has one line of the path 1, a number, or names.
+/// What is answered: an output, a condition of a denial that has one line of the path 1, or one name.
 #[derive(Clone, Copy)]
 enum Says {
     Gives(&'static str),
     Denies(Condition),
-    Fails(u32),
-    Lists(&'static [&'static str]),
+    Lists(&'static str),
 }
 
 /// A request's number, the text of who asks, the object, what is asked, and what is answered. Vectors are asked for in
@@ -63,10 +58,6 @@ fn view(alloc: Global) -> Result<PoolView, OutOfMemory>
 fn op(alloc: Global, work: Work) -> Result<Op, OutOfMemory> {
     match work {
         Append => append(alloc, "a"),
-        Remove => Ok(Op::Remove),
-        Stat => Ok(Op::Stat),
-        Add => call(alloc, "add", "1"),
-        Get => call(alloc, "get", ""),
         Read | List(_) => Ok(Op::Read {
             offset: 0,
             length: 0,
@@ -120,10 +111,10 @@ fn listing(
     )
 }
 
-/// The request of a row, by a ticket that ends at a tick or never.
-fn sealed(alloc: Global, row: &Row, until: Option<u64>) -> Result<Sealed, NeedsFault> {
+/// The request of a row.
+fn sealed(alloc: Global, row: &Row) -> Result<Sealed, NeedsFault> {
     let (number, text, object, work, _) = *row;
-    let ticket = ticket_of(alloc, text, until)?;
+    let ticket = ticket_of(alloc, text)?;
     if let List(group) = work {
         return Ok(listing(alloc, number, ticket, group)?);
     }
@@ -148,26 +139,19 @@ fn are(outputs: &[Bytes], output: &str) -> bool {
     }
 }
 
-/// Whether names are these, in this order.
-fn are_names(names: &[Name], wanted: &[&str]) -> bool {
-    let mut same = names.len() == wanted.len();
-    for (name, text) in names.iter().zip(wanted) {
-        same = same && name.as_str() == *text;
-    }
-    same
-}
-
 /// Whether a reply says this, and has its number.
 fn is_said(reply: &Reply, wanted: Says) -> bool {
     let number = reply_number(reply);
     match (reply, wanted) {
         (Reply::Done(outputs), Gives(output)) => number == 0 && are(outputs.as_slice(), output),
-        (Reply::Names(names), Lists(wanted)) => number == 0 && are_names(names.as_slice(), wanted),
+        (Reply::Names(names), Lists(name)) => match names.as_slice() {
+            [only] => number == 0 && only.as_str() == name,
+            _ => false,
+        },
         (Reply::Denied(report), Denies(condition)) => match report.lines() {
             [line] => number == 1 && line.0.as_slice() == [1].as_slice() && line.1 == condition,
             _ => false,
         },
-        (Reply::Failed { .. }, Fails(wanted)) => number == wanted,
         _ => false,
     }
 }
@@ -179,124 +163,49 @@ fn finds(log: &Log, id: Id, wanted: Says) -> bool {
     }
 }
 
-/// Whether the request of a row is answered as it says, once it is decided.
-fn goes(alloc: Global, log: &mut Log, row: &Row, until: Option<u64>) -> Result<bool, NeedsFault> {
-    let sealed = sealed(alloc, row, until)?;
-    add(log, &sealed)?;
-    Ok(finds(log, sealed.id(), row.4))
-}
-
-/// Decides the requests of rows, one after another.
-fn expect(
-    rt: &impl Abort,
-    alloc: Global,
-    log: &mut Log,
-    rows: &[Row],
-    until: Option<u64>,
-) -> Result<(), Fail> {
-    for row in rows {
-        let right = goes(alloc, log, row, until)?;
-        assert!(rt; right, "{}", row.0);
-    }
-    Ok(())
-}
-
-/// Whether the rows of a log that were decided are still answered so.
-fn expect_still(rt: &impl Abort, log: &Log, session: u32, rows: &[Row]) {
-    for row in rows {
-        let right = finds(log, Id::new(session, row.0), row.4);
-        assert!(rt; right, "{}", row.0);
-    }
-}
-
-const DENIALS: &[Row; 6] = &[
-    (1, "allow r", "x", Append, Denies(Condition::Write)),
-    (2, "allow rw", "x", Read, Fails(2)),
-    (3, "allow w", "x", Read, Denies(Condition::Read)),
-    (4, "allow rw", "x", Append, Gives("")),
-    (5, "allow w", "x", Read, Denies(Condition::Read)),
-    (6, "allow rw", "x", Read, Gives("a")),
-];
-
-#[test]
-fn denials_are_sealed_and_change_nothing(rt: HostRuntime) -> Result<(), Fail> {
-    let mut log = Log::new(rt.alloc());
-    expect(&rt, rt.alloc(), &mut log, DENIALS, None)?;
-    expect_still(&rt, &log, 1, DENIALS);
-    assert!(rt; !sealed(rt.alloc(), &DENIALS[0], None)?.is_allowed());
-    Ok(())
-}
-
-const COUNTS: &[Row; 4] = &[
-    (1, "allow rwx", "x", Add, Gives("1")),
-    (2, "allow rwx", "x", Get, Gives("1")),
-    (3, "allow rwx", "x", Remove, Gives("")),
-    (4, "allow rwx", "x", Stat, Fails(2)),
-];
-
-#[test]
-fn a_counter_counts(rt: HostRuntime) -> Result<(), Fail> {
-    let mut log = Log::new(rt.alloc());
-    expect(&rt, rt.alloc(), &mut log, COUNTS, None)
-}
-
-const NAMES: &[Row; 10] = &[
-    (1, "allow rw", "pear", Append, Gives("")),
-    (2, "allow rw", "x", Append, Gives("")),
-    (3, "allow rw", "e", Append, Gives("")),
-    (4, "allow rw", "z", Append, Gives("")),
-    (5, "allow rw", "c", Append, Gives("")),
-    (6, "allow rw", "apple", Append, Gives("")),
-    (7, "allow rw", "b", Append, Gives("")),
-    (8, "allow rw", "ab", Append, Gives("")),
-    (9, "allow rw", "d", Append, Gives("")),
-    (10, "allow rw", "a", Append, Gives("")),
-];
-
-/// The names that each of four groups has, in order.
-const LISTED: &[Row; 5] = &[
-    (0, "allow r", "", List(0), Lists(&["b", "z"])),
-    (1, "allow r", "", List(1), Lists(&["a", "ab", "e"])),
-    (
-        2,
-        "allow r",
-        "",
-        List(2),
-        Lists(&["apple", "d", "pear", "x"]),
-    ),
-    (3, "allow r", "", List(3), Lists(&["c"])),
-    (9, "allow w", "", List(0), Denies(Condition::Read)),
-];
-
-#[test]
-fn names_are_listed_by_group_in_order(rt: HostRuntime) -> Result<(), Fail> {
-    let mut log = Log::new(rt.alloc());
-    expect(&rt, rt.alloc(), &mut log, NAMES, None)?;
-    expect(&rt, rt.alloc(), &mut log, LISTED, None)?;
-    expect_still(&rt, &log, 2, LISTED);
-    Ok(())
-}
-
 const TWO: &[Row; 2] = &[
     (1, "allow rw", "x", Append, Gives("")),
     (2, "allow rw", "x", Read, Gives("a")),
 ];
 
-/// What a log decides of a third request, which it does not keep.
-fn would_read(alloc: Global, log: &Log) -> Result<bool, NeedsFault> {
-    let third = sealed(alloc, &(3, "allow rw", "x", Read, Gives("a")), None)?;
-    let decided = log.decide(&third)?;
-    Ok(is_said(&decided.entry().reply, Gives("a")))
+/// What a log of these two decides of a third request. The object x is in group 2 of four.
+const THIRD: &[Row; 4] = &[
+    (3, "allow rw", "x", Read, Gives("a")),
+    (3, "allow r", "x", Append, Denies(Condition::Write)),
+    (1, "allow r", "", List(2), Lists("x")),
+    (1, "allow w", "", List(2), Denies(Condition::Read)),
+];
+
+/// A log of the two requests.
+fn of_two(alloc: Global) -> Result<Log, NeedsFault> {
+    let mut log = Log::new(alloc);
+    for row in TWO {
+        add(&mut log, &sealed(alloc, row)?)?;
+    }
+    Ok(log)
 }
 
-fn expect_two(rt: &impl Abort, alloc: Global, log: &Log) -> Result<(), Fail> {
+/// Whether a log decides of the request of a row what it says.
+fn decides(alloc: Global, log: &Log, row: &Row) -> Result<bool, NeedsFault> {
+    let sealed = sealed(alloc, row)?;
+    let decided = log.decide(&sealed)?;
+    Ok(is_said(&decided.entry().reply, row.4))
+}
+
+fn expect_third(rt: &impl Abort, alloc: Global, log: &Log) -> Result<(), Fail> {
+    for (place, row) in THIRD.iter().enumerate() {
+        assert!(rt; decides(alloc, log, row)?, "{place}");
+    }
+    Ok(())
+}
+
+fn expect_two(rt: &impl Abort, log: &Log) {
     assert!(rt; log.len() == 2 && log.entries().len() == 2);
     assert!(rt; log.contains(Id::new(1, 2)) && !log.contains(Id::new(2, 1)));
-    expect_still(rt, log, 1, TWO);
+    assert!(rt; finds(log, Id::new(1, 1), Gives("")) && finds(log, Id::new(1, 2), Gives("a")));
     assert!(rt; log.find_before_last(Id::new(1, 1)).is_some());
     assert!(rt; log.find_before_last(Id::new(1, 2)).is_none());
-    assert!(rt; would_read(alloc, log)?);
-    Ok(())
+    assert!(rt; is_last(log, Id::new(1, 2)));
 }
 
 /// Whether the last entry of a log has this id.
@@ -307,27 +216,12 @@ fn is_last(log: &Log, id: Id) -> bool {
     }
 }
 
-/// The same of a copy.
-fn expect_copy(rt: &impl Abort, alloc: Global, log: &Log) -> Result<(), Fail> {
-    let copy = log.copy()?;
-    assert!(rt; is_last(&copy, Id::new(1, 2)));
-    expect_two(rt, alloc, &copy)
-}
-
 #[test]
 fn entries_are_found(rt: HostRuntime) -> Result<(), Fail> {
-    let mut log = Log::new(rt.alloc());
-    expect(&rt, rt.alloc(), &mut log, TWO, None)?;
-    expect_copy(&rt, rt.alloc(), &log)?;
-    expect_two(&rt, rt.alloc(), &log)
-}
-
-/// A log of one entry, on the heap.
-fn boxed(alloc: Global) -> Result<BoxedLog, NeedsFault> {
-    let mut log = Log::new(alloc);
-    let sealed = sealed(alloc, &TWO[0], None)?;
-    add(&mut log, &sealed)?;
-    Ok(BoxedLog::new(log)?)
+    let log = of_two(rt.alloc())?;
+    expect_two(&rt, &log);
+    expect_two(&rt, &log.copy()?);
+    expect_third(&rt, rt.alloc(), &log)
 }
 
 /// How many entries it has when it comes back, and how many its copy has.
@@ -338,9 +232,9 @@ fn lengths(boxed: BoxedLog) -> Result<(usize, usize), OutOfMemory> {
 
 #[test]
 fn a_log_goes_to_the_heap_and_back(rt: HostRuntime) -> Result<(), Fail> {
-    let boxed = boxed(rt.alloc())?;
+    let boxed = BoxedLog::new(of_two(rt.alloc())?)?;
     assert!(rt; boxed.as_log().contains(Id::new(1, 1)));
-    assert!(rt; lengths(boxed)? == (1, 1));
+    assert!(rt; lengths(boxed)? == (2, 2));
     Ok(())
 }
 
@@ -371,9 +265,10 @@ fn copied_number(sealed: Sealed) -> Result<u32, OutOfMemory> {
 
 #[test]
 fn what_is_sealed_is_kept(rt: HostRuntime) -> Result<(), Fail> {
-    let sealed = sealed(rt.alloc(), &(7, "allow rw", "x", Append, Gives("")), None)?;
+    let sealed = sealed(rt.alloc(), &(7, "allow rw", "x", Append, Gives("")))?;
     assert!(rt; sealed.id().session() == 1 && sealed.id().number() == 7);
     assert!(rt; sealed.view().pg_num == 4 && sealed.namespace().is_empty());
+    assert!(rt; sealed.is_allowed() && sealed.group_number() == 0);
     assert!(rt; is_in_the_first_group(&sealed)?);
     assert!(rt; operations(&sealed)? == Some(1));
     assert!(rt; copied_number(sealed)? == 17);
@@ -382,53 +277,25 @@ fn what_is_sealed_is_kept(rt: HostRuntime) -> Result<(), Fail> {
 
 #[test]
 fn a_listing_has_no_operations(rt: HostRuntime) -> Result<(), Fail> {
-    let listing = sealed(rt.alloc(), &LISTED[0], None)?;
+    let listing = sealed(rt.alloc(), &(0, "allow w", "", List(0), Lists("")))?;
+    assert!(rt; !listing.is_allowed());
     assert!(rt; operations(&listing)? == None);
     Ok(())
 }
 
-/// So many appends, and a call in the end.
-fn many(alloc: Global, appends: u32, method: Option<&str>) -> Result<Vec<Op>, OutOfMemory> {
-    let mut ops = Vec::new(alloc);
-    for _ in 0..appends {
-        ops.push(append(alloc, "a")?)?;
-    }
-    if let Some(method) = method {
-        ops.push(call(alloc, method, "")?)?;
-    }
-    Ok(ops)
-}
-
-/// The fault of these operations.
-fn fault(alloc: Global, appends: u32, method: Option<&str>) -> Result<Option<NeedsFault>, Fail> {
-    let all = ticket_of(alloc, "allow rwx", None)?;
-    let ops = many(alloc, appends, method)?;
-    Ok(match vector(alloc, 1, all, "x", ops) {
+/// The fault of a vector without operations.
+fn fault_of_none(alloc: Global) -> Result<Option<NeedsFault>, OutOfMemory> {
+    let all = ticket_of(alloc, "allow rwx")?;
+    Ok(match vector(alloc, 1, all, "x", Vec::new(alloc)) {
         Ok(_) => None,
         Err(fault) => Some(fault),
     })
 }
 
-/// How many appends there are, the method of a call in the end, and the fault.
-const FAULTS: &[(u32, Option<&str>, Option<NeedsFault>); 5] = &[
-    (0, None, Some(NeedsFault::EmptyVector)),
-    (16, None, None),
-    (17, None, Some(NeedsFault::TooManyOps)),
-    (1, Some("set"), Some(NeedsFault::NoMethod)),
-    (1, Some("get"), None),
-];
-
-fn expect_faults(rt: &impl Abort, alloc: Global) -> Result<(), Fail> {
-    for (appends, method, wanted) in FAULTS {
-        let found = fault(alloc, *appends, *method)?;
-        assert!(rt; found == *wanted, "{appends}");
-    }
-    Ok(())
-}
-
 #[test]
 fn faults_of_needs_are_not_sealed(rt: HostRuntime) -> Result<(), Fail> {
-    expect_faults(&rt, rt.alloc())
+    assert!(rt; fault_of_none(rt.alloc())? == Some(NeedsFault::EmptyVector));
+    Ok(())
 }
 
 /// Three numbers.
@@ -448,15 +315,4 @@ fn items_are_a_list(rt: HostRuntime) -> Result<(), Fail> {
     assert!(rt; items.as_slice() == [4u64].as_slice() && items.len() == 1);
     assert!(rt; copy.into_vec().as_slice() == [4u64, 5, 6].as_slice());
     Ok(())
-}
-
-const OVER: &[Row; 1] = &[(1, "allow rw", "x", Read, Denies(Condition::Expired))];
-
-const GOOD: &[Row; 1] = &[(2, "allow rw", "x", Append, Gives(""))];
-
-#[test]
-fn a_ticket_is_judged_at_the_tick_of_submission(rt: HostRuntime) -> Result<(), Fail> {
-    let mut log = Log::new(rt.alloc());
-    expect(&rt, rt.alloc(), &mut log, OVER, Some(TICK))?;
-    expect(&rt, rt.alloc(), &mut log, GOOD, Some(TICK + 1))
 }

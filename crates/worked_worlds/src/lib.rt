@@ -1,4 +1,5 @@
-//! The worked examples of worlds, as tests. Each calls only what is public.
+//! What only a world's calls show, as tests: old epochs, the audit, groups that are asked for, and lists of events. Each calls only what is public.
+//! `sessions/` shows what happens in worlds.
 //!
 //! They stand here and not beside the code, since a crate with tests is proved a second time with them.
 #![tactic(auto)]
@@ -8,20 +9,10 @@ mod answers;
 #[cfg(test)]
 mod events;
 #[cfg(test)]
-mod failover;
-#[cfg(test)]
-mod group_refusals;
-#[cfg(test)]
-mod limits;
+mod groups;
 #[cfg(test)]
 mod lines;
 #[cfg(test)]
-mod looks;
-#[cfg(test)]
 mod refusals;
 #[cfg(test)]
-mod replies;
-#[cfg(test)]
-mod telling;
-#[cfg(test)]
-mod words;
+mod runs;

@@ -1,6 +1,6 @@
 //! Full groups, requests taken back, copies, and how faults print.
 
-use super::requests::{May, Work, request};
+use super::requests::{Work, request};
 use super::sets::Who;
 use super::steps::Step::{
     Ask, Audit, Audited, Doubled, GivesTwo, Has, IsFull, Lacks, Lose, Move, Named, Open, Refused,
@@ -13,39 +13,43 @@ use object_core::NeedsFault;
 use std::alloc::Global;
 use std::test::Fail;
 
+// A request is taken back, and its number can be taken again.
+const TAKEN_BACK: &[Step; 15] = &[
+    Named("data", 5),
+    Settle(11),
+    Ask(1, Work::Append("a")),
+    Has(1),
+    Wire(1),
+    TakeBack(2),
+    Lacks(2),
+    Has(1),
+    Wire(1),
+    Ask(2, Work::AppendRead),
+    Has(2),
+    Wire(2),
+    Settle(12),
+    GivesTwo(2, "", "aa"),
+    Audit(&[1, 2]),
+];
+
+// The same in a group of nobody.
+const SENT_TO_NOBODY: &[Step; 10] = &[
+    Move(Who::Nobody, Who::Three),
+    Wire(3),
+    Ask(1, Work::Append("a")),
+    TakeBack(2),
+    Has(1),
+    Lacks(2),
+    Wire(3),
+    Move(Who::Three, Who::Three),
+    SettleAll,
+    Audit(&[1]),
+];
+
 #[test]
 fn a_request_taken_back(rt: HostRuntime) -> Result<(), Fail> {
-    let steps = [
-        Named("data", 5),
-        Settle(11),
-        Ask(1, May::All, Work::Append("a")),
-        Has(1),
-        Wire(1),
-        TakeBack(2),
-        Lacks(2),
-        Has(1),
-        Wire(1),
-        Ask(2, May::All, Work::AppendRead),
-        Has(2),
-        Wire(2),
-        Settle(12),
-        GivesTwo(2, "", "aa"),
-        Audit(&[1, 2]),
-    ];
-    assert_eq!(&rt; run_from(rt.alloc(), 2, Who::Three, &steps)?, 15);
-    let sent_to_nobody = [
-        Move(Who::Nobody, Who::Three),
-        Wire(3),
-        Ask(1, May::All, Work::Append("a")),
-        TakeBack(2),
-        Has(1),
-        Lacks(2),
-        Wire(3),
-        Move(Who::Three, Who::Three),
-        SettleAll,
-        Audit(&[1]),
-    ];
-    assert_eq!(&rt; run_from(rt.alloc(), 2, Who::Three, &sent_to_nobody)?, 10);
+    assert_eq!(&rt; run_from(rt.alloc(), 2, Who::Three, TAKEN_BACK)?, 15);
+    assert_eq!(&rt; run_from(rt.alloc(), 2, Who::Three, SENT_TO_NOBODY)?, 10);
     Ok(())
 }
 
@@ -53,7 +57,7 @@ fn a_request_taken_back(rt: HostRuntime) -> Result<(), Fail> {
 fn filled(alloc: Global, count: u32) -> Result<Group, NeedsFault> {
     let mut group = begun(alloc, 1, Who::Nobody)?;
     for number in 0..count {
-        let request = request(alloc, number, May::All, Work::Read)?;
+        let request = request(alloc, number, Work::Read)?;
         if group.submit(request).is_err() {
             return Ok(group);
         }
@@ -133,7 +137,7 @@ fn run_apart(alloc: Global, steps: [&[Step]; 3]) -> Result<bool, NeedsFault> {
 #[test]
 fn a_copy_goes_its_own_way(rt: HostRuntime) -> Result<(), Fail> {
     let copied = [Move(Who::Three, Who::Three), SettleAll, Audit(&[0])];
-    let own = [Open(0), Audit(&[]), Ask(1, May::All, Work::Append("a"))];
+    let own = [Open(0), Audit(&[]), Ask(1, Work::Append("a"))];
     let more = [Audited(1), Lacks(1)];
     assert!(&rt; run_apart(rt.alloc(), [&copied, &own, &more])?);
     Ok(())

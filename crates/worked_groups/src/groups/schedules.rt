@@ -1,7 +1,7 @@
 //! The long examples of peering, each with one thing gone wrong at one place. After that the group settles, is kicked and
 //! settles: every request is answered, none is decided twice, and what was answered before stands.
 
-use super::requests::{May, Work, request};
+use super::requests::{Work, request};
 use super::sets::{self, Who, set};
 use super::steps::{begun, gives, has_decided};
 use Event::{Deliver, Lose, LoseAll, Move, Settle, Submit};
@@ -171,7 +171,7 @@ impl Stage {
 
     fn submits(&mut self, alloc: Global, work: Work) -> Result<bool, NeedsFault> {
         self.asked = self.asked.saturating_add(1);
-        let request = request(alloc, self.asked, May::All, work)?;
+        let request = request(alloc, self.asked, work)?;
         Ok(self.group.submit(request).is_ok() && self.counts())
     }
 

@@ -2,19 +2,18 @@
 
 ghost use Rattle.std.specs.Prelude.{◌≤◌};
 
-use super::requests::{May, Work, request};
+use super::requests::{Work, request};
 use super::sets::{self, Who, set};
 use common_types::Name;
 use entry_core::{GroupId, Id, OutOfMemory, Reply, Sealed};
 use group_core::{Group, GroupFault};
 use object_core::NeedsFault;
 use std::alloc::Global;
-use verdict_core::Condition;
 
 // An event, which must be accepted, or what must be seen.
 #[derive(Clone, Copy)]
 pub(super) enum Step {
-    Ask(u32, May, Work),
+    Ask(u32, Work),
     TakeBack(u32),
     Deliver(usize),
     Lose(usize),
@@ -25,8 +24,6 @@ pub(super) enum Step {
     Kick,
     Settle(u32),
     SettleAll,
-    Missing(usize),
-    Unreachable(usize),
     Doubled(u32),
     Refused(u32),
     Stuck(u8),
@@ -39,28 +36,15 @@ pub(super) enum Step {
     Audit(&'static [u32]),
     Audited(usize),
     Open(u32),
-    Denied(u32, Condition),
     Gives(u32, &'static str),
     GivesTwo(u32, &'static str, &'static str),
-    Fails(u32, u32),
 }
 
 use Step::{
-    Ask, Audit, Audited, Deliver, Denied, Doubled, Fails, Gives, GivesTwo, Has, IsFull, Kick,
-    Lacks, Lose, LoseAll, Missing, Move, Named, Open, Ready, Refused, Repeat, Restart, Settle,
-    SettleAll, Stuck, TakeBack, Unreachable, Wire,
+    Ask, Audit, Audited, Deliver, Doubled, Gives, GivesTwo, Has, IsFull, Kick, Lacks, Lose,
+    LoseAll, Move, Named, Open, Ready, Refused, Repeat, Restart, Settle, SettleAll, Stuck,
+    TakeBack, Wire,
 };
-
-// Whether a reply is a denial whose one line has the path 1 and this condition.
-fn denies(reply: Option<&Reply>, condition: Condition) -> bool {
-    match reply {
-        Some(Reply::Denied(report)) => match report.lines() {
-            [line] => line.0.as_slice() == [1].as_slice() && line.1 == condition,
-            _ => false,
-        },
-        _ => false,
-    }
-}
 
 // Whether a reply has just these outputs.
 pub(super) fn gives(reply: Option<&Reply>, outputs: &[&str]) -> bool {
@@ -107,15 +91,10 @@ fn sees(group: &Group, step: Step) -> bool {
         }
         Audit(numbers) => has_decided(group, numbers),
         Open(number) => group.answer(Id::new(1, number)).is_none(),
-        Denied(number, condition) => denies(group.answer(Id::new(1, number)), condition),
         Gives(number, output) => gives(group.answer(Id::new(1, number)), &[output]),
         GivesTwo(number, first, second) => {
             gives(group.answer(Id::new(1, number)), &[first, second])
         }
-        Fails(number, error) => match group.answer(Id::new(1, number)) {
-            Some(Reply::Failed { place, number }) => *place == 1 && *number == error,
-            _ => false,
-        },
         _ => true,
     }
 }
@@ -151,8 +130,6 @@ fn passes(group: &mut Group, step: Step) -> bool {
         Lose(k) => group.lose(k).is_ok(),
         LoseAll => loses_all(group),
         Repeat(k) => group.repeat(k).is_ok(),
-        Missing(k) => matches!(group.deliver(k), Err(GroupFault::NoMessage(at)) if at == k),
-        Unreachable(k) => matches!(group.deliver(k), Err(GroupFault::Unreachable)),
         _ => true,
     }
 }
@@ -172,20 +149,20 @@ fn submits_and_takes_back(group: &mut Group, request: Sealed) -> bool {
 // Whether a request is accepted, or refused as it must be.
 fn asks(alloc: Global, group: &mut Group, step: Step) -> Result<bool, NeedsFault> {
     match step {
-        Ask(number, may, work) => {
-            let request = request(alloc, number, may, work)?;
+        Ask(number, work) => {
+            let request = request(alloc, number, work)?;
             Ok(group.submit(request).is_ok())
         }
         TakeBack(number) => {
-            let request = request(alloc, number, May::All, Work::Append("a"))?;
+            let request = request(alloc, number, Work::Append("a"))?;
             Ok(submits_and_takes_back(group, request))
         }
         Doubled(number) => {
-            let request = request(alloc, number, May::All, Work::Read)?;
+            let request = request(alloc, number, Work::Read)?;
             Ok(matches!(group.submit(request), Err(GroupFault::Doubled)))
         }
         Refused(number) => {
-            let request = request(alloc, number, May::All, Work::Read)?;
+            let request = request(alloc, number, Work::Read)?;
             Ok(matches!(group.submit(request), Err(GroupFault::Full)))
         }
         _ => Ok(true),
