@@ -3,8 +3,8 @@
 use common_types::{OutOfMemory, Tags};
 use compare_core::Registry;
 use gate_text::{
-    Asked, Comparison, Entity, Format, Printed, Times, answer, compare_entities, compare_text,
-    explain_text, find, point_at_fault, text_of, verdict_text, who_table, who_text,
+    Asked, Comparison, Entity, Format, NamedEntities, Printed, Times, answer, compare_entities,
+    compare_text, explain_text, point_at_fault, text_of, verdict_text, who_table, who_text,
 };
 use std::alloc::Global;
 use std::test::Fail;
@@ -147,8 +147,8 @@ fn tables_and_documents_print(rt: HostRuntime) -> Result<(), Fail> {
 }
 
 /// Whether an entity of this name and text is found.
-fn is_found(entities: &[Entity], name: &str) -> bool {
-    match find(entities, name) {
+fn is_found(named: &NamedEntities<'_>, name: &str) -> bool {
+    match named.find(name) {
         Some(entity) => entity.osd.as_str() == CAPS,
         None => false,
     }
@@ -161,7 +161,8 @@ fn entities_print(rt: HostRuntime) -> Result<(), Fail> {
     assert!(rt; is_printed(who(alloc, app.as_slice())?, "client.app allow\n", false));
     let none = compare_entities(alloc, app.as_slice(), app.as_slice(), CHECKED)?;
     assert!(rt; is_printed(none, "", false));
-    assert!(rt; is_found(app.as_slice(), "client.app"));
-    assert!(rt; !is_found(app.as_slice(), "client"));
+    let named = NamedEntities::of(alloc, app.as_slice())?;
+    assert!(rt; is_found(&named, "client.app"));
+    assert!(rt; !is_found(&named, "client"));
     Ok(())
 }
