@@ -1,5 +1,7 @@
 //! Vectors as calls take them: what they ask for, and what becomes of an object. `sessions/objects` shows what each operation does.
 
+ghost use Rattle.std.specs.Prelude.{◌≤◌, length};
+
 use common_types::{Name, OutOfMemory, TryCopy};
 use object_core::{
     Attributes, Bytes, Change, NeedsFault, Object, Op, Outcome, Outputs, needs_of, removed_is_gone,
@@ -142,7 +144,9 @@ fn needs_follow_the_vector_and_refusals_their_order(rt: HostRuntime) -> Result<(
 }
 
 /// An object of these bytes.
-fn object(alloc: Global, bytes: &[u8]) -> Result<Object, OutOfMemory> {
+fn object(alloc: Global, bytes: &[u8]) -> Result<Object, OutOfMemory>
+    requires { length bytes.now ≤ 65536 }
+{
     let bytes = Bytes::from_slice(alloc, bytes)?;
     Ok(Object::new(bytes, Attributes::new(alloc)))
 }

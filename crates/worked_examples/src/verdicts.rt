@@ -29,22 +29,24 @@ fn needs(alloc: Global) -> Needs {
 /// What a ticket answers: nothing where it allows the request, else the report's text behind a word.
 fn plain_answer(alloc: Global, ticket: &Ticket, tick: u64) -> Result<String, OutOfMemory> {
     let tags = Tags::from_vec(Vec::new(alloc));
+    let asked = target(&tags);
     let needs = needs(alloc);
-    if judge(ticket, &target(&tags), &needs, tick) {
+    if judge(ticket, &asked, &needs, tick) {
         return Ok(String::new(alloc));
     }
-    let lines = report(alloc, ticket, &target(&tags), &needs, tick)?;
+    let lines = report(alloc, ticket, &asked, &needs, tick)?;
     format!(in alloc; "deny\n{lines}")
 }
 
 /// The same of a ticket with an index.
 fn indexed_answer(alloc: Global, ticket: &IndexedTicket, tick: u64) -> Result<String, OutOfMemory> {
     let tags = Tags::from_vec(Vec::new(alloc));
+    let asked = target(&tags);
     let needs = needs(alloc);
-    if ticket.judge(&target(&tags), &needs, tick) {
+    if ticket.judge(&asked, &needs, tick) {
         return Ok(String::new(alloc));
     }
-    let lines = ticket.report(alloc, &target(&tags), &needs, tick)?;
+    let lines = ticket.report(alloc, &asked, &needs, tick)?;
     format!(in alloc; "deny\n{lines}")
 }
 
