@@ -4,10 +4,11 @@ ghost use Rattle.std.specs.Prelude.{◌≤◌};
 
 use crate::arguments::whole_command;
 use crate::auth_file::{AuthFault, InputFiles, entities_of, read_text};
+use crate::drawing::{Drawn, NoPicture, OutputFiles, asked_picture};
 use crate::notes::{note_of, unjudged_line, without_controls};
 use crate::read_words::WordsFault;
 use crate::request_words::{BadWords, NoRequest, RequestWords, number_of, times_of, value_of};
-use crate::run::{RunFault, run_path};
+use crate::run::{Ran, RunFault, run_and_draw, run_path};
 use clap::error::ErrorKind;
 use clap::{ArgMatches, Error};
 use common_types::OutOfMemory;
@@ -72,6 +73,15 @@ impl From<NoRequest> for NoAnswer {
     }
 }
 
+impl From<NoPicture> for NoAnswer {
+    fn from(why: NoPicture) -> NoAnswer {
+        match why {
+            NoPicture::BadGroup => NoAnswer::Words(BadWords::Group),
+            NoPicture::OutOfMemory => NoAnswer::OutOfMemory,
+        }
+    }
+}
+
 impl From<AllocError> for NoAnswer {
     fn from(_error: AllocError) -> NoAnswer {
         NoAnswer::OutOfMemory
@@ -99,8 +109,8 @@ struct Answered<'a> {
 enum Done<'a> {
     /// An answer, to be written.
     Answer(Answered<'a>),
-    /// A script was run, and what it prints is written.
-    Script(Result<(), RunFault>),
+    /// A script was run, and what it prints is written, and its picture where one was asked for.
+    Script(Ran),
     /// So many workers are to run, with moves or without.
     Workers { count: u32, moves: bool },
 }
@@ -287,6 +297,57 @@ fn finish_script<E: Write>(ended: Result<(), RunFault>, err: &mut E) -> u8
     FAULT
 }
 
+/// Tells what became of a picture, and answers the status.
+fn finish_picture<E: Write>(drawn: &Drawn, err: &mut E) -> u8
+    ensures { result ≤ 2 }
+{
+    match drawn {
+        Drawn::Written(told) => {
+            let _ = write_out(err, told.as_str());
+            return DONE;
+        }
+        Drawn::NoGroup => {
+            let _ = write_out(err, "osdgate: the script makes no group of that name\n");
+        }
+        Drawn::Unwritten(error) => {
+            let _ = write!(err, "osdgate: the picture cannot be written: {error}\n");
+        }
+        Drawn::OutOfMemory => {
+            let _ = write_out(err, "osdgate: the picture cannot be drawn: OutOfMemory\n");
+        }
+    }
+    FAULT
+}
+
+/// Tells how a script ended and what became of its picture, and answers the status.
+fn finish_run<E: Write>(ran: Ran, err: &mut E) -> u8
+    ensures { result ≤ 2 }
+{
+    let status = finish_script(ran.ended, err);
+    match &ran.drawn {
+        None => status,
+        Some(drawn) => status.max(finish_picture(drawn, err)),
+    }
+}
+
+/// Runs the script that the words name, and draws it where they ask for a picture.
+fn run_words<F: InputFiles + OutputFiles, R: Read, O: Write>(
+    alloc: Global,
+    matches: &ArgMatches<'_>,
+    files: &F,
+    reader: &mut R,
+    out: &mut O,
+) -> Result<Ran, NoAnswer> {
+    let path = matches.get_str("script").unwrap_or("-");
+    match asked_picture(alloc, matches)? {
+        None => Ok(Ran {
+            ended: run_path(alloc, files, path, reader, out),
+            drawn: None,
+        }),
+        Some(asked) => Ok(run_and_draw(alloc, files, path, reader, out, asked)),
+    }
+}
+
 /// What the words ask for, other than a script.
 fn answer_matches<'a, F: InputFiles, R: Read>(
     alloc: Global,
@@ -326,7 +387,7 @@ fn answer_matches<'a, F: InputFiles, R: Read>(
 }
 
 /// What the words ask for. What a script prints is written as it runs.
-fn answer_words<'a, S: AsStr, F: InputFiles, R: Read, O: Write>(
+fn answer_words<'a, S: AsStr, F: InputFiles + OutputFiles, R: Read, O: Write>(
     alloc: Global,
     words: &'a [S],
     files: &F,
@@ -342,10 +403,7 @@ fn answer_words<'a, S: AsStr, F: InputFiles, R: Read, O: Write>(
             }),
             None => Err(NoAnswer::Words(BadWords::Workers)),
         },
-        Some(("run", inner)) => {
-            let path = inner.get_str("script").unwrap_or("-");
-            Ok(Done::Script(run_path(alloc, files, path, reader, out)))
-        }
+        Some(("run", inner)) => Ok(Done::Script(run_words(alloc, inner, files, reader, out)?)),
         _ => Ok(Done::Answer(answer_matches(alloc, &matches, files, reader)?)),
     }
 }
@@ -462,7 +520,7 @@ fn finish_workload<T: fmt::Display, F: fmt::Display, O: Write, E: Write>(
 /// capability text has a fault, the text and a caret under the fault's byte go to `err` as well.
 pub fn run_command<
     S: AsStr,
-    F: InputFiles,
+    F: InputFiles + OutputFiles,
     T: fmt::Display + Drop,
     X: fmt::Display + Drop,
     W: FnOnce(u32, bool) -> Result<T, X>,
@@ -483,7 +541,7 @@ pub fn run_command<
 {
     match answer_words(alloc, words, files, reader, out) {
         Ok(Done::Answer(answered)) => finish_answer(alloc, &answered, out, err),
-        Ok(Done::Script(ended)) => finish_script(ended, err),
+        Ok(Done::Script(ran)) => finish_run(ran, err),
         Ok(Done::Workers { count, moves }) => finish_workload(&workload(count, moves), out, err),
         Err(NoAnswer::Words(bad)) => {
             let _ = write_out(err, bad.text());

@@ -7,6 +7,7 @@
 mod arguments;
 mod auth_file;
 mod command;
+mod drawing;
 mod notes;
 mod read_words;
 mod request_words;
@@ -14,4 +15,5 @@ mod run;
 
 pub use auth_file::InputFiles;
 pub use command::{refuse_words, run_command};
+pub use drawing::OutputFiles;
 pub use read_words::{WordsFault, words};

@@ -22,6 +22,8 @@ pub(crate) enum BadWords {
     Call,
     /// There is no class registry of this name.
     Registry,
+    /// The number of a group is none.
+    Group,
     /// There is no such command.
     Command,
 }
@@ -39,6 +41,7 @@ impl BadWords {
                 "osdgate: a `--call` is CLASS.METHOD and `:r`, `:w` or `:rw`, and then `:listed` where the class is on the default list\n"
             }
             BadWords::Registry => "osdgate: a registry is `all` or `own`\n",
+            BadWords::Group => "osdgate: a group is a pool and a number below 2^32\n",
             BadWords::Command => "osdgate: there is no such command\n",
         }
     }

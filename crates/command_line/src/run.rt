@@ -1,6 +1,8 @@
 //! `osdgate run`: a script from a file or from standard input, and what it prints.
 
 use crate::auth_file::InputFiles;
+use crate::drawing::{Asked, Drawn, OutputFiles, draw};
+use script_text::read_script;
 use std::alloc::Global;
 use std::io;
 use std::io::{ErrorKind, Read, Write};
@@ -53,4 +55,53 @@ pub(crate) fn run_path<F: InputFiles, R: Read, O: Write>(
         Ok(()) => Ok(()),
         Err(_) => Err(RunFault::Script(ScriptFault::Write)),
     }
+}
+
+/// How a script ended, and what became of its picture, where one was asked for and the script could be read.
+#[derive(Drop)]
+pub(crate) struct Ran {
+    pub(crate) ended: Result<(), RunFault>,
+    pub(crate) drawn: Option<Drawn>,
+}
+
+/// The bytes of a script, of which a file may have more than a script has.
+fn script_at<F: InputFiles, R: Read>(
+    alloc: Global,
+    files: &F,
+    path: &str,
+    reader: &mut R,
+) -> Result<Vec<u8>, RunFault> {
+    if path == "-" {
+        Ok(read_script(alloc, reader)?)
+    } else {
+        Ok(files.read_bytes(path, MOST_BYTES)?)
+    }
+}
+
+/// Runs a script as `run_path` does, and then draws its picture.
+pub(crate) fn run_and_draw<F: InputFiles + OutputFiles, R: Read, O: Write>(
+    alloc: Global,
+    files: &F,
+    path: &str,
+    reader: &mut R,
+    out: &mut O,
+    asked: Asked<'_>,
+) -> Ran {
+    let script = match script_at(alloc, files, path, reader) {
+        Ok(script) => script,
+        Err(fault) => {
+            return Ran {
+                ended: Err(fault),
+                drawn: None,
+            };
+        }
+    };
+    let ended = run_path(alloc, files, "-", &mut script.as_slice(), out);
+    let drawn = match &ended {
+        Ok(()) | Err(RunFault::Script(ScriptFault::BadLine(_))) => {
+            Some(draw(alloc, files, script.as_slice(), asked))
+        }
+        Err(_) => None,
+    };
+    Ran { ended, drawn }
 }

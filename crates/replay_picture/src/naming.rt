@@ -1,0 +1,59 @@
+//! The names of messages.
+
+use crate::happenings::Topic;
+use common_types::OutOfMemory;
+use entry_core::Id;
+use peer_core::Body;
+use std::alloc::Global;
+use std::fmt::Write;
+
+/// Adds a request's session and its number there.
+pub(crate) fn push_id(text: &mut String, id: Id) -> Result<(), OutOfMemory> {
+    let session = id.session();
+    let number = id.number();
+    write!(text, "{session}.{number}")
+}
+
+fn of_interval(alloc: Global, kind: &str, interval: u64) -> Result<String, OutOfMemory> {
+    format!(in alloc; "{kind} {interval}")
+}
+
+fn of_place(alloc: Global, kind: &str, interval: u64, place: usize) -> Result<String, OutOfMemory> {
+    format!(in alloc; "{kind} {interval}, place {place}")
+}
+
+fn of_request(alloc: Global, kind: &str, id: Id) -> Result<String, OutOfMemory> {
+    let mut text = String::from_str(alloc, kind)?;
+    text.push_str(" ")?;
+    push_id(&mut text, id)?;
+    Ok(text)
+}
+
+/// A message's kind, with its interval, its request or its place in the log.
+pub(crate) fn name_of(alloc: Global, body: &Body) -> Result<String, OutOfMemory> {
+    match body {
+        Body::Interval(sets) => of_interval(alloc, "Interval", sets.len() as u64),
+        Body::Query { interval } => of_interval(alloc, "Query", *interval),
+        Body::Info { interval, .. } => of_interval(alloc, "Info", *interval),
+        Body::Install { interval, .. } => of_interval(alloc, "Install", *interval),
+        Body::Installed { interval } => of_interval(alloc, "Installed", *interval),
+        Body::Append {
+            interval,
+            place,
+            ..
+        } => of_place(alloc, "Append", *interval, *place),
+        Body::Appended { interval, place } => of_place(alloc, "Appended", *interval, *place),
+        Body::Request(request) => of_request(alloc, "Request", request.id()),
+        Body::Reply { id, .. } => of_request(alloc, "Reply", *id),
+        Body::NotHere(id) => of_request(alloc, "NotHere", *id),
+    }
+}
+
+/// What a message is about.
+pub(crate) fn topic_of(body: &Body) -> Topic {
+    match body {
+        Body::Append { .. } | Body::Appended { .. } => Topic::Entries,
+        Body::Request(_) | Body::Reply { .. } | Body::NotHere(_) => Topic::Requests,
+        _ => Topic::Peering,
+    }
+}
