@@ -1,27 +1,16 @@
 //! Pictures of scripts: what happens to a group of the script's world, drawn.
 //!
 //! A script is replayed line by line in a world of its own. What each event does to the group is told as a list of happenings, and
-//! the picture is drawn of that list alone. The definitions are in `specs/`.
+//! `picture_text` draws that list alone. The definitions are in `specs/`.
 #![tactic(auto)]
 
 mod choosing;
-mod escaping;
-mod flights;
-mod happenings;
-mod lanes;
 mod laws;
-mod legend;
-mod lengths;
-mod mermaid;
 mod naming;
-mod notes;
 mod outcomes;
 mod picture;
 mod replaying;
 mod rights;
-mod strokes;
-mod style;
-mod svg;
 mod watching;
 mod wire_steps;
 

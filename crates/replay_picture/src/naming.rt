@@ -1,11 +1,21 @@
-//! The names of messages.
+//! The names of groups and of messages.
 
-use crate::happenings::Topic;
 use common_types::OutOfMemory;
-use entry_core::Id;
-use peer_core::Body;
+use entry_core::{GroupId, Id};
+use peer_core::{Body, Party};
+use picture_text::Topic;
 use std::alloc::Global;
 use std::fmt::Write;
+
+/// What a picture is about.
+pub(crate) fn title_of(alloc: Global, group: &Option<GroupId>) -> Result<String, OutOfMemory> {
+    let Some(group) = group else {
+        return String::from_str(alloc, "A script without groups");
+    };
+    let pool = group.pool.as_str();
+    let number = group.number;
+    format!(in alloc; "Group {pool} {number}")
+}
 
 /// Adds a request's session and its number there.
 pub(crate) fn push_id(text: &mut String, id: Id) -> Result<(), OutOfMemory> {
@@ -46,6 +56,14 @@ pub(crate) fn name_of(alloc: Global, body: &Body) -> Result<String, OutOfMemory>
         Body::Request(request) => of_request(alloc, "Request", request.id()),
         Body::Reply { id, .. } => of_request(alloc, "Reply", *id),
         Body::NotHere(id) => of_request(alloc, "NotHere", *id),
+    }
+}
+
+/// Who sends or takes a message, as a picture has it.
+pub(crate) fn party_of(party: Party) -> picture_text::Party {
+    match party {
+        Party::Client => picture_text::Party::Client,
+        Party::Osd(daemon) => picture_text::Party::Osd(daemon),
     }
 }
 

@@ -1,6 +1,5 @@
 //! What decisions and answers say.
 
-use crate::happenings::Outcome;
 use crate::naming::push_id;
 use crate::rights::Rights;
 use common_types::{Name, OutOfMemory};
@@ -75,12 +74,12 @@ fn push_names(alloc: Global, lines: &mut Vec<String>, names: &[Name]) -> Result<
     push_rest(alloc, lines, names.len())
 }
 
-/// What was decided: the verdict, and the grant, or each grant's first failed condition.
+/// What is said of a decision: the verdict, and the grant, or each grant's first failed condition.
 pub(crate) fn decision(
     alloc: Global,
     rights: &Rights,
     entry: &Entry,
-) -> Result<Outcome, OutOfMemory> {
+) -> Result<Vec<String>, OutOfMemory> {
     let id = entry.sealed.id();
     let mut lines = Vec::new(alloc);
     match &entry.reply {
@@ -94,11 +93,11 @@ pub(crate) fn decision(
             lines.push(text)?;
         }
     }
-    Ok(Outcome { id, lines })
+    Ok(lines)
 }
 
-/// What was answered.
-pub(crate) fn answer(alloc: Global, id: Id, reply: &Reply) -> Result<Outcome, OutOfMemory> {
+/// What is said of an answer.
+pub(crate) fn answer(alloc: Global, id: Id, reply: &Reply) -> Result<Vec<String>, OutOfMemory> {
     let mut lines = Vec::new(alloc);
     match reply {
         Reply::Denied(_) => lines.push(headed(alloc, id, " answered: denied")?)?,
@@ -117,5 +116,5 @@ pub(crate) fn answer(alloc: Global, id: Id, reply: &Reply) -> Result<Outcome, Ou
             push_names(alloc, &mut lines, names.as_slice())?;
         }
     }
-    Ok(Outcome { id, lines })
+    Ok(lines)
 }

@@ -1,11 +1,9 @@
 //! A script's bytes as a picture.
 
-use crate::happenings::Story;
-use crate::mermaid::mermaid_of;
 use crate::replaying::{busiest_group, has_group, row_count, story_of};
-use crate::svg::svg_of;
 use common_types::OutOfMemory;
 use entry_core::{GroupId, TryCopy};
+use picture_text::{Story, mermaid_of, svg_of};
 use std::alloc::Global;
 
 /// A picture has at most so many rows, the last ones.

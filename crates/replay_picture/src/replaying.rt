@@ -1,9 +1,10 @@
 //! The bytes of a script, replayed line by line.
 
-use crate::happenings::{Beginning, Happening, Row, ScriptLine, Story};
+use crate::naming::title_of;
 use crate::watching::Watched;
 use common_types::{Name, OutOfMemory};
 use entry_core::{GroupId, TryCopy};
+use picture_text::{Beginning, Happening, Row, ScriptLine, Story};
 use place_core::{ActingSet, DaemonSet};
 use script_text::{Line, Lines};
 use std::alloc::Global;
@@ -267,15 +268,16 @@ impl Replay {
         Ok(())
     }
 
-    fn into_story(self) -> Story {
+    fn into_story(self) -> Result<Story, OutOfMemory> {
+        let title = title_of(self.alloc, &self.group)?;
         let left_out = self.count.saturating_sub(self.rows.len());
         let beginning = match self.beginning {
             None => beginning_of(&self.watched),
             Some(beginning) => beginning,
         };
-        match self.watched {
+        Ok(match self.watched {
             None => Story {
-                group: self.group,
+                title,
                 left_out,
                 beginning,
                 rows: self.rows,
@@ -284,7 +286,7 @@ impl Replay {
                 daemons: DaemonSet::first(0),
             },
             Some(watched) => Story {
-                group: self.group,
+                title,
                 left_out,
                 beginning,
                 rows: self.rows,
@@ -292,7 +294,7 @@ impl Replay {
                 messages: watched.messages,
                 waiting: watched.waiting,
             },
-        }
+        })
     }
 }
 
@@ -341,5 +343,5 @@ pub(crate) fn story_of(
 ) -> Result<Story, OutOfMemory> {
     let mut replay = Replay::new(alloc, group, first);
     replay.replay(script)?;
-    Ok(replay.into_story())
+    replay.into_story()
 }

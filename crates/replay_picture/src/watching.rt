@@ -1,8 +1,7 @@
 //! The world of a script, and what each event does to one of its groups.
 
 use crate::choosing::{Tally, group_taken_from};
-use crate::happenings::{Change, End, Happening, Message};
-use crate::naming::{name_of, topic_of};
+use crate::naming::{name_of, party_of, topic_of};
 use crate::outcomes::{answer, decision};
 use crate::rights::Rights;
 use crate::wire_steps::{WireStep, hold_wire, tell_step};
@@ -12,6 +11,7 @@ use grant_core::ProfileTable;
 use group_core::GroupFault;
 use map_core::MapCommand;
 use peer_core::{Body, Party, Sent};
+use picture_text::{Change, End, Happening, Message};
 use place_core::{ActingSet, DaemonSet};
 use std::alloc::{AllocError, Global};
 use world_core::{Event, World, WorldFault};
@@ -272,8 +272,8 @@ impl Watched {
         for sent in &step.sent {
             let message = self.messages.len();
             self.messages.push(Message {
-                from: sent.from,
-                to: sent.to,
+                from: party_of(sent.from),
+                to: party_of(sent.to),
                 name: name_of(self.alloc, &sent.body)?,
                 topic: topic_of(&sent.body),
                 repeated,

@@ -1,11 +1,10 @@
 //! A picture as a Mermaid sequence diagram.
 
 use crate::escaping::push_mermaid;
-use crate::happenings::{End, Happening, Message, Row, Story};
+use crate::happenings::{End, Happening, Message, Party, Row, Story};
 use crate::lanes::{parties, party_name};
 use crate::notes::notes_of;
 use common_types::OutOfMemory;
-use peer_core::Party;
 use place_core::ActingSet;
 use std::alloc::Global;
 use std::fmt::Write;
@@ -159,7 +158,7 @@ fn push_beginning(out: &mut String, story: &Story, lanes: &[Party]) -> Result<()
 }
 
 /// A story as a sequence diagram: a message stands where it ends.
-pub(crate) fn mermaid_of(alloc: Global, story: &Story) -> Result<String, OutOfMemory> {
+pub fn mermaid_of(alloc: Global, story: &Story) -> Result<String, OutOfMemory> {
     let lanes = parties(alloc, story)?;
     let mut out = String::from_str(alloc, "sequenceDiagram\n")?;
     push_parties(alloc, &mut out, lanes.as_slice())?;

@@ -1,7 +1,7 @@
 //! A picture as SVG.
 
 use crate::escaping::push_xml;
-use crate::happenings::{Change, Happening, Row, ScriptLine, Story};
+use crate::happenings::{Change, Happening, Party, Row, ScriptLine, Story};
 use crate::lanes::{
     FIRST_ROW, INTERVALS, LINE_BYTES, LINE_PIECES, Lane, Layout, Place, SCRIPT, TEXT_LINE,
     layout_of, party_name,
@@ -14,7 +14,6 @@ use crate::strokes::{
 };
 use crate::style::STYLE;
 use common_types::OutOfMemory;
-use peer_core::Party;
 use place_core::ActingSet;
 use std::alloc::Global;
 use std::fmt::Write;
@@ -23,16 +22,6 @@ use std::fmt::Write;
 const BANDS: Px = Px(422);
 /// The left edge of the lines' texts, behind their numbers.
 const LINES: Px = Px(64);
-
-/// What the picture shows.
-fn title_of(alloc: Global, story: &Story) -> Result<String, OutOfMemory> {
-    let Some(group) = &story.group else {
-        return String::from_str(alloc, "A script without groups");
-    };
-    let pool = group.pool.as_str();
-    let number = group.number;
-    format!(in alloc; "Group {pool} {number}")
-}
 
 /// How the picture begins: its size, its title and its style.
 fn push_opening(
@@ -50,13 +39,12 @@ fn push_opening(
         out,
         "viewBox=\"0 0 {width} {height}\" role=\"img\">\n<title>"
     )?;
-    let title = title_of(alloc, story)?;
-    push_xml(out, title.as_bytes())?;
+    push_xml(out, story.title.as_bytes())?;
     out.push_str("</title>\n<style>\n")?;
     out.push_str(STYLE)?;
     out.push_str("</style>\n")?;
     push_rect(out, "paper", Px(0), Px(0), width, height)?;
-    push_text(out, "title", SCRIPT, Px(30), title.as_bytes())?;
+    push_text(out, "title", SCRIPT, Px(30), story.title.as_bytes())?;
     if story.left_out > 0 {
         let left_out = story.left_out;
         let text = format!(in alloc; "{left_out} steps before these are left out")?;
@@ -357,7 +345,7 @@ fn push_rest(out: &mut String, story: &Story, layout: &Layout) -> Result<(), Out
 }
 
 /// A story as a picture.
-pub(crate) fn svg_of(alloc: Global, story: &Story) -> Result<String, OutOfMemory> {
+pub fn svg_of(alloc: Global, story: &Story) -> Result<String, OutOfMemory> {
     let layout = layout_of(alloc, story)?;
     let mut out = String::new(alloc);
     push_opening(alloc, &mut out, story, &layout)?;

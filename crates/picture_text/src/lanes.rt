@@ -1,11 +1,10 @@
 //! Where everything of a picture stands: the lanes from left to right, the rows from the top to the bottom.
 
 use crate::flights::{Flight, TRACKS, flights_of};
-use crate::happenings::{End, Happening, Row, Story};
+use crate::happenings::{End, Happening, Party, Row, Story};
 use crate::lengths::Px;
 use crate::notes::{Note, notes_of};
 use common_types::OutOfMemory;
-use peer_core::Party;
 use std::alloc::Global;
 
 /// The left edge of the script's lines, of the intervals' names, and of the client's lane.

@@ -1,9 +1,8 @@
 //! The messages of a picture, each from the row of its sending to that of its end.
 
-use crate::happenings::{End, Happening, Story};
+use crate::happenings::{End, Happening, Party, Story};
 use crate::lanes::lane_of;
 use common_types::OutOfMemory;
-use peer_core::Party;
 use std::alloc::Global;
 
 /// So many messages wait side by side at a lane; more share the last track.

@@ -1,6 +1,6 @@
 //! What stands at the right of a row: what was decided and answered, and what happened to daemons.
 
-use crate::happenings::{Change, Happening, Outcome, Row};
+use crate::happenings::{Change, Happening, Row};
 use common_types::OutOfMemory;
 use std::alloc::Global;
 
@@ -20,8 +20,8 @@ pub(crate) struct Note {
     pub(crate) text: String,
 }
 
-fn push_lines(notes: &mut Vec<Note>, about: About, outcome: &Outcome) -> Result<(), OutOfMemory> {
-    for line in &outcome.lines {
+fn push_lines(notes: &mut Vec<Note>, about: About, lines: &[String]) -> Result<(), OutOfMemory> {
+    for line in lines {
         notes.push(Note {
             about,
             text: line.clone()?,
@@ -43,8 +43,8 @@ pub(crate) fn notes_of(alloc: Global, row: &Row) -> Result<Vec<Note>, OutOfMemor
     let mut notes = Vec::new(alloc);
     for happening in &row.happenings {
         match happening {
-            Happening::Decided(outcome) => push_lines(&mut notes, About::Decided, outcome)?,
-            Happening::Answered(outcome) => push_lines(&mut notes, About::Answered, outcome)?,
+            Happening::Decided(lines) => push_lines(&mut notes, About::Decided, lines)?,
+            Happening::Answered(lines) => push_lines(&mut notes, About::Answered, lines)?,
             Happening::Daemon { daemon, change } => notes.push(Note {
                 about: About::Daemon,
                 text: daemon_text(alloc, *daemon, *change)?,
