@@ -9,7 +9,7 @@ use Rattle.group_core.specs.Group.{Event, is_submitted}
 use Rattle.world_core.specs.declared.event.Event.{Event as WorldEvent}
 use Rattle.world_core.specs.World.{World}
 use Rattle.world_core.specs.Holds.{Holds}
-use Rattle.world_core.specs.Front.{Front, first_front, front_step, front_after, requests_of}
+use Rattle.world_core.specs.Front.{Front, first_front, front_step, front_after, requests_of, requests_in}
 use Rattle.cluster.specs.declared.cluster.Cluster.{Cluster}
 use Rattle.cluster.specs.declared.cluster.Seats.{Seats}
 use Rattle.cluster.specs.declared.monitor.Monitor.{Monitor}
@@ -29,12 +29,12 @@ use Rattle.cluster.proofs.GoingOn.{stands_whole}
 -- ---- where pools are created and users added, nothing is asked
 
 after_pools : (f : Front) (pools : List PoolSpec) → (fold front_step f (map creation_of pools)).submissions ≡ f.submissions
-unfolding requests_of
+unfolding requests_of requests_in
 after_pools f [] = refl
 after_pools f (p ∷ ps) = after_pools (front_step f (creation_of p)) ps ∙ append-nil f.submissions
 
 after_users : (f : Front) (users : List UserSpec) → (fold front_step f (map addition_of users)).submissions ≡ f.submissions
-unfolding requests_of
+unfolding requests_of requests_in
 after_users f [] = refl
 after_users f (u ∷ us) = after_users (front_step f (addition_of u)) us ∙ append-nil f.submissions
 

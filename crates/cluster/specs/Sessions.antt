@@ -1,6 +1,7 @@
 -- Statement: contracts of public calls use it.
 -- The sessions that a pass has opened, by their numbers.
 use Rattle.std.specs.Prelude.{◌≡◌, ℕ, ◌-◌, ◌<◌, ◌≤◌, ◌==◌, List, [], ◌∷◌, Option, Some, None, if◌then◌else◌, slice_get}
+use Rattle.entry_core.specs.Request.{numbers}
 use Rattle.world_core.specs.Front.{id_of}
 use Rattle.world_core.specs.Stands.{next_in}
 use Rattle.world_core.specs.declared.session.Session.{Session}
@@ -26,7 +27,7 @@ pub record IsNumbered (own : List OwnSession) (id : ℕ) : Type 0 where
   pub number : ℕ
   pub is : id ≡ id_of session number
   pub past : number < next_of own session
-  pub fits : number < 4294967296
+  pub fits : number < numbers
 
 -- the sessions of some passes by their numbers, which count from 1: each is of one pass
 pub record AreSessionsOf (all : List (List OwnSession)) (sessions : List Session) : Type 0 where

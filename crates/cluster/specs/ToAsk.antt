@@ -10,7 +10,7 @@ use Rattle.map_core.specs.declared.fault.MapFault.{MapFault}
 use Rattle.map_core.specs.declared.fault.MapFault.TheVariants as map_fault
 use Rattle.map_core.specs.declared.pool.PoolView.{PoolView}
 use Rattle.object_core.specs.declared.op.Op.{Op}
-use Rattle.entry_core.specs.Request.{Sealed}
+use Rattle.entry_core.specs.Request.{Sealed, numbers}
 use Rattle.world_core.specs.declared.event.Ask.{Ask}
 use Rattle.world_core.specs.Front.{id_of}
 use Rattle.world_core.specs.Sound.{IsSealedFor}
@@ -47,7 +47,7 @@ pub record HasAnswered (start : History) (pool : List ℕ) (answer : Result Pool
 
 -- one number more of the session fits
 abbrev pub FitsOneMore : List OwnSession → ℕ → Type 0
-FitsOneMore own n = next_of own n + 1 < 4294967296
+FitsOneMore own n = next_of own n + 1 < numbers
 
 -- sealed by a pool of the start, under the next number of the session that asks
 pub record IsToAsk (start : History) (own : List OwnSession) (ask : Ask) (request : Sealed) : Type 0 where

@@ -1,18 +1,17 @@
 //! The users under a turn lock, with the number of sessions, and the steps on them.
 
-ghost use Rattle.std.specs.Prelude.{◌≡◌, OnOk, OnErr, IfOk};
+ghost use Rattle.std.specs.Prelude.{IfOk};
 ghost use Rattle.common_types.specs.Refused.{RefusedFirst};
-ghost use Rattle.auth_db.specs.Refusals.{auth_refusal, known_refusal, RefusedOrMemory};
-ghost use Rattle.auth_db.specs.Users.{after, user_at, GetOrCreate, HasTicket};
-ghost use Rattle.world_core.specs.Front.{command_of, told_auth, told_creation};
+ghost use Rattle.auth_db.specs.Refusals.{known_refusal};
+ghost use Rattle.auth_db.specs.Users.{HasTicket};
 ghost use Rattle.cluster.specs.Users.{table_after, open_entry, OpenTells, renew_entry, RenewTells, change_entry, ChangeTells};
 
-use auth_db::{AuthDb, AuthFault, Caps, Creation};
+use auth_db::{AuthDb, AuthFault};
 use common_types::Name;
 use std::marker::Model;
 use turn_lock::{Recorded, Step};
 use verdict_core::SharedTicket;
-use world_core::{AuthCommand, Told};
+use world_core::{AuthCommand, Told, change_users};
 
 /// The most sessions that are opened, closed ones counted.
 const MOST_SESSIONS: u32 = 1024;
@@ -150,45 +149,7 @@ impl Step for Change {
     fn run(&mut self, table: &mut UserTable) -> Result<Told, AuthFault> {
         match self.0.take() {
             None => Ok(Told::Done),
-            Some(command) => carry_out(&mut table.db, command),
+            Some(command) => change_users(&mut table.db, command),
         }
-    }
-}
-
-// Carries out a command on the users.
-fn carry_out(db: &mut AuthDb, command: AuthCommand) -> Result<Told, AuthFault>
-    ensures steps { OnOk result (db.new ≡ after db.old (command_of command)) }
-    ensures tells { IfOk result (λ told. told ≡ told_auth db.old command) }
-    ensures refused { RefusedOrMemory (auth_refusal db.old (command_of command)) result }
-    ensures unchanged { OnErr result (db.new ≡ db.old) }
-{
-    match command {
-        AuthCommand::Add { name, caps } => match db.add(name.as_str(), caps) {
-            Ok(()) => Ok(Told::Done),
-            Err(fault) => Err(fault),
-        },
-        AuthCommand::GetOrCreate { name, caps } => create(db, name.as_str(), caps),
-        AuthCommand::SetCaps { name, caps } => match db.caps(name.as_str(), caps) {
-            Ok(()) => Ok(Told::Done),
-            Err(fault) => Err(fault),
-        },
-        AuthCommand::Delete { name } => match db.del(name.as_str()) {
-            Ok(()) => Ok(Told::Done),
-            Err(fault) => Err(fault),
-        },
-    }
-}
-
-// Makes a user, or finds it.
-fn create(db: &mut AuthDb, name: &str, caps: Caps) -> Result<Told, AuthFault>
-    ensures steps { OnOk result (db.new ≡ after db.old (GetOrCreate name.now caps)) }
-    ensures tells { IfOk result (λ told. told ≡ told_creation (user_at db.old.users name.now)) }
-    ensures refused { RefusedOrMemory (auth_refusal db.old (GetOrCreate name.now caps)) result }
-    ensures unchanged { OnErr result (db.new ≡ db.old) }
-{
-    match db.get_or_create(name, caps) {
-        Ok(Creation::Made) => Ok(Told::Made),
-        Ok(Creation::There) => Ok(Told::There),
-        Err(fault) => Err(fault),
     }
 }

@@ -1,5 +1,7 @@
+pub mod Fitting
 pub mod FoundEntries
 pub mod Lawful
+pub mod LegalLogs
 pub mod Listing
 pub mod Locality
 pub mod Places

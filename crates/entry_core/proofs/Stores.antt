@@ -10,8 +10,8 @@ use Rattle.std.specs.Ordering.{eq_by_cmp}
 use Rattle.std.specs.declared.alloc.Global.{Global}
 use Rattle.std.specs.declared.sync.Arc.{Arc}
 use Rattle.object_core.specs.Content.{Content}
-use Rattle.entry_core.specs.Store.{ObjectName, name_cmp}
-use Rattle.entry_core.specs.Names.{name_cmp_total, same_names, is_same, is_same-ties, is_same_equiv}
+use Rattle.entry_core.specs.Store.{Store, ObjectName, name_cmp, with_object}
+use Rattle.entry_core.specs.Names.{name_cmp_total, same_names, is_same, is_same-ties, is_same_equiv, same_from_is_same}
 use Rattle.entry_core.specs.Stored.{StoredObjects, objects_of}
 
 mapped_by : (b c : Bool) (a : Arc Content Global) (x : Option Content) (y : Option (Arc Content Global)) → b ≡ c → x ≡ option_map arc_value y → cond b (Some (arc_value a)) x ≡ option_map arc_value (cond c (Some a) y)
@@ -60,3 +60,19 @@ same_pairs (e ∷ es) (f ∷ fs) h = λ i. (h.0.0 i, h.0.1 i) ∷ same_pairs es 
 
 pub after_clone : (es fs : StoredObjects) → AllZip (λ p q. (q.0 ≡ p.0) × (arc_value q.1 ≡ arc_value p.1)) es fs → objects_of fs ≡ objects_of es
 after_clone es fs h = ap from_entries (same_pairs es fs h)
+
+-- what stands at each name after a change of one object
+get-with_object : (store : Store) (k q : ObjectName) (o : Option Content) → get (with_object store k o) q ≡ cond (eq_by_cmp name_cmp q k) o (get store q)
+get-with_object store k q (Some c) = get-insert name_cmp_total store k c q
+get-with_object store k q None = get-remove name_cmp_total store k q
+
+there_again : (b : Bool) (store : Store) (k q : ObjectName) (w o : Option Content) → eq_by_cmp name_cmp q k ≡ b → o ≡ get store k → cond b o (cond b w (get store q)) ≡ get store q
+there_again true store k q w o tied h = h ∙ ap (get store) (sym (same_from_is_same q k (is_same-ties q k ∙ tied)))
+there_again false store k q w o tied h = refl
+
+-- the object that was there before, put again, gives the store that was there before
+pub put_again : (store store' : Store) (k : ObjectName) (w o : Option Content) → store' ≡ with_object store k w → o ≡ get store k → with_object store' k o ≡ store
+put_again store store' k w o is h =
+    ap (λ s. with_object s k o) is
+    ∙ same_map name_cmp_total same_names _ _
+    (λ q. get-with_object (with_object store k w) k q o ∙ ap (cond (eq_by_cmp name_cmp q k) o) (get-with_object store k q w) ∙ there_again (eq_by_cmp name_cmp q k) store k q w o refl h)

@@ -1,4 +1,6 @@
 pub mod Deciding
+pub mod Fitting
+pub mod FittingLaws
 pub mod IdHash
 pub mod Inside
 pub mod Laws

@@ -13,6 +13,10 @@ pub data Work : Type 0 where
   Vector : List ℕ → List Op → Work
   Listing : Work
 
+-- The numbers of a session's requests are below this: 2 ^ 32. An id is the session times this, and the number in it.
+abbrev pub numbers : ℕ
+numbers = 4294967296
+
 pub record Sealed : Type 0 where
   pub id : ℕ  -- the session times 2 ^ 32, and the number in it
   pub ticket : Ticket  -- what who asks may do, and until when

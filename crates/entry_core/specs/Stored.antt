@@ -1,6 +1,6 @@
 -- Refinement: only contracts inside the crate use it.
 -- How a log keeps its objects and where its entries stand.
-use Rattle.std.specs.Prelude.{◌≡◌, ℕ, ◌+◌, ◌==◌, if◌then◌else◌, List, [], ◌∷◌, Bool, Option, Some, None, map, String, string_bytes}
+use Rattle.std.specs.Prelude.{◌≡◌, ℕ, ◌+◌, ◌==◌, if◌then◌else◌, List, [], ◌∷◌, ◌++◌, Bool, Option, Some, None, map, String, string_bytes}
 use Rattle.std.specs.Arc.{arc_value}
 use Rattle.std.specs.FinSet as set
 use Rattle.std.specs.FinMap.{FinMap, from_entries, insert}
@@ -13,7 +13,9 @@ use Rattle.std.specs.Option.{option_map}
 use Rattle.object_core.specs.declared.outcome.Change.{Change}
 use Rattle.object_core.specs.declared.outcome.Change.TheVariants as change
 use Rattle.entry_core.specs.Store.{Store, ObjectName, bytes_cmp}
-use Rattle.entry_core.specs.Deciding.{Decision, store_of}
+use Rattle.entry_core.specs.Deciding.{Decision, store_of, name_of}
+use Rattle.entry_core.specs.Laws.{changed}
+use Rattle.entry_core.specs.Log.{Legal}
 use Rattle.entry_core.specs.declared.entry.Entry.{Entry}
 use Rattle.entry_core.specs.declared.decided.ObjectChange.{ObjectChange}
 use Rattle.entry_core.specs.declared.decided.ObjectChange.TheVariants as left
@@ -38,10 +40,17 @@ abbrev pub place_in : List Entry → ℕ → Option ℕ
 place_in [] id = None
 place_in (e ∷ es) id = if e.sealed.id == id then Some 0 else option_map (λ n. n + 1) (place_in es id)
 
--- a log's index finds just the entries' numbers, and its objects are the store that the entries make
-pub record IsStored (log : List Entry) (index : List (ℕ × ℕ)) (objects : Store) : Type 0 where
+-- this change of the last entry's object, where it is known, leads back to the store before that entry
+abbrev pub LeadsBack : List Entry → Option ObjectChange → Type 0
+LeadsBack log None = Unit {0}
+LeadsBack log (Some back) = (front : List Entry) (e : Entry) → front ++ e ∷ [] ≡ log → changed (store_of log) (name_of e.sealed) (change_of back) ≡ store_of front
+
+-- a log's index finds just the entries' numbers, and its objects are the store that the entries make; the log is legal
+pub record IsStored (log : List Entry) (index : List (ℕ × ℕ)) (objects : Store) (kept : Option ObjectChange) : Type 0 where
   pub places : (id : ℕ) → lookup (λ n. id == n) index ≡ place_in log id
   pub made : objects ≡ store_of log
+  pub legal : Legal log
+  pub back : LeadsBack log kept
 
 -- a set of texts: a map with nothing at each
 abbrev pub Texts : Type 0

@@ -1,9 +1,10 @@
 //! What was decided on a request, before it stands in a log.
 
-ghost use Rattle.std.specs.Prelude.{◌≡◌};
-ghost use Rattle.entry_core.specs.Stored.{decided_of};
+ghost use Rattle.std.specs.Prelude.{◌≡◌, IfOk};
+ghost use Rattle.entry_core.specs.Stored.{change_of, decided_of};
 
 use crate::entry::Entry;
+use common_types::OutOfMemory;
 use object_core::Object;
 use std::marker::Model;
 use std::sync::Arc;
@@ -15,6 +16,21 @@ pub(crate) enum ObjectChange {
     Kept,
     /// It is this object now, or is gone.
     Became(Option<Arc<Object>>),
+}
+
+impl ObjectChange {
+    /// An equal change, which shares its object.
+    pub(crate) fn share(&self) -> Result<ObjectChange, OutOfMemory>
+        ensures { IfOk result (λ change. change_of change ≡ change_of self.now) }
+    {
+        match self {
+            ObjectChange::Kept => Ok(ObjectChange::Kept),
+            ObjectChange::Became(None) => Ok(ObjectChange::Became(None)),
+            ObjectChange::Became(Some(object)) => Ok(ObjectChange::Became(Some(Arc::try_clone(
+                object,
+            )?))),
+        }
+    }
 }
 
 /// An entry, and what becomes of its object.

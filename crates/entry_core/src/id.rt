@@ -4,9 +4,13 @@ ghost use Rattle.std.specs.Prelude.{◌≡◌, ◌+◌, ◌*◌, ◌/◌, ◌%�
 ghost use Rattle.std.specs.Cmp.{nat_eq_equiv, partial_equiv_from_equiv};
 ghost use Rattle.std.specs.Hash as fed;
 ghost use Rattle.entry_core.specs.Names.{id_hashes_alike};
+ghost use Rattle.entry_core.specs.Request.{numbers};
 
 use std::hash::{Hash, Hasher};
 use std::marker::Model;
+
+// The numbers of a session's requests are below this.
+const NUMBERS: u64 = 1 << 32;
 
 /// Which request: its session, and its number in that session. Contracts see it as one number, the session times
 /// 2^32 and the number.
@@ -18,6 +22,7 @@ pub struct Id {
 
 impl Model for Id {
     ghost use Rattle.std.specs.Prelude.{ℕ, ◌<◌};
+    ghost use Rattle.entry_core.specs.Request.{numbers};
 
     ghost Value = { ℕ };
 
@@ -25,7 +30,7 @@ impl Model for Id {
 
     ghost view = { id_of };
 
-    ghost invariant = { λ id. id.number < 4294967296 };
+    ghost invariant = { λ id. id.number < numbers };
 
     ghost inverse = { parts_of };
 
@@ -35,21 +40,21 @@ impl Model for Id {
 impl Id {
     /// The id of a session's request.
     pub fn new(session: u32, number: u32) -> Id
-        ensures { result ≡ session * 4294967296 + number }
+        ensures { result ≡ session * numbers + number }
     {
         Id { session, number }
     }
 
     /// The session.
     pub fn session(self) -> u32
-        ensures { result ≡ self / 4294967296 }
+        ensures { result ≡ self / numbers }
     {
         self.session
     }
 
     /// The request's number in its session.
     pub fn number(self) -> u32
-        ensures { result ≡ self % 4294967296 }
+        ensures { result ≡ self % numbers }
     {
         self.number
     }
@@ -58,7 +63,7 @@ impl Id {
     fn value(self) -> u64
         ensures { result ≡ self }
     {
-        u64::from(self.session) * 4294967296 + u64::from(self.number)
+        u64::from(self.session) * NUMBERS + u64::from(self.number)
     }
 }
 

@@ -2,6 +2,7 @@
 
 ghost use Rattle.entry_core.specs.Laws.{VerdictIsSealed, RefusalsLeaveTheStore, OthersAreLeft, FindTells, DecisionTellsTheStore, ListingsAreSorted};
 ghost use Rattle.entry_core.specs.Locality.{SealedDecideAlike};
+ghost use Rattle.entry_core.specs.FittingLaws.{FitGivesTheLog, FitOfNothing, FittedIsLegal};
 
 /// On every log a request is denied just where its own ticket, target, needs and tick are not allowed, and with their report.
 pub fn verdict_is_sealed()
@@ -37,4 +38,19 @@ pub fn decision_tells_the_store()
 /// The names of a listing piece stand in the order of their bytes, each once.
 pub fn listings_are_sorted()
     ensures { ListingsAreSorted }
+{}
+
+/// A log that is fitted to the part of another, with which it nearly begins, becomes the other.
+pub fn fit_gives_the_log()
+    ensures { FitGivesTheLog }
+{}
+
+/// An empty part behind a log changes nothing.
+pub fn fit_of_nothing()
+    ensures { FitOfNothing }
+{}
+
+/// A legal log that is fitted stays legal.
+pub fn fitted_is_legal()
+    ensures { FittedIsLegal }
 {}

@@ -26,8 +26,9 @@ pub use entry::Entry;
 pub use id::Id;
 pub use id_hasher::{IdHash, IdHasher};
 pub use laws::{
-    decision_tells_the_store, find_tells, groups_decide_apart, listings_are_sorted,
-    others_are_left, refusals_leave_the_store, verdict_is_sealed,
+    decision_tells_the_store, find_tells, fit_gives_the_log, fit_of_nothing, fitted_is_legal,
+    groups_decide_apart, listings_are_sorted, others_are_left, refusals_leave_the_store,
+    verdict_is_sealed,
 };
 pub use log::Log;
 pub use reply::{Reply, reply_number};

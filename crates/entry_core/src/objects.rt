@@ -17,6 +17,7 @@ use object_core::Object;
 use std::alloc::{AllocError, Global};
 use std::collections::HashMap;
 use std::marker::Model;
+use std::mem;
 use std::sync::Arc;
 
 /// Objects by their names, which contracts see as the map. Names are found by their hash.
@@ -54,42 +55,48 @@ impl Objects {
         self.map.get(name)
     }
 
-    /// Puts the object of a name. The name is copied where it is new.
-    pub(crate) fn put(&mut self, name: &ObjectName, object: Arc<Object>) -> Result<(), OutOfMemory>
+    /// Puts the object of a name, and gives the one that was there. The name is copied where it is new.
+    pub(crate) fn put(
+        &mut self,
+        name: &ObjectName,
+        object: Arc<Object>,
+    ) -> Result<Option<Arc<Object>>, OutOfMemory>
         ensures ok { OnOk result (self.new ≡ insert self.old name.now (arc_value object)) }
+        ensures before { IfOk result (λ before. option_map arc_value before ≡ get self.old name.now) }
         ensures err { OnErr result (self.new ≡ self.old) }
     {
         if let Some(kept) = self.map.get_mut(name) {
-            *kept = object;
-            return Ok(());
+            return Ok(Some(mem::replace(kept, object)));
         }
         self.map.insert(name.clone()?, object)?;
-        Ok(())
+        Ok(None)
     }
 
     /// Takes the object of a name out.
-    pub(crate) fn take_out(&mut self, name: &ObjectName)
-        ensures { self.new ≡ remove self.old name.now }
+    pub(crate) fn take_out(&mut self, name: &ObjectName) -> Option<Arc<Object>>
+        ensures out { self.new ≡ remove self.old name.now }
+        ensures before { option_map arc_value result ≡ get self.old name.now }
     {
-        let _ = self.map.remove(name);
+        self.map.remove(name)
     }
 
-    /// Does to the object of a name what was decided. Where memory is wanting, nothing changes.
+    /// Does to the object of a name what was decided, and gives what undoes it. Where memory is wanting, nothing changes.
     pub(crate) fn change(
         &mut self,
         name: &ObjectName,
         left: ObjectChange,
-    ) -> Result<(), OutOfMemory>
+    ) -> Result<ObjectChange, OutOfMemory>
         ensures ok { OnOk result (self.new ≡ changed self.old name.now (change_of left)) }
+        ensures back { IfOk result (λ back. changed self.new name.now (change_of back) ≡ self.old) }
         ensures err { OnErr result (self.new ≡ self.old) }
     {
         match left {
-            ObjectChange::Kept => Ok(()),
-            ObjectChange::Became(Some(object)) => self.put(name, object),
-            ObjectChange::Became(None) => {
-                self.take_out(name);
-                Ok(())
+            ObjectChange::Kept => Ok(ObjectChange::Kept),
+            ObjectChange::Became(Some(object)) => {
+                let before = self.put(name, object)?;
+                Ok(ObjectChange::Became(before))
             }
+            ObjectChange::Became(None) => Ok(ObjectChange::Became(self.take_out(name))),
         }
     }
 

@@ -11,7 +11,7 @@ use Rattle.peer_core.specs.Steps.{Stepped, blank, restarted}
 use Rattle.peer_core.specs.Copy.{copy_step, retransmit}
 use Rattle.peer_core.specs.Decided.{decided_by}
 use Rattle.peer_core.specs.ActingSets.{daemons, set_of}
-use Rattle.group_core.specs.Types.{Party, Client, Osd, Body, Interval, Query, Info, Install, Installed, Append, Appended, Request, Reply, NotHere, Sent, Daemon, EntryReply}
+use Rattle.group_core.specs.Types.{Party, Client, Osd, Body, Interval, Request, Reply, Sent, Daemon, EntryReply}
 pub use Rattle.group_core.specs.declared.answers.Answer.{Answer}
 pub use Rattle.group_core.specs.declared.fault.GroupFault.{GroupFault as Fault}
 pub use Rattle.group_core.specs.declared.fault.GroupFault.TheVariants.{NoMessage, Unreachable, Full, OutOfMemory, Doubled}
@@ -60,28 +60,12 @@ steps g d s = record g { copies = slice_set g.copies d s.copy; wire = g.wire ++ 
 
 abbrev pub answered : Group → Body → Group
 answered g (Reply id reply) = if is_answered g.answers id then g else record g { answers = g.answers ++ record { id = id; reply = reply } ∷ [] }
-answered g (Interval sets) = g
-answered g (Query n) = g
-answered g (Info n base log) = g
-answered g (Install n log) = g
-answered g (Installed n) = g
-answered g (Append n place s) = g
-answered g (Appended n place) = g
-answered g (Request s) = g
-answered g (NotHere id) = g
+answered g _ = g
 
 -- the answers after a message to the client
 abbrev pub answers_after : List Answer → Body → List Answer
 answers_after answers (Reply id reply) = if is_answered answers id then answers else answers ++ record { id = id; reply = reply } ∷ []
-answers_after answers (Interval sets) = answers
-answers_after answers (Query n) = answers
-answers_after answers (Info n base log) = answers
-answers_after answers (Install n log) = answers
-answers_after answers (Installed n) = answers
-answers_after answers (Append n place s) = answers
-answers_after answers (Appended n place) = answers
-answers_after answers (Request s) = answers
-answers_after answers (NotHere id) = answers
+answers_after answers _ = answers
 
 abbrev pub copy_hears : Group → Sent → ℕ → Option Daemon → Group
 copy_hears g m d None = g

@@ -4,7 +4,7 @@ use Rattle.std.specs.List.{filter, list_any}
 use Rattle.std.specs.Prelude.{Result, Ok, Err, OnOk, IfOk}
 use Rattle.std.specs.declared.alloc.AllocError.{AllocError}
 use Rattle.entry_core.specs.Log.{is_in}
-use Rattle.peer_core.specs.Types.{Entry, Daemon, Sent, Osd, Query, Install}
+use Rattle.peer_core.specs.Types.{Entry, Daemon, Sent, Osd, Query, Install, Installing}
 use Rattle.peer_core.specs.ActingSets.{others, missing, is_asked, daemons}
 use Rattle.peer_core.specs.Choice.{is_informed}
 use Rattle.peer_core.specs.Steps.{send}
@@ -47,3 +47,12 @@ install_sent c log before sent none empty some is =
     ∙ ap (λ ms. before ++ map (λ m. send c (Osd m) (Install c.promise log)) (missing c ms)) empty
     ∙ ap (λ ms. before ++ map (λ m. send c (Osd m) (Install c.promise log)) ms) (missing_all c)
     ∙ ap (λ v. before ++ v) (sym (install_others c log (others c) some))
+
+install_others_copy : (c : Daemon) (log : List Entry) (members : List ℕ) → (length members == 0) ≡ false → (install_chosen c log members).copy ≡ record c { base = c.promise; log = log; role = Installing [] }
+install_others_copy c log [] some = absurd (cc)
+install_others_copy c log (m ∷ ms) some = refl
+
+-- a copy that sends the chosen log to others
+pub install_copy : (c : Daemon) (log : List Entry) (none : List ℕ) → none ≡ [] → (length (others c) == 0) ≡ false → (install_chosen c log (others c)).copy ≡ record c { base = c.promise; log = log; role = Installing none }
+install_copy c log none empty some =
+    install_others_copy c log (others c) some ∙ ap (λ done. record c { base = c.promise; log = log; role = Installing done }) (sym empty)

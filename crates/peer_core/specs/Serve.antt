@@ -11,7 +11,7 @@ abbrev pub reply_with : Daemon → Entry → List Sent
 reply_with c e = send c Client (Reply e.sealed.id e.reply) ∷ []
 
 abbrev pub append_to : Daemon → ℕ → Sealed → List Sent
-append_to c place s = map (λ m. send c (Osd m) (Append c.promise place s)) (others c)
+append_to c index s = map (λ m. send c (Osd m) (Append c.promise index s)) (others c)
 
 -- a new entry of an active copy: complete at once where there is no other member, else in flight
 abbrev pub push_new : List ℕ → Daemon → Sealed → List Sealed → Stepped → Stepped

@@ -38,18 +38,18 @@ impl State {
         }
     }
 
-    /// A daemon has the entry at a place.
+    /// A daemon has the entry of an index.
     fn on_appended_from(
         &mut self,
         from: Party,
         interval: u64,
-        place: usize,
+        index: usize,
     ) -> Result<Items<Sent>, OutOfMemory>
-        ensures ok { IfOk result (λ sent. rules.of_daemon from (λ member. rules.on_appended self.old.role self.old interval place member) (still self.old) ≡ record { copy = self.new; sent = sent }) }
+        ensures ok { IfOk result (λ sent. rules.of_daemon from (λ member. rules.on_appended self.old.role self.old interval index member) (still self.old) ≡ record { copy = self.new; sent = sent }) }
         ensures err { OnErr result (self.new ≡ self.old) }
     {
         match from {
-            Party::Osd(number) => self.on_appended(interval, place, number),
+            Party::Osd(number) => self.on_appended(interval, index, number),
             Party::Client => Ok(Items::new(self.log.allocator())),
         }
     }
@@ -72,10 +72,10 @@ impl State {
             Body::Installed { interval } => self.on_installed_from(from, interval),
             Body::Append {
                 interval,
-                place,
+                index,
                 request,
-            } => self.on_append(from, interval, place, request),
-            Body::Appended { interval, place } => self.on_appended_from(from, interval, place),
+            } => self.on_append(from, interval, index, request),
+            Body::Appended { interval, index } => self.on_appended_from(from, interval, index),
             Body::Request(request) => self.on_request(request),
             Body::Reply { .. } | Body::NotHere(_) => Ok(Items::new(self.log.allocator())),
         }

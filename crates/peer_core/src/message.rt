@@ -12,7 +12,7 @@ pub enum Party {
     Osd(u8),
 }
 
-/// What a message says (Ceph Peering, by this project's profile). Intervals count from 1, and so do places in a log.
+/// What a message says (Ceph Peering, by this project's profile). Intervals count from 1, and so does an entry's index in a log.
 #[derive(Drop)]
 pub enum Body {
     /// The sets of all intervals so far, the first first.
@@ -36,16 +36,16 @@ pub enum Body {
     Installed {
         interval: u64,
     },
-    /// The request that the entry at a place decides.
+    /// The request that the entry of an index decides.
     Append {
         interval: u64,
-        place: usize,
+        index: usize,
         request: Sealed,
     },
     /// The answer to `Append`.
     Appended {
         interval: u64,
-        place: usize,
+        index: usize,
     },
     /// A client's request.
     Request(Sealed),
@@ -98,16 +98,16 @@ impl TryCopy for Body {
             },
             Body::Append {
                 interval,
-                place,
+                index,
                 request,
             } => Body::Append {
                 interval: *interval,
-                place: *place,
+                index: *index,
                 request: request.copy()?,
             },
-            Body::Appended { interval, place } => Body::Appended {
+            Body::Appended { interval, index } => Body::Appended {
                 interval: *interval,
-                place: *place,
+                index: *index,
             },
             Body::Request(request) => Body::Request(request.copy()?),
             Body::Reply { id, reply } => Body::Reply {

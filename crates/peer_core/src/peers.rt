@@ -212,21 +212,21 @@ impl State {
         Ok(())
     }
 
-    /// Sends the request at a place to each other member that does not count yet.
+    /// Sends the request of the entry of an index to each other member that does not count yet.
     pub fn send_append(
         &self,
-        place: usize,
+        index: usize,
         request: &Sealed,
         holders: &ActingSet,
         sent: &mut Items<Sent>,
     ) -> Result<(), OutOfMemory>
-        ensures { OnOk result (sent.new ≡ sent.old ++ map (λ member. send self.now (types.Osd member) (types.Append self.now.promise place request.now)) (missing self.now holders.now)) }
+        ensures { OnOk result (sent.new ≡ sent.old ++ map (λ member. send self.now (types.Osd member) (types.Append self.now.promise index request.now)) (missing self.now holders.now)) }
     {
         for member in self.set() {
             if *member != self.number && !has_member(holders, *member) {
                 let body = Body::Append {
                     interval: self.promise,
-                    place,
+                    index,
                     request: request.copy()?,
                 };
                 sent.push(self.send(Party::Osd(*member), body))?;

@@ -22,19 +22,19 @@ impl State {
         &mut self,
         from: Party,
         interval: u64,
-        place: usize,
+        index: usize,
         request: Sealed,
     ) -> Result<Items<Sent>, OutOfMemory>
-        ensures ok { IfOk result (λ sent. rules.on_append self.old from interval place request ≡ record { copy = self.new; sent = sent }) }
+        ensures ok { IfOk result (λ sent. rules.on_append self.old from interval index request ≡ record { copy = self.new; sent = sent }) }
         ensures err { OnErr result (self.new ≡ self.old) }
     {
         let mut sent = Items::new(self.log.allocator());
         if self.promise != interval || self.base != interval {
             return Ok(sent);
         }
-        let is_next = self.log.entries().len() + 1 == place && !self.log.contains(request.id());
-        if is_next || place <= self.log.len() {
-            let body = Body::Appended { interval, place };
+        let is_next = self.log.entries().len() + 1 == index && !self.log.contains(request.id());
+        if is_next || index <= self.log.len() {
+            let body = Body::Appended { interval, index };
             sent.push(self.send(from, body))?;
         }
         if is_next {
@@ -49,7 +49,7 @@ impl State {
     fn reply_to_last(&self, sent: &mut Items<Sent>) -> Result<(), OutOfMemory>
         ensures { OnOk result (sent.new ≡ sent.old ++ replies self.now (last self.now.log)) }
     {
-        match self.log.last() {
+        match self.log.last_entry() {
             Some(entry) => sent.push(reply_to(self.number, &entry.sealed, &entry.reply)?),
             None => Ok(()),
         }
@@ -69,15 +69,15 @@ impl State {
     pub fn on_appended(
         &mut self,
         interval: u64,
-        place: usize,
+        index: usize,
         member: u8,
     ) -> Result<Items<Sent>, OutOfMemory>
-        ensures ok { IfOk result (λ sent. rules.on_appended self.old.role self.old interval place member ≡ record { copy = self.new; sent = sent }) }
+        ensures ok { IfOk result (λ sent. rules.on_appended self.old.role self.old interval index member ≡ record { copy = self.new; sent = sent }) }
         ensures err { OnErr result (self.new ≡ self.old) }
     {
         let sent = Items::new(self.log.allocator());
         let holders = match &self.role {
-            Role::Active(Some(holders)) if self.promise == interval && place == self.log.len() =>
+            Role::Active(Some(holders)) if self.promise == interval && index == self.log.len() =>
                 *holders,
             _ => return Ok(sent),
         };
@@ -151,7 +151,7 @@ impl State {
     fn append_again(&self, holders: &ActingSet, sent: &mut Items<Sent>) -> Result<(), OutOfMemory>
         ensures { OnOk result (sent.new ≡ sent.old ++ rules.append_again self.now (last self.now.log) (missing self.now holders.now)) }
     {
-        match self.log.last() {
+        match self.log.last_entry() {
             Some(entry) => self.send_append(self.log.len(), &entry.sealed, holders, sent),
             None => Ok(()),
         }

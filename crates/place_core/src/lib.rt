@@ -6,8 +6,6 @@ mod daemons;
 mod hashing;
 mod laws;
 mod ranking;
-#[cfg(test)]
-mod tests;
 
 pub use acting_sets::{ActingSet, acting, acting_set};
 pub use daemons::DaemonSet;

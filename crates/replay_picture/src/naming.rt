@@ -49,10 +49,10 @@ pub(crate) fn name_of(alloc: Global, body: &Body) -> Result<String, OutOfMemory>
         Body::Installed { interval } => of_interval(alloc, "Installed", *interval),
         Body::Append {
             interval,
-            place,
+            index,
             ..
-        } => of_place(alloc, "Append", *interval, *place),
-        Body::Appended { interval, place } => of_place(alloc, "Appended", *interval, *place),
+        } => of_place(alloc, "Append", *interval, *index),
+        Body::Appended { interval, index } => of_place(alloc, "Appended", *interval, *index),
         Body::Request(request) => of_request(alloc, "Request", request.id()),
         Body::Reply { id, .. } => of_request(alloc, "Reply", *id),
         Body::NotHere(id) => of_request(alloc, "NotHere", *id),

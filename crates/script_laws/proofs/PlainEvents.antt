@@ -35,7 +35,7 @@ use Rattle.world_core.specs.declared.event.Event.TheVariants.{Auth, Map, Open, R
 use Rattle.world_core.specs.declared.fault.WorldFault.{WorldFault as Fault}
 use Rattle.world_core.specs.declared.fault.WorldFault.TheVariants.{Map as OfMap, Group as OfGroup}
 use Rattle.world_core.specs.Groups.{is_same_group, is_for}
-use Rattle.world_core.specs.Front.{Front, front_step, front_refusal, requests_of, sealed_by, if_ok}
+use Rattle.world_core.specs.Front.{Front, front_step, front_refusal, requests_of, requests_in, sealed_by, if_ok}
 use Rattle.world_core.specs.World.{World, Part, part, group_at, groups_of, members_of, moved_parts, asked_parts, parts_of, created_by, decided_in, act, acted, refused_in, parts_refusal, refusal_of, world_step}
 use Rattle.world_core.specs.Holds.{events_in, group_step_alone}
 use Rattle.world_core.specs.Accepted.{FrontTells}
@@ -245,7 +245,7 @@ last_is p w id g s there = members_are (map_of w.front.history) id (last_set g.s
 
 -- a command that no group hears
 still_map : (p : Plain) (w : World) (c : MapCommand) → Simulates p w → front_refusal w.front (Map c) ≡ None → Stays w c → parts_of w.front (Map c) ≡ [] → created_by w.front (Map c) ≡ [] → Happened (at_front p w) w (Map c)
-unfolding requests_of
+unfolding requests_of requests_in
 still_map p w c s allowed stays parts new =
     after_event p w (Map c) s.agrees
     (ap (λ ps. option_or (front_refusal w.front (Map c)) (option_map OfGroup (parts_refusal w.groups ps))) parts ∙ or_none (front_refusal w.front (Map c)) allowed)
@@ -272,7 +272,7 @@ beside : (p : Plain) (w : World) (c : MapCommand) (F : GroupId → group.Event) 
     → ((id : GroupId) → IsStill (F id)) → ((id : GroupId) → IsAside (F id))
     → ((id : GroupId) (g : Group) → group_at id w.groups ≡ Some g → group.refusal_of g (F id) ≡ None)
     → ((id : GroupId) (g : Group) → group_at id w.groups ≡ Some g → IsCalm (members_of (map_of w.front.history) id) (F id)) → Happened (at_front p w) w (Map c)
-unfolding requests_of
+unfolding requests_of requests_in
 beside p w c F s allowed stays parts new still aside free calm =
     after_event p w (Map c) s.agrees
     (ap (λ ps. option_or (front_refusal w.front (Map c)) (option_map OfGroup (parts_refusal w.groups ps))) parts
@@ -328,7 +328,7 @@ restart_event p w d s allowed stays =
 
 new_group : (p : Plain) (w : World) (name : List ℕ) (pg_num size min_size : ℕ) (id : GroupId) (g : Group) → Simulates p w → front_refusal w.front (Map (PoolCreate name pg_num size min_size)) ≡ None
     → IsMade (after (map_of w.front.history) (PoolCreate name pg_num size min_size)) min_size name pg_num id g → Both (NextState w (Map (PoolCreate name pg_num size min_size))) (asks (at_front p w) (Map (PoolCreate name pg_num size min_size))) id g
-unfolding requests_of
+unfolding requests_of requests_in
 new_group p w name pg_num size min_size id g s allowed made =
     let c : MapCommand = PoolCreate name pg_num size min_size in
     let f : Front = w.front in
@@ -377,7 +377,7 @@ new_group p w name pg_num size min_size id g s allowed made =
 
 pool_event : (p : Plain) (w : World) (name : List ℕ) (pg_num size min_size : ℕ) → Simulates p w → front_refusal w.front (Map (PoolCreate name pg_num size min_size)) ≡ None → Stays w (PoolCreate name pg_num size min_size)
     → Happened (at_front p w) w (Map (PoolCreate name pg_num size min_size))
-unfolding requests_of
+unfolding requests_of requests_in
 pool_event p w name pg_num size min_size s allowed stays =
     let c : MapCommand = PoolCreate name pg_num size min_size in
     after_event p w (Map c) s.agrees (or_none (front_refusal w.front (Map c)) allowed) refl
@@ -403,7 +403,7 @@ unfolding Stays
 stays_from w c h = none_moves (map_of w.front.history) c (places w.front) h
 
 happened_at : (p : Plain) (w : World) (e : Event) → Simulates p w → front_refusal w.front e ≡ None → is_message e ≡ false → is_move w.front e ≡ false → Happened (at_front p w) w e
-unfolding requests_of
+unfolding requests_of requests_in
 happened_at p w (Map c) s allowed quiet still = map_event p w c s allowed (stays_from w c still)
 happened_at p w (Auth command) s allowed quiet still = quiet_event p w (Auth command) s allowed refl refl refl refl
 happened_at p w (Open entity until) s allowed quiet still = quiet_event p w (Open entity until) s allowed refl refl refl refl

@@ -7,7 +7,7 @@ use Rattle.map_core.specs.Refusal.{is_word, tags_in, pairs_in, has_app, has_key,
 use Rattle.place_core.specs.Placement.{rank_of, is_before, acting_of, numbers_of}
 use Rattle.cap_text.specs.Machine.{step}
 use Rattle.cap_text.specs.ReadText.{read_text}
-use Rattle.world_core.specs.Front.{requests_of}
+use Rattle.world_core.specs.Front.{requests_of, requests_in}
 use Rattle.script_laws.specs.Worked.{script, printed, WorkedScript, WorkedLongerScript, WorldsCount, longer_script, longer_printed, in_list}
 use Rattle.world_script.specs.Script.{Output, Whole, BadAt}
 use Rattle.script_laws.specs.Plain.{output_in, plain_output, IsPlain}
@@ -15,7 +15,7 @@ use Rattle.script_laws.proofs.PlainKeepings.{keepings_agree}
 use Rattle.script_laws.proofs.PlainScripts.{plain_scripts_print}
 
 computed : output_in in_list script ≡ record { text = printed; ending = Whole }
-unfolding digits pool_in view_at size_in set_of is_word tags_in pairs_in has_app has_key in_limits refusal groups_in rank_of is_before acting_of numbers_of step requests_of read_text
+unfolding digits pool_in view_at size_in set_of is_word tags_in pairs_in has_app has_key in_limits refusal groups_in rank_of is_before acting_of numbers_of step requests_of requests_in read_text
 computed = refl
 
 pub worked_script : WorkedScript
@@ -26,7 +26,7 @@ worked_script =
     plain_scripts_print script (subst P (sym is) tt) ∙ is
 
 computed_longer : output_in in_list longer_script ≡ record { text = longer_printed; ending = BadAt 48 }
-unfolding digits pool_in view_at size_in set_of is_word tags_in pairs_in has_app has_key in_limits refusal groups_in rank_of is_before acting_of numbers_of step requests_of read_text
+unfolding digits pool_in view_at size_in set_of is_word tags_in pairs_in has_app has_key in_limits refusal groups_in rank_of is_before acting_of numbers_of step requests_of requests_in read_text
 computed_longer = refl
 
 pub worked_longer_script : WorkedLongerScript
@@ -37,5 +37,5 @@ worked_longer_script =
     plain_scripts_print longer_script (subst P (sym is) tt) ∙ is
 
 pub worlds_count : WorldsCount
-unfolding WorldsCount digits pool_in view_at size_in set_of is_word tags_in pairs_in has_app has_key in_limits refusal groups_in rank_of is_before acting_of numbers_of step requests_of read_text
+unfolding WorldsCount digits pool_in view_at size_in set_of is_word tags_in pairs_in has_app has_key in_limits refusal groups_in rank_of is_before acting_of numbers_of step requests_of requests_in read_text
 worlds_count = (refl, refl)

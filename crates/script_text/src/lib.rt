@@ -24,6 +24,3 @@ pub use printing::{push_item, push_number, push_quoted};
 pub use std::alloc::AllocError as OutOfMemory;
 pub use streams::{read_script, write_text};
 pub use words::Words;
-
-#[cfg(test)]
-mod tests;

@@ -75,8 +75,6 @@
 mod lock;
 mod locked_value;
 mod rule;
-#[cfg(test)]
-mod tests;
 mod turnstile;
 
 pub use lock::{Seat, TurnLock};

@@ -1,4 +1,4 @@
-//! The worked examples of clusters, as tests. Each calls only what is public.
+//! The worked examples of locks and clusters, as tests. Each calls only what is public.
 //!
 //! They stand here and not beside the code, since a crate with tests is proved a second time with them.
 #![tactic(auto)]
@@ -19,5 +19,7 @@ mod held;
 mod listings;
 #[cfg(test)]
 mod loads;
+#[cfg(test)]
+mod locks;
 #[cfg(test)]
 mod notes;

@@ -9,3 +9,5 @@ mod commands;
 mod files;
 #[cfg(test)]
 mod no_texts;
+#[cfg(test)]
+mod script_texts;

@@ -1,4 +1,4 @@
-//! The worked examples of texts, verdicts, users, objects, maps and printed texts, as tests. Each calls only what is public.
+//! The worked examples of texts, verdicts, users, objects, placement, maps and printed texts, as tests. Each calls only what is public.
 //!
 //! They stand here and not beside the code, since a crate with tests is proved a second time with them.
 #![tactic(auto)]
@@ -13,6 +13,8 @@ mod comparisons_by_force;
 mod maps;
 #[cfg(test)]
 mod objects;
+#[cfg(test)]
+mod placement;
 #[cfg(test)]
 mod printed_texts;
 #[cfg(test)]

@@ -98,12 +98,12 @@ fn body(alloc: Global, says: Says) -> Result<Body, OutOfMemory> {
             log: log(alloc, numbers)?,
         },
         Installed(interval) => Body::Installed { interval },
-        Append(interval, place, number) => Body::Append {
+        Append(interval, index, number) => Body::Append {
             interval,
-            place,
+            index,
             request: request(alloc, number)?,
         },
-        Appended(interval, place) => Body::Appended { interval, place },
+        Appended(interval, index) => Body::Appended { interval, index },
         Request(number) => Body::Request(request(alloc, number)?),
     })
 }

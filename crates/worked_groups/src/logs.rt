@@ -301,7 +301,7 @@ fn expect_two(rt: &impl Abort, alloc: Global, log: &Log) -> Result<(), Fail> {
 
 /// Whether the last entry of a log has this id.
 fn is_last(log: &Log, id: Id) -> bool {
-    match log.last() {
+    match log.last_entry() {
         Some(entry) => entry.sealed.id() == id,
         None => false,
     }

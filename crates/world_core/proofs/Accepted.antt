@@ -31,7 +31,7 @@ use Rattle.group_core.proofs.Groups.{run-append}
 use Rattle.world_core.specs.Event.{Ask, Event, Auth, Map, Open, Renew, Close, Submit, ListNames, Deliver, Lose, Repeat, Kick, Fault, OfMap, OfGroup}
 use Rattle.entry_core.specs.Locality.{group_for}
 use Rattle.world_core.specs.Groups.{is_same_group, is_for}
-use Rattle.world_core.specs.Front.{Front, Session, front_step, front_refusal, asking_refusal, is_full, requests_of, sealed_by, if_ok}
+use Rattle.world_core.specs.Front.{Front, Session, front_step, front_refusal, asking_refusal, is_full, requests_of, requests_in, sealed_by, if_ok}
 use Rattle.world_core.specs.World.{World, Part, part, group_at, groups_of, members_of, map_parts, asked_parts, parts_of, begun_group, created_by, refused_in, parts_refusal, is_accepted, world_step}
 use Rattle.world_core.specs.Holds.{events_in, group_step_alone}
 use Rattle.world_core.specs.Accepted.{FrontTells, IsServed}
@@ -242,7 +242,7 @@ mapped_facts f id g groups c kept h there none = by c none
 
 pub mapped_on : (f : Front) (id : GroupId) (g g' : Group) (c : MapCommand) → GroupKept f id g → facts g' ≡ record { requests = g.requests; sets = sets_after f.history id g.sets c; up = numbers_of (after (map_of f.history) c).up }
     → IsWithin (map_of f.history).daemons g' → GroupKept (front_step f (Map c)) id g'
-unfolding requests_of
+unfolding requests_of requests_in
 mapped_on f id g g' c h now within =
     let next : map_of (later f.history c) ≡ after (map_of f.history) c = after_push f.history.daemons f.history.commands c in
     let S : List (List ℕ) → Type 0 = λ s. HasSets (later f.history c) id s in
@@ -257,7 +257,7 @@ mapped_on f id g g' c h now within =
     }
 
 old_kept : (w : World) (e : Event) (id : GroupId) (g : Group) → FrontKept w.front → FrontKept (front_step w.front e) → GroupKept w.front id g → Passes w e → group_at id w.groups ≡ Some g → GroupKept (front_step w.front e) id (run (events_in id (parts_of w.front e)) g)
-unfolding requests_of
+unfolding requests_of requests_in
 old_kept w (Map c) id g kept next h passed there =
     mapped_on w.front id g (run (events_in id (parts_of w.front (Map c))) g) c h (mapped_facts w.front id g w.groups c kept h there passed) (within_on w.front (Map c) id g next h.within)
 old_kept w (Submit ask object ops) id g kept next h passed there =
@@ -323,7 +323,7 @@ no_size state pool number h = ap (option_map (acting_of pool number (numbers_of 
 
 made_kept : (f : Front) (name : List ℕ) (pg_num size min_size : ℕ) (id : GroupId) (g : Group) → FrontKept f → FrontKept (front_step f (Map (PoolCreate name pg_num size min_size))) → CreatesWell (map_of f.history).pools name
     → IsMade (after (map_of f.history) (PoolCreate name pg_num size min_size)) min_size name pg_num id g → GroupKept (front_step f (Map (PoolCreate name pg_num size min_size))) id g
-unfolding requests_of size_in pool_in
+unfolding requests_of requests_in size_in pool_in
 made_kept f name pg_num size min_size id g kept then_kept well made =
     let c : MapCommand = PoolCreate name pg_num size min_size in
     let state : MapState = map_of f.history in
@@ -480,7 +480,7 @@ told_alone None rest h = ap (option_map OfGroup) (h refl)
 told_alone (Some fault) rest h = refl
 
 pub front_tells : (w : World) → WorldKept w → FrontStands w.front → FrontTells w
-unfolding requests_of
+unfolding requests_of requests_in
 front_tells w kept stands = record {
   submit = λ ask object ops. told_alone (front_refusal w.front (Submit ask object ops)) (parts_refusal w.groups (parts_of w.front (Submit ask object ops))) (λ none.
       asking_passes w ask (requests_of w.front (Submit ask object ops)) kept stands none (λ rs is. submit_made w.front ask object ops rs is)

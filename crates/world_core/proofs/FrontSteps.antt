@@ -8,29 +8,29 @@ use Rattle.entry_core.specs.Request.{Sealed}
 use Rattle.group_core.specs.Each.{Each}
 use Rattle.group_core.specs.Group.{submitted}
 use Rattle.world_core.specs.Event.{AuthCommand, Event, Auth, Map, Open, Renew, Close}
-use Rattle.world_core.specs.Front.{Front, Session, Pieced, command_of, front_step, lists_step, sealed_by, opened, ticket_for, session_at, session_of, if_ok, requests_of}
+use Rattle.world_core.specs.Front.{Front, Session, Pieced, command_of, front_step, lists_step, sealed_by, opened, ticket_for, session_at, session_of, if_ok, requests_of, requests_in}
 use Rattle.world_core.specs.Stands.{IsKept}
 use Rattle.world_core.proofs.Fronts.{front_stands}
 
 pub auth_step : (f : Front) (command : AuthCommand) (d : Database) → d ≡ after f.database (command_of command) → record f { database = d } ≡ front_step f (Auth command)
-unfolding requests_of
+unfolding requests_of requests_in
 auth_step f command d is = λ i. record f { database = is i; submissions = sym (append-nil f.submissions) i }
 
 pub map_step : (f : Front) (command : MapCommand) (h : History) → h ≡ record f.history { commands = f.history.commands ++ command ∷ [] } → record f { history = h } ≡ front_step f (Map command)
-unfolding requests_of
+unfolding requests_of requests_in
 map_step f command h is = λ i. record f { history = is i; submissions = sym (append-nil f.submissions) i }
 
 pub open_step : (f : Front) (entity : List ℕ) (until : Option ℕ) (ss : List Session) → ss ≡ f.sessions ++ opened entity (ticket_for f.database entity until) ∷ [] → record f { sessions = ss } ≡ front_step f (Open entity until)
-unfolding requests_of
+unfolding requests_of requests_in
 open_step f entity until ss is = λ i. record f { sessions = is i; submissions = sym (append-nil f.submissions) i }
 
 pub renew_step : (f : Front) (n : ℕ) (until : Option ℕ) (ss : List Session) → ss ≡ session_at f.sessions n (λ s. record s { ticket = ticket_for f.database s.entity until })
     → record f { sessions = ss } ≡ front_step f (Renew n until)
-unfolding requests_of
+unfolding requests_of requests_in
 renew_step f n until ss is = λ i. record f { sessions = is i; submissions = sym (append-nil f.submissions) i }
 
 pub close_step : (f : Front) (n : ℕ) (ss : List Session) → ss ≡ session_at f.sessions n (λ s. record s { is_closed = true }) → record f { sessions = ss } ≡ front_step f (Close n)
-unfolding requests_of
+unfolding requests_of requests_in
 close_step f n ss is = λ i. record f { sessions = is i; submissions = sym (append-nil f.submissions) i }
 
 -- one change, or another that is the same for this session
@@ -52,17 +52,17 @@ quiet_kept f e g h is none lists =
     })
 
 pub map_kept : (f : Front) (command : MapCommand) (g : Front) → IsKept f → g ≡ front_step f (Map command) → IsKept g
-unfolding requests_of
+unfolding requests_of requests_in
 map_kept f command g h is = quiet_kept f (Map command) g h is refl refl
 
 pub open_kept : (f : Front) (entity : List ℕ) (until : Option ℕ) (g : Front) → IsKept f → g ≡ front_step f (Open entity until) → IsKept g
-unfolding requests_of
+unfolding requests_of requests_in
 open_kept f entity until g h is = quiet_kept f (Open entity until) g h is refl refl
 
 pub renew_kept : (f : Front) (n : ℕ) (until : Option ℕ) (g : Front) → IsKept f → g ≡ front_step f (Renew n until) → IsKept g
-unfolding requests_of
+unfolding requests_of requests_in
 renew_kept f n until g h is = quiet_kept f (Renew n until) g h is refl refl
 
 pub close_kept : (f : Front) (n : ℕ) (g : Front) → IsKept f → g ≡ front_step f (Close n) → IsKept g
-unfolding requests_of
+unfolding requests_of requests_in
 close_kept f n g h is = quiet_kept f (Close n) g h is refl refl

@@ -20,7 +20,7 @@ use Rattle.world_core.specs.Event.{Ask, Event, Auth, Map, Open, Renew, Close, Su
 use Rattle.entry_core.specs.Locality.{IsPlaced}
 use Rattle.world_core.specs.Standing.{group_count}
 pub use Rattle.world_core.specs.Stands.{IsSealedWell, FrontStands}
-use Rattle.world_core.specs.Front.{Session, Front, Asker, ◌>>=◌, need, refuse_if, lower, if_ok, session_of, session_at, opened, ticket_for, asker_of, is_object_name, is_namespace, sealed_of, vector_of, pieces_of, requests_of, sealed_by, asks_more, asked, front_step}
+use Rattle.world_core.specs.Front.{Session, Front, Asker, ◌>>=◌, need, refuse_if, lower, if_ok, session_of, session_at, opened, ticket_for, asker_of, is_object_name, is_namespace, sealed_of, vector_of, pieces_of, requests_of, requests_in, sealed_by, asks_more, asked, front_step}
 use Rattle.world_core.proofs.Pools.{InMap, in_later, view_in, counted}
 use Rattle.world_core.proofs.Numbers.{next_in as next_of_found, next_at, open_is, IsGiven, Onward, given_later, pushed_onward, pushed_most, at_onward, at_most, at_here, NumberedFrom, asked_later, all_asked, news_given}
 
@@ -87,7 +87,7 @@ pub record Requested (f : Front) (ask : Ask) (rs : List Sealed) : Type 0 where
   pub single : (id : GroupId) → AtMostOne (filter (is_for id) rs)
 
 pub submit_made : (f : Front) (ask : Ask) (object : List ℕ) (ops : List Op) (rs : List Sealed) → requests_of f (Submit ask object ops) ≡ Ok rs → Requested f ask rs
-unfolding requests_of
+unfolding requests_of requests_in
 submit_made f ask object ops rs h =
     let a = bind_ok (asker_of f ask) (λ asker.
     refuse_if (not (is_object_name object && is_namespace ask.namespace)) BadObjectName >>= λ _.
@@ -132,7 +132,7 @@ pieces_single id ask asker =
     record { one = one.one; is = filter_map_is (is_for id) (λ i. sealed_of ask asker Listing i i) (range_with_len 0 asker.view.pg_num) ∙ one.is }
 
 pub list_made : (f : Front) (ask : Ask) (rs : List Sealed) → requests_of f (ListNames ask) ≡ Ok rs → Requested f ask rs
-unfolding requests_of
+unfolding requests_of requests_in
 list_made f ask rs h =
     let a = bind_ok (asker_of f ask) (λ asker.
     refuse_if (not (is_namespace ask.namespace)) BadObjectName >>= λ _.
@@ -226,7 +226,7 @@ with_requests f ask (Ok rs) g h is room made =
     )
 
 pub front_stands : (f : Front) (e : Event) → FrontStands f → length (front_step f e).submissions < 4294967296 → FrontStands (front_step f e) × Each (IsAsked (front_step f e).submissions) (sealed_by f e)
-unfolding requests_of
+unfolding requests_of requests_in
 front_stands f (Auth command) h room = (quiet f f.sessions [] (front_step f (Auth command)) h (same_onward f.sessions) h.most refl refl (same_history f.history), tt)
 front_stands f (Map command) h room = (quiet f f.sessions (command ∷ []) (front_step f (Map command)) h (same_onward f.sessions) h.most refl refl refl, tt)
 front_stands f (Open entity until) h room = (

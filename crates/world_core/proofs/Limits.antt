@@ -24,7 +24,7 @@ use Rattle.group_core.specs.Each.{Each}
 use Rattle.world_core.specs.Event.{Ask, Event, Auth, Map, Open, Renew, Close, Submit, ListNames, Deliver, Lose, Repeat, Kick, Fault, OfMap}
 use Rattle.entry_core.specs.Locality.{group_for}
 use Rattle.world_core.specs.Groups.{is_same_group, is_for}
-use Rattle.world_core.specs.Front.{Front, first_front, front_step, front_refusal, asking_refusal, is_full, requests_of, if_ok}
+use Rattle.world_core.specs.Front.{Front, first_front, front_step, front_refusal, asking_refusal, is_full, requests_of, requests_in, if_ok}
 use Rattle.world_core.specs.World.{World, groups_of, refusal_of, is_drop, accepts, is_accepted}
 use Rattle.world_core.proofs.Merge.{same_group}
 use Rattle.world_core.proofs.Pools.{in_later, found_in}
@@ -144,7 +144,7 @@ same_kept f g h history submissions =
     }
 
 map_kept : (f : Front) (c : MapCommand) → FrontKept f → Allowed f (Map c) → FrontKept (front_step f (Map c))
-unfolding requests_of
+unfolding requests_of requests_in
 map_kept f c h none =
     let passed : refusal (map_of f.history) (epoch_of f.history) c ≡ None = wrapped_none OfMap (refusal (map_of f.history) (epoch_of f.history) c) none in
     let later : History = record f.history { commands = f.history.commands ++ c ∷ [] } in
@@ -243,7 +243,7 @@ asking_kept f g ask (Ok rs) h none made history submissions =
         omega (arith, parts, length-append (filter (is_for id) f.submissions) (option_to_list m.one))
 
 pub front_kept : (f : Front) (e : Event) → FrontKept f → Allowed f e → FrontKept (front_step f e)
-unfolding requests_of
+unfolding requests_of requests_in
 front_kept f (Map c) h none = map_kept f c h none
 front_kept f (Submit ask object ops) h none = asking_kept f (front_step f (Submit ask object ops)) ask (requests_of f (Submit ask object ops)) h none (λ rs is. submit_made f ask object ops rs is) refl refl
 front_kept f (ListNames ask) h none = asking_kept f (front_step f (ListNames ask)) ask (requests_of f (ListNames ask)) h none (λ rs is. list_made f ask rs is) refl refl

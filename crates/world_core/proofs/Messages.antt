@@ -15,7 +15,7 @@ use Rattle.group_core.proofs.Groups.{audit_grows}
 use Rattle.world_core.specs.Event.{Event, Auth, Map, Open, Renew, Close, Submit, ListNames, Deliver, Lose, Repeat, Kick, Told, Fault, OutOfMemory, OfMap, OfGroup, Done}
 use Rattle.map_core.specs.Refusal.{acting_refusal}
 use Rattle.map_core.specs.declared.fault.MapFault.{MapFault}
-use Rattle.world_core.specs.Front.{Front, front_step, front_refusal, group_refusal, told_of, requests_of}
+use Rattle.world_core.specs.Front.{Front, front_step, front_refusal, group_refusal, told_of, requests_of, requests_in}
 use Rattle.world_core.specs.World.{World, Part, part, group_at, at_group, act, acted, counts, is_drop, accepts, is_accepted, created_by, decided_in, part_refusal, parts_refusal, parts_of, refused_in, refusal_of, world_step}
 use Rattle.world_core.specs.Moves.{IsAt}
 use Rattle.common_types.specs.Refused.{RefusedExactly}
@@ -89,7 +89,7 @@ call_creates f id (calls.Repeat place) = refl
 call_creates f id calls.Kick = refl
 
 call_front : (f : Front) (id : GroupId) (c : GroupCall) → front_step f (event_for id c) ≡ f
-unfolding requests_of
+unfolding requests_of requests_in
 call_front f id (calls.Deliver place) = ap (λ l. record f { submissions = l }) (append-nil f.submissions)
 call_front f id (calls.Lose place) = ap (λ l. record f { submissions = l }) (append-nil f.submissions)
 call_front f id (calls.Repeat place) = ap (λ l. record f { submissions = l }) (append-nil f.submissions)

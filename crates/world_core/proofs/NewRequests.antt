@@ -3,7 +3,7 @@ use Rattle.std.proofs.Common.{◌≡◌, ℕ, ◌≤◌, List, ◌∷◌, ◌++�
 use Rattle.object_core.specs.declared.op.Op.{Op}
 use Rattle.entry_core.specs.Request.{Sealed}
 use Rattle.world_core.specs.Event.{Ask, Event, Auth, Map, Open, Renew, Close, Submit, ListNames, Deliver, Lose, Repeat, Kick, Fault}
-use Rattle.world_core.specs.Front.{Front, if_ok, sealed_by, requests_of}
+use Rattle.world_core.specs.Front.{Front, if_ok, sealed_by, requests_of, requests_in}
 use Rattle.world_core.specs.Stands.{FrontStands, IsKept}
 use Rattle.world_core.proofs.Fronts.{Requested, submit_made, list_made}
 use Rattle.world_core.proofs.Recording.{free_in, free_new, next_few}
@@ -36,7 +36,7 @@ list_new f ask h few room = go (requests_of f (ListNames ask)) refl room
 
 -- the requests of any event
 pub event_new : (f : Front) (e : Event) → FrontStands f → length f.submissions ≤ 33554432 → length (sealed_by f e) ≤ 33554432 → AreNew f.submissions (sealed_by f e)
-unfolding requests_of
+unfolding requests_of requests_in
 event_new f (Submit ask object ops) h few room = submit_new f ask object ops h few room
 event_new f (ListNames ask) h few room = list_new f ask h few room
 event_new f (Auth command) h few room = tt

@@ -11,7 +11,7 @@ use Rattle.group_core.specs.Each.{Each}
 use Rattle.group_core.specs.Group.{submitted}
 use Rattle.group_core.specs.Asked.{IsAsked}
 use Rattle.world_core.specs.Event.{Ask, Fault, OutOfMemory, Submit, ListNames, BadObjectName, OfNeeds}
-use Rattle.world_core.specs.Front.{error_of, ◌>>=◌, refuse_if, Front, Session, Pieced, Asker, asker_of, is_object_name, is_namespace, lower, vector_of, pieces_of, sealed_of, requests_of, sealed_by, session_of, session_at, asks_more, asked, if_ok, listed, front_step}
+use Rattle.world_core.specs.Front.{error_of, ◌>>=◌, refuse_if, Front, Session, Pieced, Asker, asker_of, is_object_name, is_namespace, lower, vector_of, pieces_of, sealed_of, requests_of, requests_in, sealed_by, session_of, session_at, asks_more, asked, if_ok, listed, front_step}
 use Rattle.world_core.specs.Stands.{next_at, IsGiven, IsKept}
 use Rattle.world_core.specs.Submitting.{AreNew}
 use Rattle.world_core.proofs.Numbers.{next_in as next_of_found, open_is, NumberedFrom}
@@ -102,7 +102,7 @@ requests_fresh f ask rs h q few =
 
 pub vector_asked : (f : Front) (ask : Ask) (asker : Asker) (object : List ℕ) (ops : List Op) (request : Sealed) → asker_of f ask ≡ Ok asker → (is_object_name object && is_namespace ask.namespace) ≡ true
     → option_map OfNeeds (needs_fault ops) ≡ None → request ≡ vector_of ask asker object ops → requests_of f (Submit ask object ops) ≡ Ok (request ∷ [])
-unfolding requests_of
+unfolding requests_of requests_in
 vector_asked f ask asker object ops request who names needs is =
     ap (λ q. q >>= λ found.
     refuse_if (not (is_object_name object && is_namespace ask.namespace)) BadObjectName >>= λ _.
@@ -121,7 +121,7 @@ vector_asked f ask asker object ops request who names needs is =
 -- a vector is refused as its operations are, where who asks and its names are good
 pub vector_refused : (f : Front) (ask : Ask) (asker : Asker) (object : List ℕ) (ops : List Op) (fault : Fault) → asker_of f ask ≡ Ok asker → (is_object_name object && is_namespace ask.namespace) ≡ true
     → (fault ≡ OutOfMemory) ⊎ (option_map OfNeeds (needs_fault ops) ≡ Some fault) → (fault ≡ OutOfMemory) ⊎ (error_of (requests_of f (Submit ask object ops)) ≡ Some fault)
-unfolding requests_of
+unfolding requests_of requests_in
 vector_refused f ask asker object ops fault who names (inl memory) = inl memory
 vector_refused f ask asker object ops fault who names (inr refused) = inr (
     ap (λ q. error_of (q >>= λ found.
@@ -139,7 +139,7 @@ vector_refused f ask asker object ops fault who names (inr refused) = inr (
 
 pub list_asked : (f : Front) (ask : Ask) (asker : Asker) (requests : List Sealed) → asker_of f ask ≡ Ok asker → is_namespace ask.namespace ≡ true → requests ≡ pieces_of ask asker
     → requests_of f (ListNames ask) ≡ Ok requests
-unfolding requests_of
+unfolding requests_of requests_in
 list_asked f ask asker requests who names is =
     ap (λ q. q >>= λ found.
     refuse_if (not (is_namespace ask.namespace)) BadObjectName >>= λ _.

@@ -3,6 +3,7 @@ pub mod Merging
 pub mod Tickets
 pub mod Event
 pub mod Printed
+pub mod Sealing
 pub mod Front
 pub mod World
 pub mod Standing

@@ -35,4 +35,5 @@ pub use ops::Ops;
 pub use running::run;
 pub use sealing::{seal_piece, seal_vector};
 pub use session::{Pieced, Session};
+pub use users::change_users;
 pub use world::{World, WorldParts};

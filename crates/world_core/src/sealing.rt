@@ -3,10 +3,10 @@
 ghost use Rattle.std.specs.Prelude.{◌≡◌, ◌≤◌, ◌<◌, ◌+◌, IfOk};
 ghost use Rattle.std.specs.Option.{option_map};
 ghost use Rattle.object_core.specs.Needs.{needs_fault};
-ghost use Rattle.entry_core.specs.Request.{Listing};
+ghost use Rattle.entry_core.specs.Request.{Listing, numbers};
 ghost use Rattle.world_core.specs.Event.{OfNeeds};
 ghost use Rattle.world_core.specs.Refusing.{RefusedOrMemory};
-ghost use Rattle.world_core.specs.Front.{numbers, pieces_of, sealed_of, vector_of};
+ghost use Rattle.world_core.specs.Front.{pieces_of, sealed_of, vector_of};
 
 use crate::asking::Asker;
 use crate::event::Ask;

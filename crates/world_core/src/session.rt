@@ -1,7 +1,8 @@
 //! Sessions of users.
 
 ghost use Rattle.std.specs.Prelude.{◌≡◌, ◌<◌, ◌≤◌, ◌+◌, ◌++◌, ℕ, [], ◌∷◌, Ok, true, OnOk, OnErr, IfOk, length};
-ghost use Rattle.world_core.specs.Front.{asks_more, error_of, numbers, opened, session_at, session_of};
+ghost use Rattle.entry_core.specs.Request.{numbers};
+ghost use Rattle.world_core.specs.Front.{asks_more, error_of, opened, session_at, session_of};
 ghost use Rattle.world_core.specs.Front as spec;
 ghost use Rattle.common_types.specs.Refused.{RefusedExactly};
 

@@ -1,80 +1,58 @@
-//! What the front asks of the users.
+//! Commands on the users, and what the front asks of them.
 
 ghost use Rattle.std.specs.Prelude.{◌≡◌, OnOk, OnErr, IfOk};
 ghost use Rattle.std.specs.Option.{option_map};
 ghost use Rattle.auth_db.specs.Refusals.{auth_refusal, known_refusal};
-ghost use Rattle.auth_db.specs.Users.{after};
-ghost use Rattle.world_core.specs.Event.{Add, GetOrCreate, SetCaps, Delete, OfUsers};
-ghost use Rattle.world_core.specs.Front.{command_of, told_auth};
+ghost use Rattle.auth_db.specs.Refusals as refusals;
+ghost use Rattle.auth_db.specs.Users.{after, user_at, GetOrCreate};
+ghost use Rattle.world_core.specs.Event.{OfUsers};
+ghost use Rattle.world_core.specs.Front.{command_of, told_auth, told_creation};
 ghost use Rattle.world_core.specs.Front as spec;
 ghost use Rattle.common_types.specs.Refused.{RefusedExactly};
 ghost use Rattle.world_core.specs.Refusing.{RefusedOrMemory};
 
 use crate::event::{AuthCommand, Told};
 use crate::fault::WorldFault;
-use auth_db::{AuthDb, Caps, Creation};
+use auth_db::{AuthDb, AuthFault, Caps, Creation};
 use common_types::Name;
 use verdict_core::SharedTicket;
 
-/// Carries out a command on the users.
-pub(crate) fn change_users(users: &mut AuthDb, command: AuthCommand) -> Result<Told, WorldFault>
+/// Carries out a command on the users, and tells what it came to. Where it is refused, or memory is wanting, they stay as they were.
+pub fn change_users(users: &mut AuthDb, command: AuthCommand) -> Result<Told, AuthFault>
     ensures steps { OnOk result (users.new ≡ after users.old (command_of command)) }
     ensures tells { IfOk result (λ told. told ≡ told_auth users.old command) }
-    ensures refused { RefusedOrMemory (option_map OfUsers (auth_refusal users.old (command_of command))) result }
+    ensures refused { refusals.RefusedOrMemory (auth_refusal users.old (command_of command)) result }
     ensures unchanged { OnErr result (users.new ≡ users.old) }
 {
     match command {
-        AuthCommand::Add { name, caps } => add(users, &name, caps),
-        AuthCommand::GetOrCreate { name, caps } => get_or_create(users, &name, caps),
-        AuthCommand::SetCaps { name, caps } => set_caps(users, &name, caps),
-        AuthCommand::Delete { name } => delete(users, &name),
+        AuthCommand::Add { name, caps } => match users.add(name.as_str(), caps) {
+            Ok(()) => Ok(Told::Done),
+            Err(fault) => Err(fault),
+        },
+        AuthCommand::GetOrCreate { name, caps } => get_or_create(users, name.as_str(), caps),
+        AuthCommand::SetCaps { name, caps } => match users.caps(name.as_str(), caps) {
+            Ok(()) => Ok(Told::Done),
+            Err(fault) => Err(fault),
+        },
+        AuthCommand::Delete { name } => match users.del(name.as_str()) {
+            Ok(()) => Ok(Told::Done),
+            Err(fault) => Err(fault),
+        },
     }
-}
-
-// Adds a user.
-fn add(users: &mut AuthDb, name: &Name, caps: Caps) -> Result<Told, WorldFault>
-    ensures steps { OnOk result (users.new ≡ after users.old (command_of (Add name.now caps))) }
-    ensures tells { IfOk result (λ told. told ≡ told_auth users.old (Add name.now caps)) }
-    ensures refused { RefusedOrMemory (option_map OfUsers (auth_refusal users.old (command_of (Add name.now caps)))) result }
-    ensures unchanged { OnErr result (users.new ≡ users.old) }
-{
-    users.add(name.as_str(), caps)?;
-    Ok(Told::Done)
 }
 
 // Makes a user, or finds it.
-fn get_or_create(users: &mut AuthDb, name: &Name, caps: Caps) -> Result<Told, WorldFault>
-    ensures steps { OnOk result (users.new ≡ after users.old (command_of (GetOrCreate name.now caps))) }
-    ensures tells { IfOk result (λ told. told ≡ told_auth users.old (GetOrCreate name.now caps)) }
-    ensures refused { RefusedOrMemory (option_map OfUsers (auth_refusal users.old (command_of (GetOrCreate name.now caps)))) result }
+fn get_or_create(users: &mut AuthDb, name: &str, caps: Caps) -> Result<Told, AuthFault>
+    ensures steps { OnOk result (users.new ≡ after users.old (GetOrCreate name.now caps)) }
+    ensures tells { IfOk result (λ told. told ≡ told_creation (user_at users.old.users name.now)) }
+    ensures refused { refusals.RefusedOrMemory (auth_refusal users.old (GetOrCreate name.now caps)) result }
     ensures unchanged { OnErr result (users.new ≡ users.old) }
 {
-    match users.get_or_create(name.as_str(), caps)? {
-        Creation::Made => Ok(Told::Made),
-        Creation::There => Ok(Told::There),
+    match users.get_or_create(name, caps) {
+        Ok(Creation::Made) => Ok(Told::Made),
+        Ok(Creation::There) => Ok(Told::There),
+        Err(fault) => Err(fault),
     }
-}
-
-// Puts all four texts of a user in the place of the old.
-fn set_caps(users: &mut AuthDb, name: &Name, caps: Caps) -> Result<Told, WorldFault>
-    ensures steps { OnOk result (users.new ≡ after users.old (command_of (SetCaps name.now caps))) }
-    ensures tells { IfOk result (λ told. told ≡ told_auth users.old (SetCaps name.now caps)) }
-    ensures refused { RefusedOrMemory (option_map OfUsers (auth_refusal users.old (command_of (SetCaps name.now caps)))) result }
-    ensures unchanged { OnErr result (users.new ≡ users.old) }
-{
-    users.caps(name.as_str(), caps)?;
-    Ok(Told::Done)
-}
-
-// Removes a user.
-fn delete(users: &mut AuthDb, name: &Name) -> Result<Told, WorldFault>
-    ensures steps { OnOk result (users.new ≡ after users.old (command_of (Delete name.now))) }
-    ensures tells { IfOk result (λ told. told ≡ told_auth users.old (Delete name.now)) }
-    ensures refused { RefusedOrMemory (option_map OfUsers (auth_refusal users.old (command_of (Delete name.now)))) result }
-    ensures unchanged { OnErr result (users.new ≡ users.old) }
-{
-    users.del(name.as_str())?;
-    Ok(Told::Done)
 }
 
 /// Refuses a user that there is not. It takes no memory.

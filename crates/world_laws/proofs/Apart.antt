@@ -19,7 +19,7 @@ use Rattle.group_core.specs.Group as group
 use Rattle.group_core.specs.declared.fault.GroupFault.TheVariants as group_fault
 use Rattle.world_core.specs.declared.event.Event.TheVariants.{Map}
 use Rattle.world_core.specs.Groups.{is_same_group, is_for}
-use Rattle.world_core.specs.Front.{Front, requests_of, front_step}
+use Rattle.world_core.specs.Front.{Front, requests_of, requests_in, front_step}
 use Rattle.world_core.specs.World.{World, group_at, groups_of, members_of, created_by}
 use Rattle.world_core.specs.Moves.{moves_groups, move_of}
 use Rattle.world_core.specs.Submitting.{AreNew}
@@ -167,7 +167,7 @@ pub sealed_later : (h : History) (cs : List MapCommand) (s : Sealed) → IsSeale
 sealed_later h cs s i = record { well = record { pool = in_later h cs s.view.pool s.view.pg_num i.well.pool; hashes = i.well.hashes }; below = i.below }
 
 command_kept : (a : Alone) (c : MapCommand) → StandsAlone a → TakesTurn a (Moves c) → StandsAlone (alone_step a (Moves c))
-unfolding requests_of
+unfolding requests_of requests_in
 command_kept a c k t =
     let h : History = a.history in
     let g : Group = a.group in

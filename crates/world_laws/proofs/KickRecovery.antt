@@ -25,7 +25,7 @@ use Rattle.world_core.specs.declared.event.Event.{Event}
 use Rattle.world_core.specs.declared.event.Event.TheVariants.{Deliver, Lose, Repeat, Kick}
 use Rattle.world_core.specs.declared.fault.WorldFault.TheVariants.{Group as OfGroup}
 use Rattle.world_core.specs.Groups.{is_same_group, is_for}
-use Rattle.world_core.specs.Front.{Front, front_step, front_refusal, group_refusal, requests_of}
+use Rattle.world_core.specs.Front.{Front, front_step, front_refusal, group_refusal, requests_of, requests_in}
 use Rattle.world_core.specs.World.{World, part, group_at, parts_of, created_by, world_step, world_after, accepts, is_accepted, refused_in, parts_refusal}
 use Rattle.world_core.specs.Holds.{events_in, group_step_alone, AcceptedFrom}
 use Rattle.world_core.specs.Answers.{answer_in, answer_to, answer_at}
@@ -62,7 +62,7 @@ same_front : (f g : Front) → g ≡ record f { submissions = f.submissions ++ [
 same_front f g h = h ∙ ap (λ l. record f { submissions = l }) (append-nil f.submissions)
 
 pub shown_front : (f : Front) (id : GroupId) (e : group.Event) → IsMessage e → front_step f (shown id e) ≡ f
-unfolding requests_of
+unfolding requests_of requests_in
 shown_front f id (group.Deliver k) h = same_front f (front_step f (Deliver id k)) refl
 shown_front f id (group.Lose k) h = same_front f (front_step f (Lose id k)) refl
 shown_front f id (group.Repeat k) h = same_front f (front_step f (Repeat id k)) refl

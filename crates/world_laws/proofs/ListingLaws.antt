@@ -24,7 +24,7 @@ use Rattle.world_core.specs.declared.event.Event.{Event}
 use Rattle.world_core.specs.declared.event.Event.TheVariants.{Auth, Map, Open, Renew, Close, Submit, List as ListNames, Deliver, Lose, Repeat, Kick}
 use Rattle.world_core.specs.declared.fault.WorldFault.{WorldFault as Fault}
 use Rattle.world_core.specs.declared.fault.WorldFault.TheVariants.{BadObjectName}
-use Rattle.world_core.specs.Front.{Front, Asker, ◌>>=◌, refuse_if, if_ok, asker_of, is_namespace, id_of, sealed_of, pieces_of, requests_of, sealed_by, listed, front_step}
+use Rattle.world_core.specs.Front.{Front, Asker, ◌>>=◌, refuse_if, if_ok, asker_of, is_namespace, id_of, sealed_of, pieces_of, requests_of, requests_in, sealed_by, listed, front_step}
 use Rattle.world_core.specs.declared.session.Pieced.{Pieced}
 use Rattle.world_core.specs.World.{World, world_step, first_world, world_after}
 use Rattle.world_core.specs.Standing.{HasNumbers}
@@ -113,7 +113,7 @@ record IsAsker (f : Front) (ask : Ask) (rs : List Sealed) : Type 0 where
   are : rs ≡ pieces_of ask asker
 
 list_asker : (f : Front) (ask : Ask) (rs : List Sealed) → requests_of f (ListNames ask) ≡ Ok rs → IsAsker f ask rs
-unfolding requests_of
+unfolding requests_of requests_in
 list_asker f ask rs h =
     let a = bind_ok (asker_of f ask) (λ asker.
     refuse_if (not (is_namespace ask.namespace)) BadObjectName >>= λ _.

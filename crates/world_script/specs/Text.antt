@@ -10,7 +10,7 @@ use Rattle.auth_db.specs.Users.{Users}
 use Rattle.auth_db.specs.declared.caps.Caps.{Caps}
 use Rattle.entry_core.specs.declared.reply.Reply.{Reply}
 use Rattle.entry_core.specs.declared.reply.Reply.TheVariants as reply
-use Rattle.world_core.specs.Front.{numbers}
+use Rattle.entry_core.specs.Request.{numbers}
 use Rattle.world_core.specs.declared.event.Told.{Told}
 use Rattle.world_core.specs.declared.event.Told.TheVariants.{Done, Made, There, Epoch, Session as OfSession, Request, List as Pieces}
 use Rattle.world_core.specs.declared.fault.WorldFault.{WorldFault as Fault}

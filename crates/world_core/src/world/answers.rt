@@ -3,7 +3,8 @@
 ghost use Rattle.std.specs.Prelude.{◌≡◌, ◌+◌, ◌<◌, ◌%◌, IfOk, IfSome, Ok, option_copied};
 ghost use Rattle.world_core.specs.Answers.{answer_at};
 ghost use Rattle.world_core.specs.Calls.{answer_refusal};
-ghost use Rattle.world_core.specs.Front.{error_of, numbers};
+ghost use Rattle.entry_core.specs.Request.{numbers};
+ghost use Rattle.world_core.specs.Front.{error_of};
 ghost use Rattle.world_core.specs.Listing.{listing_at};
 ghost use Rattle.common_types.specs.Refused.{RefusedExactly};
 ghost use Rattle.world_core.specs.Refusing.{RefusedOrMemory};

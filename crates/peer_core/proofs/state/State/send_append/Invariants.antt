@@ -7,4 +7,4 @@ use Rattle.peer_core.proofs.state.State.send_append.Given as goal
 
 abbrev pub invariant-loop-member : goal.invariant-loop-member
 invariant-loop-member l =
-    l.sent ≡ l.fn.sent ++ map (λ m. send l.self (Osd m) (Append l.self.promise l.place l.request)) (filter (λ m. not (is_in l.holders m)) (filter (λ m. not (m == l.self.number)) (take l.member-index l.member-items)))
+    l.sent ≡ l.fn.sent ++ map (λ m. send l.self (Osd m) (Append l.self.promise l.index l.request)) (filter (λ m. not (is_in l.holders m)) (filter (λ m. not (m == l.self.number)) (take l.member-index l.member-items)))

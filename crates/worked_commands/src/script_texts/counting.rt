@@ -1,0 +1,35 @@
+//! Counts, as they are printed.
+
+use script_text::{Count, push_count};
+use std::alloc::{AllocError, Global};
+use std::test::Fail;
+
+/// What a count is printed as after so many additions.
+fn counted(alloc: Global, times: u32) -> Result<String, AllocError> {
+    let mut count = Count::new(alloc);
+    for _ in 0..times {
+        count.add_one()?;
+    }
+    let mut text = String::new(alloc);
+    push_count(&mut text, &count)?;
+    Ok(text)
+}
+
+#[test]
+fn a_count_gets_a_digit_behind_nines(rt: HostRuntime) -> Result<(), Fail> {
+    let cases = [
+        (0, "0"),
+        (1, "1"),
+        (9, "9"),
+        (10, "10"),
+        (99, "99"),
+        (100, "100"),
+        (109, "109"),
+        (1_000, "1000"),
+    ];
+    for (times, printed) in cases {
+        let text = counted(rt.alloc(), times)?;
+        assert_eq!(rt; text.as_str(), printed);
+    }
+    Ok(())
+}

@@ -1,0 +1,190 @@
+//! Lines, words, numbers and printed texts.
+
+use script_text::{Lines, ScriptFault, Words, number_of, pair_of, push_item, push_number, push_quoted};
+use std::alloc::{AllocError, Global};
+use std::test::Fail;
+
+/// The lines of a script with their numbers, and `-` behind the number of a blank one.
+fn numbered(alloc: Global, script: &[u8]) -> Result<String, AllocError> {
+    let mut shown = String::new(alloc);
+    let mut lines = Lines::new(script);
+    for _ in 0..=script.len() {
+        let Some(line) = lines.next_line() else {
+            return Ok(shown);
+        };
+        push_number(&mut shown, line.number as u64)?;
+        if line.is_blank() {
+            shown.push_str("-")?;
+        }
+        push_quoted(&mut shown, line.text)?;
+    }
+    Ok(shown)
+}
+
+#[test]
+fn lines_end_at_a_line_feed_or_at_the_end(rt: HostRuntime) -> Result<(), Fail> {
+    let cases: [(&[u8], &str); 10] = [
+        (b"", ""),
+        (b"a", "1\"a\""),
+        (b"a\n", "1\"a\""),
+        (b"\n\n", "1-\"\"2-\"\""),
+        (b"a\n\nb", "1\"a\"2-\"\"3\"b\""),
+        (b"a\r\nb\r", "1\"a\"2\"b\""),
+        (b"a\r\r\n", "1\"a\\x0d\""),
+        (b"\r\n\r", "1-\"\"2-\"\""),
+        (b"a\rb\n", "1\"a\\x0db\""),
+        (b"# \xff '\n #\n", "1-\"# \\xff '\"2\" #\""),
+    ];
+    for (script, wanted) in cases {
+        let shown = numbered(rt.alloc(), script)?;
+        assert_eq!(rt; shown.as_str(), wanted);
+    }
+    Ok(())
+}
+
+/// The words of a line between brackets, or `bad`.
+fn words_shown(alloc: Global, line: &[u8]) -> Result<String, AllocError> {
+    let mut shown = String::new(alloc);
+    let Some(mut words) = Words::of(line) else {
+        shown.push_str("bad")?;
+        return Ok(shown);
+    };
+    for _ in 0..=line.len() {
+        match words.next_word() {
+            None => return Ok(shown),
+            Some(word) => {
+                shown.push_str("[")?;
+                shown.push_str(word)?;
+                shown.push_str("]")?;
+            }
+        }
+    }
+    Ok(shown)
+}
+
+#[test]
+fn words_are_bare_or_quoted_whole(rt: HostRuntime) -> Result<(), Fail> {
+    let cases: [(&[u8], &str); 20] = [
+        (b"", ""),
+        (b"   ", ""),
+        (b"osds 3", "[osds][3]"),
+        (b"  a   b  ", "[a][b]"),
+        (b"osd map data '' x", "[osd][map][data][][x]"),
+        (b"\"\"", "[]"),
+        (
+            b"auth add c.a osd 'allow rw pool=data'",
+            "[auth][add][c.a][osd][allow rw pool=data]",
+        ),
+        (b"\"it's\" 'a\"b'", "[it's][a\"b]"),
+        (b"a# \\ ~!", "[a#][\\][~!]"),
+        (b"'a", "bad"),
+        (b"a 'b c", "bad"),
+        (b"'", "bad"),
+        (b"a'b", "bad"),
+        (b"a'", "bad"),
+        (b"'a'b", "bad"),
+        (b"'a''b'", "bad"),
+        (b"a\tb", "bad"),
+        (b"a \x1f", "bad"),
+        (b"'\x7f'", "bad"),
+        (b"a\xc3\xa9", "bad"),
+    ];
+    for (line, wanted) in cases {
+        let shown = words_shown(rt.alloc(), line)?;
+        assert_eq!(rt; shown.as_str(), wanted);
+    }
+    Ok(())
+}
+
+/// Whether a line has just the first one, two, three and four of the words `a`, `b`, the empty one and `d`.
+fn counted(line: &[u8]) -> (bool, bool, bool, bool) {
+    (
+        Words::of(line).is_some_and(|words| words.exactly_one() == Some("a")),
+        Words::of(line).is_some_and(|words| words.exactly_two() == Some(("a", "b"))),
+        Words::of(line).is_some_and(|words| words.exactly_three() == Some(("a", "b", ""))),
+        Words::of(line).is_some_and(|words| words.exactly_four() == Some(("a", "b", "", "d"))),
+    )
+}
+
+#[test]
+fn so_many_words_and_no_more(rt: HostRuntime) {
+    assert!(rt; counted(b"") == (false, false, false, false));
+    assert!(rt; counted(b" a ") == (true, false, false, false));
+    assert!(rt; counted(b"a b") == (false, true, false, false));
+    assert!(rt; counted(b"a b ''") == (false, false, true, false));
+    assert!(rt; counted(b"a b '' d") == (false, false, false, true));
+    assert!(rt; counted(b"a b '' d e") == (false, false, false, false));
+}
+
+#[test]
+fn a_line_has_8192_bytes_at_most(rt: HostRuntime) -> Result<(), Fail> {
+    let mut line = vec![in rt.alloc(); b'a'; 8_192]?;
+    assert!(rt; Words::of(line.as_slice()).is_some());
+    line.push(b' ')?;
+    assert!(rt; Words::of(line.as_slice()).is_none());
+    Ok(())
+}
+
+#[test]
+fn numbers_have_ten_digits_at_most(rt: HostRuntime) {
+    let cases = [
+        ("0", Some(0)),
+        ("7", Some(7)),
+        ("0000000007", Some(7)),
+        ("4294967295", Some(4_294_967_295)),
+        ("4294967296", None),
+        ("9999999999", None),
+        ("00000000007", None),
+        ("", None),
+        ("+7", None),
+        ("-7", None),
+        ("7 ", None),
+        ("0x7", None),
+    ];
+    for (word, wanted) in cases {
+        assert!(rt; number_of(word) == wanted);
+    }
+}
+
+#[test]
+fn pairs_have_one_dot(rt: HostRuntime) {
+    let cases = [
+        ("1.2", Some((1, 2))),
+        ("007.4294967295", Some((7, 4_294_967_295))),
+        ("12", None),
+        ("1.", None),
+        (".2", None),
+        ("1.2.3", None),
+        ("1.4294967296", None),
+    ];
+    for (word, wanted) in cases {
+        assert!(rt; pair_of(word) == wanted);
+    }
+}
+
+#[test]
+fn other_bytes_are_printed_as_digits(rt: HostRuntime) -> Result<(), Fail> {
+    let mut text = String::from_str(rt.alloc(), "x")?;
+    push_quoted(&mut text, b" a~\"\\\n\x00\x1f\x7f\xff'")?;
+    push_item(&mut text, b"hello")?;
+    push_number(&mut text, 18_446_744_073_709_551_615)?;
+    let wanted = "x\" a~\\x22\\x5c\\x0a\\x00\\x1f\\x7f\\xff'\"- \"hello\"\n18446744073709551615";
+    assert_eq!(rt; text.as_str(), wanted);
+    Ok(())
+}
+
+#[test]
+fn faults_print_their_line(rt: HostRuntime) -> Result<(), Fail> {
+    let cases = [
+        (ScriptFault::Read, "S1 Read"),
+        (ScriptFault::TooMuch, "S2 TooMuch"),
+        (ScriptFault::BadLine(2), "S3 BadLine 2"),
+        (ScriptFault::Write, "S4 Write"),
+        (ScriptFault::OutOfMemory(0), "S5 OutOfMemory 0"),
+    ];
+    for (fault, wanted) in cases {
+        let shown = fault.to_string(rt.alloc())?;
+        assert_eq!(rt; shown.as_str(), wanted);
+    }
+    Ok(())
+}

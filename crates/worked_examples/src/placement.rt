@@ -1,0 +1,82 @@
+//! Hashes, groups of objects, and the daemons that serve a group.
+
+use place_core::{ActingSet, DaemonSet, acting, acting_set, group_of, hash};
+use std::test::Fail;
+
+#[test]
+fn hashes_of_texts(rt: HostRuntime) {
+    let vectors: [(&str, u32); 8] = [
+        ("data", 3631407781),
+        ("data.0.0", 2675562165),
+        ("data.0.1", 2658784546),
+        ("data.0.2", 2642006927),
+        ("data.1.0", 949842382),
+        ("data.1.1", 966620001),
+        ("data.1.2", 916287144),
+        ("\x1fx", 1470816610),
+    ];
+    for (text, want) in vectors {
+        assert_eq!(rt; hash(text.as_bytes()), want, "of {text}");
+    }
+}
+
+#[test]
+fn groups_of_objects(rt: HostRuntime) {
+    let objects: [(&str, &str, u32, u32); 10] = [
+        ("", "x", 4, 2),
+        ("", "x", 3, 1),
+        ("", "x", 1, 0),
+        ("a", "x", 4, 3),
+        ("", "a", 4, 1),
+        ("", "b", 4, 0),
+        ("", "c", 4, 3),
+        ("", "d", 4, 2),
+        ("", "e", 4, 1),
+        ("", "f", 4, 0),
+    ];
+    for (namespace, name, pg_num, want) in objects {
+        assert!(rt; pg_num >= 1);
+        assert_eq!(rt;
+            group_of(namespace, name, pg_num),
+            want,
+            "of {name} in {namespace}"
+        );
+    }
+}
+
+#[test]
+fn acting_sets_of_groups(rt: HostRuntime) -> Result<(), Fail> {
+    let three = DaemonSet::first(3);
+    let mut without_one = three;
+    without_one.set(1, false);
+    assert!(rt; three.has(1) && !without_one.has(1) && !three.has(3) && !three.has(200));
+    let sets: [(u32, DaemonSet, u32, &[u8]); 6] = [
+        (0, three, 3, &[0, 1, 2]),
+        (1, three, 3, &[1, 0, 2]),
+        (1, without_one, 3, &[0, 2]),
+        (1, three, 2, &[1, 0]),
+        (1, three, 0, &[]),
+        (1, DaemonSet::first(0), 3, &[]),
+    ];
+    for (group, up, size, want) in sets {
+        let members = acting(rt.alloc(), "data", group, &up, size)?;
+        assert_eq!(rt; members.as_slice(), want);
+        let set = acting_set("data", group, &up, size);
+        assert_eq!(rt; set.as_slice(), want);
+        assert_eq!(rt; Some(set), ActingSet::from_slice(want));
+        assert_eq!(rt; set.has(2), want.contains(&2));
+        assert_eq!(rt;
+            set.equals(&acting_set("data", 1, &three, 3)),
+            want == [1, 0, 2].as_slice()
+        );
+    }
+    let all = acting(rt.alloc(), "data", 7, &DaemonSet::first(255), 100)?;
+    assert_eq!(rt; all.len(), 16);
+    assert_eq!(rt;
+        Some(acting_set("data", 7, &DaemonSet::first(255), 100)),
+        ActingSet::from_slice(&all[..5])
+    );
+    assert_eq!(rt; ActingSet::from_slice(&all[..6]), None);
+    assert_eq!(rt; ActingSet::from_slice(&[3, 1, 3]), None);
+    Ok(())
+}
