@@ -1,6 +1,6 @@
 //! Bytes of a script as text of a picture.
 
-use common_types::OutOfMemory;
+use place_core::OutOfMemory;
 use std::fmt::Write;
 
 /// Adds a byte to a text of SVG: a letter or a digit as it is, a mark by its number, a byte outside 32 to 126 as `\x` and two

@@ -2,7 +2,7 @@
 
 use crate::happenings::{End, Happening, Party, Story};
 use crate::lanes::lane_of;
-use common_types::OutOfMemory;
+use place_core::OutOfMemory;
 use std::alloc::Global;
 
 /// So many messages wait side by side at a lane; more share the last track.

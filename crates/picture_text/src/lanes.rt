@@ -4,7 +4,7 @@ use crate::flights::{Flight, TRACKS, flights_of};
 use crate::happenings::{End, Happening, Party, Row, Story};
 use crate::lengths::Px;
 use crate::notes::{Note, notes_of};
-use common_types::OutOfMemory;
+use place_core::OutOfMemory;
 use std::alloc::Global;
 
 /// The left edge of the script's lines, of the intervals' names, and of the client's lane.

@@ -4,7 +4,7 @@ use crate::lengths::Px;
 use crate::strokes::{
     Way, push_bar, push_cross, push_disc, push_line, push_mark, push_restart, push_text, push_tip,
 };
-use common_types::OutOfMemory;
+use place_core::OutOfMemory;
 
 /// The marks that are explained.
 #[derive(Clone, Copy)]

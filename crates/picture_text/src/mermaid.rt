@@ -4,8 +4,7 @@ use crate::escaping::push_mermaid;
 use crate::happenings::{End, Happening, Message, Party, Row, Story};
 use crate::lanes::{parties, party_name};
 use crate::notes::notes_of;
-use common_types::OutOfMemory;
-use place_core::ActingSet;
+use place_core::{ActingSet, OutOfMemory};
 use std::alloc::Global;
 use std::fmt::Write;
 

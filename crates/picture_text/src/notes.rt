@@ -1,7 +1,7 @@
 //! What stands at the right of a row: what was decided and answered, and what happened to daemons.
 
 use crate::happenings::{Change, Happening, Row};
-use common_types::OutOfMemory;
+use place_core::OutOfMemory;
 use std::alloc::Global;
 
 /// What a note is about.

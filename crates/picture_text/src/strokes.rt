@@ -5,7 +5,7 @@ use crate::flights::Flight;
 use crate::happenings::{End, Story, Topic};
 use crate::lanes::{ASIDE, FIRST_ROW, Lane, Layout, TRACK, label_of};
 use crate::lengths::Px;
-use common_types::OutOfMemory;
+use place_core::OutOfMemory;
 use std::alloc::Global;
 use std::fmt::Write;
 

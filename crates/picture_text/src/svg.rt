@@ -13,8 +13,7 @@ use crate::strokes::{
     push_disc, push_flight, push_line, push_mark, push_rect, push_restart, push_text,
 };
 use crate::style::STYLE;
-use common_types::OutOfMemory;
-use place_core::ActingSet;
+use place_core::{ActingSet, OutOfMemory};
 use std::alloc::Global;
 use std::fmt::Write;
 
@@ -292,6 +291,11 @@ fn push_marks(
     Ok(())
 }
 
+/// A rule across the picture.
+fn push_rule(out: &mut String, layout: &Layout, y: Px) -> Result<(), OutOfMemory> {
+    push_line(out, "rule", SCRIPT, y, layout.width - SCRIPT, y)
+}
+
 /// What stands in the rows beside the messages.
 fn push_rows(
     alloc: Global,
@@ -302,14 +306,7 @@ fn push_rows(
     let rows = story.rows.iter().zip(&layout.places).zip(&layout.notes);
     for (number, ((row, place), notes)) in rows.enumerate() {
         if let Some(line) = &row.line {
-            push_line(
-                out,
-                "rule",
-                SCRIPT,
-                place.top,
-                layout.width - Px(16),
-                place.top,
-            )?;
+            push_rule(out, layout, place.top)?;
             push_script_line(alloc, out, line, place.top)?;
         }
         push_roles(out, layout, row, place)?;
@@ -327,14 +324,7 @@ fn push_rest(out: &mut String, story: &Story, layout: &Layout) -> Result<(), Out
     let Some(place) = layout.places.get(story.rows.len()) else {
         return Ok(());
     };
-    push_line(
-        out,
-        "rule",
-        SCRIPT,
-        place.top,
-        layout.width - Px(16),
-        place.top,
-    )?;
+    push_rule(out, layout, place.top)?;
     push_text(
         out,
         "quiet",
