@@ -23,7 +23,7 @@ pub(crate) const ASIDE: Px = Px(10);
 pub(crate) const TEXT_LINE: Px = Px(14);
 /// The least height of a row.
 const ROW: Px = Px(28);
-/// The width of the notes.
+/// The least width of the notes.
 const NOTES: Px = Px(300);
 /// The least width, which the foot takes.
 const LEAST_WIDTH: Px = Px(1286);
@@ -252,6 +252,24 @@ fn notes_of_rows(alloc: Global, story: &Story) -> Result<Vec<Vec<Note>>, OutOfMe
     Ok(all)
 }
 
+/// The width of the longest note of a row.
+fn longest_note(notes: &[Note]) -> Px {
+    let mut width = Px(0);
+    for note in notes {
+        width = width.or_more(text_width(note.text.len()));
+    }
+    width
+}
+
+/// The width of the notes of all rows, with a margin at either side.
+fn notes_width(notes: &[Vec<Note>]) -> Px {
+    let mut width = NOTES;
+    for row in notes {
+        width = width.or_more(longest_note(row.as_slice()) + Px(24));
+    }
+    width
+}
+
 /// Where everything of a story stands.
 pub(crate) fn layout_of(alloc: Global, story: &Story) -> Result<Layout, OutOfMemory> {
     let parties = parties(alloc, story)?;
@@ -259,13 +277,14 @@ pub(crate) fn layout_of(alloc: Global, story: &Story) -> Result<Layout, OutOfMem
     let (lanes, notes_x) = lanes_at(alloc, story, parties.as_slice(), flights.as_slice())?;
     let notes = notes_of_rows(alloc, story)?;
     let (places, bottom) = places_of(alloc, story, notes.as_slice())?;
+    let width = LEAST_WIDTH.or_more(notes_x + notes_width(notes.as_slice()));
     Ok(Layout {
         lanes,
         flights,
         notes,
         places,
         notes_x,
-        width: LEAST_WIDTH.or_more(notes_x + NOTES),
+        width,
         bottom,
         height: bottom + FOOT,
     })

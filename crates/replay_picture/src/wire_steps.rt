@@ -12,9 +12,9 @@ use std::alloc::Global;
 #[derive(Drop)]
 pub struct HeldWire {
     /// The message that the step takes, if there is one.
-    taken: Option<Sent>,
+    pub taken: Option<Sent>,
     /// How many messages stay.
-    kept: usize,
+    pub kept: usize,
 }
 
 /// What a step did to a wire: each message that it took or sent, once and in order.
