@@ -4,7 +4,6 @@ use crate::choosing::{Tally, group_taken_from};
 use crate::naming::{name_of, party_of, topic_of};
 use crate::outcomes::{answer, decision};
 use crate::rights::Rights;
-use crate::wire_steps::{WireStep, hold_wire, tell_step};
 use common_types::OutOfMemory;
 use entry_core::{GroupId, Id};
 use grant_core::ProfileTable;
@@ -14,6 +13,7 @@ use peer_core::{Body, Party, Sent};
 use picture_text::{Change, End, Happening, Message};
 use place_core::{ActingSet, DaemonSet};
 use std::alloc::{AllocError, Global};
+use wire_steps::{WireStep, hold_wire, tell_step};
 use world_core::{Event, World, WorldFault};
 
 /// A world, and what is known of the group that is watched.

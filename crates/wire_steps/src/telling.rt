@@ -1,8 +1,8 @@
-//! What one event does to the messages of a group that are on their way.
+//! What one step does to the messages of a group that are on their way.
 
 ghost use Rattle.std.specs.Prelude.{◌≡◌, ◌++◌, ℕ, List, Option, length, drop, IfOk};
 ghost use Rattle.group_core.specs.Types.{Sent};
-ghost use Rattle.replay_picture.specs.Happenings.{taken_from, kept, TellsStep};
+ghost use Rattle.wire_steps.specs.Wire.{taken_from, kept, TellsStep};
 
 use common_types::{Items, OutOfMemory, TryCopy};
 use peer_core::Sent;
