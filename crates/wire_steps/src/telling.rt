@@ -1,6 +1,6 @@
 //! What one step does to the messages of a group that are on their way.
 
-ghost use Rattle.std.specs.Prelude.{◌≡◌, ◌++◌, ℕ, List, Option, length, drop, IfOk};
+ghost use Rattle.std.specs.Prelude.{◌≡◌, ◌++◌, ℕ, List, Option, length, IfOk};
 ghost use Rattle.group_core.specs.Types.{Sent};
 ghost use Rattle.wire_steps.specs.Wire.{taken_from, kept, TellsStep};
 
