@@ -20,7 +20,8 @@ use Rattle.group_core.specs.declared.fault.GroupFault.TheVariants as group_fault
 use Rattle.entry_core.specs.Locality.{group_for}
 use Rattle.world_core.specs.Event.{Ask, AuthCommand, Add, GetOrCreate, SetCaps, Delete, Event, Auth, Map, Open, Renew, Close, Submit, ListNames, Deliver, Lose, Repeat, Kick, Told, Done, Made, There, Epoch, OfSession, Request, Pieces, Fault, Limit, OutOfMemory, OfUsers, OfMap, OfGroup}
 use Rattle.world_core.specs.Tickets.{ticket_of}
-pub use Rattle.world_core.specs.Sealing.{Session, ◌>>=◌, need, refuse_if, lower, if_ok, error_of, if_open, session_of, session_at, Asker, asker_in, is_printable, is_object_name, is_namespace, id_of, sealed_of, vector_of, pieces_of, requests_in}
+pub use Rattle.world_core.specs.Sealing.{Session, ◌>>=◌, need, refuse_if, lower, if_ok, error_of, if_open, session_of, session_at, Asker, asker_in, is_printable, is_object_name, is_namespace, id_of, sealed_of, vector_of, pieces_of}
+unfoldable pub use Rattle.world_core.specs.Sealing.{requests_in}
 pub use Rattle.world_core.specs.declared.session.Pieced.{Pieced}
 use Rattle.world_core.specs.Groups.{is_for}
 

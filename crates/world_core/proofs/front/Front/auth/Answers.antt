@@ -1,5 +1,6 @@
-use Rattle.std.proofs.Common.{◌∙◌, ap}
+use Rattle.std.proofs.Common.{◌≡◌, ◌∙◌, ◌⊎◌, Some, ap, subst}
 use Rattle.auth_db.specs.Refusals.{auth_refusal}
+use Rattle.auth_db.specs.declared.fault.AuthFault.TheVariants.{OutOfMemory}
 use Rattle.world_core.specs.Event.{Auth}
 use Rattle.world_core.specs.Front.{Front, front_step, command_of}
 use Rattle.world_core.proofs.FrontSteps.{auth_step}
@@ -13,4 +14,5 @@ returns-clause-steps c =
 
 pub returns-in_err-told-clause-refused : goal.returns-in_err-told-clause-refused
 returns-in_err-told-clause-refused c =
-    users_exit c.from_residual.result (auth_refusal c.self.inside.users (command_of c.args.command)) c.in_err-told.field-0.0 c.from_residual.ensures.1 c.in_err-told.ensures.refused
+    users_exit c.from_residual.result (auth_refusal c.args.self.now.database (command_of c.args.command)) c.in_err-told.field-0.0 c.from_residual.ensures.1
+    (subst (λ d. (c.in_err-told.field-0.0 ≡ OutOfMemory) ⊎ (auth_refusal d (command_of c.args.command) ≡ Some c.in_err-told.field-0.0)) (ap (λ (f : Front). f.database) c.self.view_is) c.in_err-told.ensures.refused)
