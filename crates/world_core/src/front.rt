@@ -200,7 +200,7 @@ impl Front {
     /// A vector on an object, sealed with the session's ticket and the pool as the asker saw it. Nothing is submitted yet.
     ///
     /// It is refused by the first of these that holds: W1, W4, W9, W2, W3, N1 to N3; want of memory may come before any.
-    #[tactic(auto, unfolding(crate::specs::Front::requests_of))]
+    #[tactic(auto, unfolding(crate::specs::Front::requests_of, crate::specs::Sealing::requests_in))]
     pub fn vector(&self, ask: &Ask, object: Name, ops: Ops) -> Result<Sealed, WorldFault>
         ensures sealed { IfOk result (λ request. requests_of self.now (Submit ask.now object ops) ≡ Ok (request ∷ [])) }
         ensures fresh { IfOk result (λ request. submitted self.now.submissions request.id ≡ None) }
@@ -218,7 +218,7 @@ impl Front {
     /// The pieces of a list of names, one for each group of the pool, sealed as a vector is. Nothing is submitted yet.
     ///
     /// It is refused by the first of these that holds: W1, W4, W9, W2, W3; want of memory may come before any.
-    #[tactic(auto, unfolding(crate::specs::Front::requests_of))]
+    #[tactic(auto, unfolding(crate::specs::Front::requests_of, crate::specs::Sealing::requests_in))]
     pub fn pieces(&self, ask: &Ask) -> Result<Items<Sealed>, WorldFault>
         ensures asked { IfOk result (IsOfList self.now ask.now) }
         ensures sealed { IfOk result (λ requests. requests_of self.now (ListNames ask.now) ≡ Ok requests) }
@@ -234,7 +234,7 @@ impl Front {
     }
 
     /// Submits the request of a vector, where there are fewer than 2^26. Where memory is wanting, nothing changes.
-    #[tactic(auto, unfolding(crate::specs::Front::requests_of))]
+    #[tactic(auto, unfolding(crate::specs::Front::requests_of, crate::specs::Sealing::requests_in))]
     pub fn record_vector(&mut self, ask: &Ask, request: Sealed) -> Result<Told, OutOfMemory>
         requires asked { IsOfVector self.old ask.now request }
         requires few { length self.old.submissions < 67108864 }
@@ -251,7 +251,7 @@ impl Front {
     }
 
     /// Submits the pieces of a list, all or none, where there are fewer than 2^26 requests. Where memory is wanting, nothing changes.
-    #[tactic(auto, unfolding(crate::specs::Front::requests_of))]
+    #[tactic(auto, unfolding(crate::specs::Front::requests_of, crate::specs::Sealing::requests_in))]
     pub fn record_pieces(&mut self, ask: &Ask, requests: Items<Sealed>) -> Result<Told, OutOfMemory>
         requires asked { IsOfList self.old ask.now requests }
         requires few { length self.old.submissions < 67108864 }
