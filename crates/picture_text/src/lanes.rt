@@ -23,6 +23,8 @@ pub(crate) const ASIDE: Px = Px(10);
 pub(crate) const TEXT_LINE: Px = Px(14);
 /// The least height of a row.
 const ROW: Px = Px(28);
+/// No letter of a note is wider.
+const WIDEST_LETTER: Px = Px(11);
 /// The least width of the notes.
 const NOTES: Px = Px(300);
 /// The least width, which the foot takes.
@@ -256,7 +258,7 @@ fn notes_of_rows(alloc: Global, story: &Story) -> Result<Vec<Vec<Note>>, OutOfMe
 fn longest_note(notes: &[Note]) -> Px {
     let mut width = Px(0);
     for note in notes {
-        width = width.or_more(text_width(note.text.len()));
+        width = width.or_more(WIDEST_LETTER * note.text.len());
     }
     width
 }
