@@ -1,63 +1,16 @@
-//! Events, as lines of tables name them. The user is `client.a`; a pool's name stands where it may be another one than `data`.
+//! Events, read from the words of a line.
 
+use super::words::{not_understood, number_of, three_of, words_of};
 use auth_db::Caps;
 use common_types::Name;
 use entry_core::{GroupId, OutOfMemory};
-use map_core::{Epoch, MapCommand};
+use map_core::MapCommand;
 use object_core::{Bytes, Op};
 use std::alloc::Global;
+use std::test::Fail;
 use world_core::{Ask, AuthCommand, Event, Ops};
 
-/// Who asks, by which epoch and when, and where: in a namespace of a pool.
-pub(super) type Asked = (u32, Epoch, u64, &'static str, &'static str);
-
-/// What is asked of an object. The last three are refused: no operation, 17 of them, and a method that is not there.
-#[derive(Clone, Copy)]
-pub(super) enum Work {
-    Append,
-    Read,
-    Nothing,
-    Seventeen,
-    Unknown,
-}
-
-/// An event.
-#[derive(Clone, Copy)]
-pub(super) enum Line {
-    /// How many groups, copies and least copies.
-    Pool(u32, u32, u32),
-    Enable(&'static str),
-    Up(u8),
-    Down(u8),
-    Add(&'static str),
-    Make(&'static str),
-    Open,
-    Renew(u32),
-    Close(u32),
-    Submit(Asked, &'static str, Work),
-    List(Asked),
-    Deliver(&'static str, u32, usize),
-    Lose(&'static str, u32, usize),
-    Repeat(&'static str, u32, usize),
-    Kick(&'static str, u32),
-}
-
-fn pool(alloc: Global, pg_num: u32, size: u32, min_size: u32) -> Result<Event, OutOfMemory> {
-    Ok(Event::Map(MapCommand::PoolCreate {
-        name: Name::new(alloc, "data")?,
-        pg_num,
-        size,
-        min_size,
-    }))
-}
-
-fn enable(alloc: Global, app: &str) -> Result<Event, OutOfMemory> {
-    Ok(Event::Map(MapCommand::AppEnable {
-        pool: Name::new(alloc, "data")?,
-        app: Name::new(alloc, app)?,
-    }))
-}
-
+// Texts of users are those of osd.
 fn osd(alloc: Global, text: &str) -> Result<Caps, OutOfMemory> {
     Ok(Caps {
         mon: None,
@@ -67,128 +20,239 @@ fn osd(alloc: Global, text: &str) -> Result<Caps, OutOfMemory> {
     })
 }
 
-fn add(alloc: Global, text: &str) -> Result<Event, OutOfMemory> {
-    Ok(Event::Auth(AuthCommand::Add {
-        name: Name::new(alloc, "client.a")?,
-        caps: osd(alloc, text)?,
-    }))
+// The command of this word on a user and his texts.
+fn with_caps(word: &str, name: Name, caps: Caps) -> Result<AuthCommand, Fail> {
+    match word {
+        "add" => Ok(AuthCommand::Add { name, caps }),
+        "make" => Ok(AuthCommand::GetOrCreate { name, caps }),
+        _ => Err(Fail::new("no command on a user")),
+    }
 }
 
-fn make(alloc: Global, text: &str) -> Result<Event, OutOfMemory> {
-    Ok(Event::Auth(AuthCommand::GetOrCreate {
-        name: Name::new(alloc, "client.a")?,
-        caps: osd(alloc, text)?,
-    }))
+// A command on the users.
+fn auth(alloc: Global, words: &[&str]) -> Result<AuthCommand, Fail> {
+    match words {
+        ["delete", name] => Ok(AuthCommand::Delete {
+            name: Name::new(alloc, *name)?,
+        }),
+        [word, name, text] => with_caps(*word, Name::new(alloc, *name)?, osd(alloc, *text)?),
+        _ => Err(not_understood(words)),
+    }
 }
 
-fn open(alloc: Global) -> Result<Event, OutOfMemory> {
+// A new pool: how many groups it has, its size and its least size.
+fn pool(alloc: Global, words: &[&str]) -> Result<MapCommand, Fail> {
+    let [name, groups, size, least] = words else {
+        return Err(not_understood(words));
+    };
+    let (pg_num, size, min_size) = three_of(*groups, *size, *least)?;
+    Ok(MapCommand::PoolCreate {
+        name: Name::new(alloc, *name)?,
+        pg_num,
+        size,
+        min_size,
+    })
+}
+
+// An application's key gets a value.
+fn set(alloc: Global, app: &str, key: &str, value: &str) -> Result<MapCommand, OutOfMemory> {
+    Ok(MapCommand::AppSet {
+        pool: Name::new(alloc, "data")?,
+        app: Name::new(alloc, app)?,
+        key: Name::new(alloc, key)?,
+        value: Name::new(alloc, value)?,
+    })
+}
+
+// An application's key goes.
+fn unset(alloc: Global, app: &str, key: &str) -> Result<MapCommand, OutOfMemory> {
+    Ok(MapCommand::AppRm {
+        pool: Name::new(alloc, "data")?,
+        app: Name::new(alloc, app)?,
+        key: Name::new(alloc, key)?,
+    })
+}
+
+// A pool has an application.
+fn enable(alloc: Global, app: &str) -> Result<MapCommand, OutOfMemory> {
+    Ok(MapCommand::AppEnable {
+        pool: Name::new(alloc, "data")?,
+        app: Name::new(alloc, app)?,
+    })
+}
+
+// A command on the applications of the pool `data`.
+fn applications(alloc: Global, words: &[&str]) -> Result<MapCommand, Fail> {
+    match words {
+        ["enable", app] => Ok(enable(alloc, *app)?),
+        ["set", app, key, value] => Ok(set(alloc, *app, *key, *value)?),
+        ["unset", app, key] => Ok(unset(alloc, *app, *key)?),
+        _ => Err(not_understood(words)),
+    }
+}
+
+// A daemon's number.
+fn daemon(word: &str) -> Result<u8, Fail> {
+    Ok(word.parse::<u8>()?)
+}
+
+// A command on a daemon.
+fn on_daemon(words: &[&str]) -> Result<MapCommand, Fail> {
+    let [word, number] = words else {
+        return Err(not_understood(words));
+    };
+    let number = daemon(*number)?;
+    match *word {
+        "up" => Ok(MapCommand::OsdUp(number)),
+        "down" => Ok(MapCommand::OsdDown(number)),
+        "restart" => Ok(MapCommand::OsdRestart(number)),
+        _ => Err(not_understood(words)),
+    }
+}
+
+fn open(alloc: Global, name: &str) -> Result<Event, OutOfMemory> {
     Ok(Event::Open {
         until: None,
-        entity: Name::new(alloc, "client.a")?,
+        entity: Name::new(alloc, name)?,
     })
 }
 
-fn call(alloc: Global) -> Result<Op, OutOfMemory> {
+fn renew(session: &str) -> Result<Event, Fail> {
+    Ok(Event::Renew {
+        session: number_of(session)?,
+        until: None,
+    })
+}
+
+// Who asks, by which epoch and when, and where: in a namespace of a pool.
+fn ask(alloc: Global, words: &[&str]) -> Result<Ask, Fail> {
+    let [session, epoch, tick, pool, namespace] = words else {
+        return Err(not_understood(words));
+    };
+    let (session, epoch, tick) = three_of(*session, *epoch, *tick)?;
+    Ok(Ask {
+        session,
+        epoch,
+        tick: u64::from(tick),
+        pool: Name::new(alloc, *pool)?,
+        namespace: Name::new(alloc, *namespace)?,
+    })
+}
+
+fn append(alloc: Global, text: &str) -> Result<Op, OutOfMemory> {
+    Ok(Op::Append(Bytes::from_slice(alloc, text.as_bytes())?))
+}
+
+fn call(alloc: Global, method: &str, input: &str) -> Result<Op, OutOfMemory> {
     Ok(Op::Call {
         class: Name::new(alloc, "counter")?,
-        method: Name::new(alloc, "drop")?,
-        input: Bytes::new(alloc),
+        method: Name::new(alloc, method)?,
+        input: Bytes::from_slice(alloc, input.as_bytes())?,
     })
 }
 
-fn op(alloc: Global, work: Work) -> Result<Op, OutOfMemory> {
+fn op(alloc: Global, work: &[&str]) -> Result<Op, Fail> {
     match work {
-        Work::Append => Ok(Op::Append(Bytes::from_slice(alloc, b"a")?)),
-        Work::Read => Ok(Op::Read {
+        ["append", text] => Ok(append(alloc, *text)?),
+        ["read"] => Ok(Op::Read {
             offset: 0,
             length: 0,
         }),
-        Work::Nothing | Work::Seventeen => Ok(Op::Stat),
-        Work::Unknown => call(alloc),
+        ["add"] => Ok(call(alloc, "add", "1")?),
+        ["unknown_method"] => Ok(call(alloc, "drop", "")?),
+        ["stat"] | ["nothing"] | ["seventeen"] => Ok(Op::Stat),
+        _ => Err(not_understood(work)),
     }
 }
 
-fn count(work: Work) -> usize {
+// How many operations a vector has: one, or as many as the word says.
+fn how_many(work: &[&str]) -> usize {
     match work {
-        Work::Nothing => 0,
-        Work::Seventeen => 17,
-        Work::Append | Work::Read | Work::Unknown => 1,
+        ["nothing"] => 0,
+        ["seventeen"] => 17,
+        _ => 1,
     }
 }
 
-fn ops(alloc: Global, work: Work) -> Result<Ops, OutOfMemory> {
+fn ops(alloc: Global, work: &[&str]) -> Result<Ops, Fail> {
     let mut ops = Vec::new(alloc);
-    for _ in 0..count(work) {
+    for _ in 0..how_many(work) {
         ops.push(op(alloc, work)?)?;
     }
     Ok(Ops::from_vec(ops))
 }
 
-fn ask(alloc: Global, asked: Asked) -> Result<Ask, OutOfMemory> {
-    let (session, epoch, tick, pool, namespace) = asked;
-    Ok(Ask {
-        session,
-        epoch,
-        tick,
-        pool: Name::new(alloc, pool)?,
-        namespace: Name::new(alloc, namespace)?,
-    })
-}
-
-fn submit(alloc: Global, asked: Asked, object: &str, work: Work) -> Result<Event, OutOfMemory> {
+// A request: who asks and where, of which object, and what.
+fn submit(alloc: Global, words: &[&str]) -> Result<Event, Fail> {
+    let [session, epoch, tick, pool, namespace, object, work @ ..] = words else {
+        return Err(not_understood(words));
+    };
     Ok(Event::Submit {
-        ask: ask(alloc, asked)?,
-        object: Name::new(alloc, object)?,
+        ask: ask(alloc, &[*session, *epoch, *tick, *pool, *namespace])?,
+        object: Name::new(alloc, *object)?,
         ops: ops(alloc, work)?,
     })
 }
 
-/// The group of a pool, by its number.
-pub(super) fn group_of(alloc: Global, pool: &str, number: u32) -> Result<GroupId, OutOfMemory> {
+// The group of a pool, by its number.
+pub(super) fn group_of(alloc: Global, pool: &str, number: &str) -> Result<GroupId, Fail> {
     Ok(GroupId {
-        number,
+        number: number_of(number)?,
         pool: Name::new(alloc, pool)?,
     })
 }
 
-/// The event of a line on a group's messages, or on the map's daemons or a session.
-fn of_messages(alloc: Global, line: Line) -> Result<Event, OutOfMemory> {
-    match line {
-        Line::Deliver(pool, number, place) => Ok(Event::Deliver {
-            group: group_of(alloc, pool, number)?,
-            place,
-        }),
-        Line::Lose(pool, number, place) => Ok(Event::Lose {
-            group: group_of(alloc, pool, number)?,
-            place,
-        }),
-        Line::Repeat(pool, number, place) => Ok(Event::Repeat {
-            group: group_of(alloc, pool, number)?,
-            place,
-        }),
-        Line::Kick(pool, number) => Ok(Event::Kick {
-            group: group_of(alloc, pool, number)?,
-        }),
-        Line::Up(daemon) => Ok(Event::Map(MapCommand::OsdUp(daemon))),
-        Line::Down(daemon) => Ok(Event::Map(MapCommand::OsdDown(daemon))),
-        Line::Renew(session) => Ok(Event::Renew {
-            session,
-            until: None,
-        }),
-        Line::Close(session) => Ok(Event::Close { session }),
-        _ => open(alloc),
+// What happens to a message of a group.
+fn message(word: &str, group: GroupId, place: usize) -> Result<Event, Fail> {
+    match word {
+        "deliver" => Ok(Event::Deliver { group, place }),
+        "lose" => Ok(Event::Lose { group, place }),
+        "repeat" => Ok(Event::Repeat { group, place }),
+        _ => Err(Fail::new("no event of a message")),
     }
 }
 
-/// The event of a line.
-pub(super) fn event_of(alloc: Global, line: Line) -> Result<Event, OutOfMemory> {
-    match line {
-        Line::Pool(pg_num, size, min_size) => pool(alloc, pg_num, size, min_size),
-        Line::Enable(app) => enable(alloc, app),
-        Line::Add(text) => add(alloc, text),
-        Line::Make(text) => make(alloc, text),
-        Line::Submit(asked, object, work) => submit(alloc, asked, object, work),
-        Line::List(asked) => Ok(Event::List(ask(alloc, asked)?)),
-        _ => of_messages(alloc, line),
+// What happens to a group's messages.
+fn of_group(alloc: Global, words: &[&str]) -> Result<Event, Fail> {
+    match words {
+        ["kick", pool, group] => Ok(Event::Kick {
+            group: group_of(alloc, *pool, *group)?,
+        }),
+        [word, pool, group, place] => {
+            let place = number_of(*place)? as usize;
+            message(*word, group_of(alloc, *pool, *group)?, place)
+        }
+        _ => Err(not_understood(words)),
     }
+}
+
+// What a session does, or what happens to a group's messages.
+fn of_session(alloc: Global, words: &[&str]) -> Result<Event, Fail> {
+    match words {
+        ["open", name] => Ok(open(alloc, *name)?),
+        ["renew", session] => renew(*session),
+        ["close", session] => Ok(Event::Close {
+            session: number_of(*session)?,
+        }),
+        ["submit", rest @ ..] => submit(alloc, rest),
+        ["list", rest @ ..] => Ok(Event::List(ask(alloc, rest)?)),
+        _ => of_group(alloc, words),
+    }
+}
+
+// The event of these words.
+pub(super) fn event_of(alloc: Global, words: &[&str]) -> Result<Event, Fail> {
+    match words {
+        ["auth", rest @ ..] => Ok(Event::Auth(auth(alloc, rest)?)),
+        ["pool", rest @ ..] => Ok(Event::Map(pool(alloc, rest)?)),
+        ["app", rest @ ..] => Ok(Event::Map(applications(alloc, rest)?)),
+        ["osd", rest @ ..] => Ok(Event::Map(on_daemon(rest)?)),
+        _ => of_session(alloc, words),
+    }
+}
+
+// The event of a line.
+pub(super) fn read_event(alloc: Global, line: &str) -> Result<Event, Fail> {
+    let words = words_of(alloc, line)?;
+    event_of(alloc, words.as_slice())
 }

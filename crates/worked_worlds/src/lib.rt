@@ -1,5 +1,4 @@
-//! What only a world's calls show, as tests: old epochs, the audit, groups that are asked for, and lists of events. Each calls only what is public.
-//! `sessions/` shows what happens in worlds.
+//! The worked examples of worlds, as tests. Each calls only what is public.
 //!
 //! They stand here and not beside the code, since a crate with tests is proved a second time with them.
 #![tactic(auto)]
@@ -9,10 +8,20 @@ mod answers;
 #[cfg(test)]
 mod events;
 #[cfg(test)]
-mod groups;
+mod failover;
+#[cfg(test)]
+mod group_refusals;
+#[cfg(test)]
+mod limits;
 #[cfg(test)]
 mod lines;
 #[cfg(test)]
+mod looks;
+#[cfg(test)]
 mod refusals;
 #[cfg(test)]
-mod runs;
+mod replies;
+#[cfg(test)]
+mod telling;
+#[cfg(test)]
+mod words;

@@ -1,141 +1,141 @@
-//! A driver: lines that a world takes one after another, each an event and what it must tell; and what must be seen of the world.
+//! A driver: texts whose lines a world takes one after another.
+//!
+//! A line is an event and, behind an arrow, what it must tell, as `close 2 -> done`; or what must be seen, as `wire 0 3`.
+//! A word that is empty or has blanks stands in single quotes. A line that says nothing fails its test. Groups are those of
+//! the pool `data` where no other is named:
+//!
+//! - `settle G N`: message 0 of a group is delivered until none is left: N were delivered.
+//! - `times N EVENT`: an event happens so many times, and is refused none of them.
+//! - `wire G N`: how many messages of a group are on their way.
+//! - `ready G yes` or `no`: whether a group can be recovered by hand.
+//! - `group P G N yes`: both of these of a group of this pool, or the refusal in the place of either.
+//! - `at E`: the map's epoch.
+//! - `audit S.N S.N ..`: the ids of the audit, in order.
+//! - `decided S.N SAYS`: what the audit says of a request.
+//! - `answer S.N SAYS`, `listing S.N SAYS`: what the client is answered, `none` for nothing yet, or `refused F`.
 
 ghost use Rattle.std.specs.Prelude.{◌≤◌};
 
-use super::events::{Line, event_of, group_of};
-use Wanted::{Done, Epoch, List, Made, Refused, Request, Session, There};
-use entry_core::{Entry, Id, OutOfMemory, Reply};
+use super::events::{event_of, group_of, read_event};
+use super::looks::sees;
+use super::telling::is_told;
+use super::words::{is_number, number_of, words_of};
 use grant_core::ProfileTable;
+use group_core::GroupFault;
 use std::alloc::Global;
-use std::process::Abort;
 use std::test::Fail;
 use world_core::{Event, Told, World, WorldFault};
 
-/// What an event must tell: an id is a session and a number in it, a list is the id of its first piece and how many it has, and a
-/// refusal is its text.
-#[derive(Clone, Copy)]
-pub(super) enum Wanted {
-    Done,
-    Made,
-    There,
-    Epoch(u32),
-    Session(u32),
-    Request(u32, u32),
-    List(u32, u32, u32),
-    Refused(&'static str),
+// What the event of a line tells.
+fn apply(alloc: Global, world: &mut World, line: &str) -> Result<Result<Told, WorldFault>, Fail> {
+    let event = read_event(alloc, line)?;
+    Ok(world.apply(event))
 }
 
-/// An event, and what it must tell.
-pub(super) type Row = (Line, Wanted);
-
-/// Whether an accepted event told this.
-fn is_told(told: Told, wanted: Wanted) -> bool {
-    match (told, wanted) {
-        (Told::Done, Done) | (Told::Made, Made) | (Told::There, There) => true,
-        (Told::Epoch(number), Epoch(wanted)) => number == wanted,
-        (Told::Session(number), Session(wanted)) => number == wanted,
-        (Told::Request(id), Request(session, number)) => id == Id::new(session, number),
-        (Told::List { first, count }, List(session, number, wanted)) => {
-            first == Id::new(session, number) && count == wanted
-        }
-        _ => false,
-    }
+// Whether the event of a line tells just this.
+fn tells(alloc: Global, world: &mut World, line: &str, wanted: &str) -> Result<bool, Fail> {
+    let told = apply(alloc, world, line)?;
+    let words = words_of(alloc, wanted)?;
+    Ok(is_told(told, words.as_slice()))
 }
 
-/// Whether a fault has this text.
-pub(super) fn is_fault(alloc: Global, fault: WorldFault, text: &str) -> Result<bool, OutOfMemory> {
-    Ok(fault.to_string(alloc)?.as_str() == text)
-}
-
-/// Whether the event of a row tells what it must.
-fn goes(alloc: Global, world: &mut World, row: &Row) -> Result<bool, OutOfMemory> {
-    let event = event_of(alloc, row.0)?;
-    match world.apply(event) {
-        Ok(told) => Ok(is_told(told, row.1)),
-        Err(fault) => match row.1 {
-            Refused(text) => is_fault(alloc, fault, text),
-            _ => Ok(false),
-        },
-    }
-}
-
-/// A world takes these lines, one after another.
-pub(super) fn expect(
-    rt: &impl Abort,
+// Whether an event is accepted so many times in a row.
+fn are_accepted(
     alloc: Global,
     world: &mut World,
-    rows: &[Row],
-) -> Result<(), Fail> {
-    for (place, row) in rows.iter().enumerate() {
-        assert!(rt; goes(alloc, world, row)?, "line {place}");
-    }
-    Ok(())
-}
-
-/// How often message 0 of the group 0 of the pool `data` is delivered until none is left.
-pub(super) fn settle(alloc: Global, world: &mut World) -> Result<u32, OutOfMemory> {
-    for delivered in 0..10000u32 {
-        let event = Event::Deliver {
-            group: group_of(alloc, "data", 0)?,
-            place: 0,
-        };
+    words: &[&str],
+    count: u32,
+) -> Result<bool, Fail> {
+    for _ in 0..count {
+        let event = event_of(alloc, words)?;
         if world.apply(event).is_err() {
-            return Ok(delivered);
+            return Ok(false);
         }
     }
-    Ok(10000)
+    Ok(true)
 }
 
-/// A world of so many daemons, with the built-in profiles.
-pub(super) fn begun(alloc: Global, daemons: u8) -> Result<World, WorldFault>
+// Whether so many messages 0 of a group can be delivered, and then none is left.
+fn settles(alloc: Global, world: &mut World, group: &str, wanted: &str) -> Result<bool, Fail> {
+    for delivered in 0..10000u64 {
+        let event = Event::Deliver {
+            group: group_of(alloc, "data", group)?,
+            place: 0,
+        };
+        match world.apply(event) {
+            Ok(_) => {}
+            Err(WorldFault::Group(GroupFault::NoMessage(0))) => {
+                return Ok(is_number(delivered, wanted));
+            }
+            Err(_) => return Ok(false),
+        }
+    }
+    Ok(false)
+}
+
+// Whether many events happen as these words say, or a world looks so.
+fn happens(alloc: Global, world: &mut World, words: &[&str]) -> Result<bool, Fail> {
+    match words {
+        ["settle", group, count] => settles(alloc, world, *group, *count),
+        ["times", count, event @ ..] => are_accepted(alloc, world, event, number_of(*count)?),
+        _ => sees(alloc, world, words),
+    }
+}
+
+// Whether a line without an arrow goes as it says.
+fn goes_by_words(alloc: Global, world: &mut World, line: &str) -> Result<bool, Fail> {
+    let words = words_of(alloc, line)?;
+    happens(alloc, world, words.as_slice())
+}
+
+// Whether a line goes as it says.
+fn goes(alloc: Global, world: &mut World, line: &str) -> Result<bool, Fail> {
+    match line.split_once(" -> ") {
+        Some((event, wanted)) => tells(alloc, world, event, wanted),
+        None => goes_by_words(alloc, world, line),
+    }
+}
+
+// How many lines of a text go as they say, one after another, to the first that does not.
+fn run_on(alloc: Global, world: &mut World, text: &str) -> Result<usize, Fail> {
+    let mut gone = 0usize;
+    for line in text.lines() {
+        if !goes(alloc, world, line)? {
+            return Ok(gone);
+        }
+        gone = gone.saturating_add(1);
+    }
+    Ok(gone)
+}
+
+// A world of so many daemons, with the built-in profiles.
+fn begun(alloc: Global, daemons: u8) -> Result<World, Fail>
     requires some { 1 ≤ daemons }
     requires few { daemons ≤ 16 }
 {
     let table = ProfileTable::builtin(alloc)?;
-    World::new(alloc, table, daemons)
+    Ok(World::new(alloc, table, daemons).map_err(|_| "no world")?)
 }
 
-/// What a reply says: one output, the number of a failure of the first operation, or one name.
-#[derive(Clone, Copy)]
-pub(super) enum Says {
-    Gives(&'static str),
-    Fails(u32),
-    Names(&'static str),
-}
+// A text, and how many lines it has.
+type Part<'a> = (&'a str, usize);
 
-/// Whether a reply says this.
-pub(super) fn is_said(reply: &Reply, wanted: Says) -> bool {
-    match (reply, wanted) {
-        (Reply::Done(outputs), Says::Gives(text)) => match outputs.as_slice() {
-            [only] => only.as_slice() == text.as_bytes(),
-            _ => false,
-        },
-        (Reply::Failed { place, number }, Says::Fails(wanted)) => *place == 1 && *number == wanted,
-        (Reply::Names(names), Says::Names(name)) => match names.as_slice() {
-            [only] => only.as_str() == name,
-            _ => false,
-        },
-        _ => false,
-    }
-}
-
-/// A session, a number in it, and what the request of this id is answered.
-pub(super) type Decided = (u32, u32, Says);
-
-fn are_decided(entries: &[Entry], wanted: &[Decided]) -> bool {
-    if entries.len() != wanted.len() {
-        return false;
-    }
-    for (entry, (session, number, reply)) in entries.iter().zip(wanted) {
-        if entry.sealed.id() != Id::new(*session, *number) || !is_said(&entry.reply, *reply) {
-            return false;
+// A world takes all lines of these parts, one after another.
+pub(super) fn expect_on(alloc: Global, world: &mut World, parts: &[Part<'_>]) -> Result<(), Fail> {
+    for (text, lines) in parts {
+        let gone = run_on(alloc, world, *text)?;
+        if gone != *lines {
+            return Err(Fail::new(format_args!("{gone} of {lines} lines go as they say: {text}")));
         }
     }
-    true
+    Ok(())
 }
 
-/// Whether the audit has just these entries, in this order.
-pub(super) fn has_audit(world: &World, wanted: &[Decided]) -> Result<bool, OutOfMemory> {
-    let audit = world.audit()?;
-    Ok(are_decided(audit.as_slice(), wanted))
+// The same, of a new world of so many daemons.
+pub(super) fn expect(alloc: Global, daemons: u8, parts: &[Part<'_>]) -> Result<(), Fail>
+    requires some { 1 ≤ daemons }
+    requires few { daemons ≤ 16 }
+{
+    let mut world = begun(alloc, daemons)?;
+    expect_on(alloc, &mut world, parts)
 }
