@@ -1,6 +1,8 @@
 //! Lines, words, numbers and printed texts.
 
-use script_text::{Lines, ScriptFault, Words, number_of, pair_of, push_item, push_number, push_quoted};
+use script_text::{
+    Lines, ScriptFault, Words, number_of, pair_of, push_item, push_number, push_quoted,
+};
 use std::alloc::{AllocError, Global};
 use std::test::Fail;
 
