@@ -9,7 +9,7 @@ use std::alloc::{AllocError, AllocFailed, Global};
 use verdict_core::{ClassCall, Target};
 
 /// Why words that clap takes are no command line.
-#[derive(Clone, Copy, Debug, PartialEq, Eq)]
+#[derive(Clone, Copy)]
 pub(crate) enum BadWords {
     /// A tag with a `:` has no `=` behind it.
     Tag,
@@ -56,7 +56,7 @@ impl BadWords {
 }
 
 /// Why words are no request.
-#[derive(Debug, Drop)]
+#[derive(Drop)]
 pub(crate) enum NoRequest {
     Words(BadWords),
     /// The same, where this tells why.
