@@ -148,7 +148,9 @@ build_that_answers() {
 # Takes the smaller program where it has these words and the program itself is not there.
 use_smaller() {
     case " ${smaller_lacks:-} " in *" ${1:-} "*) return ;; esac
-    if [ -n "${smaller:-}" ] && ! is_proved && ! has_quick; then use_program "$smaller"; fi
+    if [ -z "${smaller:-}" ] || is_proved || has_quick; then return; fi
+    use_program "$smaller"
+    minutes="one to three"
 }
 
 # The program's answer on these words, or with the one word --prove its proof.
@@ -160,7 +162,7 @@ answer() {
     fi
     use_smaller "$@"
     if is_proved; then exec "$proved" "$@"; fi
-    has_quick || made_now=" and is made now, in one to five minutes"
+    has_quick || made_now=" and is made now, in ${minutes:-one to five} minutes"
     say "this answer comes from a quick build, which is not proved${made_now:-}; ./$name --prove makes the proved one${note:-}"
     if has_quick || build_quick; then exec "$quick" "$@"; fi
     try_once "$@"
