@@ -1,6 +1,6 @@
 //! `osdgate run`: a script from a file or from standard input, and what it prints.
 
-use crate::input_files::InputFiles;
+use gate_commands::InputFiles;
 use script_text::{Lines, ScriptFault, read_script};
 use std::alloc::Global;
 use std::io;

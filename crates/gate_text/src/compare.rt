@@ -22,7 +22,7 @@ use std::fmt;
 use verdict_core::Ticket;
 
 /// How the rights of new grants stand to those of old ones.
-#[derive(Clone, Copy, Debug, PartialEq, Eq)]
+#[derive(Clone, Copy)]
 pub(crate) enum Relation {
     /// Each allows what the other does.
     Same,
@@ -46,7 +46,7 @@ pub enum TextFault {
 }
 
 /// What changes between two tickets.
-#[derive(Debug, Drop)]
+#[derive(Drop)]
 pub(crate) struct Change {
     /// An example for each new grant that allows what the old ones deny.
     pub(crate) gained: Vec<Example>,

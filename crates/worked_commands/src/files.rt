@@ -1,6 +1,6 @@
 //! Files that stand in the tests alone.
 
-use command_line::InputFiles;
+use gate_commands::InputFiles;
 use std::alloc::Global;
 use std::io;
 
