@@ -302,33 +302,26 @@ fn compare_command<'a>(alloc: Global) -> Result<Command<'a>, AllocError> {
     with_options(alloc, command, &[FORMAT])
 }
 
+/// What only the entities of a file are asked with.
+const OF_FILE: [&str; 4] = ["auth", "without", "reads", "known"];
+
 /// The two texts, in whose place a file of entities may be.
 fn two_texts_option<'a>(alloc: Global) -> Result<Arg<'a>, AllocError> {
-    text_option(
-        alloc,
-        "caps",
-        "TEXT",
-        "A capability text; it is given twice, once for each of two tenants",
-    )
-    .action(ArgAction::Append)
-    .required_unless_present("auth")?
-    .conflicts_with("auth")
-}
-
-/// An option that only a file of entities has.
-fn of_file<'a>(option: Arg<'a>) -> Result<Arg<'a>, AllocError> {
-    option.requires_arg("auth")
+    let help = "A capability text; it is given twice, once for each of two tenants";
+    let mut texts = text_option(alloc, "caps", "TEXT", help)
+        .action(ArgAction::Append)
+        .required_unless_present("auth")?;
+    for name in OF_FILE {
+        texts = texts.conflicts_with(name)?;
+    }
+    Ok(texts)
 }
 
 /// The entities that are left out.
-fn without_option<'a>(alloc: Global) -> Result<Arg<'a>, AllocError> {
-    let option = text_option(
-        alloc,
-        "without",
-        "ENTITY",
-        "An entity of the file that is left out, as `client.admin`; it may be given more than once",
-    );
-    of_file(option.action(ArgAction::Append))
+fn without_option<'a>(alloc: Global) -> Arg<'a> {
+    let help =
+        "An entity of the file that is left out, as `client.admin`; it may be given more than once";
+    text_option(alloc, "without", "ENTITY", help).action(ArgAction::Append)
 }
 
 fn share_command<'a>(alloc: Global) -> Result<Command<'a>, AllocError> {
@@ -348,9 +341,9 @@ fn share_command<'a>(alloc: Global) -> Result<Command<'a>, AllocError> {
         .after_help(SHARE_EXAMPLE)
         .arg(two_texts_option(alloc)?)?
         .arg(text_option(alloc, "auth", "FILE", AUTH_HELP))?
-        .arg(without_option(alloc)?)?
-        .arg(of_file(reads)?)?
-        .arg(of_file(known)?)?
+        .arg(without_option(alloc))?
+        .arg(reads)?
+        .arg(known)?
         .arg(check)
 }
 
