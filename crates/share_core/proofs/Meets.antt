@@ -1,7 +1,7 @@
 -- Grants that meet match a common target, and no others do.
-use Rattle.std.proofs.Common.{◌≡◌, ◌≢◌, ℕ, zero, suc, List, [], ◌∷◌, ◌++◌, length, ◌==◌, Bool, true, false, not, ◌&&◌, ◌||◌, if◌then◌else◌, drop, Option, Some, None, slice_get, refl, sym, ap, ◌∙◌, subst, nat_eq, inl, inr, All, arith}
+use Rattle.std.proofs.Common.{◌≡◌, ◌≢◌, ℕ, suc, List, [], ◌∷◌, ◌++◌, length, ◌==◌, Bool, true, false, not, ◌&&◌, ◌||◌, if◌then◌else◌, drop, Option, Some, None, slice_get, refl, sym, ap, ◌∙◌, subst, nat_eq, inl, inr, arith}
 use Rattle.std.specs.Prelude.{codes}
-use Rattle.std.specs.List.{starts_with, list_any, AllPairs}
+use Rattle.std.specs.List.{starts_with, AllPairs}
 use Rattle.std.specs.Str.{bytes_eq}
 use Rattle.std.proofs.lemmas.Bool.{false≢true}
 use Rattle.std.proofs.lemmas.Bool.Decides.{Decides-eqb}

@@ -1,5 +1,5 @@
 -- A touch is allowed by one grant alone.
-use Rattle.std.proofs.Common.{◌≡◌, ℕ, zero, suc, List, [], ◌∷◌, Bool, true, false, not, ◌&&◌, ◌||◌, Option, None, Some, slice_get, refl, sym, ap, ◌∙◌, inl, inr}
+use Rattle.std.proofs.Common.{◌≡◌, ℕ, zero, suc, List, [], ◌∷◌, Bool, true, false, not, ◌&&◌, ◌||◌, Option, None, Some, slice_get, refl, sym, ap, inl, inr}
 use Rattle.std.specs.List.{list_any}
 use Rattle.std.proofs.lemmas.Bool.{false≢true}
 use Rattle.cap_text.specs.declared.grant.AllowGrant.{AllowGrant}
@@ -91,8 +91,10 @@ any_read grants target needs reads h = elim (true_or_false needs.reads) [
       record { index = i; entry = entry; at = at; matched = matched_by entry.1 target needs useful; given = either_first _ _ (reads_by entry.1 target needs asked useful) }
       )
   | inr not_asked ↦ (
-      let (j, call, there, does) = some_pass (λ call. call.class_reads) needs.calls (or_second needs.reads _ not_asked reads) in
-      let (i, entry, at, matched, covered) = covering_one grants target needs call (each_covered grants target needs j call h there) in
+      let found = some_pass (λ call. call.class_reads) needs.calls (or_second needs.reads _ not_asked reads) in
+      let call : ClassCall = found.1.0 in
+      let does : call.class_reads ≡ true = found.1.1.1 in
+      let (i, entry, at, matched, covered) = covering_one grants target needs call (each_covered grants target needs found.0 call h found.1.1.0) in
       record { index = i; entry = entry; at = at; matched = matched; given = or_later (can_read entry.1.access) _ (covered_reading entry.1.access call does covered) }
       )
 ]
@@ -104,8 +106,10 @@ any_write grants target needs writes h = elim (true_or_false needs.writes) [
       record { index = i; entry = entry; at = at; matched = matched_by entry.1 target needs useful; given = either_first _ _ (writes_by entry.1 target needs asked useful) }
       )
   | inr not_asked ↦ (
-      let (j, call, there, does) = some_pass (λ call. call.class_writes) needs.calls (or_second needs.writes _ not_asked writes) in
-      let (i, entry, at, matched, covered) = covering_one grants target needs call (each_covered grants target needs j call h there) in
+      let found = some_pass (λ call. call.class_writes) needs.calls (or_second needs.writes _ not_asked writes) in
+      let call : ClassCall = found.1.0 in
+      let does : call.class_writes ≡ true = found.1.1.1 in
+      let (i, entry, at, matched, covered) = covering_one grants target needs call (each_covered grants target needs found.0 call h found.1.1.0) in
       record { index = i; entry = entry; at = at; matched = matched; given = or_later (can_write entry.1.access) _ (covered_writing entry.1.access call does covered) }
       )
 ]

@@ -1,18 +1,16 @@
 -- What two tickets share, by their grants.
-use Rattle.std.proofs.Common.{◌≡◌, ◌≢◌, ◌↔◌, ◌<◌, ℕ, zero, suc, ◌+◌, drop, length, get_or, List, [], ◌∷◌, ◌++◌, map, flat_map, Bool, true, false, not, ◌&&◌, ◌||◌, if◌then◌else◌, Option, Some, None, slice_get, refl, sym, ap, ◌∙◌, subst, inl, inr, All, append_assoc, arith}
+use Rattle.std.proofs.Common.{◌≡◌, ◌↔◌, ◌<◌, ℕ, suc, ◌+◌, drop, length, get_or, List, [], ◌∷◌, ◌++◌, map, Bool, true, false, ◌&&◌, ◌||◌, if◌then◌else◌, Some, None, slice_get, refl, sym, ap, ◌∙◌, subst, inl, inr, All, append_assoc, arith}
 use Rattle.std.specs.List.{list_any, filter_map, cons_option}
 use Rattle.std.proofs.Math.Seq.{drop-cons}
 use Rattle.std.proofs.lemmas.Bool.{false≢true}
 use Rattle.std.proofs.lemmas.List.Elements.{All-nil, All-cons, All-append, filter_map-append}
 use Rattle.std.proofs.lemmas.List.Folds.{list_any-append}
 use Rattle.cap_text.specs.declared.grant.AllowGrant.{AllowGrant}
-use Rattle.verdict_core.specs.Target.{Target}
-use Rattle.verdict_core.specs.Verdict.{matches}
-use Rattle.compare_core.proofs.Bools.{both_left, both_right, both, true_or_false, fails, some_pass, any_at}
+use Rattle.compare_core.proofs.Bools.{both_left, both_right, both, fails, some_pass, any_at}
 use Rattle.share_core.specs.declared.touches.Touch.{Touch}
 use Rattle.share_core.specs.declared.reaching.Shared.{Shared}
-use Rattle.share_core.specs.Sharing.{ArePossible, IsShared, Share, pairs, IsExampleOf, PairShares, Answers}
-use Rattle.share_core.specs.Meeting.{gives, meet, common, reach, shared_by, example_of}
+use Rattle.share_core.specs.Sharing.{IsShared, Share, pairs, IsExampleOf, PairShares, Answers}
+use Rattle.share_core.specs.Meeting.{gives, common, reach, shared_by, example_of}
 use Rattle.share_core.proofs.Meets.{can_meet, must_meet, is_object}
 use Rattle.share_core.proofs.OneGrants.{one_grant, may_by, only_one}
 

@@ -1,7 +1,7 @@
 -- Refinement: only contracts inside the crate use it.
 -- Which grants meet, and a target at which they do.
-use Rattle.std.specs.Prelude.{◌≡◌, ℕ, ◌+◌, List, [], ◌∷◌, length, ◌==◌, ◌++◌, Bool, true, false, not, ◌&&◌, ◌||◌, Option, None, Some, nat_eq, nat_le, if◌then◌else◌, flat_map, codes}
-use Rattle.std.specs.List.{list_any, filter_map, starts_with}
+use Rattle.std.specs.Prelude.{ℕ, List, [], ◌∷◌, length, ◌==◌, ◌++◌, Bool, true, false, not, ◌&&◌, ◌||◌, Option, None, Some, nat_eq, if◌then◌else◌, codes}
+use Rattle.std.specs.List.{starts_with}
 use Rattle.std.specs.Str.{bytes_eq}
 use Rattle.cap_text.specs.declared.grant.AllowGrant.{AllowGrant}
 use Rattle.cap_text.specs.declared.grant.Access.{Access}

@@ -1,4 +1,4 @@
-use Rattle.std.proofs.Common.{◌≡◌, ◌++◌, drop, ap, ◌∙◌, ◌+◌, suc, arith, rules}
+use Rattle.std.proofs.Common.{◌++◌, drop, ap, ◌∙◌, ◌+◌, arith}
 use Rattle.std.specs.List.{filter_map}
 use Rattle.share_core.specs.Meeting.{example_of}
 use Rattle.share_core.specs.Sharing.{pairs}

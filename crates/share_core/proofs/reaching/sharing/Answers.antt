@@ -1,7 +1,5 @@
-use Rattle.std.proofs.Common.{◌≡◌, [], ◌↔◌, sym, ap, ◌∙◌, subst, All}
-use Rattle.std.specs.List.{filter_map}
+use Rattle.std.proofs.Common.{◌≡◌, [], ◌↔◌, sym, subst, All}
 use Rattle.compare_core.proofs.Results.{ok_also}
-use Rattle.share_core.specs.Meeting.{example_of}
 use Rattle.share_core.specs.Sharing.{Answers, IsShared, Share, pairs}
 use Rattle.share_core.specs.declared.reaching.Shared.{Shared}
 use Rattle.share_core.proofs.Shares.{answers_of, all_shared, no_example, here_too}
