@@ -7,11 +7,12 @@ use crate::answers::{
     answered_verdict,
 };
 use crate::arguments::whole_command;
+use crate::drawing::{Drawn, OutputFiles, asked_picture};
 use crate::input_files::InputFiles;
 use crate::no_answer::NoAnswer;
 use crate::read_words::WordsFault;
 use crate::request_words::{BadWords, number_of, value_of};
-use crate::run::{RunFault, run_path};
+use crate::run::{Ran, RunFault, run_path};
 use crate::tips::complaint;
 use crate::who::answered_who;
 use clap::error::ErrorKind;
@@ -39,8 +40,8 @@ const OSDS_FIRST: &str =
 enum Done<'a> {
     /// An answer, to be written.
     Answer(Answered<'a>),
-    /// A script was run, and what it prints is written.
-    Script(Result<(), RunFault>),
+    /// A script was run, and what it prints is written, and its picture where one was asked for.
+    Script(Ran),
     /// So many workers are to run, with moves or without.
     Workers { count: u32, moves: bool },
 }
@@ -77,6 +78,52 @@ fn finish_script<E: Write>(ended: Result<(), RunFault>, err: &mut E) -> u8
     FAULT
 }
 
+/// Tells what became of a picture, and answers the status.
+fn finish_picture<E: Write>(drawn: &Drawn, err: &mut E) -> u8
+    ensures { result ≤ 2 }
+{
+    match drawn {
+        Drawn::Written(told) => {
+            let _ = write_out(err, told.as_str());
+            return DONE;
+        }
+        Drawn::NoGroup => {
+            let _ = write_out(err, "osdgate: the script makes no group of that name\n");
+        }
+        Drawn::Unwritten(error) => {
+            let _ = write!(err, "osdgate: the picture cannot be written: {error}\n");
+        }
+        Drawn::OutOfMemory => {
+            let _ = write_out(err, "osdgate: the picture cannot be drawn: OutOfMemory\n");
+        }
+    }
+    FAULT
+}
+
+/// Tells how a script ended and what became of its picture, and answers the status.
+fn finish_run<E: Write>(ran: Ran, err: &mut E) -> u8
+    ensures { result ≤ 2 }
+{
+    let status = finish_script(ran.ended, err);
+    match &ran.drawn {
+        None => status,
+        Some(drawn) => status.max(finish_picture(drawn, err)),
+    }
+}
+
+/// Runs the script that the words name, and draws it where they ask for a picture.
+fn run_words<F: InputFiles + OutputFiles, R: Read, O: Write>(
+    alloc: Global,
+    matches: &ArgMatches<'_>,
+    files: &F,
+    reader: &mut R,
+    out: &mut O,
+) -> Result<Ran, NoAnswer> {
+    let path = matches.get_str("script").unwrap_or("-");
+    let asked = asked_picture(alloc, matches)?;
+    Ok(run_path(alloc, files, path, reader, out, asked))
+}
+
 /// What the words ask for, other than a script.
 fn answer_matches<'a, F: InputFiles, R: Read>(
     alloc: Global,
@@ -96,7 +143,7 @@ fn answer_matches<'a, F: InputFiles, R: Read>(
 }
 
 /// What the words ask for. What a script prints is written as it runs.
-fn answer_words<'a, S: AsStr, F: InputFiles, R: Read, O: Write>(
+fn answer_words<'a, S: AsStr, F: InputFiles + OutputFiles, R: Read, O: Write>(
     alloc: Global,
     words: &'a [S],
     files: &F,
@@ -112,10 +159,7 @@ fn answer_words<'a, S: AsStr, F: InputFiles, R: Read, O: Write>(
             }),
             None => Err(NoAnswer::Words(BadWords::Workers)),
         },
-        Some(("run", inner)) => {
-            let path = inner.get_str("script").unwrap_or("-");
-            Ok(Done::Script(run_path(alloc, files, path, reader, out)))
-        }
+        Some(("run", inner)) => Ok(Done::Script(run_words(alloc, inner, files, reader, out)?)),
         _ => Ok(Done::Answer(answer_matches(alloc, &matches, files, reader)?)),
     }
 }
@@ -228,7 +272,7 @@ fn finish_workload<T: fmt::Display, F: fmt::Display, O: Write, E: Write>(
 /// capability text has a fault, the text and a caret under the fault's byte go to `err` as well.
 pub fn run_command<
     S: AsStr,
-    F: InputFiles,
+    F: InputFiles + OutputFiles,
     T: fmt::Display + Drop,
     X: fmt::Display + Drop,
     W: FnOnce(u32, bool) -> Result<T, X>,
@@ -249,7 +293,7 @@ pub fn run_command<
 {
     match answer_words(alloc, words, files, reader, out) {
         Ok(Done::Answer(answered)) => finish_answer(alloc, &answered, out, err),
-        Ok(Done::Script(ended)) => finish_script(ended, err),
+        Ok(Done::Script(ran)) => finish_run(ran, err),
         Ok(Done::Workers { count, moves }) => finish_workload(&workload(count, moves), out, err),
         Err(NoAnswer::Words(bad)) => {
             let _ = write!(err, "osdgate: {}\n", bad.text());

@@ -9,6 +9,7 @@ mod arguments;
 mod auth_file;
 mod command;
 mod completions;
+mod drawing;
 mod entity_list;
 mod file_fault;
 mod input_files;
@@ -29,5 +30,6 @@ mod tips;
 mod who;
 
 pub use command::{refuse_words, run_command};
+pub use drawing::OutputFiles;
 pub use input_files::InputFiles;
 pub use read_words::{WordsFault, words};

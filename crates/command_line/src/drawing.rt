@@ -1,0 +1,137 @@
+//! `osdgate run --picture`: a picture of a script that was run.
+
+use crate::no_answer::NoAnswer;
+use crate::request_words::number_of;
+use clap::ArgMatches;
+use common_types::{Name, OutOfMemory};
+use entry_core::GroupId;
+use replay_picture::{Format, draw_script};
+use std::alloc::{AllocError, Global};
+use std::fmt::Write;
+use std::{fs, io};
+
+const BAD_GROUP: &str = "a group is a pool and a number below 2^32";
+
+/// Files that are written, by their paths.
+pub trait OutputFiles {
+    /// Writes a file, in the place of what it had. It is an error where not all of the bytes can be written.
+    fn write_bytes(&self, path: &str, bytes: &[u8]) -> io::Result<()>;
+}
+
+/// The files of the program's host.
+impl OutputFiles for HostRuntime {
+    fn write_bytes(&self, path: &str, bytes: &[u8]) -> io::Result<()> {
+        fs::write(self, path, bytes)
+    }
+}
+
+/// A picture that is asked for.
+#[derive(Drop)]
+pub(crate) struct Asked<'a> {
+    path: &'a str,
+    /// The group that is named.
+    group: Option<GroupId>,
+}
+
+/// What became of a picture.
+#[derive(Drop)]
+pub(crate) enum Drawn {
+    /// It is written, and this is to be told.
+    Written(String),
+    /// The script makes no such group.
+    NoGroup,
+    /// The file could not be written.
+    Unwritten(io::Error),
+    OutOfMemory,
+}
+
+impl From<AllocError> for Drawn {
+    fn from(_error: AllocError) -> Drawn {
+        Drawn::OutOfMemory
+    }
+}
+
+/// The group that the words name, which are a pool's name and a number.
+fn named_group(alloc: Global, words: &[&str]) -> Result<GroupId, NoAnswer> {
+    if let [pool, number] = words {
+        if let Some(Ok(number)) = number_of(number).map(u32::try_from) {
+            return Ok(GroupId {
+                pool: Name::new(alloc, pool)?,
+                number,
+            });
+        }
+    }
+    Err(NoAnswer::Told(String::from_str(alloc, BAD_GROUP)?))
+}
+
+/// The picture that the words of `osdgate run` ask for, if they do.
+pub(crate) fn asked_picture<'a>(
+    alloc: Global,
+    matches: &ArgMatches<'a>,
+) -> Result<Option<Asked<'a>>, NoAnswer> {
+    let Some(path) = matches.get_str("picture") else {
+        return Ok(None);
+    };
+    let group = match matches.get_strs("group") {
+        None => None,
+        Some(words) => Some(named_group(alloc, words)?),
+    };
+    Ok(Some(Asked { path, group }))
+}
+
+fn format_of(path: &str) -> Format {
+    if path.ends_with(".mmd") {
+        Format::Mermaid
+    } else {
+        Format::Svg
+    }
+}
+
+/// Which group was chosen where none was named.
+fn choice(alloc: Global, group: &Option<GroupId>) -> Result<String, OutOfMemory> {
+    let mut text = String::new(alloc);
+    if let Some(group) = group {
+        let pool = group.pool.as_str();
+        let number = group.number;
+        write!(text, "osdgate: the picture shows group {pool} {number}\n")?;
+    }
+    Ok(text)
+}
+
+/// Draws a script, and writes the picture.
+fn write_picture<F: OutputFiles>(
+    alloc: Global,
+    files: &F,
+    script: &[u8],
+    asked: Asked<'_>,
+) -> Result<Drawn, OutOfMemory> {
+    let is_named = asked.group.is_some();
+    let Some(picture) = draw_script(alloc, script, asked.group, format_of(asked.path))? else {
+        return Ok(Drawn::NoGroup);
+    };
+    let told = if is_named {
+        String::new(alloc)
+    } else {
+        choice(alloc, &picture.group)?
+    };
+    match files.write_bytes(asked.path, picture.text.as_bytes()) {
+        Ok(()) => Ok(Drawn::Written(told)),
+        Err(error) => Ok(Drawn::Unwritten(error)),
+    }
+}
+
+/// What became of the picture of a script, where one is asked for.
+pub(crate) fn draw<F: OutputFiles>(
+    alloc: Global,
+    files: &F,
+    script: &[u8],
+    asked: Option<Asked<'_>>,
+) -> Option<Drawn> {
+    match asked {
+        None => None,
+        Some(asked) => Some(match write_picture(alloc, files, script, asked) {
+            Ok(drawn) => drawn,
+            Err(_) => Drawn::OutOfMemory,
+        }),
+    }
+}
