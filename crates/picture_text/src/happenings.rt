@@ -3,14 +3,14 @@
 use place_core::{ActingSet, DaemonSet};
 
 /// Who sends messages and takes them: the client, which stands for the group itself too, or a daemon.
-#[derive(Clone, Copy, Debug, PartialEq, Eq)]
+#[derive(Clone, Copy, PartialEq, Eq)]
 pub enum Party {
     Client,
     Osd(u8),
 }
 
 /// What a message is about.
-#[derive(Clone, Copy, Debug, PartialEq, Eq)]
+#[derive(Clone, Copy)]
 pub enum Topic {
     /// News of intervals, and what daemons ask and tell one another at their beginning.
     Peering,
@@ -35,7 +35,7 @@ pub struct Message {
 }
 
 /// How a message ends.
-#[derive(Clone, Copy, Debug, PartialEq, Eq)]
+#[derive(Clone, Copy)]
 pub enum End {
     /// It reached its addressee.
     Delivered,
@@ -48,7 +48,7 @@ pub enum End {
 }
 
 /// What happened to a daemon.
-#[derive(Clone, Copy, Debug, PartialEq, Eq)]
+#[derive(Clone, Copy)]
 pub enum Change {
     Up,
     Down,

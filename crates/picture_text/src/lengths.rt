@@ -4,7 +4,7 @@ use std::fmt;
 use std::ops::{Add, Mul, Sub};
 
 /// A length or a place, in pixels. A sum that is too great is the greatest one, a difference below 0 is 0.
-#[derive(Clone, Copy, Debug, PartialEq, Eq)]
+#[derive(Clone, Copy)]
 pub(crate) struct Px(pub(crate) u32);
 
 impl Px {

@@ -5,7 +5,7 @@ use place_core::OutOfMemory;
 use std::alloc::Global;
 
 /// What a note is about.
-#[derive(Clone, Copy, Debug, PartialEq, Eq)]
+#[derive(Clone, Copy)]
 pub(crate) enum About {
     Decided,
     Answered,

@@ -92,7 +92,7 @@ pub(crate) fn push_bar(out: &mut String, x: Px, y: Px) -> Result<(), OutOfMemory
 }
 
 /// Which way an arrow goes.
-#[derive(Clone, Copy, Debug, PartialEq, Eq)]
+#[derive(Clone, Copy)]
 pub(crate) enum Way {
     Right,
     Left,

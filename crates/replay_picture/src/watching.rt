@@ -219,6 +219,7 @@ impl Watched {
         }
     }
 
+    /// What an event did, or why it was refused. A delivery to a daemon that is down has dropped its message.
     fn tell(
         &mut self,
         told: &mut Vec<Happening>,
@@ -234,7 +235,10 @@ impl Watched {
                 self.tell_answered(told, before.open)
             }
             Err(WorldFault::OutOfMemory) => Err(AllocError),
-            Err(fault) => self.tell_refused(told, seen, fault),
+            Err(WorldFault::Group(GroupFault::Unreachable)) => {
+                self.tell_taken(told, seen, &step.wire, End::Unreachable)
+            }
+            Err(fault) => self.tell_refused(told, fault),
         }
     }
 
@@ -245,7 +249,7 @@ impl Watched {
         seen: &Seen,
         step: &WireStep,
     ) -> Result<(), OutOfMemory> {
-        self.tell_taken(told, seen, seen.end)?;
+        self.tell_taken(told, seen, step, seen.end)?;
         if let Some((daemon, change)) = seen.change {
             told.push(Happening::Daemon { daemon, change })?;
         }
@@ -258,16 +262,17 @@ impl Watched {
         &mut self,
         told: &mut Vec<Happening>,
         seen: &Seen,
+        step: &WireStep,
         end: End,
     ) -> Result<(), OutOfMemory> {
-        let Some(place) = seen.taken else {
-            return Ok(());
-        };
-        if place < self.waiting.len() {
-            let message = self.waiting.remove(place);
-            told.push(Happening::Ended { message, end })?;
+        match seen.taken {
+            Some(place) if step.taken.is_some() && place < self.waiting.len() => {
+                let message = self.waiting.remove(place);
+                told.push(Happening::Ended { message, end })?;
+                Ok(())
+            }
+            _ => Ok(()),
         }
-        Ok(())
     }
 
     /// The interval that began, by what is sent of it or, where nobody is told, by the map.
@@ -361,16 +366,12 @@ impl Watched {
         Ok(())
     }
 
-    /// Why an event was refused. One to a daemon that is down has dropped its message.
+    /// Why an event was refused.
     fn tell_refused(
-        &mut self,
+        &self,
         told: &mut Vec<Happening>,
-        seen: &Seen,
         fault: WorldFault,
     ) -> Result<(), OutOfMemory> {
-        if let WorldFault::Group(GroupFault::Unreachable) = fault {
-            return self.tell_taken(told, seen, End::Unreachable);
-        }
         told.push(Happening::Refused(format!(in self.alloc; "refused {fault}")?))?;
         Ok(())
     }
