@@ -27,6 +27,8 @@ pub(crate) struct Watched {
     group: Option<GroupId>,
     /// Whether decisions are told, for which all entries are looked at.
     pub(crate) tells_decisions: bool,
+    /// How many entries were decided in all groups, where it is known.
+    decided: Option<usize>,
     pub(crate) messages: Vec<Message>,
     /// The messages on their way, in the order of the wire.
     pub(crate) waiting: Vec<usize>,
@@ -134,6 +136,7 @@ impl Watched {
             tally: Tally::new(alloc),
             group,
             tells_decisions: false,
+            decided: None,
             messages: Vec::new(alloc),
             waiting: Vec::new(alloc),
             interval: 0,
@@ -163,11 +166,13 @@ impl Watched {
     }
 
     /// How many entries were decided in all groups, where that is told.
-    fn decided(&self, seen: &Seen) -> Result<usize, OutOfMemory> {
-        if seen.delivers && self.tells_decisions {
-            Ok(self.world.audit()?.len())
-        } else {
-            Ok(0)
+    fn decided_before(&self, seen: &Seen) -> Result<usize, OutOfMemory> {
+        if !(seen.delivers && self.tells_decisions) {
+            return Ok(0);
+        }
+        match self.decided {
+            Some(count) => Ok(count),
+            None => Ok(self.world.audit()?.len()),
         }
     }
 
@@ -189,6 +194,10 @@ impl Watched {
     ) -> Result<(), OutOfMemory> {
         let seen = see(&self.group, &event);
         let before = self.look(&event, &seen)?;
+        if before.counted.is_some() && seen.taken.is_none() {
+            // another group's message, which may decide something there
+            self.decided = None;
+        }
         let step = self.step(event)?;
         self.tally.add(before.counted)?;
         self.tell(told, &seen, before, step)
@@ -196,10 +205,9 @@ impl Watched {
 
     /// What has to be known of the world before an event.
     fn look(&self, event: &Event, seen: &Seen) -> Result<Before, OutOfMemory> {
-        let decided = self.decided(seen)?;
         Ok(Before {
+            decided: self.decided_before(seen)?,
             noted: self.rights.note(&self.world, event)?,
-            decided,
             open: self.opens(seen),
             counted: group_taken_from(&self.world, event),
         })
@@ -336,7 +344,7 @@ impl Watched {
 
     /// What was decided, by the entries that are there now and were not before.
     fn tell_decided(
-        &self,
+        &mut self,
         told: &mut Vec<Happening>,
         seen: &Seen,
         before: usize,
@@ -345,6 +353,7 @@ impl Watched {
             return Ok(());
         }
         let entries = self.world.audit()?;
+        self.decided = Some(entries.len());
         for entry in entries.iter().skip(before) {
             told.push(Happening::Decided(decision(self.alloc, &self.rights, entry)?))?;
         }
