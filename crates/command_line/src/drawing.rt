@@ -6,8 +6,9 @@ use clap::ArgMatches;
 use common_types::{Name, OutOfMemory};
 use entry_core::GroupId;
 use replay_picture::{Format, draw_script};
-use std::alloc::{AllocError, Global};
+use std::alloc::Global;
 use std::fmt::Write;
+use std::io::ErrorKind;
 use std::{fs, io};
 
 const BAD_GROUP: &str = "a group is a pool and a number below 2^32";
@@ -43,12 +44,6 @@ pub(crate) enum Drawn {
     /// The file could not be written.
     Unwritten(io::Error),
     OutOfMemory,
-}
-
-impl From<AllocError> for Drawn {
-    fn from(_error: AllocError) -> Drawn {
-        Drawn::OutOfMemory
-    }
 }
 
 /// The group that the words name, which are a pool's name and a number.
@@ -116,6 +111,7 @@ fn write_picture<F: OutputFiles>(
     };
     match files.write_bytes(asked.path, picture.text.as_bytes()) {
         Ok(()) => Ok(Drawn::Written(told)),
+        Err(error) if error.kind() == ErrorKind::OutOfMemory => Ok(Drawn::OutOfMemory),
         Err(error) => Ok(Drawn::Unwritten(error)),
     }
 }
