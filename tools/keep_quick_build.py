@@ -6,6 +6,7 @@ is there and can be run, else 1.
 """
 import os
 import shutil
+import signal
 import subprocess
 import sys
 import tempfile
@@ -41,6 +42,22 @@ def starts(program):
     return subprocess.run([program, "--help"], **how).returncode in (0, 1, 2)
 
 
+def is_kept(made):
+    """Whether the program is there, and starts."""
+    if not os.path.exists(made):
+        return False
+    os.chmod(made, 0o755)
+    return starts(made)
+
+
+def stop(ran):
+    """Ends a command and all that it started."""
+    try:
+        os.killpg(ran.pid, signal.SIGTERM)
+    except ProcessLookupError:
+        pass
+
+
 def main(crate, kept):
     name = os.path.basename(crate)
     begun = time.time()
@@ -59,17 +76,19 @@ def main(crate, kept):
                 stdin=subprocess.DEVNULL,
                 stdout=said,
                 stderr=subprocess.STDOUT,
+                start_new_session=True,
             )
             made = f"{room}/{name}"
             while ran.poll() is None and not keep(room, made):
                 time.sleep(0.003)
+            # What `rt try` does beside running the program is not needed once the program is kept and starts.
+            is_made = is_kept(made)
+            if is_made:
+                stop(ran)
             ran.wait()
-        if ran.returncode or not os.path.exists(made):
+        if not is_made:
             with open(f"{room}/said", encoding="utf-8", errors="replace") as said:
                 sys.stderr.write(said.read() if ran.returncode else "")
-            return 1
-        os.chmod(made, 0o755)
-        if not starts(made):
             return 1
         os.utime(made, (begun, begun))
         os.replace(made, kept)

@@ -1,11 +1,17 @@
 # Functions of the scripts osdgate and osdgate_bench. Each answers by the proved build of its program where that is
 # there and no source of it was changed since, and else by the toolchain's quick build, and says so.
 #
-# A caller sets `top` (the repository) and `name` (the program's crate), and may set `note`, more words on a quick build.
+# A caller sets `top` (the repository) and `name` (the program's crate), and may set `note`, more words on a quick build,
+# and `smaller`, a program that is built sooner and answers as this one does, but for the first words in `smaller_lacks`.
 
-# The proved build, as `rt run` leaves it, and the quick build, as `rt try` links it.
-proved="$top/crates/$name/out/$name"
-quick="$top/out/quick/$name"
+# Takes the program that answers: its proved build, as `rt run` leaves it, and its quick build, as `rt try` links it.
+use_program() {
+    program="$1"
+    proved="$top/crates/$program/out/$program"
+    quick="$top/out/quick/$program"
+}
+
+use_program "$name"
 
 say() {
     echo "$name: $*" >&2
@@ -31,7 +37,7 @@ is_fresh() {
     local build="$1" crate part made_of=("$top/crates.txt")
     shift
     [ -x "$build" ] || return 1
-    for crate in $(crates_of "$name"); do
+    for crate in $(crates_of "$program"); do
         for part in "$@"; do made_of+=("$top/crates/$crate/$part"); done
     done
     [ -z "$(find "${made_of[@]}" -newer "$build" 2>/dev/null | head -n 1)" ]
@@ -107,7 +113,7 @@ build_quick() {
     mkdir -p "$top/out/quick"
     (
         flock 9
-        has_quick || python3 "$top/tools/keep_quick_build.py" "$top/crates/$name" "$quick" >&2
+        has_quick || python3 "$top/tools/keep_quick_build.py" "$top/crates/$program" "$quick" >&2
     ) 9>"$quick.lock"
 }
 
@@ -122,7 +128,7 @@ try_once() {
             *) if [ -f "$word" ]; then data+=(--data "$word=$PWD/$word"); fi ;;
         esac
     done
-    (in_crate "$name" rt try "${data[@]+"${data[@]}"}" -- "$@") 2>"$said" || status=$?
+    (in_crate "$program" rt try "${data[@]+"${data[@]}"}" -- "$@") 2>"$said" || status=$?
     grep -v -e '^interpreter: ' -e '^checked: ' -e '^races: ' -e '^run=[a-z]* ' "$said" >&2 || true
     rm -f "$said"
     return "$status"
@@ -139,6 +145,14 @@ build_that_answers() {
     fi
 }
 
+# Takes the smaller program where it has these words and the program itself is not there.
+use_smaller() {
+    case " ${smaller_lacks:-} " in *" ${1:-} "*) return ;; esac
+    if [ -z "${smaller:-}" ] || is_proved || has_quick; then return; fi
+    use_program "$smaller"
+    minutes="one to three"
+}
+
 # The program's answer on these words, or with the one word --prove its proof.
 answer() {
     local made_now
@@ -146,8 +160,9 @@ answer() {
         prove
         exit
     fi
+    use_smaller "$@"
     if is_proved; then exec "$proved" "$@"; fi
-    has_quick || made_now=" and is made now, in one to five minutes"
+    has_quick || made_now=" and is made now, in ${minutes:-one to five} minutes"
     say "this answer comes from a quick build, which is not proved${made_now:-}; ./$name --prove makes the proved one${note:-}"
     if has_quick || build_quick; then exec "$quick" "$@"; fi
     try_once "$@"

@@ -1,17 +1,14 @@
 //! `osdgate run --picture`: a picture of a script that was run.
 
-use crate::no_answer::NoAnswer;
-use crate::request_words::number_of;
 use clap::ArgMatches;
 use common_types::{Name, OutOfMemory};
 use entry_core::GroupId;
+use gate_commands::number_of;
 use replay_picture::{Format, draw_script};
-use std::alloc::Global;
+use std::alloc::{AllocError, Global};
 use std::fmt::Write;
 use std::io::ErrorKind;
 use std::{fs, io};
-
-const BAD_GROUP: &str = "a group is a pool and a number below 2^32";
 
 /// Files that are written, by their paths.
 pub trait OutputFiles {
@@ -34,6 +31,20 @@ pub(crate) struct Asked<'a> {
     group: Option<GroupId>,
 }
 
+/// Why no picture is asked for where words ask for one.
+#[derive(Clone, Copy)]
+pub(crate) enum NoPicture {
+    /// A group's number is none.
+    BadGroup,
+    OutOfMemory,
+}
+
+impl From<AllocError> for NoPicture {
+    fn from(_error: AllocError) -> NoPicture {
+        NoPicture::OutOfMemory
+    }
+}
+
 /// What became of a picture.
 #[derive(Drop)]
 pub(crate) enum Drawn {
@@ -47,7 +58,7 @@ pub(crate) enum Drawn {
 }
 
 /// The group that the words name, which are a pool's name and a number.
-fn named_group(alloc: Global, words: &[&str]) -> Result<GroupId, NoAnswer> {
+fn named_group(alloc: Global, words: &[&str]) -> Result<GroupId, NoPicture> {
     if let [pool, number] = words {
         if let Some(Ok(number)) = number_of(number).map(u32::try_from) {
             return Ok(GroupId {
@@ -56,14 +67,14 @@ fn named_group(alloc: Global, words: &[&str]) -> Result<GroupId, NoAnswer> {
             });
         }
     }
-    Err(NoAnswer::Told(String::from_str(alloc, BAD_GROUP)?))
+    Err(NoPicture::BadGroup)
 }
 
 /// The picture that the words of `osdgate run` ask for, if they do.
 pub(crate) fn asked_picture<'a>(
     alloc: Global,
     matches: &ArgMatches<'a>,
-) -> Result<Option<Asked<'a>>, NoAnswer> {
+) -> Result<Option<Asked<'a>>, NoPicture> {
     let Some(path) = matches.get_str("picture") else {
         return Ok(None);
     };

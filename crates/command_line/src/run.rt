@@ -1,7 +1,7 @@
 //! `osdgate run`: a script from a file or from standard input, and what it prints.
 
 use crate::drawing::{Asked, Drawn, OutputFiles, draw};
-use crate::input_files::InputFiles;
+use gate_commands::InputFiles;
 use script_text::{Lines, ScriptFault, read_script};
 use std::alloc::Global;
 use std::io;

@@ -1,6 +1,6 @@
 -- Statement: contracts of public calls use it.
 -- Requests as the words of a shell that `osdgate verdict` takes (this project's profile; quotes as POSIX shells read them).
-use Rattle.std.specs.Prelude.{ℕ, List, [], ◌∷◌, ◌++◌, codes}
+use Rattle.std.specs.Prelude.{ℕ, List, [], ◌∷◌, ◌++◌, ◌==◌, codes, if◌then◌else◌, length}
 use Rattle.std.specs.List.{flat_map}
 use Rattle.common_types.specs.declared.tags.AppTags.{AppTags}
 use Rattle.grant_core.specs.Text.{printed_path}
@@ -10,11 +10,15 @@ use Rattle.compare_core.specs.declared.comparing.Example.{Example}
 use Rattle.gate_text.specs.Calls.{call_words}
 use Rattle.gate_text.specs.Words.{flag_words, shell_word}
 
-abbrev pub pair_words : List ℕ × List ℕ → List ℕ
-pair_words pair = codes ":" ++ (shell_word pair.0 ++ (codes "=" ++ shell_word pair.1))
+-- the option of a pair of an application
+abbrev pub pair_words : List ℕ → List ℕ × List ℕ → List ℕ
+pair_words application pair =
+    (codes " --tag " ++ shell_word application) ++ ((codes ":" ++ shell_word pair.0) ++ (codes "=" ++ shell_word pair.1))
 
+-- an option takes one pair, so each has its own; an application without pairs has one too
 abbrev pub tag_words : AppTags → List ℕ
-tag_words app = codes " --tag " ++ (shell_word app.application ++ flat_map pair_words app.pairs)
+tag_words app =
+    if length app.pairs == 0 then codes " --tag " ++ shell_word app.application else flat_map (pair_words app.application) app.pairs
 
 -- none for the empty namespace, which is the one where none is given
 abbrev pub namespace_words : List ℕ → List ℕ

@@ -87,8 +87,9 @@ fn push_shown_bytes(text: &mut String, bytes: &[u8]) -> Result<(), OutOfMemory>
     Ok(())
 }
 
-/// Adds a text to another as it is shown.
-pub(crate) fn push_shown_text(text: &mut String, more: &str) -> Result<(), OutOfMemory>
+/// Adds a text to another as it is shown: bytes 32 to 126 as they are, any other as `\x` and two hexadecimal digits
+/// (this project's profile). An `Err` leaves a front of it behind the text.
+pub fn push_shown_text(text: &mut String, more: &str) -> Result<(), OutOfMemory>
     ensures { OnOk result (string_bytes text.new ≡ string_bytes text.old ++ shown more.now) }
 {
     push_shown_bytes(text, more.as_bytes())

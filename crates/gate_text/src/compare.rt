@@ -22,7 +22,7 @@ use std::fmt;
 use verdict_core::Ticket;
 
 /// How the rights of new grants stand to those of old ones.
-#[derive(Clone, Copy, Debug, PartialEq, Eq)]
+#[derive(Clone, Copy)]
 pub(crate) enum Relation {
     /// Each allows what the other does.
     Same,
@@ -34,19 +34,19 @@ pub(crate) enum Relation {
     Different,
 }
 
-/// Why a capability text has no grants.
+/// Why a capability text has no grants. It prints as the fault that it is, which begins with the fault's number.
 #[derive(Clone, Copy, Debug)]
-pub(crate) enum TextFault {
-    /// It spells no list.
+pub enum TextFault {
+    /// It spells no list: its first fault, and the byte where that stands.
     Spelling(CapFault),
-    /// The list cannot be expanded by the built-in profiles.
+    /// It spells a list that cannot be expanded by the built-in profiles.
     Expansion(ExpandFault),
-    /// A growth was refused, which is no fault of the text.
+    /// A growth was refused, which is no fault of the text, and may go better another time.
     OutOfMemory,
 }
 
 /// What changes between two tickets.
-#[derive(Debug, Drop)]
+#[derive(Drop)]
 pub(crate) struct Change {
     /// An example for each new grant that allows what the old ones deny.
     pub(crate) gained: Vec<Example>,
@@ -205,6 +205,19 @@ pub(crate) fn ticket_of(
         ) => Err(TextFault::OutOfMemory),
         Err(fault) => Err(TextFault::Spelling(fault)),
     }
+}
+
+/// The ticket that a capability text comes to, by the built-in profiles (this project's profile of Ceph's manual, User
+/// Management); it does not end. An `Err` is the text's first fault, or says that a growth was refused; nothing is left of
+/// the ticket then.
+///
+/// The profiles are made anew each time.
+pub fn ticket_of_text(alloc: Global, caps: &str) -> Result<Ticket, TextFault>
+    ensures ticket { IfOk result (λ ticket. ComesTo caps.now ticket.grants) }
+    ensures refused { IfErr result (λ fault. IsFaultOf caps.now fault) }
+{
+    let profiles = ProfileTable::builtin(alloc)?;
+    ticket_of(alloc, &profiles, caps)
 }
 
 /// What changes from an old ticket to a new one, both ways.

@@ -22,7 +22,7 @@ use std::fmt::Write;
 use verdict_core::Ticket;
 
 /// Which of two lists have an entity.
-#[derive(Clone, Copy, Debug, PartialEq, Eq)]
+#[derive(Clone, Copy)]
 pub(crate) enum Presence {
     Both,
     /// The new list alone.
@@ -32,7 +32,7 @@ pub(crate) enum Presence {
 }
 
 /// An entity's name, and its texts in two lists, empty where a list does not have it.
-#[derive(Clone, Copy, Debug)]
+#[derive(Clone, Copy)]
 pub(crate) struct Pair<'a> {
     name: &'a str,
     presence: Presence,

@@ -25,8 +25,8 @@ mod verdict;
 mod who;
 
 pub use asked::{Asked, Times};
-pub use caret::point_at_fault;
-pub use compare::compare_text;
+pub use caret::{point_at_fault, push_shown_text};
+pub use compare::{TextFault, compare_text, ticket_of_text};
 pub use compare_auth::compare_entities;
 pub use comparison::Comparison;
 pub use entity::Entity;
@@ -34,6 +34,7 @@ pub use explain::explain_text;
 pub use format::Format;
 pub use named::NamedEntities;
 pub use printed::Printed;
+pub use request::push_target;
 pub use table::who_table;
 pub use verdict::{Answer, Verdict, VerdictFault, answer, text_of, verdict_text};
 pub use who::who_text;

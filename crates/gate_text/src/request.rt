@@ -45,30 +45,45 @@ pub(crate) fn push_word(line: &mut String, name: &Name) -> Result<(), OutOfMemor
     }
 }
 
-fn push_pair(line: &mut String, pair: &(Name, Name)) -> Result<(), OutOfMemory>
-    ensures { OnOk result (string_bytes line.new ≡ string_bytes line.old ++ pair_words pair.now) }
+/// Adds an option and its value.
+fn push_option(line: &mut String, option: &str, value: &Name) -> Result<(), OutOfMemory>
+    ensures { OnOk result (string_bytes line.new ≡ string_bytes line.old ++ (option.now ++ shell_word value.now)) }
 {
-    line.push_str(":")?;
-    push_word(line, &pair.0)?;
-    line.push_str("=")?;
-    push_word(line, &pair.1)
+    line.push_str(option)?;
+    push_word(line, value)
 }
 
-fn push_pairs(line: &mut String, pairs: &[(Name, Name)]) -> Result<(), OutOfMemory>
-    ensures { OnOk result (string_bytes line.new ≡ string_bytes line.old ++ flat_map pair_words pairs.now) }
+/// Adds the option of a pair of an application.
+fn push_pair(line: &mut String, application: &Name, pair: &(Name, Name)) -> Result<(), OutOfMemory>
+    ensures { OnOk result (string_bytes line.new ≡ string_bytes line.old ++ pair_words application.now pair.now) }
+{
+    push_option(line, " --tag ", application)?;
+    push_option(line, ":", &pair.0)?;
+    push_option(line, "=", &pair.1)
+}
+
+fn push_pairs(
+    line: &mut String,
+    application: &Name,
+    pairs: &[(Name, Name)],
+) -> Result<(), OutOfMemory>
+    ensures { OnOk result (string_bytes line.new ≡ string_bytes line.old ++ flat_map (pair_words application.now) pairs.now) }
 {
     for pair in pairs {
-        push_pair(line, pair)?;
+        push_pair(line, application, pair)?;
     }
     Ok(())
 }
 
+/// Adds the options of an application: one for each pair, since an option takes one alone.
 fn push_tag(line: &mut String, app: &AppTags) -> Result<(), OutOfMemory>
     ensures { OnOk result (string_bytes line.new ≡ string_bytes line.old ++ tag_words app.now) }
 {
-    line.push_str(" --tag ")?;
-    push_word(line, &app.application)?;
-    push_pairs(line, app.pairs.as_slice())
+    if app.pairs.as_slice().is_empty() {
+        push_option(line, " --tag ", &app.application)
+    } else {
+        push_pairs(line, &app.application, app.pairs.as_slice())
+    }
 }
 
 fn push_tags(line: &mut String, tags: &[AppTags]) -> Result<(), OutOfMemory>
@@ -80,14 +95,6 @@ fn push_tags(line: &mut String, tags: &[AppTags]) -> Result<(), OutOfMemory>
     Ok(())
 }
 
-/// Adds an option and its value.
-fn push_option(line: &mut String, option: &str, value: &Name) -> Result<(), OutOfMemory>
-    ensures { OnOk result (string_bytes line.new ≡ string_bytes line.old ++ (option.now ++ shell_word value.now)) }
-{
-    line.push_str(option)?;
-    push_word(line, value)
-}
-
 fn push_namespace(line: &mut String, namespace: &Name) -> Result<(), OutOfMemory>
     ensures { OnOk result (string_bytes line.new ≡ string_bytes line.old ++ namespace_words namespace.now) }
 {
@@ -97,7 +104,12 @@ fn push_namespace(line: &mut String, namespace: &Name) -> Result<(), OutOfMemory
     push_option(line, " --namespace ", namespace)
 }
 
-fn push_target(line: &mut String, target: &OwnedTarget) -> Result<(), OutOfMemory>
+/// Adds a target in the words that `osdgate verdict` takes, quoted for a shell: `--pool`, `--namespace` but for the empty
+/// one, `--object`, and a `--tag` for each pair of an application, or for the application alone. The words are this
+/// project's profile. An `Err` leaves a front of them behind the line.
+///
+/// An application with a `:`, or a key with a `=`, is printed, but `--tag` is cut there.
+pub fn push_target(line: &mut String, target: &OwnedTarget) -> Result<(), OutOfMemory>
     ensures { OnOk result (string_bytes line.new ≡ string_bytes line.old ++ target_words target.now) }
 {
     line.push_str("--pool ")?;

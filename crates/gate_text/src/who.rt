@@ -130,7 +130,7 @@ fn push_listed(
 }
 
 /// How much is told of entities, and in which form.
-#[derive(Clone, Copy, Debug)]
+#[derive(Clone, Copy)]
 pub(crate) struct Telling {
     /// Each entity and its answer, and not only those that may.
     all: bool,

@@ -1,7 +1,8 @@
 //! The program `osdgate`: verdicts of a replicated object store's access gate, on the command line.
 #![tactic(auto)]
 
-use command_line::{refuse_words, run_command, words};
+use command_line::run_command;
+use gate_commands::{refuse_words, words};
 use std::process::ExitCode;
 use workload::run_workload;
 

@@ -1,6 +1,7 @@
 //! Files that stand in the tests alone.
 
-use command_line::{InputFiles, OutputFiles};
+use command_line::OutputFiles;
+use gate_commands::InputFiles;
 use std::alloc::Global;
 use std::io;
 

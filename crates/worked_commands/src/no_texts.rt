@@ -1,6 +1,6 @@
 //! Words that are no text.
 
-use command_line::{refuse_words, words};
+use gate_commands::{refuse_words, words};
 use std::alloc::Global;
 use std::env::{Env, FillError};
 use std::test::Fail;

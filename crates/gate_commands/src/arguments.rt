@@ -1,7 +1,8 @@
 //! The words that each command takes.
 
-use clap::{Arg, ArgAction, Command};
+use clap::{Arg, ArgAction, ArgMatches, Command, Error};
 use std::alloc::{AllocError, Global};
+use std::convert::AsStr;
 
 const VERSION: &str = "0.1.0";
 
@@ -404,4 +405,10 @@ pub(crate) fn whole_command<'a>(alloc: Global) -> Result<Command<'a>, AllocError
         command = command.subcommand(command_of(alloc, kind)?)?;
     }
     Ok(command)
+}
+
+/// The command that words ask for, the first of which is the program's own name. The error is what clap says of words that it
+/// does not take, the help that they ask for, or want of memory: `refuse_command` tells it.
+pub fn command_words<'a, S: AsStr>(alloc: Global, words: &'a [S]) -> Result<ArgMatches<'a>, Error> {
+    whole_command(alloc)?.try_get_matches_from(words)
 }

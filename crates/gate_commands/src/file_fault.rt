@@ -5,7 +5,7 @@ use std::alloc::AllocFailed;
 use std::{fmt, io};
 
 /// What a file is read for.
-#[derive(Clone, Copy, Debug, PartialEq, Eq)]
+#[derive(Clone, Copy)]
 pub(crate) enum Purpose {
     Entities,
     /// The entities as they are.
@@ -17,7 +17,7 @@ pub(crate) enum Purpose {
 }
 
 /// The forms in which entities are read.
-#[derive(Clone, Copy, Debug, PartialEq, Eq)]
+#[derive(Clone, Copy)]
 pub(crate) enum Form {
     /// As `ceph auth ls --format json` and `ceph auth get NAME --format json` print them.
     Json,
@@ -28,7 +28,7 @@ pub(crate) enum Form {
 }
 
 /// What a text in none of these forms looks like.
-#[derive(Clone, Copy, Debug, PartialEq, Eq)]
+#[derive(Clone, Copy)]
 pub(crate) enum Likeness {
     Xml,
     Yaml,
@@ -38,14 +38,14 @@ pub(crate) enum Likeness {
 }
 
 /// A place of a text, lines and columns counted from 1.
-#[derive(Clone, Copy, Debug, PartialEq, Eq)]
+#[derive(Clone, Copy)]
 pub(crate) struct Place {
     pub(crate) line: usize,
     pub(crate) column: usize,
 }
 
 /// Why a text is not what it is read for. None of the text stands in it.
-#[derive(Debug, Drop)]
+#[derive(Drop)]
 pub(crate) enum FileFault {
     /// It cannot be read.
     Unread(io::Error),

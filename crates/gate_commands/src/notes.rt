@@ -55,7 +55,7 @@ fn unknown_call(alloc: Global, matches: &ArgMatches<'_>) -> Result<String, OutOf
 }
 
 /// What came of a request.
-#[derive(Clone, Copy, Debug, PartialEq, Eq)]
+#[derive(Clone, Copy, PartialEq, Eq)]
 pub(crate) enum Outcome {
     Answered,
     /// Its calls are refused.

@@ -6,7 +6,7 @@ use std::alloc::Global;
 use std::fmt::Write;
 
 /// The shells that completions are made for.
-#[derive(Clone, Copy, Debug, PartialEq, Eq)]
+#[derive(Clone, Copy)]
 pub(crate) enum Shell {
     Bash,
     Zsh,

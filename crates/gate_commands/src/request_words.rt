@@ -9,7 +9,7 @@ use std::alloc::{AllocError, AllocFailed, Global};
 use verdict_core::{ClassCall, Target};
 
 /// Why words that clap takes are no command line.
-#[derive(Clone, Copy, Debug, PartialEq, Eq)]
+#[derive(Clone, Copy)]
 pub(crate) enum BadWords {
     /// A tag with a `:` has no `=` behind it.
     Tag,
@@ -17,8 +17,6 @@ pub(crate) enum BadWords {
     Time,
     /// A comparison of files has not two of them, or both are standard input.
     Files,
-    /// A number of workers is not 1 to 8.
-    Workers,
     /// A call of `--call` does not say what its method does, or lacks a class or a method.
     Call,
     /// There is no class registry of this name.
@@ -44,7 +42,6 @@ impl BadWords {
             BadWords::Files => {
                 "a comparison of files needs `--auth` twice, and standard input once at most"
             }
-            BadWords::Workers => "there are 1 to 8 workers",
             BadWords::Call => {
                 "a `--call` is CLASS.METHOD and `:r`, `:w` or `:rw`, and then `:listed` where the class is on the default list"
             }
@@ -59,7 +56,7 @@ impl BadWords {
 }
 
 /// Why words are no request.
-#[derive(Debug, Drop)]
+#[derive(Drop)]
 pub(crate) enum NoRequest {
     Words(BadWords),
     /// The same, where this tells why.
@@ -228,7 +225,7 @@ fn stated_call(alloc: Global, text: &str) -> Result<Option<ClassCall>, OutOfMemo
 }
 
 /// A number in decimal digits alone.
-pub(crate) fn number_of(text: &str) -> Option<u64> {
+pub fn number_of(text: &str) -> Option<u64> {
     if !text.as_bytes().iter().all(|byte| byte.is_ascii_digit()) {
         return None;
     }
