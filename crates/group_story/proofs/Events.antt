@@ -6,6 +6,7 @@ use Rattle.std.proofs.lemmas.List.{append_assoc}
 use Rattle.entry_core.specs.declared.sealed.GroupId.{GroupId}
 use Rattle.entry_core.specs.Request.{Sealed}
 use Rattle.entry_core.specs.Locality.{group_for}
+use Rattle.place_core.specs.Placement.{numbers_of}
 use Rattle.map_core.specs.State.{MapState}
 use Rattle.map_core.specs.Map.{map_of, after}
 use Rattle.map_core.specs.declared.command.MapCommand.{MapCommand}
@@ -19,7 +20,7 @@ use Rattle.wire_steps.proofs.Steps.{Sends, nothing, sends}
 use Rattle.world_core.specs.Event.{Event, Auth, Map, Open, Renew, Close, Submit, ListNames, Deliver, Lose, Repeat, Kick, Fault}
 use Rattle.world_core.specs.Groups.{is_same_group}
 use Rattle.world_core.specs.Front.{Front, front_step, group_refusal, sealed_by}
-use Rattle.world_core.specs.World.{World, Part, part, group_at, groups_of, parts_of, map_parts, moved_parts, restarted_parts, asked_parts, created_by, world_step}
+use Rattle.world_core.specs.World.{World, Part, part, group_at, groups_of, members_of, parts_of, map_parts, moved_parts, restarted_parts, asked_parts, created_by, world_step}
 use Rattle.world_core.specs.Holds.{events_in, group_step_alone}
 use Rattle.world_core.proofs.Holding.{step_at}
 use Rattle.group_story.specs.Story.{wire_where, wire_in, place_in, TellsEvent}
@@ -60,10 +61,15 @@ quietly id ps g all = events_send (events_in id ps) g (quiet_parts id ps all)
 asked_send : (id : GroupId) (requests : List Sealed) (g : Group) → Sent_in id (asked_parts requests) g
 asked_send id requests g = quietly id (asked_parts requests) g (quiet_map (λ s. part (group_for s) (group.Submit s)) (λ s. refl) requests)
 
+moved_send : (id : GroupId) (state : MapState) (g : Group) → Sent_in id (moved_parts state) g
+moved_send id state g =
+    quietly id (moved_parts state) g
+    (quiet_map (λ x. part x (group.NewInterval (members_of state x) (numbers_of state.up))) (λ x. refl) (flat_map groups_of state.pools))
+
 map_sends : (id : GroupId) (state : MapState) (c : MapCommand) (g : Group) → Sent_in id (map_parts state c) g
-map_sends id state (OsdUp d) g = quietly id (moved_parts (after state (OsdUp d))) g (quiet_map _ (λ x. refl) (flat_map groups_of (after state (OsdUp d)).pools))
-map_sends id state (OsdDown d) g = quietly id (moved_parts (after state (OsdDown d))) g (quiet_map _ (λ x. refl) (flat_map groups_of (after state (OsdDown d)).pools))
-map_sends id state (OsdRestart d) g = quietly id (restarted_parts state d) g (quiet_map _ (λ x. refl) (flat_map groups_of state.pools))
+map_sends id state (OsdUp d) g = moved_send id (after state (OsdUp d)) g
+map_sends id state (OsdDown d) g = moved_send id (after state (OsdDown d)) g
+map_sends id state (OsdRestart d) g = quietly id (restarted_parts state d) g (quiet_map (λ x. part x (group.Restart d)) (λ x. refl) (flat_map groups_of state.pools))
 map_sends id state (PoolCreate name pg_num size min_size) g = nothing g.wire
 map_sends id state (AppEnable pool app) g = nothing g.wire
 map_sends id state (AppSet pool app key value) g = nothing g.wire

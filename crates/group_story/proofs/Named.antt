@@ -39,11 +39,11 @@ tested h name group = refl
 
 nobody : (name : List ℕ) (group : ℕ) → by_pool name None group ≡ None → ⊥
 unfolding by_pool
-nobody name group none = go (not (is_word name)) none
+nobody name group none = go (not (is_word name)) (nat_le (option_map_or (λ (p : Pool). p.pg_num) None 0) group) none
   where
-    go : (b : Bool) → (if b then Some fault.BadName else (if not (is_some {Pool} None) then Some fault.NoPool else first_of ((nat_le (option_map_or (λ (p : Pool). p.pg_num) None 0) group, fault.NoGroup) ∷ []))) ≡ None → ⊥
-    go true k = absurd (cc)
-    go false k = absurd (cc)
+    go : (a c : Bool) → first_of ((a, fault.BadName) ∷ (true, fault.NoPool) ∷ (c, fault.NoGroup) ∷ []) ≡ None → ⊥
+    go true c k = absurd (cc)
+    go false c k = absurd (cc)
 
 -- a pool with as many groups is as good
 as_good : (name : List ℕ) (group : ℕ) (p q : Pool) → q.pg_num ≡ p.pg_num → by_pool name (Some p) group ≡ None → by_pool name (Some q) group ≡ None
