@@ -2,7 +2,8 @@
 
 ghost use Rattle.std.specs.Prelude.{◌≤◌};
 
-use crate::run::{RunFault, run_path};
+use crate::drawing::{Drawn, NoPicture, OutputFiles, asked_picture};
+use crate::run::{Ran, RunFault, run_path};
 use clap::ArgMatches;
 use gate_commands::{
     BAD_COMMAND_LINE, DONE, FAULT, InputFiles, command_words, number_of, refuse_command,
@@ -48,6 +49,61 @@ fn finish_script<E: Write>(ended: Result<(), RunFault>, err: &mut E) -> u8
     FAULT
 }
 
+/// Tells what became of a picture, and answers the status.
+fn finish_picture<E: Write>(drawn: &Drawn, err: &mut E) -> u8
+    ensures { result ≤ 2 }
+{
+    match drawn {
+        Drawn::Written(told) => {
+            let _ = write_out(err, told.as_str());
+            return DONE;
+        }
+        Drawn::NoGroup => {
+            let _ = write_out(err, "osdgate: the script makes no group of that name\n");
+        }
+        Drawn::Unwritten(error) => {
+            let _ = write!(err, "osdgate: the picture cannot be written: {error}\n");
+        }
+        Drawn::OutOfMemory => {
+            let _ = write_out(err, "osdgate: the picture cannot be drawn: OutOfMemory\n");
+        }
+    }
+    FAULT
+}
+
+/// Tells how a script ended and what became of its picture, and answers the status.
+fn finish_run<E: Write>(ran: Ran, err: &mut E) -> u8
+    ensures { result ≤ 2 }
+{
+    let status = finish_script(ran.ended, err);
+    match &ran.drawn {
+        None => status,
+        Some(drawn) => status.max(finish_picture(drawn, err)),
+    }
+}
+
+/// Runs the script that the words name, draws it where they ask for a picture, and answers the status.
+fn run_words<F: InputFiles + OutputFiles, R: Read, O: Write, E: Write>(
+    alloc: Global,
+    matches: &ArgMatches<'_>,
+    files: &F,
+    reader: &mut R,
+    out: &mut O,
+    err: &mut E,
+) -> u8
+    ensures { result ≤ 2 }
+{
+    let path = matches.get_str("script").unwrap_or("-");
+    match asked_picture(alloc, matches) {
+        Ok(asked) => finish_run(run_path(alloc, files, path, reader, out, asked), err),
+        Err(NoPicture::BadGroup) => {
+            let _ = write_out(err, "osdgate: a group is a pool and a number below 2^32\n");
+            BAD_COMMAND_LINE
+        }
+        Err(NoPicture::OutOfMemory) => finish_script(Err(RunFault::OutOfMemory), err),
+    }
+}
+
 /// Writes what became of a workload, or why it has no end, and answers the status.
 fn finish_workload<T: fmt::Display, F: fmt::Display, O: Write, E: Write>(
     ended: &Result<T, F>,
@@ -89,7 +145,7 @@ fn refuse_workers<E: Write>(err: &mut E) -> u8
 /// written as it runs.
 pub fn run_command<
     S: AsStr,
-    F: InputFiles,
+    F: InputFiles + OutputFiles,
     T: fmt::Display + Drop,
     X: fmt::Display + Drop,
     W: FnOnce(u32, bool) -> Result<T, X>,
@@ -117,10 +173,7 @@ pub fn run_command<
             Some(count) => finish_workload(&workload(count, inner.get_flag("moves")), out, err),
             None => refuse_workers(err),
         },
-        Some(("run", inner)) => {
-            let path = inner.get_str("script").unwrap_or("-");
-            finish_script(run_path(alloc, files, path, reader, out), err)
-        }
+        Some(("run", inner)) => run_words(alloc, inner, files, reader, out, err),
         _ => run_question(alloc, &matches, files, reader, out, err),
     }
 }

@@ -5,6 +5,8 @@
 #![tactic(auto)]
 
 mod command;
+mod drawing;
 mod run;
 
 pub use command::run_command;
+pub use drawing::OutputFiles;

@@ -1,5 +1,6 @@
 //! `osdgate run`: a script from a file or from standard input, and what it prints.
 
+use crate::drawing::{Asked, Drawn, OutputFiles, draw};
 use gate_commands::InputFiles;
 use script_text::{Lines, ScriptFault, read_script};
 use std::alloc::Global;
@@ -62,26 +63,65 @@ fn run_bytes<O: Write>(alloc: Global, script: &[u8], out: &mut O) -> Result<(), 
     }
 }
 
-/// Runs the script of a file, or of `reader` where the path is `-`, and writes to `out` what its lines print.
-pub(crate) fn run_path<F: InputFiles, R: Read, O: Write>(
+/// The bytes of a file, or of `reader` where the path is `-`.
+fn script_at<F: InputFiles, R: Read>(
+    alloc: Global,
+    files: &F,
+    path: &str,
+    reader: &mut R,
+) -> Result<Vec<u8>, RunFault> {
+    if path != "-" {
+        return Ok(files.read_bytes(path, MOST_BYTES)?);
+    }
+    match read_script(alloc, reader) {
+        Ok(script) => Ok(script),
+        Err(fault) => Err(RunFault::Script {
+            fault,
+            no_osds: false,
+        }),
+    }
+}
+
+/// How a script ended, and what became of its picture, where one was asked for and the script's lines were run.
+#[derive(Drop)]
+pub(crate) struct Ran {
+    pub(crate) ended: Result<(), RunFault>,
+    pub(crate) drawn: Option<Drawn>,
+}
+
+/// Whether lines of a script were run up to its end or to one that is no command.
+fn has_lines_run(ended: &Result<(), RunFault>) -> bool {
+    match ended {
+        Ok(()) => true,
+        Err(RunFault::Script { fault, .. }) => matches!(fault, ScriptFault::BadLine(_)),
+        Err(_) => false,
+    }
+}
+
+/// Runs the script of a file, or of `reader` where the path is `-`, and writes to `out` what its lines print. Then its picture is
+/// drawn, where one is asked for.
+pub(crate) fn run_path<F: InputFiles + OutputFiles, R: Read, O: Write>(
     alloc: Global,
     files: &F,
     path: &str,
     reader: &mut R,
     out: &mut O,
-) -> Result<(), RunFault> {
-    let script = if path == "-" {
-        match read_script(alloc, reader) {
-            Ok(script) => script,
-            Err(fault) => {
-                return Err(RunFault::Script {
-                    fault,
-                    no_osds: false,
-                });
-            }
+    asked: Option<Asked<'_>>,
+) -> Ran {
+    let script = match script_at(alloc, files, path, reader) {
+        Ok(script) => script,
+        Err(fault) => {
+            return Ran {
+                ended: Err(fault),
+                drawn: None,
+            };
         }
-    } else {
-        files.read_bytes(path, MOST_BYTES)?
     };
-    run_bytes(alloc, script.as_slice(), out)
+    let ended = run_bytes(alloc, script.as_slice(), out);
+    let drawn = if has_lines_run(&ended) {
+        draw(alloc, files, script.as_slice(), asked)
+    } else {
+        None
+    };
+    Ran { ended, drawn }
 }

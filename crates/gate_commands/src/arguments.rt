@@ -22,7 +22,9 @@ const SHARE_EXAMPLE: &str = "\
 Example: osdgate share --caps 'allow rw pool=data' --caps 'allow r'
 Example: ceph auth ls --format json | osdgate share --auth - --without client.admin --check";
 
-const RUN_EXAMPLE: &str = "Example: osdgate run incident.txt";
+const RUN_EXAMPLE: &str = "\
+Example: osdgate run incident.txt
+Example: osdgate run --picture incident.svg incident.txt";
 
 const THREADS_EXAMPLE: &str = "Example: osdgate threads 4";
 
@@ -31,6 +33,11 @@ const COMPLETIONS_EXAMPLE: &str = "Example: source <(osdgate completions bash)";
 const WORKERS_HELP: &str = "How many workers there are, 1 to 8, each on a thread of its own";
 
 const SCRIPT_HELP: &str = "The script, standard input where it is `-` or not given";
+
+const PICTURE_HELP: &str =
+    "A file for a picture of what happens to a group: SVG, or a Mermaid sequence diagram where it ends in `.mmd`";
+
+const GROUP_HELP: &str = "The group of the picture, the one with most messages where none is given";
 
 const AUTH_HELP: &str =
     "What `ceph auth ls`, `ceph auth export` or `ceph auth get NAME` prints, with or without `--format json`, or a keyring; `-` for standard input";
@@ -352,9 +359,16 @@ fn run_command<'a>(alloc: Global) -> Result<Command<'a>, AllocError> {
         .action(ArgAction::Set)
         .value_name("FILE")
         .help(SCRIPT_HELP);
+    let picture = text_option(alloc, "picture", "FILE", PICTURE_HELP);
+    let group = text_option(alloc, "group", "POOL", GROUP_HELP)
+        .num_args(2)
+        .value_names(&["POOL", "GROUP"])
+        .requires_arg("picture")?;
     Command::new(alloc, "run")
         .about("Runs a script of events in a world of its own, and prints what happens")
         .after_help(RUN_EXAMPLE)
+        .arg(picture)?
+        .arg(group)?
         .arg(script)
 }
 

@@ -14,7 +14,7 @@ pub(crate) enum Shell {
 }
 
 /// The options whose values are files.
-const FILES: [&str; 3] = ["auth", "pools", "requests"];
+const FILES: [&str; 4] = ["auth", "pools", "requests", "picture"];
 
 /// The options whose values are some words.
 const CHOICES: [(&str, &str); 2] = [("format", "text json"), ("registry", "all own")];
@@ -34,8 +34,7 @@ const BASH_COMMANDS: &str = "    esac
     case \"$1\" in
 ";
 
-const BASH_END: &str = "        run) COMPREPLY=($(compgen -f -- \"$current\")) ;;
-    esac
+const BASH_END: &str = "    esac
 }
 complete -F _osdgate osdgate
 ";
@@ -100,11 +99,12 @@ fn push_bash_values(text: &mut String, alloc: Global) -> Result<(), OutOfMemory>
 /// Adds the case of a command: what may follow it.
 fn push_bash_command(text: &mut String, command: &Command<'_>) -> Result<(), OutOfMemory> {
     let name = command.get_name();
-    if name == "run" {
-        return Ok(());
-    }
+    let files = if name == "run" { "-f " } else { "" };
     let operands = operands_of(name);
-    write!(text, "        {name}) COMPREPLY=($(compgen -W '{operands} ")?;
+    write!(
+        text,
+        "        {name}) COMPREPLY=($(compgen {files}-W '{operands} "
+    )?;
     push_options(text, command)?;
     text.push_str("' -- \"$current\")) ;;\n")
 }

@@ -1,5 +1,6 @@
 //! Files that stand in the tests alone.
 
+use command_line::OutputFiles;
 use gate_commands::InputFiles;
 use std::alloc::Global;
 use std::io;
@@ -32,5 +33,11 @@ impl InputFiles for TestFiles {
             None => Err(io::Error::from(io::ErrorKind::NotFound)),
             Some(text) => Ok(String::from_str(self.alloc, text)?.into_bytes()),
         }
+    }
+}
+
+impl OutputFiles for TestFiles {
+    fn write_bytes(&self, _path: &str, _bytes: &[u8]) -> io::Result<()> {
+        Err(io::Error::from(io::ErrorKind::PermissionDenied))
     }
 }

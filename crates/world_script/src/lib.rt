@@ -19,5 +19,6 @@ mod texts;
 mod user_commands;
 
 pub use command::Command;
+pub use reading::read_line;
 pub use script::run_script;
 pub use script_text::ScriptFault;

@@ -69,7 +69,7 @@ fn command(alloc: Global, words: &mut Words<'_>) -> Result<Option<Command>, OutO
 }
 
 /// The command of a line that is not blank, or `None` where the line is bad.
-pub(crate) fn read_line(alloc: Global, line: &[u8]) -> Result<Option<Command>, OutOfMemory>
+pub fn read_line(alloc: Global, line: &[u8]) -> Result<Option<Command>, OutOfMemory>
     ensures { IfOk result (λ found. found ≡ read_line line.now) }
 {
     let Some(mut words) = Words::of(line) else {

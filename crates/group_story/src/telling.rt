@@ -1,0 +1,71 @@
+//! What an event does to the messages of a group.
+
+ghost use Rattle.std.specs.Prelude.{◌≡◌, true, false, IfOk};
+ghost use Rattle.world_core.specs.Groups.{is_same_group};
+ghost use Rattle.group_story.specs.Story.{wire_in, place_in, TellsEvent};
+ghost use Rattle.world_core.specs.World.{counts, world_step};
+
+use common_types::OutOfMemory;
+use entry_core::GroupId;
+use peer_core::Sent;
+use std::alloc::Global;
+use wire_steps::{WireStep, hold_wire, tell_step};
+use world_core::{Event, Told, World, WorldFault};
+
+/// What an event came to.
+#[derive(Drop)]
+pub struct GroupStep {
+    /// What the world told, or why it refused the event.
+    pub done: Result<Told, WorldFault>,
+    /// The message that the event took from the group, and those that it sent. They are told where the event happened; a refused one
+    /// has done nothing, whatever stands here.
+    pub wire: WireStep,
+}
+
+/// Whether an event of this group is one of that.
+fn is_same(one: &GroupId, other: &GroupId) -> bool
+    ensures { result ≡ is_same_group one.now other.now }
+{
+    one.pool.equals(&other.pool) && one.number == other.number
+}
+
+/// The place of the message that an event takes from a group.
+fn place_taken(group: &GroupId, event: &Event) -> Option<usize>
+    ensures { result ≡ place_in group.now event.now }
+{
+    match event {
+        Event::Deliver { group: at, place } | Event::Lose { group: at, place }
+            if is_same(group, at) => { Some(*place) }
+        _ => None,
+    }
+}
+
+/// The messages of a group on their way; none where there is no such group.
+fn wire_of<'a>(world: &'a World, group: &GroupId) -> &'a [Sent]
+    ensures { result.now ≡ wire_in world.now group.now }
+{
+    match world.wire(group) {
+        Ok(wire) => wire,
+        Err(_) => &[],
+    }
+}
+
+/// Carries out an event in a world, as `World::apply` does, and tells of one group which message the event took from those on their
+/// way, and which it sent.
+///
+/// Where memory is refused for what is to be told, the event may have happened all the same.
+pub fn step_and_tell(
+    alloc: Global,
+    world: &mut World,
+    group: &GroupId,
+    event: Event,
+) -> Result<GroupStep, OutOfMemory>
+    ensures steps { IfOk result (λ told. counts event told.done ≡ true → world.new ≡ world_step world.old event) }
+    ensures unchanged { IfOk result (λ told. counts event told.done ≡ false → world.new ≡ world.old) }
+    ensures tells { IfOk result (λ told. counts event told.done ≡ true → TellsEvent group.now world.old event world.new told.wire.taken told.wire.sent.items) }
+{
+    let held = hold_wire(wire_of(world, group), place_taken(group, &event))?;
+    let done = world.apply(event);
+    let wire = tell_step(alloc, held, wire_of(world, group))?;
+    Ok(GroupStep { done, wire })
+}

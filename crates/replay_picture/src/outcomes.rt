@@ -1,0 +1,120 @@
+//! What decisions and answers say.
+
+use crate::naming::push_id;
+use crate::rights::Rights;
+use common_types::{Name, OutOfMemory};
+use entry_core::{Entry, Id, Reply};
+use grant_core::Path;
+use object_core::Bytes;
+use script_text::push_quoted;
+use std::alloc::Global;
+use verdict_core::Condition;
+
+/// So many lines of a report, of outputs or of names stand in a picture, and so many bytes of each output or name.
+const MOST_LINES: usize = 12;
+
+const MOST_BYTES: usize = 32;
+
+/// An id and what follows it.
+fn headed(alloc: Global, id: Id, rest: &str) -> Result<String, OutOfMemory> {
+    let mut text = String::new(alloc);
+    push_id(&mut text, id)?;
+    text.push_str(rest)?;
+    Ok(text)
+}
+
+/// How many lines more there are.
+fn push_rest(alloc: Global, lines: &mut Vec<String>, all: usize) -> Result<(), OutOfMemory> {
+    let rest = all.saturating_sub(MOST_LINES);
+    if rest > 0 {
+        lines.push(format!(in alloc; "and {rest} more")?)?;
+    }
+    Ok(())
+}
+
+fn push_report(
+    alloc: Global,
+    lines: &mut Vec<String>,
+    report: &[(Path, Condition)],
+) -> Result<(), OutOfMemory> {
+    for (path, condition) in report.iter().take(MOST_LINES) {
+        lines.push(format!(in alloc; "- {path} {condition}")?)?;
+    }
+    push_rest(alloc, lines, report.len())
+}
+
+/// A line with the beginning of some bytes.
+fn push_bytes(alloc: Global, lines: &mut Vec<String>, bytes: &[u8]) -> Result<(), OutOfMemory> {
+    let mut text = String::from_str(alloc, "- ")?;
+    if bytes.len() > MOST_BYTES {
+        push_quoted(&mut text, &bytes[..MOST_BYTES])?;
+        text.push_str(" ..")?;
+    } else {
+        push_quoted(&mut text, bytes)?;
+    }
+    lines.push(text)?;
+    Ok(())
+}
+
+fn push_outputs(
+    alloc: Global,
+    lines: &mut Vec<String>,
+    outputs: &[Bytes],
+) -> Result<(), OutOfMemory> {
+    for output in outputs.iter().take(MOST_LINES) {
+        push_bytes(alloc, lines, output.as_slice())?;
+    }
+    push_rest(alloc, lines, outputs.len())
+}
+
+fn push_names(alloc: Global, lines: &mut Vec<String>, names: &[Name]) -> Result<(), OutOfMemory> {
+    for name in names.iter().take(MOST_LINES) {
+        push_bytes(alloc, lines, name.as_str().as_bytes())?;
+    }
+    push_rest(alloc, lines, names.len())
+}
+
+/// What is said of a decision: the verdict, and the grant, or each grant's first failed condition.
+pub(crate) fn decision(
+    alloc: Global,
+    rights: &Rights,
+    entry: &Entry,
+) -> Result<Vec<String>, OutOfMemory> {
+    let id = entry.sealed.id();
+    let mut lines = Vec::new(alloc);
+    match &entry.reply {
+        Reply::Denied(report) => {
+            lines.push(headed(alloc, id, " denied")?)?;
+            push_report(alloc, &mut lines, report.lines())?;
+        }
+        _ => {
+            let mut text = String::new(alloc);
+            rights.push_allowed(&mut text, id)?;
+            lines.push(text)?;
+        }
+    }
+    Ok(lines)
+}
+
+/// What is said of an answer.
+pub(crate) fn answer(alloc: Global, id: Id, reply: &Reply) -> Result<Vec<String>, OutOfMemory> {
+    let mut lines = Vec::new(alloc);
+    match reply {
+        Reply::Denied(_) => lines.push(headed(alloc, id, " answered: denied")?)?,
+        Reply::Done(outputs) => {
+            lines.push(headed(alloc, id, " answered: ok")?)?;
+            push_outputs(alloc, &mut lines, outputs.as_slice())?;
+        }
+        Reply::Failed { place, number } => {
+            let mut text = headed(alloc, id, " answered: ")?;
+            let rest = format!(in alloc; "error {number} at {place}")?;
+            text.push_str(rest.as_str())?;
+            lines.push(text)?;
+        }
+        Reply::Names(names) => {
+            lines.push(headed(alloc, id, " answered: names")?)?;
+            push_names(alloc, &mut lines, names.as_slice())?;
+        }
+    }
+    Ok(lines)
+}

@@ -1,0 +1,75 @@
+//! A script's bytes as a picture.
+
+use crate::replaying::{busiest_group, has_group, row_count, story_of};
+use common_types::OutOfMemory;
+use entry_core::{GroupId, TryCopy};
+use picture_text::{Story, mermaid_of, svg_of};
+use std::alloc::Global;
+
+/// A picture has at most so many rows, the last ones.
+const MOST_ROWS: usize = 2_000;
+
+/// What a picture is written as.
+#[derive(Clone, Copy)]
+pub enum Format {
+    Svg,
+    /// A Mermaid sequence diagram.
+    Mermaid,
+}
+
+/// A picture, and the group that it shows: none where the script makes no group.
+#[derive(Drop)]
+pub struct Picture {
+    pub group: Option<GroupId>,
+    pub text: String,
+}
+
+/// The group that is named, where the script makes it, or else the one with most messages.
+fn chosen_group(
+    alloc: Global,
+    script: &[u8],
+    named: Option<GroupId>,
+) -> Result<Option<GroupId>, OutOfMemory> {
+    match named {
+        None => busiest_group(alloc, script),
+        Some(group) => Ok(Some(group)),
+    }
+}
+
+fn copy_group(group: &Option<GroupId>) -> Result<Option<GroupId>, OutOfMemory> {
+    match group {
+        None => Ok(None),
+        Some(group) => Ok(Some(group.copy()?)),
+    }
+}
+
+/// What happens to a group in the last rows of a script.
+fn last_rows(alloc: Global, script: &[u8], group: &Option<GroupId>) -> Result<Story, OutOfMemory> {
+    let count = row_count(alloc, script, copy_group(group)?)?;
+    let first = count.saturating_sub(MOST_ROWS);
+    story_of(alloc, script, copy_group(group)?, first)
+}
+
+/// Draws what a script does to a group: to the one that is named, or else to the one with most messages. The lines up to the first
+/// that is no command are drawn. Nothing is drawn where the group that is named is none of the script's.
+///
+/// The script is replayed in worlds of its own, line by line.
+pub fn draw_script(
+    alloc: Global,
+    script: &[u8],
+    named: Option<GroupId>,
+    format: Format,
+) -> Result<Option<Picture>, OutOfMemory> {
+    if let Some(group) = &named {
+        if !has_group(alloc, script, group)? {
+            return Ok(None);
+        }
+    }
+    let group = chosen_group(alloc, script, named)?;
+    let story = last_rows(alloc, script, &group)?;
+    let text = match format {
+        Format::Svg => svg_of(alloc, &story)?,
+        Format::Mermaid => mermaid_of(alloc, &story)?,
+    };
+    Ok(Some(Picture { group, text }))
+}

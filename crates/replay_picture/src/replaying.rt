@@ -1,0 +1,348 @@
+//! The bytes of a script, replayed line by line.
+
+use crate::naming::title_of;
+use crate::watching::Watched;
+use common_types::{Name, OutOfMemory};
+use entry_core::{GroupId, TryCopy};
+use picture_text::{Beginning, Happening, Row, ScriptLine, Story};
+use place_core::{ActingSet, DaemonSet};
+use script_text::{Line, Lines};
+use std::alloc::Global;
+use world_core::{Ask, Event, World};
+use world_script::{Command, read_line};
+
+/// No settling takes so many deliveries.
+const MOST_DELIVERIES: u32 = u32::MAX;
+
+/// The rows of a picture as they are made, and the world that they are made of.
+#[derive(Drop)]
+struct Replay {
+    alloc: Global,
+    watched: Option<Watched>,
+    group: Option<GroupId>,
+    tick: u64,
+    /// The line whose first row is still to come.
+    line: Option<ScriptLine>,
+    /// How many rows there are, those that are left out too.
+    count: usize,
+    /// The first row that is not left out.
+    first: usize,
+    beginning: Option<Beginning>,
+    rows: Vec<Row>,
+}
+
+/// What a sweep does to the messages of each group.
+#[derive(Clone, Copy)]
+enum Sweep {
+    Deliver,
+    Lose,
+}
+
+/// The groups of all pools, in the order of the map.
+pub(crate) fn groups_of(alloc: Global, world: &World) -> Result<Vec<GroupId>, OutOfMemory> {
+    let mut groups = Vec::new(alloc);
+    for pool in world.map().pools() {
+        for number in 0..pool.pg_num {
+            let pool = pool.name.copy()?;
+            groups.push(GroupId { pool, number })?;
+        }
+    }
+    Ok(groups)
+}
+
+fn has_messages(world: &World, group: &GroupId) -> bool {
+    match world.wire(group) {
+        Ok(sent) => !sent.is_empty(),
+        Err(_) => false,
+    }
+}
+
+fn swept(sweep: Sweep, group: &GroupId) -> Result<Event, OutOfMemory> {
+    let group = group.copy()?;
+    Ok(match sweep {
+        Sweep::Deliver => Event::Deliver { group, place: 0 },
+        Sweep::Lose => Event::Lose { group, place: 0 },
+    })
+}
+
+/// Where a picture begins whose first row is the next one.
+fn beginning_of(watched: &Option<Watched>) -> Beginning {
+    match watched {
+        None => Beginning {
+            up: DaemonSet::first(16),
+            interval: 0,
+            acting: ActingSet::new(),
+        },
+        Some(watched) => Beginning {
+            up: watched.world().map().up(),
+            interval: watched.interval,
+            acting: watched.acting,
+        },
+    }
+}
+
+impl Replay {
+    fn new(alloc: Global, group: Option<GroupId>, first: usize) -> Replay {
+        Replay {
+            alloc,
+            watched: None,
+            group,
+            tick: 0,
+            line: None,
+            count: 0,
+            first,
+            beginning: None,
+            rows: Vec::new(alloc),
+        }
+    }
+
+    /// Adds a row, unless it is left out.
+    fn push_row(&mut self, happenings: Vec<Happening>) -> Result<(), OutOfMemory> {
+        let line = self.line.take();
+        if self.count >= self.first {
+            self.rows.push(Row { line, happenings })?;
+        }
+        self.count = self.count.saturating_add(1);
+        Ok(())
+    }
+
+    /// Looks at the world as it is before the first row that is not left out.
+    fn begin_row(&mut self) {
+        if self.count >= self.first {
+            if self.beginning.is_none() {
+                self.beginning = Some(beginning_of(&self.watched));
+            }
+            if let Some(watched) = &mut self.watched {
+                watched.tells_decisions = true;
+            }
+        }
+    }
+
+    /// Carries out an event, which has a row where it does something to the group.
+    fn happen(&mut self, event: Event) -> Result<(), OutOfMemory> {
+        self.begin_row();
+        let Some(watched) = &mut self.watched else {
+            return Ok(());
+        };
+        let mut told = Vec::new(self.alloc);
+        watched.happen(event, &mut told)?;
+        if told.is_empty() {
+            return Ok(());
+        }
+        self.push_row(told)
+    }
+
+    /// Delivers or loses the messages of a group until none is left.
+    fn sweep_group(&mut self, sweep: Sweep, group: &GroupId) -> Result<(), OutOfMemory> {
+        for _ in 0..MOST_DELIVERIES {
+            let Some(watched) = &self.watched else {
+                return Ok(());
+            };
+            if !has_messages(watched.world(), group) {
+                return Ok(());
+            }
+            self.happen(swept(sweep, group)?)?;
+        }
+        Ok(())
+    }
+
+    fn groups(&self) -> Result<Vec<GroupId>, OutOfMemory> {
+        match &self.watched {
+            None => Ok(Vec::new(self.alloc)),
+            Some(watched) => groups_of(self.alloc, watched.world()),
+        }
+    }
+
+    fn sweep_all(&mut self, sweep: Sweep) -> Result<(), OutOfMemory> {
+        let groups = self.groups()?;
+        for group in &groups {
+            self.sweep_group(sweep, group)?;
+        }
+        Ok(())
+    }
+
+    fn kick_all(&mut self) -> Result<(), OutOfMemory> {
+        let groups = self.groups()?;
+        for group in &groups {
+            let group = group.copy()?;
+            self.happen(Event::Kick { group })?;
+        }
+        Ok(())
+    }
+
+    /// Who asks now, and where.
+    fn ask(&self, session: u32, pool: Name, namespace: Name) -> Ask {
+        let epoch = match &self.watched {
+            None => 0,
+            Some(watched) => watched.world().map().epoch(),
+        };
+        Ask {
+            session,
+            epoch,
+            tick: self.tick,
+            pool,
+            namespace,
+        }
+    }
+
+    /// Carries out a command, and says whether it is one at this place: the first has to be the number of daemons.
+    fn carry_out(&mut self, command: Command) -> Result<bool, OutOfMemory> {
+        if let Command::Osds(daemons) = command {
+            if self.watched.is_some() {
+                return Ok(false);
+            }
+            let group = match &self.group {
+                None => None,
+                Some(group) => Some(group.copy()?),
+            };
+            self.watched = Some(Watched::new(self.alloc, daemons, group)?);
+            return Ok(true);
+        }
+        if self.watched.is_none() {
+            return Ok(false);
+        }
+        self.go_on(command)?;
+        Ok(true)
+    }
+
+    /// Carries out a command that is not the first. A question does nothing.
+    fn go_on(&mut self, command: Command) -> Result<(), OutOfMemory> {
+        match command {
+            Command::Happens(event) => self.happen(event),
+            Command::Submit {
+                session,
+                pool,
+                namespace,
+                object,
+                ops,
+            } => {
+                let ask = self.ask(session, pool, namespace);
+                self.happen(Event::Submit { ask, object, ops })
+            }
+            Command::List {
+                session,
+                pool,
+                namespace,
+            } => {
+                let ask = self.ask(session, pool, namespace);
+                self.happen(Event::List(ask))
+            }
+            Command::Tick(tick) => {
+                self.tick = tick;
+                Ok(())
+            }
+            Command::Settle => self.sweep_all(Sweep::Deliver),
+            Command::LoseAll => self.sweep_all(Sweep::Lose),
+            Command::KickAll => self.kick_all(),
+            _ => Ok(()),
+        }
+    }
+
+    /// Replays a line that is not blank, and says whether it is a command at its place.
+    fn replay_line(&mut self, line: &Line<'_>) -> Result<bool, OutOfMemory> {
+        let Some(command) = read_line(self.alloc, line.text)? else {
+            return Ok(false);
+        };
+        self.line = Some(ScriptLine {
+            number: line.number,
+            text: Vec::from_slice(self.alloc, line.text)?,
+        });
+        if !self.carry_out(command)? {
+            self.line = None;
+            return Ok(false);
+        }
+        if self.line.is_some() {
+            self.begin_row();
+            self.push_row(Vec::new(self.alloc))?;
+        }
+        Ok(true)
+    }
+
+    /// Replays all lines up to the first that is no command.
+    fn replay(&mut self, script: &[u8]) -> Result<(), OutOfMemory> {
+        let mut lines = Lines::new(script);
+        while let Some(line) = lines.next_line() {
+            if !line.is_blank() && !self.replay_line(&line)? {
+                return Ok(());
+            }
+        }
+        Ok(())
+    }
+
+    fn into_story(self) -> Result<Story, OutOfMemory> {
+        let title = title_of(self.alloc, &self.group)?;
+        let left_out = self.count.saturating_sub(self.rows.len());
+        let beginning = match self.beginning {
+            None => beginning_of(&self.watched),
+            Some(beginning) => beginning,
+        };
+        Ok(match self.watched {
+            None => Story {
+                title,
+                left_out,
+                beginning,
+                rows: self.rows,
+                messages: Vec::new(self.alloc),
+                waiting: Vec::new(self.alloc),
+                daemons: DaemonSet::first(0),
+            },
+            Some(watched) => Story {
+                title,
+                left_out,
+                beginning,
+                rows: self.rows,
+                daemons: watched.daemons,
+                messages: watched.messages,
+                waiting: watched.waiting,
+            },
+        })
+    }
+}
+
+/// The group with most messages, or nothing where the script makes no group.
+pub(crate) fn busiest_group(alloc: Global, script: &[u8]) -> Result<Option<GroupId>, OutOfMemory> {
+    let mut replay = Replay::new(alloc, None, usize::MAX);
+    replay.replay(script)?;
+    let groups = replay.groups()?;
+    match &replay.watched {
+        None => Ok(None),
+        Some(watched) => watched.busiest(groups.as_slice()),
+    }
+}
+
+/// Whether a script makes a group.
+pub(crate) fn has_group(
+    alloc: Global,
+    script: &[u8],
+    group: &GroupId,
+) -> Result<bool, OutOfMemory> {
+    let mut replay = Replay::new(alloc, None, usize::MAX);
+    replay.replay(script)?;
+    match &replay.watched {
+        None => Ok(false),
+        Some(watched) => Ok(watched.world().wire(group).is_ok()),
+    }
+}
+
+/// How many rows the picture of a group has.
+pub(crate) fn row_count(
+    alloc: Global,
+    script: &[u8],
+    group: Option<GroupId>,
+) -> Result<usize, OutOfMemory> {
+    let mut replay = Replay::new(alloc, group, usize::MAX);
+    replay.replay(script)?;
+    Ok(replay.count)
+}
+
+/// What a script does to a group, from a row on.
+pub(crate) fn story_of(
+    alloc: Global,
+    script: &[u8],
+    group: Option<GroupId>,
+    first: usize,
+) -> Result<Story, OutOfMemory> {
+    let mut replay = Replay::new(alloc, group, first);
+    replay.replay(script)?;
+    replay.into_story()
+}

@@ -1,0 +1,387 @@
+//! The world of a script, and what each event does to one of its groups.
+
+use crate::choosing::{Tally, group_taken_from};
+use crate::naming::{name_of, party_of, topic_of};
+use crate::outcomes::{answer, decision};
+use crate::rights::{Noted, Rights};
+use common_types::OutOfMemory;
+use entry_core::{GroupId, Id};
+use grant_core::ProfileTable;
+use group_core::GroupFault;
+use group_story::{GroupStep, step_and_tell};
+use map_core::MapCommand;
+use peer_core::{Body, Party, Sent};
+use picture_text::{Change, End, Happening, Message};
+use place_core::{ActingSet, DaemonSet};
+use std::alloc::{AllocError, Global};
+use wire_steps::WireStep;
+use world_core::{Event, World, WorldFault};
+
+/// A world, and what is known of the group that is watched.
+#[derive(Drop)]
+pub(crate) struct Watched {
+    alloc: Global,
+    world: World,
+    rights: Rights,
+    tally: Tally,
+    group: Option<GroupId>,
+    /// Whether decisions are told, for which all entries are looked at.
+    pub(crate) tells_decisions: bool,
+    /// How many entries were decided in all groups, where it is known.
+    decided: Option<usize>,
+    pub(crate) messages: Vec<Message>,
+    /// The messages on their way, in the order of the wire.
+    pub(crate) waiting: Vec<usize>,
+    pub(crate) interval: usize,
+    pub(crate) acting: ActingSet,
+    /// The daemons of all acting sets so far.
+    pub(crate) daemons: DaemonSet,
+}
+
+/// What an event is to the group that is watched, before it happens.
+#[derive(Drop)]
+struct Seen {
+    /// The place of the message that it takes.
+    taken: Option<usize>,
+    /// How that message ends.
+    end: End,
+    /// Whether it is sent once more.
+    repeats: bool,
+    change: Option<(u8, Change)>,
+    /// Whether a message comes to a daemon or the client.
+    delivers: bool,
+}
+
+/// What is known of the world before an event.
+#[derive(Drop)]
+struct Before {
+    noted: Noted,
+    /// How many entries were decided.
+    decided: usize,
+    /// The request that the event may answer.
+    open: Option<Id>,
+    /// The place of the group of which a message is taken.
+    counted: Option<usize>,
+}
+
+fn is_group(watched: &Option<GroupId>, group: &GroupId) -> bool {
+    match watched {
+        None => false,
+        Some(watched) => watched.number == group.number && watched.pool.equals(&group.pool),
+    }
+}
+
+/// What a command on the map does to a daemon.
+fn change_of(command: &MapCommand) -> Option<(u8, Change)> {
+    match command {
+        MapCommand::OsdUp(daemon) => Some((*daemon, Change::Up)),
+        MapCommand::OsdDown(daemon) => Some((*daemon, Change::Down)),
+        MapCommand::OsdRestart(daemon) => Some((*daemon, Change::Restarted)),
+        _ => None,
+    }
+}
+
+fn see(watched: &Option<GroupId>, event: &Event) -> Seen {
+    let mut seen = Seen {
+        taken: None,
+        end: End::Delivered,
+        repeats: false,
+        change: None,
+        delivers: false,
+    };
+    match event {
+        Event::Deliver { group, place } if is_group(watched, group) => {
+            seen.taken = Some(*place);
+            seen.delivers = true;
+        }
+        Event::Lose { group, place } if is_group(watched, group) => {
+            seen.taken = Some(*place);
+            seen.end = End::Lost;
+        }
+        Event::Repeat { group, .. } => seen.repeats = is_group(watched, group),
+        Event::Map(command) => seen.change = change_of(command),
+        _ => (),
+    }
+    seen
+}
+
+/// The request that a message to the client answers.
+fn answered_by(message: &Sent) -> Option<Id> {
+    match (message.to, &message.body) {
+        (Party::Client, Body::Reply { id, .. }) => Some(*id),
+        _ => None,
+    }
+}
+
+impl Watched {
+    /// A new world of so many daemons, of which one group is watched.
+    pub(crate) fn new(
+        alloc: Global,
+        daemons: u8,
+        group: Option<GroupId>,
+    ) -> Result<Watched, OutOfMemory> {
+        let table = match ProfileTable::builtin(alloc) {
+            Ok(table) => table,
+            Err(_) => return Err(AllocError),
+        };
+        let count = daemons.clamp(1, 16);
+        let world = match World::new(alloc, table, count) {
+            Ok(world) => world,
+            Err(_) => return Err(AllocError),
+        };
+        Ok(Watched {
+            alloc,
+            world,
+            rights: Rights::new(alloc),
+            tally: Tally::new(alloc),
+            group,
+            tells_decisions: false,
+            decided: None,
+            messages: Vec::new(alloc),
+            waiting: Vec::new(alloc),
+            interval: 0,
+            acting: ActingSet::new(),
+            daemons: DaemonSet::first(0),
+        })
+    }
+
+    pub(crate) fn world(&self) -> &World {
+        &self.world
+    }
+
+    /// The group with most messages, or nothing where there is no group.
+    pub(crate) fn busiest(&self, groups: &[GroupId]) -> Result<Option<GroupId>, OutOfMemory> {
+        self.tally.busiest(&self.world, groups)
+    }
+
+    /// The messages of the group on their way.
+    fn wire(&self) -> &[Sent] {
+        match &self.group {
+            None => &[],
+            Some(group) => match self.world.wire(group) {
+                Ok(wire) => wire,
+                Err(_) => &[],
+            },
+        }
+    }
+
+    /// How many entries were decided in all groups, where that is told.
+    fn decided_before(&self, seen: &Seen) -> Result<usize, OutOfMemory> {
+        if !(seen.delivers && self.tells_decisions) {
+            return Ok(0);
+        }
+        match self.decided {
+            Some(count) => Ok(count),
+            None => Ok(self.world.audit()?.len()),
+        }
+    }
+
+    /// The request that a message to the client answers first: one that has no answer yet.
+    fn opens(&self, seen: &Seen) -> Option<Id> {
+        let message = self.wire().get(seen.taken?)?;
+        let id = answered_by(message)?;
+        match self.world.answer(id) {
+            Ok(None) if seen.delivers => Some(id),
+            _ => None,
+        }
+    }
+
+    /// Carries out an event, and tells what it does to the group, in order.
+    pub(crate) fn happen(
+        &mut self,
+        event: Event,
+        told: &mut Vec<Happening>,
+    ) -> Result<(), OutOfMemory> {
+        let seen = see(&self.group, &event);
+        let before = self.look(&event, &seen)?;
+        if before.counted.is_some() && seen.taken.is_none() {
+            // another group's message, which may decide something there
+            self.decided = None;
+        }
+        let step = self.step(event)?;
+        self.tally.add(before.counted)?;
+        self.tell(told, &seen, before, step)
+    }
+
+    /// What has to be known of the world before an event.
+    fn look(&self, event: &Event, seen: &Seen) -> Result<Before, OutOfMemory> {
+        Ok(Before {
+            decided: self.decided_before(seen)?,
+            noted: self.rights.note(&self.world, event)?,
+            open: self.opens(seen),
+            counted: group_taken_from(&self.world, event),
+        })
+    }
+
+    /// Carries out an event, and tells of the group which messages it took and sent.
+    fn step(&mut self, event: Event) -> Result<GroupStep, OutOfMemory> {
+        match &self.group {
+            Some(group) => step_and_tell(self.alloc, &mut self.world, group, event),
+            None => Ok(GroupStep {
+                done: self.world.apply(event),
+                wire: WireStep {
+                    taken: None,
+                    sent: Vec::new(self.alloc),
+                },
+            }),
+        }
+    }
+
+    /// What an event did, or why it was refused. A delivery to a daemon that is down has dropped its message.
+    fn tell(
+        &mut self,
+        told: &mut Vec<Happening>,
+        seen: &Seen,
+        before: Before,
+        step: GroupStep,
+    ) -> Result<(), OutOfMemory> {
+        match step.done {
+            Ok(said) => {
+                self.rights.keep(before.noted, said)?;
+                self.tell_accepted(told, seen, &step.wire)?;
+                self.tell_decided(told, seen, before.decided)?;
+                self.tell_answered(told, before.open)
+            }
+            Err(WorldFault::OutOfMemory) => Err(AllocError),
+            Err(WorldFault::Group(GroupFault::Unreachable)) => {
+                self.tell_taken(told, seen, &step.wire, End::Unreachable)
+            }
+            Err(fault) => self.tell_refused(told, fault),
+        }
+    }
+
+    /// What an accepted event did.
+    fn tell_accepted(
+        &mut self,
+        told: &mut Vec<Happening>,
+        seen: &Seen,
+        step: &WireStep,
+    ) -> Result<(), OutOfMemory> {
+        self.tell_taken(told, seen, step, seen.end)?;
+        if let Some((daemon, change)) = seen.change {
+            told.push(Happening::Daemon { daemon, change })?;
+        }
+        self.tell_interval(told, step)?;
+        self.tell_sent(told, step, seen.repeats)
+    }
+
+    /// A message that was taken from those on their way.
+    fn tell_taken(
+        &mut self,
+        told: &mut Vec<Happening>,
+        seen: &Seen,
+        step: &WireStep,
+        end: End,
+    ) -> Result<(), OutOfMemory> {
+        match seen.taken {
+            Some(place) if step.taken.is_some() && place < self.waiting.len() => {
+                let message = self.waiting.remove(place);
+                told.push(Happening::Ended { message, end })?;
+                Ok(())
+            }
+            _ => Ok(()),
+        }
+    }
+
+    /// The interval that began, by what is sent of it or, where nobody is told, by the map.
+    fn interval_after(&self, step: &WireStep) -> Option<(usize, ActingSet)> {
+        for sent in &step.sent {
+            if let Body::Interval(sets) = &sent.body {
+                if let Some(acting) = sets.as_slice().last() {
+                    if sets.len() > self.interval {
+                        return Some((sets.len(), *acting));
+                    }
+                }
+            }
+        }
+        let group = self.group.as_ref()?;
+        let acting = self.world.map().acting_set(&group.pool, group.number)?;
+        if self.interval > 0 && acting.equals(&self.acting) {
+            None
+        } else {
+            Some((self.interval.saturating_add(1), acting))
+        }
+    }
+
+    fn tell_interval(
+        &mut self,
+        told: &mut Vec<Happening>,
+        step: &WireStep,
+    ) -> Result<(), OutOfMemory> {
+        let Some((number, acting)) = self.interval_after(step) else {
+            return Ok(());
+        };
+        self.interval = number;
+        self.acting = acting;
+        for daemon in acting.as_slice() {
+            self.daemons.set(*daemon, true);
+        }
+        told.push(Happening::Interval { number, acting })?;
+        Ok(())
+    }
+
+    /// The messages that were sent, each once, in order.
+    fn tell_sent(
+        &mut self,
+        told: &mut Vec<Happening>,
+        step: &WireStep,
+        repeated: bool,
+    ) -> Result<(), OutOfMemory> {
+        for sent in &step.sent {
+            let message = self.messages.len();
+            self.messages.push(Message {
+                from: party_of(sent.from),
+                to: party_of(sent.to),
+                name: name_of(self.alloc, &sent.body)?,
+                topic: topic_of(&sent.body),
+                repeated,
+            })?;
+            self.waiting.push(message)?;
+            told.push(Happening::Sent { message })?;
+        }
+        Ok(())
+    }
+
+    /// What was decided, by the entries that are there now and were not before.
+    fn tell_decided(
+        &mut self,
+        told: &mut Vec<Happening>,
+        seen: &Seen,
+        before: usize,
+    ) -> Result<(), OutOfMemory> {
+        if !(seen.delivers && self.tells_decisions) {
+            return Ok(());
+        }
+        let entries = self.world.audit()?;
+        self.decided = Some(entries.len());
+        for entry in entries.iter().skip(before) {
+            told.push(Happening::Decided(decision(self.alloc, &self.rights, entry)?))?;
+        }
+        Ok(())
+    }
+
+    /// What the message that came to the client answers, where the request had no answer before.
+    fn tell_answered(
+        &self,
+        told: &mut Vec<Happening>,
+        open: Option<Id>,
+    ) -> Result<(), OutOfMemory> {
+        let Some(id) = open else {
+            return Ok(());
+        };
+        if let Ok(Some(reply)) = self.world.answer(id) {
+            told.push(Happening::Answered(answer(self.alloc, id, reply)?))?;
+        }
+        Ok(())
+    }
+
+    /// Why an event was refused.
+    fn tell_refused(
+        &self,
+        told: &mut Vec<Happening>,
+        fault: WorldFault,
+    ) -> Result<(), OutOfMemory> {
+        told.push(Happening::Refused(format!(in self.alloc; "refused {fault}")?))?;
+        Ok(())
+    }
+}
