@@ -1,6 +1,5 @@
 -- What a result says of the value in it.
 use Rattle.std.proofs.Common.{◌≡◌, ◌↔◌, List, [], Result, Ok, Err, IfOk, subst, All}
-use Rattle.std.specs.Prelude.{Option}
 use Rattle.grant_core.specs.Flat.{Flat}
 use Rattle.share_core.specs.Sharing.{Answers, IsShared, Share, pairs}
 use Rattle.share_core.specs.declared.reaching.Shared.{Shared}

@@ -24,7 +24,7 @@ pub(crate) struct Examples {
 }
 
 /// The examples of one kind.
-fn examples_of(
+pub(crate) fn examples_of(
     alloc: Global,
     kind: Kind,
     ones: &Ticket,
@@ -53,17 +53,24 @@ fn all_examples(alloc: Global, ones: &Ticket, others: &Ticket) -> Result<Example
     })
 }
 
-/// Adds the line of an example.
-fn push_shared(text: &mut String, kind: Kind, shared: &Shared) -> Result<(), OutOfMemory>
-    ensures { OnOk result (string_bytes text.new ≡ string_bytes text.old ++ shared_line kind shared.now) }
+/// Adds the paths of both grants, with a blank behind each.
+fn push_paths(text: &mut String, shared: &Shared) -> Result<(), OutOfMemory>
+    ensures { OnOk result (string_bytes text.new ≡ string_bytes text.old ++ spec.paths_words shared.now) }
 {
-    text.push_str(kind.words())?;
     let path = &shared.path;
     write!(text, "{path}")?;
     text.push_str(" ")?;
     let other_path = &shared.other_path;
     write!(text, "{other_path}")?;
-    text.push_str(" ")?;
+    text.push_str(" ")
+}
+
+/// Adds the line of an example.
+fn push_shared(text: &mut String, kind: Kind, shared: &Shared) -> Result<(), OutOfMemory>
+    ensures { OnOk result (string_bytes text.new ≡ string_bytes text.old ++ shared_line kind shared.now) }
+{
+    text.push_str(kind.words())?;
+    push_paths(text, shared)?;
     push_target(text, &shared.target)?;
     text.push_str("\n")
 }
