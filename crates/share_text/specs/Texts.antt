@@ -1,6 +1,6 @@
 -- Statement: contracts of public calls use it.
 -- What is printed of what two capability texts share (this project's profile). Every line ends with byte 10.
-use Rattle.std.specs.Prelude.{ℕ, ◌≡◌, ◌≢◌, ◌⊎◌, ◌↔◌, ◌&&◌, ◌||◌, ◌==◌, not, List, [], ◌∷◌, ◌++◌, Bool, true, false, codes, length, if◌then◌else◌}
+use Rattle.std.specs.Prelude.{ℕ, ◌≡◌, ◌⊎◌, ◌↔◌, ◌&&◌, ◌||◌, ◌==◌, not, List, [], ◌++◌, Bool, codes, length, if◌then◌else◌}
 use Rattle.std.specs.List.{All, flat_map}
 use Rattle.grant_core.specs.Flat.{Flat}
 use Rattle.grant_core.specs.Text.{printed_path}
@@ -14,10 +14,13 @@ use Rattle.share_text.specs.declared.kind.Kind.{Kind}
 use Rattle.share_text.specs.declared.kind.Kind.TheVariants.{WritesWrites, WritesReads, ReadsWrites, ReadsReads}
 use Rattle.share_text.specs.declared.texts.Examples.{Examples}
 
+-- the paths of both grants, with a blank behind each
+abbrev pub paths_words : Shared → List ℕ
+paths_words shared = printed_path shared.path ++ (codes " " ++ (printed_path shared.other_path ++ codes " "))
+
 -- the kind, the paths of both grants, and a target that `osdgate verdict` takes
 abbrev pub shared_line : Kind → Shared → List ℕ
-shared_line kind shared =
-    kind_words kind ++ (printed_path shared.path ++ (codes " " ++ (printed_path shared.other_path ++ (codes " " ++ (target_words shared.target ++ codes "\n")))))
+shared_line kind shared = kind_words kind ++ (paths_words shared ++ (target_words shared.target ++ codes "\n"))
 
 -- an example for each pair of grants that by themselves share so, each shared by the whole texts too; none exactly where they
 -- share nothing so

@@ -1,15 +1,16 @@
 //! What the entities of a file share.
 
 ghost use Rattle.std.specs.Prelude.{◌≡◌, ◌++◌, ◌&&◌, ◌||◌, [], false, Some, codes, string_bytes, IfOk, OnOk, ◌↔◌, IsTrue};
-ghost use Rattle.share_text.specs.Kinds.{ShareSo};
+ghost use Rattle.share_text.specs.Kinds.{ShareSo, is_written};
 ghost use Rattle.share_text.specs.Tenants as spec;
 ghost use Rattle.share_text.specs.Tenants.{AreTenants, AreTenantsTold, InTurn, IsPairTold, IsStrongest, IsTenantOrNone, IsToldBy, IsToldWith};
 
 use crate::kind::Kind;
+use crate::texts::examples_of;
 use common_types::OutOfMemory;
 use compare_core::OwnedTarget;
 use gate_text::{Entity, Printed, TextFault, push_shown_text, push_target, ticket_of_text};
-use share_core::{share, sharing};
+use share_core::share;
 use std::alloc::{AllocError, Global};
 use verdict_core::Ticket;
 
@@ -85,17 +86,18 @@ fn strongest(reads: bool, ones: &Ticket, others: &Ticket) -> Option<Kind>
 /// A line with two names, words between and behind them, and a target.
 fn names_line(
     alloc: Global,
-    names: (&str, &str),
+    first: &str,
     between: &str,
+    second: &str,
     behind: &str,
     target: &OwnedTarget,
 ) -> Result<String, OutOfMemory>
-    ensures { IfOk result (λ text. string_bytes text ≡ spec.names_line names.0.now between.now names.1.now behind.now target.now) }
+    ensures { IfOk result (λ text. string_bytes text ≡ spec.names_line first.now between.now second.now behind.now target.now) }
 {
     let mut text = String::new(alloc);
-    push_shown_text(&mut text, names.0)?;
+    push_shown_text(&mut text, first)?;
     text.push_str(between)?;
-    push_shown_text(&mut text, names.1)?;
+    push_shown_text(&mut text, second)?;
     text.push_str(behind)?;
     push_target(&mut text, target)?;
     text.push_str("\n")?;
@@ -113,10 +115,10 @@ fn pair_line(
     ensures { IfOk result (λ text. string_bytes text ≡ spec.pair_line kind one.now other.now target.now) }
 {
     match kind {
-        Kind::WritesWrites => names_line(alloc, (one, other), " and ", " write ", target),
-        Kind::WritesReads => names_line(alloc, (one, other), " writes what ", " reads ", target),
-        Kind::ReadsWrites => names_line(alloc, (other, one), " writes what ", " reads ", target),
-        Kind::ReadsReads => names_line(alloc, (one, other), " and ", " read ", target),
+        Kind::WritesWrites => names_line(alloc, one, " and ", other, " write ", target),
+        Kind::WritesReads => names_line(alloc, one, " writes what ", other, " reads ", target),
+        Kind::ReadsWrites => names_line(alloc, other, " writes what ", one, " reads ", target),
+        Kind::ReadsReads => names_line(alloc, one, " and ", other, " read ", target),
     }
 }
 
@@ -131,6 +133,25 @@ fn nothing(alloc: Global) -> Printed
     }
 }
 
+/// What is told of two tenants that share this target so. A check fails where one of them writes.
+fn told_at(
+    alloc: Global,
+    kind: Kind,
+    one: &Tenant,
+    other: &Tenant,
+    target: &OwnedTarget,
+    check: bool,
+) -> Result<Printed, OutOfMemory>
+    ensures { IfOk result (λ printed. (string_bytes printed.text ≡ spec.pair_line kind (string_bytes one.now.name) (string_bytes other.now.name) target.now) × (printed.fails ≡ (check && is_written kind))) }
+{
+    let text = pair_line(alloc, kind, one.name.as_str(), other.name.as_str(), target)?;
+    let is_written = kind.is_written();
+    Ok(Printed {
+        text,
+        fails: check && is_written,
+    })
+}
+
 /// What is told of two tenants that share something of a kind.
 fn told_so(
     alloc: Global,
@@ -142,21 +163,10 @@ fn told_so(
     requires { ShareSo kind one.now.ticket.grants other.now.ticket.grants }
     ensures { IfOk result (λ printed. IsToldBy check (Some kind) one.now other.now (string_bytes printed.text) printed.fails) }
 {
-    let one_touch = kind.one();
-    let other_touch = kind.other();
-    let examples = sharing(alloc, &one.ticket, &one_touch, &other.ticket, &other_touch)?;
+    let examples = examples_of(alloc, kind, &one.ticket, &other.ticket)?;
     match examples.first() {
         None => Ok(nothing(alloc)),
-        Some(shared) => Ok(Printed {
-            text: pair_line(
-                alloc,
-                kind,
-                one.name.as_str(),
-                other.name.as_str(),
-                &shared.target,
-            )?,
-            fails: check && kind.is_written(),
-        }),
+        Some(shared) => told_at(alloc, kind, one, other, &shared.target, check),
     }
 }
 

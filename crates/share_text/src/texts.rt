@@ -24,7 +24,7 @@ pub(crate) struct Examples {
 }
 
 /// The examples of one kind.
-fn examples_of(
+pub(crate) fn examples_of(
     alloc: Global,
     kind: Kind,
     ones: &Ticket,
@@ -41,12 +41,28 @@ fn examples_of(
 fn all_examples(alloc: Global, ones: &Ticket, others: &Ticket) -> Result<Examples, OutOfMemory>
     ensures { IfOk result (λ all. AreAllExamples ones.now.grants others.now.grants all) }
 {
+    let writes_writes = examples_of(alloc, Kind::WritesWrites, ones, others)?;
+    let writes_reads = examples_of(alloc, Kind::WritesReads, ones, others)?;
+    let reads_writes = examples_of(alloc, Kind::ReadsWrites, ones, others)?;
+    let reads_reads = examples_of(alloc, Kind::ReadsReads, ones, others)?;
     Ok(Examples {
-        writes_writes: examples_of(alloc, Kind::WritesWrites, ones, others)?,
-        writes_reads: examples_of(alloc, Kind::WritesReads, ones, others)?,
-        reads_writes: examples_of(alloc, Kind::ReadsWrites, ones, others)?,
-        reads_reads: examples_of(alloc, Kind::ReadsReads, ones, others)?,
+        writes_writes,
+        writes_reads,
+        reads_writes,
+        reads_reads,
     })
+}
+
+/// Adds the paths of both grants, with a blank behind each.
+fn push_paths(text: &mut String, shared: &Shared) -> Result<(), OutOfMemory>
+    ensures { OnOk result (string_bytes text.new ≡ string_bytes text.old ++ spec.paths_words shared.now) }
+{
+    let path = &shared.path;
+    write!(text, "{path}")?;
+    text.push_str(" ")?;
+    let other_path = &shared.other_path;
+    write!(text, "{other_path}")?;
+    text.push_str(" ")
 }
 
 /// Adds the line of an example.
@@ -54,12 +70,7 @@ fn push_shared(text: &mut String, kind: Kind, shared: &Shared) -> Result<(), Out
     ensures { OnOk result (string_bytes text.new ≡ string_bytes text.old ++ shared_line kind shared.now) }
 {
     text.push_str(kind.words())?;
-    let path = &shared.path;
-    write!(text, "{path}")?;
-    text.push_str(" ")?;
-    let other_path = &shared.other_path;
-    write!(text, "{other_path}")?;
-    text.push_str(" ")?;
+    push_paths(text, shared)?;
     push_target(text, &shared.target)?;
     text.push_str("\n")
 }
@@ -74,26 +85,37 @@ fn push_kind(text: &mut String, kind: Kind, examples: &[Shared]) -> Result<(), O
     Ok(())
 }
 
-/// A line for each example, or one that nothing is shared.
-fn shared_text(alloc: Global, all: &Examples) -> Result<String, OutOfMemory>
-    ensures { IfOk result (λ text. string_bytes text ≡ spec.or_apart (spec.shared_lines all.now)) }
+/// A line for each example, kind by kind.
+fn shared_lines(alloc: Global, all: &Examples) -> Result<String, OutOfMemory>
+    ensures { IfOk result (λ text. string_bytes text ≡ spec.shared_lines all.now) }
 {
     let mut text = String::new(alloc);
     push_kind(&mut text, Kind::WritesWrites, all.writes_writes.as_slice())?;
     push_kind(&mut text, Kind::WritesReads, all.writes_reads.as_slice())?;
     push_kind(&mut text, Kind::ReadsWrites, all.reads_writes.as_slice())?;
     push_kind(&mut text, Kind::ReadsReads, all.reads_reads.as_slice())?;
-    if text.is_empty() {
-        return String::from_str(alloc, "apart\n");
-    }
     Ok(text)
 }
 
-/// Whether there is an example of one who writes.
-fn is_any_written(all: &Examples) -> bool
-    ensures { result ≡ spec.is_any_written all.now }
+/// The lines, or that nothing is shared.
+fn or_apart(alloc: Global, lines: String) -> Result<String, OutOfMemory>
+    ensures { IfOk result (λ text. string_bytes text ≡ spec.or_apart (string_bytes lines)) }
 {
-    !all.writes_writes.is_empty() || !all.writes_reads.is_empty() || !all.reads_writes.is_empty()
+    if lines.is_empty() {
+        String::from_str(alloc, "apart\n")
+    } else {
+        Ok(lines)
+    }
+}
+
+/// Whether a check was asked for, and there is an example of one who writes.
+fn fails_check(check: bool, all: &Examples) -> bool
+    ensures { result ≡ (check && spec.is_any_written all.now) }
+{
+    let is_written = !all.writes_writes.is_empty()
+        || !all.writes_reads.is_empty()
+        || !all.reads_writes.is_empty();
+    check && is_written
 }
 
 /// What is printed of two tickets.
@@ -106,8 +128,9 @@ fn told_apart(
     ensures { IfOk result (λ printed. AreToldApart check ones.now.grants others.now.grants (string_bytes printed.text) printed.fails) }
 {
     let all = all_examples(alloc, ones, others)?;
-    let text = shared_text(alloc, &all)?;
-    let fails = check && is_any_written(&all);
+    let lines = shared_lines(alloc, &all)?;
+    let text = or_apart(alloc, lines)?;
+    let fails = fails_check(check, &all);
     Ok(Printed { text, fails })
 }
 
