@@ -11,7 +11,7 @@ use crate::who::tell_unjudged;
 use clap::ArgMatches;
 use common_types::OutOfMemory;
 use gate_text::Entity;
-use share_text::{Audit, share_entities, share_texts};
+use share_text::{Strictness, share_entities, share_texts};
 use std::alloc::Global;
 use std::io::Read;
 
@@ -71,12 +71,12 @@ fn answered_file<'a, F: InputFiles, R: Read>(
     let path = value_of(matches, "auth");
     let entities = entities_in(alloc, files, reader, Purpose::Entities, path)?;
     let entities = without(alloc, entities, matches.get_strs("without").unwrap_or(&[]))?;
-    let audit = Audit {
+    let strictness = Strictness {
         reads: matches.get_flag("reads"),
         check: matches.get_flag("check"),
     };
     let mut answered = Answered {
-        printed: share_entities(alloc, entities.as_slice(), audit)?,
+        printed: share_entities(alloc, entities.as_slice(), strictness)?,
         caps: "",
         note: entity_profile_lines(alloc, entities.as_slice())?,
     };

@@ -12,7 +12,7 @@ use Rattle.gate_text.specs.declared.entity.Entity.{Entity}
 use Rattle.share_text.specs.Kinds.{IsSharedSo, ShareSo, is_written}
 use Rattle.share_text.specs.declared.kind.Kind.{Kind}
 use Rattle.share_text.specs.declared.kind.Kind.TheVariants.{WritesWrites, WritesReads, ReadsWrites, ReadsReads}
-use Rattle.share_text.specs.declared.tenants.Audit.{Audit}
+use Rattle.share_text.specs.declared.tenants.Strictness.{Strictness}
 use Rattle.share_text.specs.declared.tenants.Tenant.{Tenant}
 
 -- the entity's text comes to the tenant's grants
@@ -67,9 +67,9 @@ IsToldBy check (Some kind) one other text fails =
     (target : Target) × IsSharedSo kind one.ticket.grants other.ticket.grants target
     × (text ≡ pair_line kind (string_bytes one.name) (string_bytes other.name) target) × (fails ≡ (check && is_written kind))
 
-abbrev pub IsPairTold : Audit → Tenant → Tenant → List ℕ → Bool → Type 0
-IsPairTold audit one other text fails =
-    (found : Option Kind) × IsStrongest audit.reads one.ticket.grants other.ticket.grants found × IsToldBy audit.check found one other text fails
+abbrev pub IsPairTold : Strictness → Tenant → Tenant → List ℕ → Bool → Type 0
+IsPairTold strictness one other text fails =
+    (found : Option Kind) × IsStrongest strictness.reads one.ticket.grants other.ticket.grants found × IsToldBy strictness.check found one other text fails
 
 -- what is told of each tenant, and of those behind it, in turn; it fails where it fails for one
 abbrev pub InTurn : (Tenant → List Tenant → List ℕ → Bool → Type 0) → List Tenant → List ℕ → Bool → Type 0
@@ -79,9 +79,9 @@ InTurn IsTold (one ∷ others) text fails =
     × (text ≡ front ++ rest) × (fails ≡ (first || later))
 
 -- what is told of a tenant with each of some others
-abbrev pub IsToldWith : Audit → Tenant → List Tenant → List ℕ → Bool → Type 0
-IsToldWith audit one others text fails = InTurn (λ other behind. IsPairTold audit one other) others text fails
+abbrev pub IsToldWith : Strictness → Tenant → List Tenant → List ℕ → Bool → Type 0
+IsToldWith strictness one others text fails = InTurn (λ other behind. IsPairTold strictness one other) others text fails
 
 -- what is printed of some entities, and whether the command fails: each pair once, in the file's order
-abbrev pub AreTenantsTold : Audit → List Entity → List ℕ → Bool → Type 0
-AreTenantsTold audit entities text fails = (tenants : List Tenant) × AreTenants entities tenants × InTurn (IsToldWith audit) tenants text fails
+abbrev pub AreTenantsTold : Strictness → List Entity → List ℕ → Bool → Type 0
+AreTenantsTold strictness entities text fails = (tenants : List Tenant) × AreTenants entities tenants × InTurn (IsToldWith strictness) tenants text fails

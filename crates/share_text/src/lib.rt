@@ -8,5 +8,5 @@ mod kind;
 mod tenants;
 mod texts;
 
-pub use tenants::{Audit, share_entities};
+pub use tenants::{Strictness, share_entities};
 pub use texts::share_texts;

@@ -14,9 +14,9 @@ use share_core::share;
 use std::alloc::{AllocError, Global};
 use verdict_core::Ticket;
 
-/// What is told of entities that share something.
+/// How much of what entities share is told, and what fails.
 #[derive(Clone, Copy, Debug)]
-pub struct Audit {
+pub struct Strictness {
     /// Two that read one object are told too, where neither writes what the other may touch.
     pub reads: bool,
     /// It fails where one writes what another reads or writes.
@@ -173,15 +173,15 @@ fn told_so(
 /// What is told of two tenants.
 fn told_pair(
     alloc: Global,
-    audit: Audit,
+    strictness: Strictness,
     one: &Tenant,
     other: &Tenant,
 ) -> Result<Printed, OutOfMemory>
-    ensures { IfOk result (λ printed. IsPairTold audit one.now other.now (string_bytes printed.text) printed.fails) }
+    ensures { IfOk result (λ printed. IsPairTold strictness one.now other.now (string_bytes printed.text) printed.fails) }
 {
-    match strongest(audit.reads, &one.ticket, &other.ticket) {
+    match strongest(strictness.reads, &one.ticket, &other.ticket) {
         None => Ok(nothing(alloc)),
-        Some(kind) => told_so(alloc, kind, one, other, audit.check),
+        Some(kind) => told_so(alloc, kind, one, other, strictness.check),
     }
 }
 
@@ -198,27 +198,31 @@ fn push_told(printed: &mut Printed, told: &Printed) -> Result<(), OutOfMemory>
 /// What is told of a tenant with each of some others.
 fn told_with(
     alloc: Global,
-    audit: Audit,
+    strictness: Strictness,
     one: &Tenant,
     others: &[Tenant],
 ) -> Result<Printed, OutOfMemory>
-    ensures { IfOk result (λ printed. IsToldWith audit one.now others.now (string_bytes printed.text) printed.fails) }
+    ensures { IfOk result (λ printed. IsToldWith strictness one.now others.now (string_bytes printed.text) printed.fails) }
 {
     let mut printed = nothing(alloc);
     for other in others {
-        let told = told_pair(alloc, audit, one, other)?;
+        let told = told_pair(alloc, strictness, one, other)?;
         push_told(&mut printed, &told)?;
     }
     Ok(printed)
 }
 
 /// What is told of each two tenants.
-fn told_each(alloc: Global, audit: Audit, tenants: &[Tenant]) -> Result<Printed, OutOfMemory>
-    ensures { IfOk result (λ printed. InTurn (IsToldWith audit) tenants.now (string_bytes printed.text) printed.fails) }
+fn told_each(
+    alloc: Global,
+    strictness: Strictness,
+    tenants: &[Tenant],
+) -> Result<Printed, OutOfMemory>
+    ensures { IfOk result (λ printed. InTurn (IsToldWith strictness) tenants.now (string_bytes printed.text) printed.fails) }
 {
     let mut printed = nothing(alloc);
     for place in 0..tenants.len() {
-        let told = told_with(alloc, audit, &tenants[place], &tenants[place + 1..])?;
+        let told = told_with(alloc, strictness, &tenants[place], &tenants[place + 1..])?;
         push_told(&mut printed, &told)?;
     }
     Ok(printed)
@@ -236,10 +240,10 @@ fn told_each(alloc: Global, audit: Audit, tenants: &[Tenant]) -> Result<Printed,
 pub fn share_entities(
     alloc: Global,
     entities: &[Entity],
-    audit: Audit,
+    strictness: Strictness,
 ) -> Result<Printed, OutOfMemory>
-    ensures { IfOk result (λ printed. AreTenantsTold audit entities.now (string_bytes printed.text) printed.fails) }
+    ensures { IfOk result (λ printed. AreTenantsTold strictness entities.now (string_bytes printed.text) printed.fails) }
 {
     let tenants = tenants_of(alloc, entities)?;
-    told_each(alloc, audit, tenants.as_slice())
+    told_each(alloc, strictness, tenants.as_slice())
 }

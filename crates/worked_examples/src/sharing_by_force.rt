@@ -8,7 +8,7 @@ use common_types::{OutOfMemory, Tags};
 use compare_core::Registry;
 use gate_text::{Entity, Printed};
 use share_core::{Shared, Touch, share, sharing};
-use share_text::{Audit, share_entities, share_texts};
+use share_text::{Strictness, share_entities, share_texts};
 use std::alloc::Global;
 use std::process::Abort;
 use std::test::Fail;
@@ -286,11 +286,11 @@ fn two(alloc: Global) -> Result<Vec<Entity>, OutOfMemory> {
 
 /// What is printed of them, where a check is asked for.
 fn told(alloc: Global) -> Result<Printed, OutOfMemory> {
-    let audit = Audit {
+    let strictness = Strictness {
         reads: true,
         check: true,
     };
-    share_entities(alloc, two(alloc)?.as_slice(), audit)
+    share_entities(alloc, two(alloc)?.as_slice(), strictness)
 }
 
 #[test]

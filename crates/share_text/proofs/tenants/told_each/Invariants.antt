@@ -5,4 +5,4 @@ use Rattle.share_text.proofs.tenants.told_each.Given as goal
 
 -- what is told so far, and of the rest, is what is told of all
 abbrev pub invariant-loop-place : goal.invariant-loop-place
-invariant-loop-place l = ToldSoFar (IsToldWith l.audit) l.tenants l.place (string_bytes l.printed.text) l.printed.fails
+invariant-loop-place l = ToldSoFar (IsToldWith l.strictness) l.tenants l.place (string_bytes l.printed.text) l.printed.fails
