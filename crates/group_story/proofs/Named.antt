@@ -1,5 +1,5 @@
 -- A group that the map has, it has after each event.
-use Rattle.std.proofs.Common.{◌≡◌, ◌∙◌, ℕ, List, [], ◌∷◌, ◌++◌, Bool, true, false, not, cond, if◌then◌else◌, Option, Some, None, is_some, refl, sym, ap}
+use Rattle.std.proofs.Common.{◌≡◌, ◌∙◌, ℕ, List, [], ◌∷◌, Bool, true, false, not, cond, Option, Some, None, is_some, refl, sym, ap}
 use Rattle.std.specs.Prelude.{nat_le}
 use Rattle.std.specs.List.{find}
 use Rattle.std.specs.Option.{option_map, option_map_or}
@@ -13,7 +13,9 @@ use Rattle.map_core.specs.declared.pool.Pool.{Pool}
 use Rattle.map_core.specs.declared.command.MapCommand.{MapCommand}
 use Rattle.map_core.specs.Laws.{HasPool, later}
 use Rattle.map_core.proofs.Kept.{pools_stay}
-use Rattle.world_core.specs.Event.{Event, Auth, Map, Open, Renew, Close, Submit, ListNames, Deliver, Lose, Repeat, Kick, Fault, OfMap}
+use Rattle.world_core.specs.declared.event.Event.{Event}
+use Rattle.world_core.specs.declared.event.Event.TheVariants.{Auth, Map, Open, Renew, Close, Submit, List as ListNames, Deliver, Lose, Repeat, Kick}
+use Rattle.world_core.specs.declared.fault.WorldFault.TheVariants.{Map as OfMap}
 use Rattle.world_core.specs.Front.{Front, front_step, group_refusal}
 use Rattle.world_core.proofs.Bytes.{bytes_same}
 

@@ -4,7 +4,9 @@ use Rattle.std.specs.Prelude.{ℕ, ◌≡◌, List, [], ◌++◌, Option, Some, 
 use Rattle.entry_core.specs.declared.sealed.GroupId.{GroupId}
 use Rattle.group_core.specs.Types.{Sent}
 use Rattle.group_core.specs.Group.{Group}
-use Rattle.world_core.specs.Event.{Event, Auth, Map, Open, Renew, Close, Submit, ListNames, Deliver, Lose, Repeat, Kick, Fault}
+use Rattle.world_core.specs.declared.event.Event.{Event}
+use Rattle.world_core.specs.declared.event.Event.TheVariants.{Auth, Map, Open, Renew, Close, Submit, List as ListNames, Deliver, Lose, Repeat, Kick}
+use Rattle.world_core.specs.declared.fault.WorldFault.{WorldFault as Fault}
 use Rattle.world_core.specs.Groups.{is_same_group}
 use Rattle.world_core.specs.Front.{group_refusal}
 use Rattle.world_core.specs.World.{World, group_at}
