@@ -1,0 +1,5 @@
+use Rattle.suffix_core.proofs.Keeping.{promises_kept}
+use Rattle.suffix_core.proofs.laws.promises_are_kept.Goals as goal
+
+pub returns : goal.returns
+returns c = promises_kept
