@@ -9,11 +9,12 @@ use Rattle.entry_core.specs.declared.entry.Entry.{Entry}
 use Rattle.entry_core.specs.declared.sealed.GroupId.{GroupId}
 use Rattle.peer_core.specs.ActingSets.{daemons}
 use Rattle.peer_core.specs.Copy.{copy_step as whole_copy_step, retransmit as whole_retransmit}
-use Rattle.peer_core.specs.Steps.{Stepped as WholeStepped, blank as whole_blank}
+use Rattle.peer_core.specs.Steps.{Stepped as WholeStepped, blank as whole_blank, restarted as whole_restarted}
 use Rattle.group_core.specs.Types.{Idle as WholeIdle, Daemon, Body as WholeBody, Interval as WholeInterval, Request as WholeRequest, Sent as WholeSent, Party, Osd, Client}
 use Rattle.group_core.specs.Each.{Each}
-use Rattle.group_core.specs.Group.{Group as WholeGroup, Answer, Event, Submit, Deliver, Lose, Repeat, NewInterval, Restart, Kick, last_set, is_answered, is_submitted, same_set, to_daemon as whole_to_daemon, steps as whole_steps, answered as whole_answered, copy_hears as whole_copy_hears, arrives as whole_arrives, without as whole_without, deliver as whole_deliver, lose as whole_lose, again as whole_again, has_all_requests as whole_has_all_requests, has_all_intervals as whole_has_all_intervals, take_request as whole_take_request, submit as whole_submit, begin as whole_begin, with_up as whole_with_up, new_interval as whole_new_interval, restart as whole_restart, retransmit_from as whole_retransmit_from, retransmit_primary as whole_retransmit_primary, kick as whole_kick, group_step as whole_group_step, run as whole_run, start as whole_start}
+use Rattle.group_core.specs.Group.{Group as WholeGroup, Event, Submit, Deliver, Lose, Repeat, NewInterval, Restart, Kick, last_set, is_answered, is_submitted, same_set, to_daemon as whole_to_daemon, to_primary as whole_to_primary, steps as whole_steps, answered as whole_answered, copy_hears as whole_copy_hears, arrives as whole_arrives, without as whole_without, deliver as whole_deliver, lose as whole_lose, again as whole_again, has_all_requests as whole_has_all_requests, has_all_intervals as whole_has_all_intervals, take_request as whole_take_request, submit as whole_submit, begin as whole_begin, with_up as whole_with_up, new_interval as whole_new_interval, restart as whole_restart, retransmit_from as whole_retransmit_from, retransmit_primary as whole_retransmit_primary, kick as whole_kick, group_step as whole_group_step, run as whole_run, start as whole_start}
 use Rattle.group_core.specs.Asked.{IsAsked, InLog, InCopy, InBody}
+use Rattle.group_core.specs.declared.answers.Answer.{Answer}
 use Rattle.group_core.specs.History.{History, IsSound, but_last}
 use Rattle.group_core.proofs.Eaches.{Each-get, Each-map_all}
 use Rattle.group_core.proofs.Invariant.{IsKnown, CopyOk, SentOk}
@@ -21,8 +22,8 @@ use Rattle.group_core.proofs.Longer.{IsKnown-all}
 use Rattle.group_core.proofs.Groups.{Good, step_good, run_good, start_good, empty_good}
 use Rattle.group_core.proofs.Kept.{Kept, run_kept, start_kept}
 use Rattle.suffix_core.specs.Types.{Body, Interval, Query, Info, Install, Installed, Append, Appended, Request, Reply, NotHere, Sent, Copy}
-use Rattle.suffix_core.specs.Rules.{Stepped, blank, copy_step, retransmit}
-use Rattle.suffix_core.specs.Group.{Group, to_daemon, steps, answered, copy_hears, arrives, without, deliver, lose, again, has_all_requests, has_all_intervals, take_request, submit, resent, announced, begin, with_up, new_interval, restart, retransmit_from, retransmit_primary, kick, group_step, run, start}
+use Rattle.suffix_core.specs.Rules.{Stepped, blank, restarted, copy_step, retransmit}
+use Rattle.suffix_core.specs.Group.{Group, to_daemon, to_primary, steps, answered, copy_hears, arrives, without, deliver, lose, again, has_all_requests, has_all_intervals, take_request, submit, resent, announced, begin, with_up, new_interval, restart, retransmit_from, retransmit_primary, kick, group_step, run, start}
 use Rattle.suffix_core.specs.Standing.{Both}
 use Rattle.suffix_core.proofs.Agreeing.{BodyAgrees, SentAgrees, CopyAgrees, whole}
 use Rattle.suffix_core.proofs.Lists.{IfBoth, Both-get, Both-map}
@@ -42,7 +43,7 @@ submit_agrees g ws ms s a =
         let f = facts_request g.min_size g.sets g.requests g.copies g.wire ws ms a.facts s in
         record {
           is = refl;
-          facts = facts_more g.min_size g.sets (g.requests ++ s ∷ []) g.copies g.wire ws ms f _ _ (primary_agrees f.promise f.h (last_set g.sets) (s ∷ [])) (primary_ok g.sets f.promise f.h (last_set g.sets) (s ∷ []));
+          facts = facts_more g.min_size g.sets (g.requests ++ s ∷ []) g.copies g.wire ws ms f (to_primary (last_set g.sets) (Request s ∷ [])) (whole_to_primary (last_set g.sets) (WholeRequest s ∷ [])) (primary_agrees f.promise f.h (last_set g.sets) (s ∷ [])) (primary_ok g.sets f.promise f.h (last_set g.sets) (s ∷ []));
         }
 
 -- messages
@@ -137,10 +138,11 @@ begin_agrees g ws ms acting a =
     let sets : List (List ℕ) = g.sets ++ acting ∷ [] in
     let unanswered : List Sealed = filter (λ s. not (is_answered g.answers s.id)) g.requests in
     let f = facts_longer g.min_size g.sets g.requests g.copies g.wire ws ms a.facts acting in
-    let f' = facts_more g.min_size sets g.requests g.copies g.wire ws ms f _ _ (announced_agrees f.promise f.h sets) (announced_ok f.promise f.h sets) in
+    let f' = facts_more g.min_size sets g.requests g.copies g.wire ws ms f (announced sets) (map (λ d. whole_to_daemon d (WholeInterval sets)) (last_set sets)) (announced_agrees f.promise f.h sets) (announced_ok f.promise f.h sets) in
     record {
       is = refl;
-      facts = facts_more g.min_size sets g.requests g.copies (g.wire ++ announced sets) ws (ms ++ map (λ d. whole_to_daemon d (WholeInterval sets)) (last_set sets)) f' _ _
+      facts = facts_more g.min_size sets g.requests g.copies (g.wire ++ announced sets) ws (ms ++ map (λ d. whole_to_daemon d (WholeInterval sets)) (last_set sets)) f'
+          (to_primary (last_set sets) (map Request unanswered)) (whole_to_primary (last_set sets) (map WholeRequest unanswered))
           (primary_agrees f'.promise f'.h (last_set sets) unanswered) (primary_ok sets f'.promise f'.h (last_set sets) unanswered);
     }
 
@@ -157,9 +159,12 @@ interval_agrees g ws ms acting up a =
 restarted_agrees : (g : Group) (ws : List Daemon) (ms : List WholeSent) (d : ℕ) → Agree g (twin g ws ms) → Agree (restart g d) (whole_restart (twin g ws ms) d)
 restarted_agrees g ws ms d a =
     let f = facts_restarts g.min_size g.sets g.requests g.copies g.wire ws ms a.facts (λ n. n == d) in
-    agree_if (is_in (last_set g.sets) d) _ _ _ _
-    (agree_if (has_all_intervals g) g _ (twin g ws ms) _ a (begin_agrees _ _ ms (last_set g.sets) (record { is = refl; facts = f })))
-    (record { is = refl; facts = f })
+    let h : Group = record g { copies = map (λ c. if c.number == d then restarted c else c) g.copies } in
+    let ws' : List Daemon = map (λ w. if w.number == d then whole_restarted w else w) ws in
+    let there : Agree h (twin h ws' ms) = record { is = refl; facts = f } in
+    agree_if (is_in (last_set g.sets) d) (if has_all_intervals g then g else begin h (last_set g.sets)) h (if has_all_intervals g then twin g ws ms else whole_begin (twin h ws' ms) (last_set g.sets)) (twin h ws' ms)
+    (agree_if (has_all_intervals g) g (begin h (last_set g.sets)) (twin g ws ms) (whole_begin (twin h ws' ms) (last_set g.sets)) a (begin_agrees h ws' ms (last_set g.sets) there))
+    there
 
 -- a kick
 
@@ -188,11 +193,12 @@ kick_keeps g ws ms a =
     let sent = retransmitted_by g ws ms a (last_set g.sets) in
     let unanswered : List Sealed = filter (λ s. not (is_answered g.answers s.id)) g.requests in
     let announcements : List WholeSent = map (λ d. whole_to_daemon d (WholeInterval g.sets)) (last_set g.sets) in
-    let f' = facts_more g.min_size g.sets g.requests g.copies g.wire ws ms f _ _ (announced_agrees f.promise f.h g.sets) (announced_ok f.promise f.h g.sets) in
-    let f'' = facts_more g.min_size g.sets g.requests g.copies (g.wire ++ announced g.sets) ws (ms ++ announcements) f' _ _ sent.0 sent.1 in
+    let f' = facts_more g.min_size g.sets g.requests g.copies g.wire ws ms f (announced g.sets) announcements (announced_agrees f.promise f.h g.sets) (announced_ok f.promise f.h g.sets) in
+    let f'' = facts_more g.min_size g.sets g.requests g.copies (g.wire ++ announced g.sets) ws (ms ++ announcements) f' (retransmit_primary g.copies (last_set g.sets)) (whole_retransmit_primary ws (last_set g.sets)) sent.0 sent.1 in
     record {
       is = refl;
-      facts = facts_more g.min_size g.sets g.requests g.copies (g.wire ++ announced g.sets ++ retransmit_primary g.copies (last_set g.sets)) ws (ms ++ announcements ++ whole_retransmit_primary ws (last_set g.sets)) f'' _ _
+      facts = facts_more g.min_size g.sets g.requests g.copies (g.wire ++ announced g.sets ++ retransmit_primary g.copies (last_set g.sets)) ws (ms ++ announcements ++ whole_retransmit_primary ws (last_set g.sets)) f''
+          (to_primary (last_set g.sets) (map Request unanswered)) (whole_to_primary (last_set g.sets) (map WholeRequest unanswered))
           (primary_agrees f''.promise f''.h (last_set g.sets) unanswered) (primary_ok g.sets f''.promise f''.h (last_set g.sets) unanswered);
     }
 

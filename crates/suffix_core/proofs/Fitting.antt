@@ -6,6 +6,7 @@ use Rattle.entry_core.specs.Request.{Sealed}
 use Rattle.entry_core.specs.Fitting.{can_fit}
 use Rattle.group_core.specs.Types.{Role as WholeRole, Daemon, Body as WholeBody, Info as WholeInfo, Install as WholeInstall, Sent as WholeSent, Party, Osd, Client}
 use Rattle.group_core.specs.Asked.{IsAsked, InLog}
+use Rattle.group_core.specs.Group.{run as whole_run, start as whole_start}
 use Rattle.group_core.specs.History.{History, IsSound}
 use Rattle.group_core.proofs.Eaches.{Each-get}
 use Rattle.group_core.proofs.Invariant.{CopyOk, BodyOk, SentOk}
@@ -83,4 +84,6 @@ module _ (g : Group) (ws : List Daemon) (ms : List WholeSent) (f : Facts g.min_s
       (subst (λ v. IfBoth (CopyAgrees f.promise f.h) v (slice_get ws d)) there (Both-get (CopyAgrees f.promise f.h) g.copies ws d f.copies)) to fits
 
 pub fit_answers : FitAnswersTrue
-fit_answers group z count acting up es = fits_true _ _ _ (reached_locked group z count acting up es).agree.facts
+fit_answers group z count acting up es =
+    let w = whole_run es (whole_start group z count acting up) in
+    fits_true (run es (start group z count acting up)) w.copies w.wire (reached_locked group z count acting up es).agree.facts

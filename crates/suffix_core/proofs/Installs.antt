@@ -25,11 +25,11 @@ use Rattle.suffix_core.proofs.Serving.{serve_agrees}
 
 pub count_of : (f : ℕ → ℕ) (ms : List ℕ) (m : ℕ) → is_in ms m ≡ true → count_at (map (λ i. record { member = i; count = f i }) ms) m ≡ f m
 count_of f [] m is = absurd (both_ways false refl is)
-count_of f (i ∷ ms) m is = go (i == m) refl is
+count_of f (i ∷ ms) m is = go (i == m) refl is (λ later. count_of f ms m later)
   where
-    go : (b : Bool) → (i == m) ≡ b → (b || is_in ms m) ≡ true → (if b then f i else count_at (map (λ j. record { member = j; count = f j }) ms) m) ≡ f m
-    go true e here = ap f (eqb-true i m e)
-    go false e later = count_of f ms m later
+    go : (b : Bool) → (i == m) ≡ b → (b || is_in ms m) ≡ true → (is_in ms m ≡ true → count_at (map (λ j. record { member = j; count = f j }) ms) m ≡ f m) → (if b then f i else count_at (map (λ j. record { member = j; count = f j }) ms) m) ≡ f m
+    go true e here rest = ap f (eqb-true i m e)
+    go false e later rest = rest later
 
 pub all_at : (test : ℕ → Bool) (ms : List ℕ) (m : ℕ) → list_all test ms ≡ true → is_in ms m ≡ true → test m ≡ true
 all_at test [] m all bad = absurd (both_ways false refl bad)
@@ -73,7 +73,7 @@ module _ (requests : List Sealed) (p : ℕ → ℕ) (h : History) (n : ℕ) (min
   member_install [] [] m both each bad = absurd (both_ways false refl bad)
   member_install [] (o ∷ os) m both each any = absurd both
   member_install (i ∷ is) [] m both each any = absurd both
-  member_install (i ∷ is) (o ∷ os) m both each any = go (i.number == m) refl
+  member_install (i ∷ is) (o ∷ os) m both each any = go (i.number == m) refl (λ later. member_install is os m both.1 each.1 later)
     where
       other : (i.number == m) ≡ false → list_any (λ o. o.number == m) os ≡ true
       other e = elim (or_cases (o.number == m) (list_any (λ o. o.number == m) os) any) [
@@ -81,10 +81,10 @@ module _ (requests : List Sealed) (p : ℕ → ℕ) (h : History) (n : ℕ) (min
         | inr later ↦ later
       ]
 
-      go : (b : Bool) → (i.number == m) ≡ b → InstallAgrees p h n m log (if b then common (told_ids mine i) (ids log) else common_of is mine log m) (part_of log (if b then common (told_ids mine i) (ids log) else common_of is mine log m))
-      go true e = subst (λ v. InstallAgrees p h n v log (common (told_ids mine i) (ids log)) (part_of log (common (told_ids mine i) (ids log))))
+      go : (b : Bool) → (i.number == m) ≡ b → (list_any (λ o. o.number == m) os ≡ true → InstallAgrees p h n m log (common_of is mine log m) (part_of log (common_of is mine log m))) → InstallAgrees p h n m log (if b then common (told_ids mine i) (ids log) else common_of is mine log m) (part_of log (if b then common (told_ids mine i) (ids log) else common_of is mine log m))
+      go true e rest = subst (λ v. InstallAgrees p h n v log (common (told_ids mine i) (ids log)) (part_of log (common (told_ids mine i) (ids log))))
           (sym both.0.number ∙ eqb-true i.number m e) (one_install i o both.0 each.0.0 each.0.1)
-      go false e = member_install is os m both.1 each.1 (other e)
+      go false e rest = rest (other e)
 
 pub install_sent : (p : ℕ → ℕ) (h : History) (c : Copy) (r : WholeRole) (log : List Entry) (m count : ℕ) → InstallAgrees p h c.promise m log count (part_of log count) → SentAgrees p h (install_from c log m count) (whole_send (whole c r) (Osd m) (WholeInstall c.promise log))
 install_sent p h c r log m count a = record { from = refl; to = refl; body = record { log = log; is = refl; agrees = a } }

@@ -81,7 +81,7 @@ module _ (requests : List Sealed) (z : ℕ) (sets : List (List ℕ)) (d : ℕ) (
 
   -- a copy that begins to lead, with the promise that it makes
   pub record Asking (c : Copy) (known : List (List ℕ)) : Type 0 where
-    pub sound : IsSound (put p d (length known)) z sets h
+    pub sound_then : IsSound (put p d (length known)) z sets h
     pub state : StateOk z sets (put p d (length known)) h d (whole (record (learn_sets c known) { promise = length known }) WholeIdle)
     pub leads : Leads z sets d (whole (record (learn_sets c known) { promise = length known }) WholeIdle)
     pub unchosen : h.chosen (length known) ≡ None
@@ -97,7 +97,7 @@ module _ (requests : List Sealed) (z : ℕ) (sets : List (List ℕ)) (d : ℕ) (
       let forward : p d ≤ length known = omega (arith, state.promised) in
       let first : is_primary (set_of sets (length known)) d ≡ true = subst (λ v. is_primary (set_of sets (length known)) v ≡ true) state.number (subst (λ l. is_primary l c.number ≡ true) same two.1) in
       record {
-        sound = promise_sound z sets p h d (length known) forward sound;
+        sound_then = promise_sound z sets p h d (length known) forward sound;
         state = StateOk-promise z sets d p h (whole_learn_sets (whole c r) known) (length known) WholeIdle [] (told_state (whole c r) known state is) (omega arith) is.fits;
         leads = record {
           is_known = refl;
@@ -121,14 +121,14 @@ module _ (requests : List Sealed) (z : ℕ) (sets : List (List ℕ)) (d : ℕ) (
       go true false more all fits = absurd (cc)
       go true true more all fits =
           let a = asking c r known state is more all in
-          choice_can_fit requests z sets d (put p d (length known)) h a.sound asks (record (learn_sets c known) { promise = length known }) WholeIdle [] [] a.state a.leads a.unchosen tt tt f fits
+          choice_can_fit requests z sets d (put p d (length known)) h a.sound_then asks (record (learn_sets c known) { promise = length known }) WholeIdle [] [] a.state a.leads a.unchosen tt tt f fits
 
   lead_agrees : (c : Copy) (r : WholeRole) (known : List (List ℕ)) → c.number ≡ d → Asking c known → CopyOk z sets p' h' d (whole_lead (record (whole_learn_sets (whole c r) known) { promise = length known })).copy →
       StepAgrees p' h' (lead (record (learn_sets c known) { promise = length known })) (whole_lead (record (whole_learn_sets (whole c r) known) { promise = length known }))
   lead_agrees c r known number a ok' =
       let next : Copy = record (learn_sets c known) { promise = length known } in
       let past : h'.chosen (length known) ≡ None → Past p' h' c.number (length known) c.log = λ none. subst (λ v. Past p' h' v (length known) c.log) (sym number) (peering_past next ok' none) in
-      let choice = try_agrees requests z sets d (put p d (length known)) h a.sound asks p' h' next WholeIdle [] [] a.state a.leads a.unchosen tt tt tt in
+      let choice = try_agrees requests z sets d (put p d (length known)) h a.sound_then asks p' h' next WholeIdle [] [] a.state a.leads a.unchosen tt tt tt in
       record { copy = choice.copy; sent = Both-append (SentAgrees p' h') (queries next) (whole_queries (whole next WholeIdle)) (try_choice next []).sent (whole_try_choice (whole next WholeIdle) []).sent (queries_agree next past) choice.sent }
 
   pub interval_agrees : (c : Copy) (r : WholeRole) (known : List (List ℕ)) → StateOk z sets p h d (whole c r) → CopyAgrees p' h' c (whole c r) → IsKnown sets known →

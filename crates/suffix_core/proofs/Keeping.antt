@@ -10,7 +10,7 @@ use Rattle.peer_core.specs.Copy.{on_body as whole_on_body}
 use Rattle.peer_core.specs.Decided.{decided_by as whole_decided_by}
 use Rattle.group_core.specs.Types.{Role as WholeRole, Idle as WholeIdle, Peering as WholePeering, Installing as WholeInstalling, Active as WholeActive, Daemon, Sent as WholeSent, Party, Osd, Client}
 use Rattle.group_core.specs.Each.{Each}
-use Rattle.group_core.specs.Group.{Group as WholeGroup, Event, Submit, Deliver, Lose, Repeat, NewInterval, Restart, Kick, last_set, is_answered, is_submitted, same_set, group_step as whole_group_step}
+use Rattle.group_core.specs.Group.{Group as WholeGroup, Event, Submit, Deliver, Lose, Repeat, NewInterval, Restart, Kick, last_set, is_answered, is_submitted, same_set, group_step as whole_group_step, run as whole_run, start as whole_start}
 use Rattle.group_core.specs.Asked.{IsAsked, InLog, InCopy, InBody}
 use Rattle.group_core.specs.History.{Begins, History, Held, IsSound, but_last, IsSettled}
 use Rattle.group_core.proofs.Eaches.{Each-get}
@@ -63,13 +63,15 @@ shown_settled z sets p h d c (WholeActive None) sound state ok = subst (λ v. Is
   };
 }))
 
+split_le : (a b : ℕ) → a ≤ b → (a ≡ b) ⊎ (a < b)
+split_le a b le = elim (cases_eq a b) [ inl same ↦ inl same | inr other ↦ inr (omega arith) ]
+
 whole_keeps : (z : ℕ) (sets : List (List ℕ)) (d : ℕ) (p : ℕ → ℕ) (h : History) (p' : ℕ → ℕ) (h' : History) (old new : Daemon) → Extends sets d p h p' h' → IsSound p z sets h → IsSound p' z sets h' → CopyOk z sets p h d old → StateOk z sets p' h' d new → WholeKeeps old new
 whole_keeps z sets d p h p' h' old new to sound sound' ok next =
     let state = ok.state in
     let held : Held h' d old.base (length old.log) = to.kept old.base (length old.log) (record { most = length old.log; is = state.held; enough = omega arith }) in
     let low : old.base ≤ new.base = next.held_below old.base held.most held.is in
-    let which : (old.base ≡ new.base) ⊎ (old.base < new.base) = grind arith in
-    elim which [
+    elim (split_le old.base new.base low) [
       | inl same ↦ (
           let longer : Begins old.log new.log = at_base same held in
           record {
@@ -244,4 +246,4 @@ locked_keeps g w e l =
     }
 
 pub promises_kept : PromisesAreKept
-promises_kept group z count acting up es e = locked_keeps _ _ e (reached_locked group z count acting up es)
+promises_kept group z count acting up es e = locked_keeps (run es (start group z count acting up)) (whole_run es (whole_start group z count acting up)) e (reached_locked group z count acting up es)

@@ -58,13 +58,14 @@ same_at requests xs ys k e f legal legal' asked asked' is is' fronts same =
 same_leading_from : (requests : List Sealed) (before xs ys : List Entry) → LegalFrom before xs → LegalFrom before ys → InLog (IsAsked requests) xs → InLog (IsAsked requests) ys → take (common (ids xs) (ids ys)) xs ≡ take (common (ids xs) (ids ys)) ys
 same_leading_from requests before [] ys legal legal' asked asked' = refl
 same_leading_from requests before (x ∷ xs) [] legal legal' asked asked' = refl
-same_leading_from requests before (x ∷ xs) (y ∷ ys) legal legal' asked asked' = go (x.sealed.id == y.sealed.id) refl
+same_leading_from requests before (x ∷ xs) (y ∷ ys) legal legal' asked asked' =
+    go (x.sealed.id == y.sealed.id) refl (λ one. same_leading_from requests (before ++ y ∷ []) xs ys (subst (λ v. LegalFrom (before ++ v ∷ []) xs) one legal.2) legal'.2 asked.1 asked'.1)
   where
-    go : (b : Bool) → (x.sealed.id == y.sealed.id) ≡ b → take (if b then suc (common (ids xs) (ids ys)) else 0) (x ∷ xs) ≡ take (if b then suc (common (ids xs) (ids ys)) else 0) (y ∷ ys)
-    go false e = refl
-    go true e =
+    go : (b : Bool) → (x.sealed.id == y.sealed.id) ≡ b → (x ≡ y → take (common (ids xs) (ids ys)) xs ≡ take (common (ids xs) (ids ys)) ys) → take (if b then suc (common (ids xs) (ids ys)) else 0) (x ∷ xs) ≡ take (if b then suc (common (ids xs) (ids ys)) else 0) (y ∷ ys)
+    go false e rest = refl
+    go true e rest =
         let one : x ≡ y = same_entry requests before x y legal.1 legal'.1 asked.0 asked'.0 (eqb-true x.sealed.id y.sealed.id e) in
-        let more = same_leading_from requests (before ++ y ∷ []) xs ys (subst (λ v. LegalFrom (before ++ v ∷ []) xs) one legal.2) legal'.2 asked.1 asked'.1 in
+        let more = rest one in
         (λ i. one i ∷ more i)
 
 -- as many entries as leading numbers are the same
@@ -74,11 +75,11 @@ same_leading requests xs ys legal legal' asked asked' = same_leading_from reques
 pub common_within : (xs ys : List Entry) → (common (ids xs) (ids ys) ≤ length xs) × (common (ids xs) (ids ys) ≤ length ys)
 common_within [] ys = (omega arith, omega arith)
 common_within (x ∷ xs) [] = (omega arith, omega arith)
-common_within (x ∷ xs) (y ∷ ys) = go (x.sealed.id == y.sealed.id)
+common_within (x ∷ xs) (y ∷ ys) = go (x.sealed.id == y.sealed.id) (common_within xs ys)
   where
-    go : (b : Bool) → ((if b then suc (common (ids xs) (ids ys)) else 0) ≤ length (x ∷ xs)) × ((if b then suc (common (ids xs) (ids ys)) else 0) ≤ length (y ∷ ys))
-    go true = (let rest = common_within xs ys in (omega (arith, rest.0), omega (arith, rest.1)))
-    go false = (omega arith, omega arith)
+    go : (b : Bool) → (common (ids xs) (ids ys) ≤ length xs) × (common (ids xs) (ids ys) ≤ length ys) → ((if b then suc (common (ids xs) (ids ys)) else 0) ≤ length (x ∷ xs)) × ((if b then suc (common (ids xs) (ids ys)) else 0) ≤ length (y ∷ ys))
+    go true rest = (omega (arith, rest.0), omega (arith, rest.1))
+    go false rest = (omega arith, omega arith)
 
 -- the numbers of the requests of a log, told in two pieces
 

@@ -86,17 +86,14 @@ Each-in P (x ∷ xs) each = (
 
 pub in-filter : (q : ℕ → Bool) (xs : List ℕ) (x : ℕ) → is_in (filter q xs) x ≡ true → (is_in xs x ≡ true) × (q x ≡ true)
 in-filter q [] x is = absurd (both_ways false refl is)
-in-filter q (y ∷ xs) x is = go (q y) refl is
+in-filter q (y ∷ xs) x is = go (q y) refl is (λ there. in-filter q xs x there)
   where
-    later : is_in (filter q xs) x ≡ true → (is_in (y ∷ xs) x ≡ true) × (q x ≡ true)
-    later there = (let rest = in-filter q xs x there in (ap (λ b. (y == x) || b) rest.0 ∙ or_true (y == x), rest.1))
-
-    go : (b : Bool) → q y ≡ b → is_in (if b then y ∷ filter q xs else filter q xs) x ≡ true → (is_in (y ∷ xs) x ≡ true) × (q x ≡ true)
-    go true e here = elim (or_cases (y == x) (is_in (filter q xs) x) here) [
+    go : (b : Bool) → q y ≡ b → is_in (if b then y ∷ filter q xs else filter q xs) x ≡ true → (is_in (filter q xs) x ≡ true → (is_in xs x ≡ true) × (q x ≡ true)) → (is_in (y ∷ xs) x ≡ true) × (q x ≡ true)
+    go true e here later = elim (or_cases (y == x) (is_in (filter q xs) x) here) [
       | inl same ↦ (ap (λ b. b || is_in xs x) same, subst (λ v. q v ≡ true) (eqb-true y x same) e)
-      | inr there ↦ later there
+      | inr there ↦ (let rest = later there in (ap (λ b. (y == x) || b) rest.0 ∙ or_true (y == x), rest.1))
     ]
-    go false e here = later here
+    go false e here later = (let rest = later here in (ap (λ b. (y == x) || b) rest.0 ∙ or_true (y == x), rest.1))
 
 pub Each-front : {X : Type 0} (P : X → Type 0) (xs ys : List X) → Each P (xs ++ ys) → Each P xs
 Each-front P [] ys each = tt

@@ -46,7 +46,7 @@ agree_if false g g' w w' a a' = a'
 
 -- requests
 
-asked_push : (xs : List Sealed) (s t : Sealed) → IsAsked xs t → IsAsked (xs ++ s ∷ []) t
+pub asked_push : (xs : List Sealed) (s t : Sealed) → IsAsked xs t → IsAsked (xs ++ s ∷ []) t
 asked_push xs s t is = go xs is
   where
     step : (b : Bool) (x : Sealed) (xs : List Sealed) → (if b then Some x else submitted xs t.id) ≡ Some t → (submitted xs t.id ≡ Some t → submitted (xs ++ s ∷ []) t.id ≡ Some t) → (if b then Some x else submitted (xs ++ s ∷ []) t.id) ≡ Some t

@@ -1,5 +1,5 @@
 -- The rules of a peering agree: the choice, and what leads to it.
-use Rattle.std.proofs.Common.{ℕ, ◌≡◌, ◌≤◌, ◌<◌, Bool, true, false, not, ◌==◌, ◌&&◌, nat_lt, List, [], ◌∷◌, ◌++◌, map, length, take, refl, sym, ◌∙◌, ap, subst, arith, inl, inr, ◌⊎◌, if◌then◌else◌}
+use Rattle.std.proofs.Common.{ℕ, ◌≡◌, ◌≤◌, ◌<◌, ◌-◌, Bool, true, false, not, ◌==◌, ◌&&◌, nat_lt, List, [], ◌∷◌, ◌++◌, map, length, take, refl, sym, ◌∙◌, ap, subst, arith, inl, inr, ◌⊎◌, if◌then◌else◌}
 use Rattle.std.specs.Prelude.{Option, Some, None}
 use Rattle.std.specs.List.{list_any, list_all}
 use Rattle.std.proofs.lemmas.Bool.{cases_eq, eqb-true, ltb-true, ltb-false, and_parts, not-true}
@@ -52,17 +52,17 @@ offer_of p h n o none told = record {
 module _ (requests : List Sealed) (z : ℕ) (sets : List (List ℕ)) (d : ℕ) (p : ℕ → ℕ) (h : History) (sound : IsSound p z sets h) (asks : (n : ℕ) → InLog (IsAsked requests) (h.grown n)) (p' : ℕ → ℕ) (h' : History) where
   pub try_agrees : (c : Copy) (r : WholeRole) (informed : List Offer) (infos : List PeerInfo) → StateOk z sets p h d (whole c r) → Leads z sets d (whole c r) → h.chosen c.promise ≡ None → Each (IsOffer p h c.promise) infos →
       Both (OfferAgrees p h c.promise c.log) informed infos → Both (OfferAgrees p' h' c.promise c.log) informed infos → StepAgrees p' h' (try_choice c informed) (whole_try_choice (whole c r) infos)
-  try_agrees c r informed infos state leads none offers agree agree' = by_tests p' h' (can_choose c informed) (whole_can_choose (whole c r) infos)
+  try_agrees c r informed infos state first none offers agree agree' = by_tests p' h' (can_choose c informed) (whole_can_choose (whole c r) infos)
       (fit_chosen c informed (fitted c.log (best (own_offer c) informed).start (best (own_offer c) informed).part)) (still (record c { role = Peering informed }))
       (whole_install_chosen (whole c r) (whole_best (whole_own_offer (whole c r)) infos).log (whole_others (whole c r))) (whole_still (record (whole c r) { role = WholePeering infos }))
-      (choose_same requests z sets d p h sound asks c r informed infos state leads none offers agree)
+      (choose_same requests z sets d p h sound asks c r informed infos state first none offers agree)
       (λ chosen. subst (λ v. StepAgrees p' h' (fit_chosen c informed v) (whole_install_chosen (whole c r) (whole_best (whole_own_offer (whole c r)) infos).log (whole_others (whole c r))))
-      (sym (choice_fits requests z sets d p h sound asks c r informed infos state leads none offers agree chosen))
+      (sym (choice_fits requests z sets d p h sound asks c r informed infos state first none offers agree chosen))
       (install_agrees p' h' c r informed (whole_best (whole_own_offer (whole c r)) infos).log (others c) refl
       (λ m is. member_install requests p' h' c.promise c.log (whole_best (whole_own_offer (whole c r)) infos).log
-      (winner_legal requests z sets d p h sound asks c r informed infos state leads none offers agree)
-      (winner_asked requests z sets d p h sound asks c r informed infos state leads none offers agree)
-      informed infos m agree' (each_legal requests z sets d p h sound asks c r informed infos state leads none offers agree)
+      (winner_legal requests z sets d p h sound asks c r informed infos state first none offers agree)
+      (winner_asked requests z sets d p h sound asks c r informed infos state first none offers agree)
+      informed infos m agree' (each_legal requests z sets d p h sound asks c r informed infos state first none offers agree)
       (heard_other c (λ v. list_any (λ o. o.number == v) infos) m
       (and_parts (list_all (whole_is_informed (whole c r) infos) (set_of c.known c.promise)) (covers c.min_size (whole_best (whole_own_offer (whole c r)) infos).base (whole_is_informed (whole c r) infos) 1 (take (c.promise - 1) c.known)) chosen).0 is))))
       (λ _. record { copy = record { role = WholePeering infos; is = refl; agrees = record { infos = infos; is = refl; agree = agree' } }; sent = tt })
@@ -119,14 +119,14 @@ module _ (requests : List Sealed) (z : ℕ) (sets : List (List ℕ)) (d : ℕ) (
       info_ignored beyond (Peering informed) is =
           let told_offer : PeerInfo = record { number = m; base = base; log = log } in
           let peering = subst (λ v. RoleOk z sets p h d (whole c r) v) is.is ok.role in
-          subst (λ v. StepAgrees p' h' (still c) (whole_on_info v (whole c r) n told_offer)) (sym is.is) (go ((c.promise == n) && not (whole_is_informed (whole c r) is.infos m)) refl peering.unchosen is.infos)
+          subst (λ v. StepAgrees p' h' (still c) (whole_on_info v (whole c r) n told_offer)) (sym is.is) (go ((c.promise == n) && not (whole_is_informed (whole c r) is.infos m)) (whole_is_informed (whole c r) is.infos m) refl peering.unchosen is.infos)
         where
-          go : (b : Bool) → {t : Bool} → ((c.promise == n) && t) ≡ b → h.chosen c.promise ≡ None → (infos : List PeerInfo) →
+          go : (b t : Bool) → ((c.promise == n) && not t) ≡ b → h.chosen c.promise ≡ None → (infos : List PeerInfo) →
               StepAgrees p' h' (still c) (if b then whole_try_choice (whole c r) (infos ++ record { number = m; base = base; log = log } ∷ []) else whole_still (whole c r))
-          go true {t} both none infos =
-              let now : c.promise ≡ n = eqb-true c.promise n (and_parts (c.promise == n) t both).0 in
+          go true t both none infos =
+              let now : c.promise ≡ n = eqb-true c.promise n (and_parts (c.promise == n) (not t) both).0 in
               absurd (omega (arith, beyond, (heard none now).is_part.within))
-          go false both none infos = same_still
+          go false t both none infos = same_still
 
       pub info_agrees : StepAgrees p' h' (on_info c n (record { number = m; base = base; start = start; part = part })) (whole_on_info r (whole c r) n (record { number = m; base = base; log = log }))
       info_agrees = go (nat_lt (length c.log) start) refl

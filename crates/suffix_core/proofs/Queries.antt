@@ -2,7 +2,7 @@
 use Rattle.std.proofs.Common.{ℕ, suc, ◌≡◌, ◌≤◌, ◌<◌, ◌+◌, ◌-◌, Bool, true, false, ◌==◌, ◌||◌, ◌&&◌, nat_lt, leb, min, List, [], ◌∷◌, length, take, refl, sym, ◌∙◌, ap, subst, arith, inl, inr, ◌⊎◌, if◌then◌else◌}
 use Rattle.std.specs.Prelude.{Option, Some, None, slice_get}
 use Rattle.std.specs.Option.{option_map}
-use Rattle.std.proofs.lemmas.Bool.{cases_eq, eqb-true, ltb-true, ltb-false, and_parts, or_cases}
+use Rattle.std.proofs.lemmas.Bool.{cases_eq, eqb-true, leb-true, ltb-true, ltb-false, and_parts, or_cases}
 use Rattle.std.proofs.lemmas.List.{length-take-le}
 use Rattle.entry_core.specs.Log.{Legal}
 use Rattle.entry_core.specs.Request.{Sealed}
@@ -72,11 +72,8 @@ answer_part requests mine log legal legal' asked asked' fronts = go (agrees_at l
         IsPart mine log (if b then length mine else min (length mine) (length log) - 1) (part_of log (if b then length mine else min (length mine) (length log) - 1))
     go true e =
         let parts = and_parts (leb (length mine) (length log)) ((length mine == 0) || same_id (last_id (take (length mine) log)) (last_id mine)) e in
-        let fits : length mine ≤ length log = within (length mine) (length log) parts.0 in
+        let fits : length mine ≤ length log = leb-true (length mine) (length log) parts.0 in
         record { within = omega arith; within_log = fits; same = at_last fits parts.1; part_is = refl }
-      where
-        within : (a b : ℕ) → leb a b ≡ true → a ≤ b
-        within a b is = grind arith
     go false e = record { within = omega arith; within_log = omega arith; same = fronts (min (length mine) (length log) - 1) (omega arith) (omega arith); part_is = refl }
 
 pub promise_agrees : (p : ℕ → ℕ) (h : History) (c : Copy) (r : WholeRole) (n : ℕ) → RoleAgrees p h c.promise c.log (others c) c.role r → CopyAgrees p h (promise_interval c n) (whole_promise_interval (whole c r) n)

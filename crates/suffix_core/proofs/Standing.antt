@@ -2,11 +2,11 @@
 use Rattle.std.proofs.Common.{ℕ, ◌≡◌, List, [], ◌∷◌, map, refl, sym, ◌∙◌, ap, subst}
 use Rattle.entry_core.specs.declared.entry.Entry.{Entry}
 use Rattle.group_core.specs.Types.{PeerInfo, Role as WholeRole, Body as WholeBody, Daemon, Party, Sent as WholeSent}
-use Rattle.group_core.specs.Group.{Group as WholeGroup}
+use Rattle.group_core.specs.Group.{Group as WholeGroup, run as whole_run, start as whole_start}
 use Rattle.group_core.specs.History.{History}
 use Rattle.suffix_core.specs.Types.{Body, Interval, Query, Info, Install, Installed, Append, Appended, Request, Reply, NotHere, Sent, Offer, Role, Idle, Peering, Installing, Active, Copy}
 use Rattle.suffix_core.specs.Rules.{others}
-use Rattle.suffix_core.specs.Group.{Group}
+use Rattle.suffix_core.specs.Group.{Group, run, start}
 use Rattle.suffix_core.specs.Standing.{Both, SameBody, SameSent, SameRole, SameCopy, StandsFor}
 use Rattle.suffix_core.specs.Laws.{SuffixesRefineWholeLogs}
 use Rattle.suffix_core.proofs.Agreeing.{OfferAgrees, BodyAgrees, SentAgrees, RoleAgrees, CopyAgrees}
@@ -68,4 +68,4 @@ stands_for g w a = record {
 }
 
 pub suffixes_refine : SuffixesRefineWholeLogs
-suffixes_refine group z count acting up es = stands_for _ _ (reached_locked group z count acting up es).agree
+suffixes_refine group z count acting up es = stands_for (run es (start group z count acting up)) (whole_run es (whole_start group z count acting up)) (reached_locked group z count acting up es).agree
