@@ -20,4 +20,5 @@ pub mod Hearing
 pub mod Events
 pub mod Standing
 pub mod Keeping
+pub mod Holding
 pub mod Fitting

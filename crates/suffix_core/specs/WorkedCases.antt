@@ -5,7 +5,7 @@ use Rattle.std.specs.Option.{option_map}
 use Rattle.entry_core.specs.Request.{Sealed}
 use Rattle.entry_core.specs.Log.{ids}
 use Rattle.entry_core.specs.declared.sealed.GroupId.{GroupId}
-use Rattle.group_core.specs.Group.{Event, Submit, Deliver, Lose, NewInterval}
+use Rattle.group_core.specs.Group.{Event, Submit, Deliver, Lose, NewInterval, Kick}
 use Rattle.suffix_core.specs.Types.{Osd, Query, Info, Install, Sent, Copy}
 use Rattle.suffix_core.specs.Group.{Group, group_step, run, start}
 
@@ -88,3 +88,12 @@ IsHalfDone group s =
     (log_ids (half_chosen group s) 0 ≡ Some (2 ∷ [])) ×
     IsSent (half_chosen group s) 3 (record { from = Osd 0; to = Osd 1; body = Install 5 1 [] }) ×
     IsSent (half_chosen group s) 4 (record { from = Osd 0; to = Osd 2; body = Install 5 1 [] })
+
+-- kicked while it peers, and while it installs
+
+abbrev pub IsSentAgain : GroupId → Sealed → Type 0
+IsSentAgain group s =
+    IsSent (run (Kick ∷ []) (five_asked group s)) 6 (record { from = Osd 1; to = Osd 2; body = Query 2 5 (Some 5) }) ×
+    IsSent (run (Kick ∷ []) (five_chosen group s)) 5 (record { from = Osd 1; to = Osd 2; body = Install 2 5 [] }) ×
+    IsSent (run (Kick ∷ []) (half_chosen group s)) 8 (record { from = Osd 0; to = Osd 1; body = Install 5 1 [] }) ×
+    IsSent (run (Kick ∷ []) (half_chosen group s)) 9 (record { from = Osd 0; to = Osd 2; body = Install 5 1 [] })

@@ -2,8 +2,8 @@
 
 ghost use Rattle.entry_core.specs.declared.sealed.GroupId.{GroupId};
 ghost use Rattle.entry_core.specs.Request.{Sealed};
-ghost use Rattle.suffix_core.specs.Laws.{FitAnswersTrue, PromisesAreKept, SuffixesRefineWholeLogs};
-ghost use Rattle.suffix_core.specs.WorkedCases.{IsAllThere, IsHalfDone};
+ghost use Rattle.suffix_core.specs.Laws.{DecidedIsHeld, FitAnswersTrue, PromisesAreKept, SuffixesRefineWholeLogs};
+ghost use Rattle.suffix_core.specs.WorkedCases.{IsAllThere, IsHalfDone, IsSentAgain};
 
 /// Whatever is submitted, delivered, lost, repeated, moved, restarted or kicked, in whatever order: a group whose peering sends
 /// suffixes stands for the group whose peering sends whole logs and to which the same happened. Intervals, requests, answers
@@ -19,14 +19,17 @@ pub fn fit_answers_true()
 {}
 
 /// No event lowers a copy's promise or its base. A copy drops no more than the last entry of its log, and none that it showed to
-/// be decided. What was decided only grows.
+/// be decided. What was decided only grows, and each answer is a reply of it. All but the last entry of any log was decided; and
+/// where an active copy is the latest, what was decided begins the log of each member of its interval.
 pub fn promises_are_kept()
-    ensures { PromisesAreKept }
+    ensures keeps { PromisesAreKept }
+    ensures holds { DecidedIsHeld }
 {}
 
-/// Worked cases, by computation: copies that have everything send no request, and peerings that were left half done send the one
-/// that is missing.
+/// Worked cases, by computation: copies that have everything send no request, peerings that were left half done send the one that
+/// is missing, and a kick sends the same again.
 pub fn worked_cases()
     ensures all_there { (group : GroupId) (s : Sealed) → IsAllThere group s }
     ensures half_done { (group : GroupId) (s : Sealed) → IsHalfDone group s }
+    ensures kicked { (group : GroupId) (s : Sealed) → IsSentAgain group s }
 {}

@@ -5,4 +5,5 @@ pub returns : goal.returns
 returns c = record {
   all_there = λ group s. (refl, refl, refl, refl, refl);
   half_done = λ group s. (refl, refl, refl, refl, refl, refl, refl, refl);
+  kicked = λ group s. (refl, refl, refl, refl);
 }
