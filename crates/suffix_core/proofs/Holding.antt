@@ -15,7 +15,7 @@ use Rattle.group_core.proofs.Fronts.{but_last-begins}
 use Rattle.group_core.proofs.Groups.{Good, replicated}
 use Rattle.group_core.proofs.Prefixes.{Begins-trans}
 use Rattle.suffix_core.specs.Types.{Role, Active, Copy}
-use Rattle.suffix_core.specs.Rules.{others}
+use Rattle.suffix_core.specs.ActingSets.{others}
 use Rattle.suffix_core.specs.Group.{Group, run, start}
 use Rattle.suffix_core.specs.Standing.{Both}
 use Rattle.suffix_core.specs.Laws.{IsLatest, GroupHolds, DecidedIsHeld}

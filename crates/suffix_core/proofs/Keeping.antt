@@ -22,7 +22,9 @@ use Rattle.group_core.proofs.Prefixes.{Begins-trans, Begins-refl, Begins-nil, Be
 use Rattle.group_core.proofs.Rules.{After, comes_after}
 use Rattle.group_core.proofs.Stable.{IsSettled-stays}
 use Rattle.suffix_core.specs.Types.{Role, Idle, Peering, Installing, Active, Body, Interval, Query, Info, Install, Installed, Append, Appended, Request, Reply, NotHere, Sent, Copy}
-use Rattle.suffix_core.specs.Rules.{Stepped, decided_by, restarted, copy_step, on_body}
+use Rattle.suffix_core.specs.Steps.{Stepped, restarted}
+use Rattle.suffix_core.specs.Decided.{decided_by}
+use Rattle.suffix_core.specs.Rules.{copy_step, on_body}
 use Rattle.suffix_core.specs.Group.{Group, steps, answered, copy_hears, arrives, without, deliver, lose, again, has_all_requests, has_all_intervals, take_request, begin, with_up, new_interval, restart, group_step, run, start}
 use Rattle.suffix_core.specs.Laws.{CopyKeeps, GroupKeeps, PromisesAreKept}
 use Rattle.suffix_core.proofs.Agreeing.{BodyAgrees, SentAgrees, CopyAgrees, StepAgrees, whole}

@@ -22,7 +22,10 @@ use Rattle.group_core.proofs.Changes.{put, promise_sound}
 use Rattle.group_core.proofs.Leading.{IsLeading, Leading, serve_leads}
 use Rattle.group_core.proofs.Rules.{StateOk-promise}
 use Rattle.suffix_core.specs.Types.{Query, Sent, Offer, Role, Idle, Peering, Installing, Active, Copy}
-use Rattle.suffix_core.specs.Rules.{Stepped, still, send, others, asked, best, own_offer, is_informed, can_choose, fit_chosen, try_choice, query, queries, learn_sets, leads, lead, on_interval, on_info_as, on_info}
+use Rattle.suffix_core.specs.Steps.{Stepped, still, send}
+use Rattle.suffix_core.specs.ActingSets.{others, asked}
+use Rattle.suffix_core.specs.Choice.{best, own_offer, is_informed, can_choose}
+use Rattle.suffix_core.specs.Rules.{fit_chosen, try_choice, query, queries, learn_sets, leads, lead, on_interval, on_info_as, on_info}
 use Rattle.suffix_core.specs.Standing.{Both}
 use Rattle.suffix_core.specs.Fits.{Fit, choice_fit, info_fit_as}
 use Rattle.suffix_core.proofs.Agreeing.{Past, InfoAgrees, ToldAgrees, QueryAgrees, OfferAgrees, SentAgrees, RoleAgrees, CopyAgrees, StepAgrees, whole}

@@ -12,7 +12,11 @@ use Rattle.peer_core.specs.Copy.{waits as whole_waits, busy_request as whole_bus
 use Rattle.group_core.specs.Types.{PeerInfo, Role as WholeRole, Idle as WholeIdle, Peering as WholePeering, Installing as WholeInstalling, Active as WholeActive, Daemon, Append as WholeAppend, Appended as WholeAppended, Party, Osd, Client, Sent as WholeSent}
 use Rattle.group_core.specs.History.{History}
 use Rattle.suffix_core.specs.Types.{Append, Appended, Sent, Offer, Role, Idle, Peering, Installing, Active, Copy}
-use Rattle.suffix_core.specs.Rules.{Stepped, still, send, others, with_entry, reply_with, append_to, push_new, serve_one, serve, waits, busy_request, on_request_as, on_request, complete, acknowledged}
+use Rattle.suffix_core.specs.Steps.{Stepped, still, send}
+use Rattle.suffix_core.specs.ActingSets.{others}
+use Rattle.suffix_core.specs.Decided.{with_entry}
+use Rattle.suffix_core.specs.Serve.{reply_with, append_to, push_new, serve_one, serve}
+use Rattle.suffix_core.specs.Rules.{waits, busy_request, on_request_as, on_request, complete, acknowledged}
 use Rattle.suffix_core.specs.Standing.{Both}
 use Rattle.suffix_core.proofs.Agreeing.{SentAgrees, RoleAgrees, CopyAgrees, StepAgrees, whole}
 use Rattle.suffix_core.proofs.Lists.{Both-append, Both-map}

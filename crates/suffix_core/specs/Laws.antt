@@ -11,7 +11,7 @@ use Rattle.group_core.specs.Asked.{IsReplied}
 use Rattle.group_core.specs.Group.{Event, run as whole_run, start as whole_start}
 use Rattle.group_core.specs.declared.answers.Answer.{Answer}
 use Rattle.suffix_core.specs.Types.{Active, Copy}
-use Rattle.suffix_core.specs.Rules.{decided_by}
+use Rattle.suffix_core.specs.Decided.{decided_by}
 use Rattle.suffix_core.specs.Group.{Group, group_step, run, start}
 use Rattle.suffix_core.specs.Standing.{StandsFor}
 use Rattle.suffix_core.specs.Fits.{FitsAnswerTrue}
