@@ -19,6 +19,7 @@ pub mod Locked
 pub mod Hearing
 pub mod Events
 pub mod Standing
+pub mod Settling
 pub mod Keeping
 pub mod Holding
 pub mod Fitting

@@ -54,7 +54,7 @@ module _ (p : ℕ → ℕ) (h : History) where
     role = subst (λ r. SameRole c.role r) (sym (ap (λ (v : Daemon). v.role) a.is)) (role_same c.promise c.log (others c) c.role a.role a.agrees);
   }
 
-stands_for : (g : Group) (w : WholeGroup) → Agree g w → StandsFor g w
+pub stands_for : (g : Group) (w : WholeGroup) → Agree g w → StandsFor g w
 stands_for g w a = record {
   group = ap (λ (v : WholeGroup). v.group) a.is;
   min_size = ap (λ (v : WholeGroup). v.min_size) a.is;

@@ -8,11 +8,11 @@ use Rattle.peer_core.specs.ActingSets.{set_of}
 use Rattle.group_core.specs.Each.{Each}
 use Rattle.group_core.specs.History.{Begins, but_last}
 use Rattle.group_core.specs.Asked.{IsReplied}
-use Rattle.group_core.specs.Group.{Event, run as whole_run, start as whole_start}
+use Rattle.group_core.specs.Group.{Event, run as whole_run, start as whole_start, refusal_of as whole_refusal_of, settle as whole_settle, delivered as whole_delivered}
 use Rattle.group_core.specs.declared.answers.Answer.{Answer}
 use Rattle.suffix_core.specs.Types.{Active, Copy}
 use Rattle.suffix_core.specs.Decided.{decided_by}
-use Rattle.suffix_core.specs.Group.{Group, group_step, run, start}
+use Rattle.suffix_core.specs.Group.{Group, group_step, run, start, refusal_of, settle, delivered}
 use Rattle.suffix_core.specs.Standing.{StandsFor}
 use Rattle.suffix_core.specs.Fits.{FitsAnswerTrue}
 
@@ -20,6 +20,17 @@ use Rattle.suffix_core.specs.Fits.{FitsAnswerTrue}
 abbrev pub SuffixesRefineWholeLogs : Type 0
 SuffixesRefineWholeLogs = (group : GroupId) (min_size count : ℕ) (acting up : List ℕ) (events : List Event) →
     StandsFor (run events (start group min_size count acting up)) (whole_run events (whole_start group min_size count acting up))
+
+-- both refuse the same events, for the same first reason
+abbrev pub RefusesAlike : Type 0
+RefusesAlike = (group : GroupId) (min_size count : ℕ) (acting up : List ℕ) (events : List Event) (e : Event) →
+    refusal_of (run events (start group min_size count acting up)) e ≡ whole_refusal_of (whole_run events (whole_start group min_size count acting up)) e
+
+-- both settle alike, in as many deliveries
+abbrev pub SettlesAlike : Type 0
+SettlesAlike = (group : GroupId) (min_size count : ℕ) (acting up : List ℕ) (events : List Event) (n : ℕ) →
+    StandsFor (settle n (run events (start group min_size count acting up))) (whole_settle n (whole_run events (whole_start group min_size count acting up)))
+    × (delivered n (run events (start group min_size count acting up)) ≡ whole_delivered n (whole_run events (whole_start group min_size count acting up)))
 
 -- whatever happened, each log that is fitted next fits
 abbrev pub FitAnswersTrue : Type 0

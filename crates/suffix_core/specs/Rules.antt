@@ -157,13 +157,13 @@ on_installed (Active flight) c interval member = still c
 
 -- the copy acknowledges an index that it has
 abbrev pub acknowledged : Copy → Party → ℕ → ℕ → Stepped
-acknowledged c from interval place =
-    if nat_lt (length c.log) place then still c else record { copy = c; sent = send c from (Appended interval place) ∷ [] }
+acknowledged c from interval index =
+    if nat_lt (length c.log) index then still c else record { copy = c; sent = send c from (Appended interval index) ∷ [] }
 
 abbrev pub on_append : Copy → Party → ℕ → ℕ → Sealed → Stepped
-on_append c from interval place s =
+on_append c from interval index s =
     if (c.promise == interval) && (c.base == interval)
-    then (if (length c.log + 1 == place) && not (is_in (ids c.log) s.id) then acknowledged (with_entry c s) from interval place else acknowledged c from interval place)
+    then (if (length c.log + 1 == index) && not (is_in (ids c.log) s.id) then acknowledged (with_entry c s) from interval index else acknowledged c from interval index)
     else still c
 
 -- the last entry is held by every member
@@ -172,14 +172,14 @@ complete c None = serve c.waiting c
 complete c (Some e) = record { copy = (serve c.waiting c).copy; sent = reply_with c e ++ (serve c.waiting c).sent }
 
 abbrev pub on_appended : Role → Copy → ℕ → ℕ → ℕ → Stepped
-on_appended (Active (Some holders)) c interval place member =
-    if (c.promise == interval) && (place == length c.log)
+on_appended (Active (Some holders)) c interval index member =
+    if (c.promise == interval) && (index == length c.log)
     then (if all_count c (counted c holders member) then complete c (last c.log) else still (record c { role = Active (Some (counted c holders member)) }))
     else still c
-on_appended (Active None) c interval place member = still c
-on_appended Idle c interval place member = still c
-on_appended (Peering informed) c interval place member = still c
-on_appended (Installing done common) c interval place member = still c
+on_appended (Active None) c interval index member = still c
+on_appended Idle c interval index member = still c
+on_appended (Peering informed) c interval index member = still c
+on_appended (Installing done common) c interval index member = still c
 
 -- any message
 
@@ -194,8 +194,8 @@ on_body (Query interval len end) c from = on_query c from interval len end
 on_body (Info interval base start part) c from = of_daemon from (λ member. on_info c interval (record { number = member; base = base; start = start; part = part })) (still c)
 on_body (Install interval start part) c from = on_install c from interval start part
 on_body (Installed interval) c from = of_daemon from (λ member. on_installed c.role c interval member) (still c)
-on_body (Append interval place s) c from = on_append c from interval place s
-on_body (Appended interval place) c from = of_daemon from (λ member. on_appended c.role c interval place member) (still c)
+on_body (Append interval index s) c from = on_append c from interval index s
+on_body (Appended interval index) c from = of_daemon from (λ member. on_appended c.role c interval index member) (still c)
 on_body (Request s) c from = on_request c s
 on_body (Reply id reply) c from = still c
 on_body (NotHere id) c from = still c

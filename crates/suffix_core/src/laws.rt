@@ -2,15 +2,17 @@
 
 ghost use Rattle.entry_core.specs.declared.sealed.GroupId.{GroupId};
 ghost use Rattle.entry_core.specs.Request.{Sealed};
-ghost use Rattle.suffix_core.specs.Laws.{DecidedIsHeld, FitAnswersTrue, PromisesAreKept, SuffixesRefineWholeLogs};
+ghost use Rattle.suffix_core.specs.Laws.{DecidedIsHeld, FitAnswersTrue, PromisesAreKept, RefusesAlike, SettlesAlike, SuffixesRefineWholeLogs};
 ghost use Rattle.suffix_core.specs.WorkedCases.{IsAllThere, IsHalfDone, IsSentAgain};
 
 /// Whatever is submitted, delivered, lost, repeated, moved, restarted or kicked, in whatever order: a group whose peering sends
 /// suffixes stands for the group whose peering sends whole logs and to which the same happened. Intervals, requests, answers
 /// and what was decided are equal, and so are each copy's promise, base, log, kind of role and waiting requests. The messages
-/// agree one by one in kind, interval, sender and addressee.
+/// agree one by one in kind, interval, sender and addressee. Both refuse the same events, and settle in as many deliveries.
 pub fn suffixes_refine_whole_logs()
-    ensures { SuffixesRefineWholeLogs }
+    ensures stands { SuffixesRefineWholeLogs }
+    ensures refuses { RefusesAlike }
+    ensures settles { SettlesAlike }
 {}
 
 /// Each log that such a group fits to a part fits: no choice and no Install is passed over for want of entries.
