@@ -1,16 +1,15 @@
 -- At a choice the chosen part fits, and gives the log that whole logs would have given.
-use Rattle.std.proofs.Common.{ℕ, ◌≡◌, ◌≤◌, ◌<◌, ◌+◌, ◌-◌, Bool, true, false, ◌==◌, ◌&&◌, List, [], ◌∷◌, ◌++◌, length, take, drop, refl, sym, ◌∙◌, ap, subst, arith, if◌then◌else◌}
-use Rattle.std.specs.Prelude.{Option, Some, None}
-use Rattle.std.specs.List.{list_all}
+use Rattle.std.proofs.Common.{ℕ, ◌≡◌, ◌≤◌, ◌<◌, Bool, true, false, List, [], ◌∷◌, length, take, drop, refl, sym, ◌∙◌, ap, subst, arith, if◌then◌else◌}
+use Rattle.std.specs.Prelude.{Some, None}
 use Rattle.std.proofs.Math.Seq.{drop-length}
 use Rattle.entry_core.specs.Log.{Legal}
 use Rattle.entry_core.specs.Request.{Sealed}
-use Rattle.entry_core.specs.Fitting.{requests_of, part_of, decided_behind, kept, agreed, can_fit, fitted}
+use Rattle.entry_core.specs.Fitting.{requests_of, decided_behind, kept, agreed, can_fit, fitted}
 use Rattle.entry_core.specs.declared.entry.Entry.{Entry}
 use Rattle.entry_core.proofs.Fitting.{fit_gives_the_log}
-use Rattle.peer_core.specs.ActingSets.{set_of, is_primary}
+use Rattle.peer_core.specs.ActingSets.{set_of}
 use Rattle.peer_core.specs.Choice.{best as whole_best, own_offer as whole_own_offer, can_choose as whole_can_choose}
-use Rattle.group_core.specs.Types.{PeerInfo, Role as WholeRole, Daemon}
+use Rattle.group_core.specs.Types.{PeerInfo, Role as WholeRole}
 use Rattle.group_core.specs.Each.{Each}
 use Rattle.group_core.specs.Offer.{IsOffer}
 use Rattle.group_core.specs.Asked.{IsAsked, InLog}

@@ -1,5 +1,5 @@
 -- Each event keeps the two groups in step.
-use Rattle.std.proofs.Common.{ℕ, ◌≡◌, ◌≤◌, Bool, true, false, not, ◌==◌, ◌&&◌, List, [], ◌∷◌, ◌++◌, map, length, take, refl, sym, ◌∙◌, ap, subst, arith, inl, inr, ◌⊎◌, if◌then◌else◌}
+use Rattle.std.proofs.Common.{ℕ, ◌≡◌, ◌≤◌, Bool, true, false, not, ◌==◌, ◌&&◌, List, [], ◌∷◌, ◌++◌, map, take, refl, sym, ap, subst, arith, inl, inr, if◌then◌else◌}
 use Rattle.std.specs.Prelude.{Option, Some, None, slice_get, slice_set}
 use Rattle.std.specs.List.{filter, remove}
 use Rattle.std.proofs.lemmas.Bool.{cases_eq}
@@ -9,27 +9,26 @@ use Rattle.entry_core.specs.declared.entry.Entry.{Entry}
 use Rattle.entry_core.specs.declared.sealed.GroupId.{GroupId}
 use Rattle.peer_core.specs.ActingSets.{daemons}
 use Rattle.peer_core.specs.Copy.{copy_step as whole_copy_step, retransmit as whole_retransmit}
-use Rattle.peer_core.specs.Steps.{Stepped as WholeStepped, blank as whole_blank, restarted as whole_restarted}
+use Rattle.peer_core.specs.Steps.{blank as whole_blank, restarted as whole_restarted}
 use Rattle.group_core.specs.Types.{Idle as WholeIdle, Daemon, Body as WholeBody, Interval as WholeInterval, Request as WholeRequest, Sent as WholeSent, Party, Osd, Client}
 use Rattle.group_core.specs.Each.{Each}
-use Rattle.group_core.specs.Group.{Group as WholeGroup, Event, Submit, Deliver, Lose, Repeat, NewInterval, Restart, Kick, last_set, is_answered, is_submitted, same_set, to_daemon as whole_to_daemon, to_primary as whole_to_primary, steps as whole_steps, answered as whole_answered, copy_hears as whole_copy_hears, arrives as whole_arrives, without as whole_without, deliver as whole_deliver, lose as whole_lose, again as whole_again, has_all_requests as whole_has_all_requests, has_all_intervals as whole_has_all_intervals, take_request as whole_take_request, submit as whole_submit, begin as whole_begin, with_up as whole_with_up, new_interval as whole_new_interval, restart as whole_restart, retransmit_from as whole_retransmit_from, retransmit_primary as whole_retransmit_primary, kick as whole_kick, group_step as whole_group_step, run as whole_run, start as whole_start}
+use Rattle.group_core.specs.Group.{Group as WholeGroup, Event, Submit, Deliver, Lose, Repeat, NewInterval, Restart, Kick, last_set, is_answered, is_submitted, same_set, to_daemon as whole_to_daemon, to_primary as whole_to_primary, steps as whole_steps, answered as whole_answered, copy_hears as whole_copy_hears, arrives as whole_arrives, without as whole_without, deliver as whole_deliver, lose as whole_lose, again as whole_again, take_request as whole_take_request, submit as whole_submit, begin as whole_begin, with_up as whole_with_up, new_interval as whole_new_interval, restart as whole_restart, retransmit_from as whole_retransmit_from, retransmit_primary as whole_retransmit_primary, kick as whole_kick, group_step as whole_group_step, run as whole_run, start as whole_start}
 use Rattle.group_core.specs.Asked.{IsAsked, InLog, InCopy, InBody}
 use Rattle.group_core.specs.declared.answers.Answer.{Answer}
-use Rattle.group_core.specs.History.{History, IsSound, but_last}
+use Rattle.group_core.specs.History.{History, IsSound}
 use Rattle.group_core.proofs.Eaches.{Each-get, Each-map_all}
-use Rattle.group_core.proofs.Invariant.{IsKnown, CopyOk, SentOk}
-use Rattle.group_core.proofs.Longer.{IsKnown-all}
-use Rattle.group_core.proofs.Groups.{Good, step_good, run_good, start_good, empty_good}
+use Rattle.group_core.proofs.Invariant.{CopyOk, SentOk}
+use Rattle.group_core.proofs.Groups.{Good, step_good, start_good, empty_good}
 use Rattle.group_core.proofs.Kept.{Kept, run_kept, start_kept}
 use Rattle.suffix_core.specs.Types.{Body, Interval, Query, Info, Install, Installed, Append, Appended, Request, Reply, NotHere, Sent, Copy}
-use Rattle.suffix_core.specs.Steps.{Stepped, blank, restarted}
+use Rattle.suffix_core.specs.Steps.{blank, restarted}
 use Rattle.suffix_core.specs.Rules.{copy_step, retransmit}
-use Rattle.suffix_core.specs.Group.{Group, to_daemon, to_primary, steps, answered, copy_hears, arrives, without, deliver, lose, again, has_all_requests, has_all_intervals, take_request, submit, resent, announced, begin, with_up, new_interval, restart, retransmit_from, retransmit_primary, kick, group_step, run, start}
+use Rattle.suffix_core.specs.Group.{Group, to_daemon, to_primary, steps, answered, copy_hears, arrives, without, deliver, lose, again, has_all_requests, has_all_intervals, take_request, submit, announced, begin, with_up, new_interval, restart, retransmit_from, retransmit_primary, kick, group_step, run, start}
 use Rattle.suffix_core.specs.Standing.{Both}
-use Rattle.suffix_core.proofs.Agreeing.{BodyAgrees, SentAgrees, CopyAgrees, whole}
+use Rattle.suffix_core.proofs.Agreeing.{BodyAgrees, SentAgrees, CopyAgrees}
 use Rattle.suffix_core.proofs.Lists.{IfBoth, Both-get, Both-map}
 use Rattle.suffix_core.proofs.Kicks.{kicked_ok, kick_agrees}
-use Rattle.suffix_core.proofs.Locked.{Facts, twin, Agree, agree_if, primary_agrees, primary_ok, facts_more, facts_without, facts_request, facts_longer, facts_restarts}
+use Rattle.suffix_core.proofs.Locked.{twin, Agree, agree_if, primary_agrees, primary_ok, facts_more, facts_without, facts_request, facts_longer, facts_restarts}
 use Rattle.suffix_core.proofs.Hearing.{Heard, heard}
 
 -- requests
@@ -176,10 +175,9 @@ retransmitted g ws ms a None (Some w) d is agrees = absurd agrees
 retransmitted g ws ms a (Some c) None d is agrees = absurd agrees
 retransmitted g ws ms a (Some c) (Some w) d is agrees =
     let f = a.facts in
-    let ok = f.copies_ok d w is in
-    (
+    let ok = f.copies_ok d w is in (
       subst (λ v. Both (SentAgrees f.promise f.h) (retransmit c) (whole_retransmit v)) (sym agrees.is)
-      (kick_agrees g.min_size g.sets f.promise f.h d c agrees.role (subst (λ v. CopyOk g.min_size g.sets f.promise f.h d v) agrees.is ok) c.role agrees.agrees),
+          (kick_agrees g.min_size g.sets f.promise f.h d c agrees.role (subst (λ v. CopyOk g.min_size g.sets f.promise f.h d v) agrees.is ok) c.role agrees.agrees),
       kicked_ok g.min_size g.sets f.promise f.h d w w.role ok.state ok.role,
     )
 

@@ -1,5 +1,5 @@
 -- Fitting a part of the chosen log to the log that a member had gives the chosen log.
-use Rattle.std.proofs.Common.{ℕ, ◌≡◌, ◌≤◌, ◌<◌, ◌-◌, List, [], ◌++◌, length, take, drop, refl, sym, ◌∙◌, ap, subst, arith, inl, inr, ◌⊎◌, append-nil}
+use Rattle.std.proofs.Common.{ℕ, ◌≡◌, ◌≤◌, ◌-◌, List, [], ◌++◌, length, take, drop, sym, ◌∙◌, ap, subst, arith, inl, inr, ◌⊎◌, append-nil}
 use Rattle.std.specs.Prelude.{Some}
 use Rattle.std.proofs.lemmas.List.{length-take-le, length-drop, take-append-drop}
 use Rattle.std.proofs.Math.Seq.{take-length}
@@ -8,7 +8,7 @@ use Rattle.entry_core.specs.Request.{Sealed}
 use Rattle.entry_core.specs.declared.entry.Entry.{Entry}
 use Rattle.group_core.specs.History.{Begins, History, IsSound, but_last}
 use Rattle.group_core.proofs.Fronts.{settled_begins}
-use Rattle.entry_core.specs.Fitting.{part_of, fitted}
+use Rattle.entry_core.specs.Fitting.{fitted}
 use Rattle.entry_core.specs.FittingLaws.{SameNext, NearlyBegins}
 use Rattle.entry_core.proofs.Fitting.{fit_gives_the_log}
 use Rattle.suffix_core.proofs.Agreeing.{Past, IsPart}
@@ -34,19 +34,19 @@ nearly mine log start part begins is next =
         same = next (but_last mine) (drop (length mine - 1) mine) begins.rest (take-append-drop (length mine - 1) mine) begins.whole;
       }
       | inr whole ↦ (
-        let all : start ≡ length mine = omega (arith, is.within) in
-        let first : take start mine ≡ mine = ap (λ k. take k mine) all ∙ take-length mine in
-        let front : take start log ≡ mine = sym is.same ∙ first in
-        record {
-          front = mine;
-          last = [];
-          behind = drop start log;
-          mine_is = append-nil mine;
-          other_is = subst (λ l. l ++ drop start log ≡ log) front (take-append-drop start log);
-          one = omega arith;
-          within = is.within;
-          same = tt;
-        })
+          let all : start ≡ length mine = omega (arith, is.within) in
+          let first : take start mine ≡ mine = ap (λ k. take k mine) all ∙ take-length mine in
+          let front : take start log ≡ mine = sym is.same ∙ first in
+          record {
+            front = mine;
+            last = [];
+            behind = drop start log;
+            mine_is = append-nil mine;
+            other_is = subst (λ l. l ++ drop start log ≡ log) front (take-append-drop start log);
+            one = omega arith;
+            within = is.within;
+            same = tt;
+          })
     ]
 
 -- so `fit` answers true at an Install, and gives the log that the whole one would have brought

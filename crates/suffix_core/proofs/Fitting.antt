@@ -1,5 +1,5 @@
 -- Each log that a step fits to a part fits.
-use Rattle.std.proofs.Common.{ℕ, ◌≡◌, ◌≤◌, ◌<◌, Bool, true, false, nat_lt, List, [], ◌∷◌, length, refl, sym, ap, subst, if◌then◌else◌}
+use Rattle.std.proofs.Common.{ℕ, ◌≡◌, Bool, true, false, nat_lt, List, length, refl, subst, if◌then◌else◌}
 use Rattle.std.specs.Prelude.{Option, Some, None, slice_get}
 use Rattle.std.proofs.lemmas.Bool.{ltb-true, ltb-false}
 use Rattle.entry_core.specs.Request.{Sealed}
@@ -10,18 +10,18 @@ use Rattle.group_core.specs.Group.{run as whole_run, start as whole_start}
 use Rattle.group_core.specs.History.{History, IsSound}
 use Rattle.group_core.proofs.Eaches.{Each-get}
 use Rattle.group_core.proofs.Invariant.{CopyOk, BodyOk, SentOk}
-use Rattle.suffix_core.specs.Types.{Body, Interval, Query, Info, Install, Installed, Append, Appended, Request, Reply, NotHere, Sent, Role, Copy}
+use Rattle.suffix_core.specs.Types.{Body, Interval, Query, Info, Install, Installed, Append, Appended, Request, Reply, NotHere, Sent, Copy}
 use Rattle.suffix_core.specs.ActingSets.{others}
 use Rattle.suffix_core.specs.Group.{Group, run, start}
 use Rattle.suffix_core.specs.Fits.{Fit, info_fit_as, info_fit, install_fit, fit_at, FitsAnswerTrue}
 use Rattle.suffix_core.specs.Laws.{FitAnswersTrue}
-use Rattle.suffix_core.proofs.Agreeing.{BodyAgrees, SentAgrees, RoleAgrees, CopyAgrees, InfoStands, InstallAgrees, whole}
+use Rattle.suffix_core.proofs.Agreeing.{BodyAgrees, SentAgrees, RoleAgrees, CopyAgrees, whole}
 use Rattle.suffix_core.proofs.Lists.{IfBoth, Both-get}
 use Rattle.suffix_core.proofs.Choosing.{can_fit_by}
 use Rattle.suffix_core.proofs.Peering.{info_fits}
 use Rattle.suffix_core.proofs.Intervals.{interval_fits}
 use Rattle.suffix_core.proofs.Members.{install_fits}
-use Rattle.suffix_core.proofs.Locked.{Facts, Agree}
+use Rattle.suffix_core.proofs.Locked.{Facts}
 use Rattle.suffix_core.proofs.Events.{reached_locked}
 
 module _ (requests : List Sealed) (z : ℕ) (sets : List (List ℕ)) (d : ℕ) (p : ℕ → ℕ) (h : History) (sound : IsSound p z sets h) (asks : (n : ℕ) → InLog (IsAsked requests) (h.grown n))

@@ -1,6 +1,6 @@
 -- A copy of each group hears a message.
-use Rattle.std.proofs.Common.{ℕ, ◌≡◌, true, List, [], ◌∷◌, ◌++◌, refl, sym, ◌∙◌, ap, subst, inl, inr, ◌⊎◌}
-use Rattle.std.specs.Prelude.{Option, Some, None, slice_get, slice_set}
+use Rattle.std.proofs.Common.{ℕ, ◌≡◌, List, ◌++◌, sym, ◌∙◌, ap, subst, inl, inr}
+use Rattle.std.specs.Prelude.{Some, slice_get, slice_set}
 use Rattle.std.proofs.lemmas.Bool.{cases_eq}
 use Rattle.entry_core.specs.Request.{Sealed}
 use Rattle.entry_core.specs.declared.entry.Entry.{Entry}
@@ -8,10 +8,9 @@ use Rattle.peer_core.specs.Copy.{on_body as whole_on_body}
 use Rattle.peer_core.specs.Decided.{decided_by as whole_decided_by}
 use Rattle.peer_core.specs.Steps.{Stepped as WholeStepped}
 use Rattle.group_core.specs.Types.{Role as WholeRole, Idle as WholeIdle, Peering as WholePeering, Installing as WholeInstalling, Active as WholeActive, Daemon, Body as WholeBody, Sent as WholeSent, Party, Osd}
-use Rattle.group_core.specs.Each.{Each}
 use Rattle.group_core.specs.Asked.{IsAsked, InLog, InCopy, InBody}
-use Rattle.group_core.specs.History.{History, IsSound}
-use Rattle.group_core.proofs.Asks.{InStep, comes_in}
+use Rattle.group_core.specs.History.{History}
+use Rattle.group_core.proofs.Asks.{comes_in}
 use Rattle.group_core.proofs.Eaches.{Each-append, Each-weaker}
 use Rattle.group_core.proofs.Invariant.{RoleOk, CopyOk, BodyOk, SentOk}
 use Rattle.group_core.proofs.Leading.{IsLeading}
@@ -23,8 +22,7 @@ use Rattle.suffix_core.specs.Steps.{Stepped}
 use Rattle.suffix_core.specs.ActingSets.{others}
 use Rattle.suffix_core.specs.Decided.{decided_by}
 use Rattle.suffix_core.specs.Rules.{on_body}
-use Rattle.suffix_core.specs.Standing.{Both}
-use Rattle.suffix_core.proofs.Agreeing.{BodyAgrees, SentAgrees, RoleAgrees, CopyAgrees, StepAgrees, whole}
+use Rattle.suffix_core.proofs.Agreeing.{BodyAgrees, SentAgrees, RoleAgrees, CopyAgrees, StepAgrees}
 use Rattle.suffix_core.proofs.Lists.{Both-append, Both-set, Both-weaker}
 use Rattle.suffix_core.proofs.Pasts.{Past-stays, unchosen_before}
 use Rattle.suffix_core.proofs.Stays.{SentAgrees-stays, CopyAgrees-stays}

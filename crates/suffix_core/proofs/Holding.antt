@@ -2,9 +2,8 @@
 use Rattle.std.proofs.Common.{ℕ, ◌≡◌, ◌≤◌, true, List, refl, sym, ◌∙◌, ap, subst}
 use Rattle.std.specs.Prelude.{Option, Some, None, slice_get}
 use Rattle.entry_core.specs.Log.{is_in}
-use Rattle.entry_core.specs.declared.entry.Entry.{Entry}
 use Rattle.peer_core.specs.ActingSets.{set_of}
-use Rattle.group_core.specs.Types.{Role as WholeRole, Active as WholeActive, Daemon}
+use Rattle.group_core.specs.Types.{Active as WholeActive, Daemon}
 use Rattle.group_core.specs.Each.{Each}
 use Rattle.group_core.specs.Group.{Group as WholeGroup, run as whole_run, start as whole_start}
 use Rattle.group_core.specs.Asked.{IsReplied}
@@ -12,9 +11,9 @@ use Rattle.group_core.specs.History.{Begins, History, but_last}
 use Rattle.group_core.specs.Replicated.{IsLatest as IsWholeLatest}
 use Rattle.group_core.specs.declared.answers.Answer.{Answer}
 use Rattle.group_core.proofs.Fronts.{but_last-begins}
-use Rattle.group_core.proofs.Groups.{Good, replicated}
+use Rattle.group_core.proofs.Groups.{replicated}
 use Rattle.group_core.proofs.Prefixes.{Begins-trans}
-use Rattle.suffix_core.specs.Types.{Role, Active, Copy}
+use Rattle.suffix_core.specs.Types.{Active, Copy}
 use Rattle.suffix_core.specs.ActingSets.{others}
 use Rattle.suffix_core.specs.Group.{Group, run, start}
 use Rattle.suffix_core.specs.Standing.{Both}

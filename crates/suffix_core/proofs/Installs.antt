@@ -1,21 +1,20 @@
 -- What a choice sends to each member agrees.
-use Rattle.std.proofs.Common.{ℕ, ◌≡◌, ◌≤◌, ◌<◌, Bool, true, false, not, ◌==◌, ◌||◌, ◌&&◌, List, [], ◌∷◌, ◌++◌, map, length, take, refl, sym, ◌∙◌, ap, subst, arith, inl, inr, ◌⊎◌, if◌then◌else◌}
-use Rattle.std.specs.Prelude.{Option, Some, None}
+use Rattle.std.proofs.Common.{ℕ, ◌≡◌, Bool, true, false, not, ◌==◌, ◌||◌, List, [], ◌∷◌, ◌++◌, map, refl, sym, ◌∙◌, ap, subst, inl, inr, if◌then◌else◌}
+use Rattle.std.specs.Prelude.{None}
 use Rattle.std.specs.List.{list_any, list_all}
-use Rattle.std.proofs.lemmas.Bool.{eq-eqb, eqb-true, and_parts, or_cases, not-true, both_ways}
+use Rattle.std.proofs.lemmas.Bool.{eqb-true, and_parts, or_cases, not-true, both_ways}
 use Rattle.entry_core.specs.Log.{Legal, ids, is_in}
 use Rattle.entry_core.specs.Request.{Sealed}
 use Rattle.entry_core.specs.Fitting.{part_of}
 use Rattle.entry_core.specs.declared.entry.Entry.{Entry}
 use Rattle.peer_core.specs.ActingSets.{set_of}
-use Rattle.peer_core.specs.Choice.{is_informed as whole_is_informed}
 use Rattle.peer_core.specs.Copy.{install_chosen as whole_install_chosen}
 use Rattle.peer_core.specs.Steps.{send as whole_send}
 use Rattle.group_core.specs.Types.{PeerInfo, Role as WholeRole, Installing as WholeInstalling, Active as WholeActive, Install as WholeInstall, Osd}
 use Rattle.group_core.specs.Each.{Each}
 use Rattle.group_core.specs.Asked.{IsAsked, InLog}
 use Rattle.group_core.specs.History.{History}
-use Rattle.suffix_core.specs.Types.{Offer, Common, Installing, Active, Copy}
+use Rattle.suffix_core.specs.Types.{Offer, Active, Copy}
 use Rattle.suffix_core.specs.ActingSets.{others}
 use Rattle.suffix_core.specs.Beginnings.{told_ids, common, common_of, count_at}
 use Rattle.suffix_core.specs.Rules.{install_from, install_chosen}

@@ -1,42 +1,33 @@
 -- The Interval rule agrees: a copy that leads asks every other daemon.
-use Rattle.std.proofs.Common.{ℕ, ◌≡◌, ◌≤◌, ◌<◌, Bool, true, false, not, ◌==◌, ◌&&◌, nat_lt, List, [], ◌∷◌, ◌++◌, map, length, take, refl, sym, ◌∙◌, ap, subst, arith, inl, inr, ◌⊎◌, if◌then◌else◌}
+use Rattle.std.proofs.Common.{ℕ, ◌≡◌, ◌≤◌, ◌<◌, Bool, true, false, not, ◌&&◌, nat_lt, List, [], ◌∷◌, length, refl, sym, subst, arith, if◌then◌else◌}
 use Rattle.std.specs.Prelude.{Option, Some, None}
-use Rattle.std.specs.List.{list_any, list_all}
-use Rattle.std.proofs.lemmas.Bool.{cases_eq, eqb-true, ltb-true, ltb-false, and_parts, not-true}
-use Rattle.entry_core.specs.Log.{is_in}
+use Rattle.std.proofs.lemmas.Bool.{ltb-true, ltb-false, and_parts, not-true}
 use Rattle.entry_core.specs.Request.{Sealed}
-use Rattle.entry_core.specs.Fitting.{can_fit, last_id}
+use Rattle.entry_core.specs.Fitting.{can_fit}
 use Rattle.entry_core.specs.declared.entry.Entry.{Entry}
-use Rattle.peer_core.specs.ActingSets.{set_of, is_primary, others as whole_others, asked as whole_asked}
-use Rattle.peer_core.specs.Choice.{best as whole_best, own_offer as whole_own_offer, is_informed as whole_is_informed, can_choose as whole_can_choose, covers}
-use Rattle.peer_core.specs.Copy.{install_chosen as whole_install_chosen, try_choice as whole_try_choice, queries as whole_queries, learn_sets as whole_learn_sets, leads as whole_leads, lead as whole_lead, on_interval as whole_on_interval, on_info as whole_on_info}
+use Rattle.peer_core.specs.ActingSets.{set_of, is_primary, others as whole_others}
+use Rattle.peer_core.specs.Choice.{best as whole_best, own_offer as whole_own_offer, can_choose as whole_can_choose}
+use Rattle.peer_core.specs.Copy.{install_chosen as whole_install_chosen, try_choice as whole_try_choice, queries as whole_queries, learn_sets as whole_learn_sets, lead as whole_lead, on_interval as whole_on_interval}
 use Rattle.peer_core.specs.Steps.{still as whole_still, send as whole_send}
-use Rattle.group_core.specs.Types.{PeerInfo, Role as WholeRole, Idle as WholeIdle, Peering as WholePeering, Installing as WholeInstalling, Active as WholeActive, Daemon, Query as WholeQuery, Osd}
-use Rattle.group_core.specs.Each.{Each}
-use Rattle.group_core.specs.Offer.{IsTold, IsOffer}
+use Rattle.group_core.specs.Types.{Role as WholeRole, Idle as WholeIdle, Peering as WholePeering, Installing as WholeInstalling, Active as WholeActive, Daemon, Query as WholeQuery, Osd}
 use Rattle.group_core.specs.Asked.{IsAsked, InLog}
 use Rattle.group_core.specs.History.{History, IsSound}
-use Rattle.group_core.proofs.Eaches.{Each-push}
 use Rattle.group_core.proofs.Invariant.{IsKnown, Leads, RoleOk, StateOk, CopyOk}
 use Rattle.group_core.proofs.Changes.{put, promise_sound}
 use Rattle.group_core.proofs.Leading.{IsLeading, Leading, serve_leads}
 use Rattle.group_core.proofs.Rules.{StateOk-promise}
-use Rattle.suffix_core.specs.Types.{Query, Sent, Offer, Role, Idle, Peering, Installing, Active, Copy}
-use Rattle.suffix_core.specs.Steps.{Stepped, still, send}
-use Rattle.suffix_core.specs.ActingSets.{others, asked}
-use Rattle.suffix_core.specs.Choice.{best, own_offer, is_informed, can_choose}
-use Rattle.suffix_core.specs.Rules.{fit_chosen, try_choice, query, queries, learn_sets, leads, lead, on_interval, on_info_as, on_info}
+use Rattle.suffix_core.specs.Types.{Copy}
+use Rattle.suffix_core.specs.Steps.{still, send}
+use Rattle.suffix_core.specs.ActingSets.{asked}
+use Rattle.suffix_core.specs.Rules.{try_choice, query, queries, learn_sets, leads, lead, on_interval}
 use Rattle.suffix_core.specs.Standing.{Both}
 use Rattle.suffix_core.specs.Fits.{Fit, choice_fit, interval_fit}
-use Rattle.suffix_core.proofs.Agreeing.{Past, InfoAgrees, ToldAgrees, QueryAgrees, OfferAgrees, SentAgrees, RoleAgrees, CopyAgrees, StepAgrees, whole}
-use Rattle.suffix_core.proofs.Lists.{Both-append, Both-push, Both-map}
-use Rattle.suffix_core.proofs.Pasts.{past_unique, past_of_state}
-use Rattle.suffix_core.proofs.Stays.{Offers-stay, RoleAgrees-stays}
+use Rattle.suffix_core.proofs.Agreeing.{Past, SentAgrees, CopyAgrees, StepAgrees, whole}
+use Rattle.suffix_core.proofs.Lists.{Both-append, Both-map}
+use Rattle.suffix_core.proofs.Pasts.{past_of_state}
 use Rattle.suffix_core.proofs.Queries.{base_before}
-use Rattle.suffix_core.proofs.Offers.{informed_same}
 use Rattle.suffix_core.proofs.Peering.{try_agrees}
 use Rattle.suffix_core.proofs.Choosing.{choice_can_fit}
-use Rattle.suffix_core.proofs.Installs.{heard_other, member_install, install_agrees}
 
 -- a copy that has chosen shows that its interval has
 leading_chosen : (z : ℕ) (sets : List (List ℕ)) (p : ℕ → ℕ) (h : History) (d : ℕ) (c : Daemon) (r : WholeRole) → StateOk z sets p h d c → RoleOk z sets p h d c r → IsLeading r → h.chosen c.promise ≡ None → ⊥

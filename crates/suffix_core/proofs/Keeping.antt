@@ -1,35 +1,31 @@
 -- What a copy promised and showed to be decided it keeps.
-use Rattle.std.proofs.Common.{ℕ, zero, suc, ◌≡◌, ◌≤◌, ◌<◌, ◌-◌, Bool, true, false, not, ◌==◌, ◌&&◌, List, [], ◌∷◌, ◌++◌, map, length, take, refl, sym, ◌∙◌, ap, subst, arith, inl, inr, ◌⊎◌, if◌then◌else◌}
+use Rattle.std.proofs.Common.{ℕ, ◌≡◌, ◌≤◌, ◌<◌, ◌-◌, Bool, true, false, not, ◌==◌, ◌&&◌, List, [], ◌∷◌, ◌++◌, map, length, refl, sym, ◌∙◌, ap, subst, arith, inl, inr, ◌⊎◌, if◌then◌else◌}
 use Rattle.std.specs.Prelude.{Option, Some, None, slice_get, slice_set}
-use Rattle.std.specs.List.{remove}
 use Rattle.std.proofs.lemmas.Bool.{cases_eq}
 use Rattle.entry_core.specs.Log.{is_in}
-use Rattle.entry_core.specs.Request.{Sealed}
 use Rattle.entry_core.specs.declared.entry.Entry.{Entry}
 use Rattle.peer_core.specs.Copy.{on_body as whole_on_body}
 use Rattle.peer_core.specs.Decided.{decided_by as whole_decided_by}
 use Rattle.group_core.specs.Types.{Role as WholeRole, Idle as WholeIdle, Peering as WholePeering, Installing as WholeInstalling, Active as WholeActive, Daemon, Sent as WholeSent, Party, Osd, Client}
 use Rattle.group_core.specs.Each.{Each}
 use Rattle.group_core.specs.Group.{Group as WholeGroup, Event, Submit, Deliver, Lose, Repeat, NewInterval, Restart, Kick, last_set, is_answered, is_submitted, same_set, group_step as whole_group_step, run as whole_run, start as whole_start}
-use Rattle.group_core.specs.Asked.{IsAsked, InLog, InCopy, InBody}
+use Rattle.group_core.specs.Asked.{IsAsked, InCopy, InBody}
 use Rattle.group_core.specs.History.{Begins, History, Held, IsSound, but_last, IsSettled}
 use Rattle.group_core.proofs.Eaches.{Each-get}
 use Rattle.group_core.proofs.Fronts.{but_last-begins, IsSettled-shorter, settled_begins}
 use Rattle.group_core.proofs.Groups.{get-set_same, get-set_other, get-map, audit_grows}
-use Rattle.group_core.proofs.Invariant.{AllHold, RoleOk, StateOk, CopyOk, BodyOk, SentOk, Extends}
-use Rattle.group_core.proofs.Kept.{Kept}
-use Rattle.group_core.proofs.Prefixes.{Begins-trans, Begins-refl, Begins-nil, Begins-take, Begins-compare, Begins-length}
-use Rattle.group_core.proofs.Rules.{After, comes_after}
+use Rattle.group_core.proofs.Invariant.{RoleOk, StateOk, CopyOk, SentOk, Extends}
+use Rattle.group_core.proofs.Prefixes.{Begins-trans, Begins-refl, Begins-nil, Begins-take, Begins-compare}
 use Rattle.group_core.proofs.Stable.{IsSettled-stays}
 use Rattle.suffix_core.specs.Types.{Role, Idle, Peering, Installing, Active, Body, Interval, Query, Info, Install, Installed, Append, Appended, Request, Reply, NotHere, Sent, Copy}
-use Rattle.suffix_core.specs.Steps.{Stepped, restarted}
+use Rattle.suffix_core.specs.Steps.{restarted}
 use Rattle.suffix_core.specs.Decided.{decided_by}
-use Rattle.suffix_core.specs.Rules.{copy_step, on_body}
-use Rattle.suffix_core.specs.Group.{Group, steps, answered, copy_hears, arrives, without, deliver, lose, again, has_all_requests, has_all_intervals, take_request, begin, with_up, new_interval, restart, group_step, run, start}
+use Rattle.suffix_core.specs.Rules.{on_body}
+use Rattle.suffix_core.specs.Group.{Group, answered, copy_hears, arrives, without, deliver, lose, again, has_all_requests, has_all_intervals, take_request, begin, with_up, group_step, run, start}
 use Rattle.suffix_core.specs.Laws.{CopyKeeps, GroupKeeps, PromisesAreKept}
-use Rattle.suffix_core.proofs.Agreeing.{BodyAgrees, SentAgrees, CopyAgrees, StepAgrees, whole}
+use Rattle.suffix_core.proofs.Agreeing.{BodyAgrees, SentAgrees, CopyAgrees}
 use Rattle.suffix_core.proofs.Lists.{IfBoth, Both-get}
-use Rattle.suffix_core.proofs.Locked.{Facts, Agree}
+use Rattle.suffix_core.proofs.Locked.{Facts}
 use Rattle.suffix_core.proofs.Hearing.{shown_same, after, step}
 use Rattle.suffix_core.proofs.Events.{Lock, step_locked, reached_locked}
 

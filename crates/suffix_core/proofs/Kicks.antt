@@ -1,9 +1,8 @@
 -- What a copy sends again agrees, and is known to the history.
-use Rattle.std.proofs.Common.{ℕ, ◌≡◌, ◌≤◌, ◌+◌, Bool, true, false, not, List, [], ◌∷◌, ◌++◌, map, length, refl, sym, ◌∙◌, ap, subst, arith, length-append}
+use Rattle.std.proofs.Common.{ℕ, ◌≡◌, not, List, [], ◌∷◌, map, length, refl, sym, ◌∙◌, ap, subst, arith, length-append}
 use Rattle.std.specs.Prelude.{Option, Some, None}
 use Rattle.std.specs.List.{filter}
 use Rattle.entry_core.specs.Log.{is_in}
-use Rattle.entry_core.specs.Request.{Sealed}
 use Rattle.entry_core.specs.Fitting.{part_of, last_id}
 use Rattle.entry_core.specs.declared.entry.Entry.{Entry}
 use Rattle.peer_core.specs.ActingSets.{asked as whole_asked, others as whole_others}
@@ -15,16 +14,16 @@ use Rattle.group_core.specs.Types.{Role as WholeRole, Idle as WholeIdle, Peering
 use Rattle.group_core.specs.Each.{Each}
 use Rattle.group_core.specs.History.{History}
 use Rattle.group_core.proofs.Eaches.{Each-map_all}
-use Rattle.group_core.proofs.Groups.{IsLast, last_is}
+use Rattle.group_core.proofs.Groups.{last_is}
 use Rattle.group_core.proofs.Invariant.{Owns, IsPlaced, RoleOk, StateOk, CopyOk, SentOk}
-use Rattle.suffix_core.specs.Types.{Query, Append, Offer, Role, Idle, Peering, Installing, Active, Copy}
+use Rattle.suffix_core.specs.Types.{Append, Offer, Role, Idle, Peering, Installing, Active, Copy}
 use Rattle.suffix_core.specs.Steps.{send}
 use Rattle.suffix_core.specs.ActingSets.{others, asked, missing}
 use Rattle.suffix_core.specs.Choice.{is_informed}
 use Rattle.suffix_core.specs.Beginnings.{count_at}
 use Rattle.suffix_core.specs.Rules.{query, install_from, append_again, uninformed, retransmit_as}
 use Rattle.suffix_core.specs.Standing.{Both}
-use Rattle.suffix_core.proofs.Agreeing.{Past, InstallAgrees, QueryAgrees, OfferAgrees, SentAgrees, RoleAgrees, whole}
+use Rattle.suffix_core.proofs.Agreeing.{Past, InstallAgrees, QueryAgrees, SentAgrees, RoleAgrees, whole}
 use Rattle.suffix_core.proofs.Lists.{Both-map, Both-map_each, Each-in, in-filter}
 use Rattle.suffix_core.proofs.Pasts.{past_of_state}
 use Rattle.suffix_core.proofs.Queries.{base_before}

@@ -1,6 +1,6 @@
 -- A group that sends suffixes, beside the one that sends whole logs: what holds of both after each event.
-use Rattle.std.proofs.Common.{ℕ, ◌≡◌, ◌≤◌, ◌-◌, Bool, true, false, ◌==◌, List, [], ◌∷◌, ◌++◌, map, length, refl, sym, ◌∙◌, ap, subst, arith, if◌then◌else◌}
-use Rattle.std.specs.Prelude.{Option, Some, None, slice_get}
+use Rattle.std.proofs.Common.{ℕ, ◌≡◌, Bool, true, false, ◌==◌, List, [], ◌∷◌, ◌++◌, map, refl, sym, subst, arith, if◌then◌else◌}
+use Rattle.std.specs.Prelude.{Some, slice_get}
 use Rattle.std.specs.List.{remove}
 use Rattle.entry_core.specs.Request.{Sealed}
 use Rattle.entry_core.specs.declared.entry.Entry.{Entry}
@@ -14,7 +14,7 @@ use Rattle.group_core.proofs.Eaches.{Each-append, Each-remove, Each-weaker}
 use Rattle.group_core.proofs.Invariant.{CopyOk, SentOk}
 use Rattle.group_core.proofs.Longer.{IsSound-longer, CopyOk-longer, BodyOk-longer}
 use Rattle.group_core.proofs.Groups.{get-map}
-use Rattle.suffix_core.specs.Types.{Request, Sent, Idle, Copy}
+use Rattle.suffix_core.specs.Types.{Request, Sent, Copy}
 use Rattle.suffix_core.specs.Steps.{restarted}
 use Rattle.suffix_core.specs.Group.{Group, to_daemon, to_primary}
 use Rattle.suffix_core.specs.Standing.{Both}

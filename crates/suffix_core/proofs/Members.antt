@@ -1,20 +1,19 @@
 -- The rules of members agree: what they acknowledge, and what they install.
 use Rattle.std.proofs.Common.{ℕ, ◌≡◌, ◌≤◌, ◌<◌, ◌+◌, Bool, true, false, not, ◌==◌, ◌&&◌, nat_lt, List, [], ◌∷◌, ◌++◌, length, refl, sym, ◌∙◌, ap, subst, arith, length-append, if◌then◌else◌}
-use Rattle.std.specs.Prelude.{Option, Some, None}
+use Rattle.std.specs.Prelude.{Some, None}
 use Rattle.std.proofs.lemmas.Bool.{eqb-true, ltb-true, ltb-false, and_parts}
 use Rattle.entry_core.specs.Log.{decide, is_in, ids}
 use Rattle.entry_core.specs.Request.{Sealed}
-use Rattle.entry_core.specs.Fitting.{part_of, fitted}
+use Rattle.entry_core.specs.Fitting.{fitted}
 use Rattle.entry_core.specs.declared.entry.Entry.{Entry}
-use Rattle.peer_core.specs.ActingSets.{all_count as whole_all_count, counted as whole_counted}
 use Rattle.peer_core.specs.Serve.{serve as whole_serve}
 use Rattle.peer_core.specs.Decided.{with_entry as whole_with_entry, last}
 use Rattle.peer_core.specs.Copy.{promise_interval as whole_promise_interval, on_install as whole_on_install, on_installed as whole_on_installed, acknowledged as whole_acknowledged, on_append as whole_on_append, complete as whole_complete, on_appended as whole_on_appended}
-use Rattle.peer_core.specs.Steps.{Stepped as WholeStepped, still as whole_still, send as whole_send}
-use Rattle.group_core.specs.Types.{Role as WholeRole, Idle as WholeIdle, Peering as WholePeering, Installing as WholeInstalling, Active as WholeActive, Daemon, Installed as WholeInstalled, Appended as WholeAppended, Party}
+use Rattle.peer_core.specs.Steps.{still as whole_still, send as whole_send}
+use Rattle.group_core.specs.Types.{Role as WholeRole, Idle as WholeIdle, Installing as WholeInstalling, Active as WholeActive, Daemon, Installed as WholeInstalled, Appended as WholeAppended, Party}
 use Rattle.group_core.specs.Asked.{IsAsked, InLog}
 use Rattle.group_core.specs.History.{History, IsSound}
-use Rattle.group_core.proofs.Invariant.{RoleOk, StateOk, CopyOk}
+use Rattle.group_core.proofs.Invariant.{RoleOk, CopyOk}
 use Rattle.suffix_core.specs.Types.{Installed, Role, Idle, Peering, Installing, Active, Copy}
 use Rattle.suffix_core.specs.Steps.{still, send}
 use Rattle.suffix_core.specs.ActingSets.{others, counted, all_count}

@@ -1,40 +1,36 @@
 -- The rules of a peering agree: the choice, and what leads to it.
-use Rattle.std.proofs.Common.{ℕ, ◌≡◌, ◌≤◌, ◌<◌, ◌-◌, Bool, true, false, not, ◌==◌, ◌&&◌, nat_lt, List, [], ◌∷◌, ◌++◌, map, length, take, refl, sym, ◌∙◌, ap, subst, arith, inl, inr, ◌⊎◌, if◌then◌else◌}
-use Rattle.std.specs.Prelude.{Option, Some, None}
+use Rattle.std.proofs.Common.{ℕ, ◌≡◌, ◌<◌, ◌-◌, Bool, true, false, not, ◌==◌, ◌&&◌, nat_lt, List, [], ◌∷◌, ◌++◌, length, take, refl, sym, ap, subst, arith, inl, inr, if◌then◌else◌}
+use Rattle.std.specs.Prelude.{Some, None}
 use Rattle.std.specs.List.{list_any, list_all}
-use Rattle.std.proofs.lemmas.Bool.{cases_eq, eqb-true, ltb-true, ltb-false, and_parts, not-true}
-use Rattle.entry_core.specs.Log.{is_in}
+use Rattle.std.proofs.lemmas.Bool.{cases_eq, eqb-true, ltb-true, and_parts}
 use Rattle.entry_core.specs.Request.{Sealed}
-use Rattle.entry_core.specs.Fitting.{can_fit, fitted, last_id}
+use Rattle.entry_core.specs.Fitting.{can_fit, fitted}
 use Rattle.entry_core.specs.declared.entry.Entry.{Entry}
-use Rattle.peer_core.specs.ActingSets.{set_of, is_primary, others as whole_others, asked as whole_asked}
+use Rattle.peer_core.specs.ActingSets.{set_of, others as whole_others}
 use Rattle.peer_core.specs.Choice.{best as whole_best, own_offer as whole_own_offer, is_informed as whole_is_informed, can_choose as whole_can_choose, covers}
-use Rattle.peer_core.specs.Copy.{install_chosen as whole_install_chosen, try_choice as whole_try_choice, queries as whole_queries, learn_sets as whole_learn_sets, leads as whole_leads, lead as whole_lead, on_interval as whole_on_interval, on_info as whole_on_info}
-use Rattle.peer_core.specs.Steps.{still as whole_still, send as whole_send}
-use Rattle.group_core.specs.Types.{PeerInfo, Role as WholeRole, Idle as WholeIdle, Peering as WholePeering, Installing as WholeInstalling, Active as WholeActive, Daemon, Query as WholeQuery, Osd}
+use Rattle.peer_core.specs.Copy.{install_chosen as whole_install_chosen, try_choice as whole_try_choice, on_info as whole_on_info}
+use Rattle.peer_core.specs.Steps.{still as whole_still}
+use Rattle.group_core.specs.Types.{PeerInfo, Role as WholeRole, Peering as WholePeering}
 use Rattle.group_core.specs.Each.{Each}
 use Rattle.group_core.specs.Offer.{IsTold, IsOffer}
 use Rattle.group_core.specs.Asked.{IsAsked, InLog}
 use Rattle.group_core.specs.History.{History, IsSound}
 use Rattle.group_core.proofs.Eaches.{Each-push}
-use Rattle.group_core.proofs.Invariant.{IsKnown, Leads, RoleOk, StateOk, CopyOk}
-use Rattle.group_core.proofs.Changes.{put, promise_sound}
-use Rattle.group_core.proofs.Leading.{IsLeading, Leading, serve_leads}
-use Rattle.group_core.proofs.Rules.{StateOk-promise}
-use Rattle.suffix_core.specs.Types.{Query, Sent, Offer, Role, Idle, Peering, Installing, Active, Copy}
-use Rattle.suffix_core.specs.Steps.{Stepped, still, send}
-use Rattle.suffix_core.specs.ActingSets.{others, asked}
+use Rattle.group_core.proofs.Invariant.{Leads, RoleOk, StateOk, CopyOk}
+use Rattle.suffix_core.specs.Types.{Offer, Role, Idle, Peering, Installing, Active, Copy}
+use Rattle.suffix_core.specs.Steps.{still}
+use Rattle.suffix_core.specs.ActingSets.{others}
 use Rattle.suffix_core.specs.Choice.{best, own_offer, is_informed, can_choose}
-use Rattle.suffix_core.specs.Rules.{fit_chosen, try_choice, query, queries, learn_sets, leads, lead, on_interval, on_info_as, on_info}
+use Rattle.suffix_core.specs.Rules.{fit_chosen, try_choice, on_info_as, on_info}
 use Rattle.suffix_core.specs.Standing.{Both}
 use Rattle.suffix_core.specs.Fits.{Fit, choice_fit, info_fit_as}
-use Rattle.suffix_core.proofs.Agreeing.{Past, InfoAgrees, ToldAgrees, QueryAgrees, OfferAgrees, SentAgrees, RoleAgrees, CopyAgrees, StepAgrees, whole}
-use Rattle.suffix_core.proofs.Lists.{Both-append, Both-push, Both-map}
+use Rattle.suffix_core.proofs.Agreeing.{Past, InfoAgrees, ToldAgrees, OfferAgrees, RoleAgrees, CopyAgrees, StepAgrees, whole}
+use Rattle.suffix_core.proofs.Lists.{Both-push}
 use Rattle.suffix_core.proofs.Pasts.{past_unique, past_of_state}
 use Rattle.suffix_core.proofs.Stays.{Offers-stay, RoleAgrees-stays}
 use Rattle.suffix_core.proofs.Queries.{base_before}
 use Rattle.suffix_core.proofs.Offers.{informed_same}
-use Rattle.suffix_core.proofs.Serving.{by_test, by_tests}
+use Rattle.suffix_core.proofs.Serving.{by_tests}
 use Rattle.suffix_core.proofs.Choosing.{choose_same, choice_fits, winner_legal, winner_asked, each_legal, choice_can_fit}
 use Rattle.suffix_core.proofs.Installs.{heard_other, member_install, install_agrees}
 
@@ -137,7 +133,6 @@ module _ (requests : List Sealed) (z : ℕ) (sets : List (List ℕ)) (d : ℕ) (
           go : (b : Bool) → nat_lt (length c.log) start ≡ b → StepAgrees p' h' (if b then still c else on_info_as c.role c n (record { number = m; base = base; start = start; part = part })) (whole_on_info r (whole c r) n (record { number = m; base = base; log = log }))
           go true e = info_ignored (ltb-true (length c.log) start e) c.role a
           go false e = info_as_agrees c.role a
-
 
       -- what is fitted at an Info fits
       pub info_fits : (q : Role) → RoleAgrees p h c.promise c.log (others c) q r → (f : Fit) → info_fit_as q c n (record { number = m; base = base; start = start; part = part }) ≡ Some f → can_fit c.log f.start f.part ≡ true

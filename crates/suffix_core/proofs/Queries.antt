@@ -1,8 +1,8 @@
 -- The answer to a Query agrees.
-use Rattle.std.proofs.Common.{ℕ, suc, ◌≡◌, ◌≤◌, ◌<◌, ◌+◌, ◌-◌, Bool, true, false, ◌==◌, ◌||◌, ◌&&◌, nat_lt, leb, min, List, [], ◌∷◌, length, take, refl, sym, ◌∙◌, ap, subst, arith, inl, inr, ◌⊎◌, if◌then◌else◌}
+use Rattle.std.proofs.Common.{ℕ, suc, ◌≡◌, ◌≤◌, ◌<◌, ◌-◌, Bool, true, false, ◌==◌, ◌||◌, nat_lt, leb, min, List, [], ◌∷◌, length, take, refl, sym, ◌∙◌, ap, subst, arith, inl, inr, if◌then◌else◌}
 use Rattle.std.specs.Prelude.{Option, Some, None, slice_get}
 use Rattle.std.specs.Option.{option_map}
-use Rattle.std.proofs.lemmas.Bool.{cases_eq, eqb-true, leb-true, ltb-true, ltb-false, and_parts, or_cases}
+use Rattle.std.proofs.lemmas.Bool.{cases_eq, eqb-true, leb-true, ltb-false, and_parts, or_cases}
 use Rattle.std.proofs.lemmas.List.{length-take-le}
 use Rattle.entry_core.specs.Log.{Legal}
 use Rattle.entry_core.specs.Request.{Sealed}
@@ -22,7 +22,6 @@ use Rattle.suffix_core.proofs.Agreeing.{Past, IsPart, QueryAgrees, OfBoth, ToldA
 use Rattle.suffix_core.proofs.Lists.{get-take, take-next, At, at_place}
 use Rattle.suffix_core.proofs.Leading.{legal_of, asked_of, same_at}
 use Rattle.suffix_core.proofs.Pasts.{past_of_state, pasts_agree}
-use Rattle.suffix_core.proofs.Serving.{by_test}
 
 pub past_legal : (p : ℕ → ℕ) (z : ℕ) (sets : List (List ℕ)) (h : History) (m n : ℕ) (log : List Entry) → IsSound p z sets h → Past p h m n log → Legal log
 past_legal p z sets h m n log sound past = legal_of log (h.grown past.at) past.within (sound.legal past.at)

@@ -1,10 +1,8 @@
 -- Each rule of a copy agrees with that of whole logs.
-use Rattle.std.proofs.Common.{ℕ, ◌≡◌, List, refl, sym, subst}
-use Rattle.std.specs.Prelude.{Option, Some, None}
+use Rattle.std.proofs.Common.{ℕ, List, refl, sym, subst}
 use Rattle.entry_core.specs.Request.{Sealed}
-use Rattle.entry_core.specs.declared.entry.Entry.{Entry}
 use Rattle.peer_core.specs.Copy.{on_body as whole_on_body}
-use Rattle.group_core.specs.Types.{PeerInfo, Role as WholeRole, Body as WholeBody, Interval as WholeInterval, Query as WholeQuery, Info as WholeInfo, Install as WholeInstall, Installed as WholeInstalled, Append as WholeAppend, Appended as WholeAppended, Request as WholeRequest, Reply as WholeReply, NotHere as WholeNotHere, Party, Osd, Client}
+use Rattle.group_core.specs.Types.{Role as WholeRole, Body as WholeBody, Party, Osd, Client}
 use Rattle.group_core.specs.Asked.{IsAsked, InLog}
 use Rattle.group_core.specs.History.{History, IsSound}
 use Rattle.group_core.proofs.Invariant.{CopyOk, BodyOk, Extends}

@@ -1,25 +1,24 @@
 -- The rules that suffixes leave as they are: serving, requests, entries.
-use Rattle.std.proofs.Common.{ℕ, ◌≡◌, ◌≤◌, ◌+◌, ◌-◌, Bool, true, false, not, ◌==◌, ◌&&◌, nat_lt, List, [], ◌∷◌, ◌++◌, map, length, refl, sym, ◌∙◌, ap, subst, if◌then◌else◌}
+use Rattle.std.proofs.Common.{ℕ, ◌≡◌, ◌+◌, Bool, true, false, ◌==◌, nat_lt, List, [], ◌∷◌, length, refl, sym, subst, if◌then◌else◌}
 use Rattle.std.specs.Prelude.{Option, Some, None}
 use Rattle.std.specs.List.{list_any}
-use Rattle.entry_core.specs.Log.{decide, find, is_in, ids}
+use Rattle.entry_core.specs.Log.{find, is_in, ids}
 use Rattle.entry_core.specs.Request.{Sealed}
 use Rattle.entry_core.specs.declared.entry.Entry.{Entry}
-use Rattle.peer_core.specs.Decided.{not_in_flight, with_entry as whole_with_entry, last}
+use Rattle.peer_core.specs.Decided.{not_in_flight, with_entry as whole_with_entry}
 use Rattle.peer_core.specs.Serve.{push_new as whole_push_new, serve_one as whole_serve_one, serve as whole_serve}
 use Rattle.peer_core.specs.Steps.{Stepped as WholeStepped, still as whole_still, send as whole_send}
 use Rattle.peer_core.specs.Copy.{waits as whole_waits, busy_request as whole_busy_request, on_request_as as whole_on_request_as, on_request as whole_on_request, complete as whole_complete, acknowledged as whole_acknowledged}
-use Rattle.group_core.specs.Types.{PeerInfo, Role as WholeRole, Idle as WholeIdle, Peering as WholePeering, Installing as WholeInstalling, Active as WholeActive, Daemon, Append as WholeAppend, Appended as WholeAppended, Party, Osd, Client, Sent as WholeSent}
+use Rattle.group_core.specs.Types.{Role as WholeRole, Active as WholeActive, Daemon, Append as WholeAppend, Appended as WholeAppended, Party, Osd, Sent as WholeSent}
 use Rattle.group_core.specs.History.{History}
-use Rattle.suffix_core.specs.Types.{Append, Appended, Sent, Offer, Role, Idle, Peering, Installing, Active, Copy}
+use Rattle.suffix_core.specs.Types.{Append, Appended, Sent, Role, Idle, Peering, Installing, Active, Copy}
 use Rattle.suffix_core.specs.Steps.{Stepped, still, send}
 use Rattle.suffix_core.specs.ActingSets.{others}
 use Rattle.suffix_core.specs.Decided.{with_entry}
-use Rattle.suffix_core.specs.Serve.{reply_with, append_to, push_new, serve_one, serve}
+use Rattle.suffix_core.specs.Serve.{push_new, serve_one, serve}
 use Rattle.suffix_core.specs.Rules.{waits, busy_request, on_request_as, on_request, complete, acknowledged}
-use Rattle.suffix_core.specs.Standing.{Both}
 use Rattle.suffix_core.proofs.Agreeing.{SentAgrees, RoleAgrees, CopyAgrees, StepAgrees, whole}
-use Rattle.suffix_core.proofs.Lists.{Both-append, Both-map}
+use Rattle.suffix_core.proofs.Lists.{Both-map}
 
 module _ (p : ℕ → ℕ) (h : History) where
   -- two tests that are the same

@@ -1,5 +1,5 @@
 -- A group in step with one that sends whole logs stands for it.
-use Rattle.std.proofs.Common.{ℕ, ◌≡◌, List, [], ◌∷◌, map, refl, sym, ◌∙◌, ap, subst}
+use Rattle.std.proofs.Common.{ℕ, ◌≡◌, List, [], ◌∷◌, map, refl, sym, ap, subst}
 use Rattle.entry_core.specs.declared.entry.Entry.{Entry}
 use Rattle.group_core.specs.Types.{PeerInfo, Role as WholeRole, Body as WholeBody, Daemon, Party, Sent as WholeSent}
 use Rattle.group_core.specs.Group.{Group as WholeGroup, run as whole_run, start as whole_start}

@@ -1,7 +1,6 @@
 -- What agrees goes on to agree while the history goes on.
-use Rattle.std.proofs.Common.{ℕ, ◌≡◌, true, List, [], ◌∷◌}
-use Rattle.std.specs.Prelude.{Option, Some, None}
-use Rattle.entry_core.specs.Log.{is_in}
+use Rattle.std.proofs.Common.{ℕ, ◌≡◌, List}
+use Rattle.std.specs.Prelude.{None}
 use Rattle.entry_core.specs.Request.{Sealed}
 use Rattle.entry_core.specs.Fitting.{part_of}
 use Rattle.entry_core.specs.declared.entry.Entry.{Entry}
@@ -12,7 +11,7 @@ use Rattle.suffix_core.specs.Types.{Body, Interval, Query, Info, Install, Instal
 use Rattle.suffix_core.specs.ActingSets.{others}
 use Rattle.suffix_core.specs.Beginnings.{count_at}
 use Rattle.suffix_core.specs.Standing.{Both}
-use Rattle.suffix_core.proofs.Agreeing.{Past, IsPart, QueryAgrees, InfoAgrees, ToldAgrees, OfferAgrees, InstallAgrees, OfBoth, InfoStands, InstallStands, BodyAgrees, SentAgrees, PeeringStands, RoleAgrees, CopyAgrees}
+use Rattle.suffix_core.proofs.Agreeing.{Past, QueryAgrees, InfoAgrees, ToldAgrees, OfferAgrees, InstallAgrees, OfBoth, BodyAgrees, SentAgrees, RoleAgrees, CopyAgrees}
 use Rattle.suffix_core.proofs.Lists.{Both-weaker}
 
 OfBoth-weaker : (from to : Party) (P Q : ℕ → ℕ → Type 0) → ((m d : ℕ) → P m d → Q m d) → OfBoth from to P → OfBoth from to Q

@@ -4,7 +4,7 @@ use Rattle.std.specs.Prelude.{ℕ, suc, ◌==◌, List, [], ◌∷◌, ◌++◌,
 use Rattle.entry_core.specs.Request.{Sealed}
 use Rattle.entry_core.specs.Log.{ids}
 use Rattle.entry_core.specs.declared.entry.Entry.{Entry}
-use Rattle.suffix_core.specs.Types.{Offer, Common, Copy}
+use Rattle.suffix_core.specs.Types.{Offer, Common}
 
 -- the numbers of the log that was told to a copy of this log
 abbrev pub told_ids : List Entry → Offer → List ℕ

@@ -2,7 +2,6 @@
 -- The laws of peering by suffixes.
 use Rattle.std.specs.Prelude.{ℕ, ◌≡◌, ◌≤◌, true, List, Option, Some, slice_get}
 use Rattle.entry_core.specs.Log.{is_in}
-use Rattle.entry_core.specs.declared.entry.Entry.{Entry}
 use Rattle.entry_core.specs.declared.sealed.GroupId.{GroupId}
 use Rattle.peer_core.specs.ActingSets.{set_of}
 use Rattle.group_core.specs.Each.{Each}

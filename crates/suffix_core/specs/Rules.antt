@@ -8,7 +8,7 @@ use Rattle.entry_core.specs.Fitting.{part_of, last_id, fitted}
 use Rattle.entry_core.specs.declared.entry.Entry.{Entry}
 use Rattle.peer_core.specs.ActingSets.{set_of, is_primary}
 use Rattle.peer_core.specs.Decided.{not_in_flight, last}
-use Rattle.suffix_core.specs.Types.{Party, Client, Osd, Body, Interval, Query, Info, Install, Installed, Append, Appended, Request, Reply, NotHere, Message, Sent, Offer, Common, Role, Idle, Peering, Installing, Active, Copy}
+use Rattle.suffix_core.specs.Types.{Party, Client, Osd, Body, Interval, Query, Info, Install, Installed, Append, Appended, Request, Reply, NotHere, Message, Sent, Offer, Role, Idle, Peering, Installing, Active, Copy}
 use Rattle.suffix_core.specs.Steps.{Stepped, still, send}
 use Rattle.suffix_core.specs.ActingSets.{others, counted, all_count, missing, asked}
 use Rattle.suffix_core.specs.Decided.{with_entry}

@@ -1,11 +1,11 @@
 -- Statement: contracts of public calls use it.
 -- Worked cases of peering by suffixes.
-use Rattle.std.specs.Prelude.{ℕ, ◌≡◌, List, [], ◌∷◌, length, Option, Some, None, slice_get}
+use Rattle.std.specs.Prelude.{ℕ, ◌≡◌, List, [], ◌∷◌, length, Option, Some, slice_get}
 use Rattle.std.specs.Option.{option_map}
 use Rattle.entry_core.specs.Request.{Sealed}
 use Rattle.entry_core.specs.Log.{ids}
 use Rattle.entry_core.specs.declared.sealed.GroupId.{GroupId}
-use Rattle.group_core.specs.Group.{Event, Submit, Deliver, Lose, NewInterval, Kick}
+use Rattle.group_core.specs.Group.{Submit, Deliver, Lose, NewInterval, Kick}
 use Rattle.suffix_core.specs.Types.{Osd, Query, Info, Install, Sent, Copy}
 use Rattle.suffix_core.specs.Group.{Group, group_step, run, start, settle}
 

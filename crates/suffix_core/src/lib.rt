@@ -3,6 +3,4 @@
 
 mod laws;
 
-pub use laws::{
-    fit_answers_true, promises_are_kept, suffixes_refine_whole_logs, worked_cases,
-};
+pub use laws::{fit_answers_true, promises_are_kept, suffixes_refine_whole_logs, worked_cases};
