@@ -1,6 +1,6 @@
 -- What was decided stands in the logs of copies that send suffixes.
-use Rattle.std.proofs.Common.{ℕ, ◌≡◌, ◌≤◌, true, List, refl, sym, ◌∙◌, ap, subst}
-use Rattle.std.specs.Prelude.{Option, Some, None, slice_get}
+use Rattle.std.proofs.Common.{ℕ, ◌≡◌, ◌≤◌, true, List, sym, ◌∙◌, ap, subst}
+use Rattle.std.specs.Prelude.{Option, Some, slice_get}
 use Rattle.entry_core.specs.Log.{is_in}
 use Rattle.peer_core.specs.ActingSets.{set_of}
 use Rattle.group_core.specs.Types.{Active as WholeActive, Daemon}
@@ -16,31 +16,10 @@ use Rattle.group_core.proofs.Prefixes.{Begins-trans}
 use Rattle.suffix_core.specs.Types.{Active, Copy}
 use Rattle.suffix_core.specs.ActingSets.{others}
 use Rattle.suffix_core.specs.Group.{Group, run, start}
-use Rattle.suffix_core.specs.Standing.{Both}
 use Rattle.suffix_core.specs.Laws.{IsLatest, GroupHolds, DecidedIsHeld}
 use Rattle.suffix_core.proofs.Agreeing.{RoleAgrees, CopyAgrees}
-use Rattle.suffix_core.proofs.Lists.{IfBoth, Both-get}
+use Rattle.suffix_core.proofs.Lists.{Beside, beside, besides}
 use Rattle.suffix_core.proofs.Events.{Lock, reached_locked}
-
--- the copy at a place, and the other group's copy there
-record Beside {X Y : Type 0} (R : X → Y → Type 0) (x : X) (ys : List Y) (i : ℕ) : Type 0 where
-  item : Y
-  is : slice_get ys i ≡ Some item
-  agrees : R x item
-
-beside : {X Y : Type 0} (R : X → Y → Type 0) (xs : List X) (ys : List Y) (i : ℕ) (x : X) → Both R xs ys → slice_get xs i ≡ Some x → Beside R x ys i
-beside {X} {Y} R xs ys i x both is = go (slice_get ys i) refl (subst (λ v. IfBoth R v (slice_get ys i)) is (Both-get R xs ys i both))
-  where
-    go : (found : Option Y) → slice_get ys i ≡ found → IfBoth R (Some x) found → Beside R x ys i
-    go None there agrees = absurd agrees
-    go (Some y) there agrees = record { item = y; is = there; agrees = agrees }
-
-besides : {X Y : Type 0} (R : X → Y → Type 0) (xs : List X) (ys : List Y) (i : ℕ) (y : Y) → Both R xs ys → slice_get ys i ≡ Some y → Beside (λ w v. R v w) y xs i
-besides {X} {Y} R xs ys i y both is = go (slice_get xs i) refl (subst (λ v. IfBoth R (slice_get xs i) v) is (Both-get R xs ys i both))
-  where
-    go : (found : Option X) → slice_get xs i ≡ found → IfBoth R found (Some y) → Beside (λ w v. R v w) y xs i
-    go None there agrees = absurd agrees
-    go (Some x) there agrees = record { item = x; is = there; agrees = agrees }
 
 active_role : (p : ℕ → ℕ) (h : History) (c : Copy) (w : Daemon) (flight : Option (List ℕ)) → CopyAgrees p h c w → c.role ≡ Active flight → w.role ≡ WholeActive flight
 active_role p h c w flight a is = ap (λ (v : Daemon). v.role) a.is ∙ subst (λ q. RoleAgrees p h c.promise c.log (others c) q a.role) is a.agrees

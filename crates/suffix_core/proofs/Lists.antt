@@ -56,6 +56,26 @@ module _ {X Y : Type 0} (R : X → Y → Type 0) where
   Both-get (x ∷ xs) (y ∷ ys) zero a = a.0
   Both-get (x ∷ xs) (y ∷ ys) (suc i) a = Both-get xs ys i a.1
 
+-- what the other list has at the same place
+pub record Beside {X Y : Type 0} (R : X → Y → Type 0) (x : X) (ys : List Y) (i : ℕ) : Type 0 where
+  pub item : Y
+  pub is : slice_get ys i ≡ Some item
+  pub agrees : R x item
+
+pub beside : {X Y : Type 0} (R : X → Y → Type 0) (xs : List X) (ys : List Y) (i : ℕ) (x : X) → Both R xs ys → slice_get xs i ≡ Some x → Beside R x ys i
+beside {X} {Y} R xs ys i x both is = go (slice_get ys i) refl (subst (λ v. IfBoth R v (slice_get ys i)) is (Both-get R xs ys i both))
+  where
+    go : (found : Option Y) → slice_get ys i ≡ found → IfBoth R (Some x) found → Beside R x ys i
+    go None there agrees = absurd agrees
+    go (Some y) there agrees = record { item = y; is = there; agrees = agrees }
+
+pub besides : {X Y : Type 0} (R : X → Y → Type 0) (xs : List X) (ys : List Y) (i : ℕ) (y : Y) → Both R xs ys → slice_get ys i ≡ Some y → Beside (λ w v. R v w) y xs i
+besides {X} {Y} R xs ys i y both is = go (slice_get xs i) refl (subst (λ v. IfBoth R (slice_get xs i) v) is (Both-get R xs ys i both))
+  where
+    go : (found : Option X) → slice_get xs i ≡ found → IfBoth R found (Some y) → Beside (λ w v. R v w) y xs i
+    go None there agrees = absurd agrees
+    go (Some x) there agrees = record { item = x; is = there; agrees = agrees }
+
 pub Both-weaker : {X Y : Type 0} (R Q : X → Y → Type 0) → ((x : X) (y : Y) → R x y → Q x y) → (xs : List X) (ys : List Y) → Both R xs ys → Both Q xs ys
 Both-weaker R Q to [] [] a = tt
 Both-weaker R Q to [] (y ∷ ys) a = absurd a

@@ -125,11 +125,11 @@ on_info_as Idle c interval offer = still c
 on_info_as (Installing done common) c interval offer = still c
 on_info_as (Active flight) c interval offer = still c
 
--- an offer that begins behind this copy's log can not be told
+-- an offer that begins behind the end of this copy's log is not heard
 abbrev pub on_info : Copy → ℕ → Offer → Stepped
 on_info c interval offer = if nat_lt (length c.log) offer.start then still c else on_info_as c.role c interval offer
 
--- where it can not be fitted nothing is promised
+-- where it can not be fitted nothing changes
 abbrev pub install_fitted : Copy → Party → ℕ → Option (List Entry) → Stepped
 install_fitted c from interval None = still c
 install_fitted c from interval (Some log) = record { copy = record (promise_interval c interval) { base = interval; log = log }; sent = send c from (Installed interval) ∷ [] }

@@ -1,12 +1,13 @@
 -- Statement: contracts of public calls use it.
 -- Worked cases of peering by suffixes.
-use Rattle.std.specs.Prelude.{ℕ, ◌≡◌, List, [], ◌∷◌, length, Option, Some, slice_get}
+use Rattle.std.specs.Prelude.{ℕ, ◌≡◌, List, [], ◌∷◌, length, Option, Some, None, slice_get}
 use Rattle.std.specs.Option.{option_map}
 use Rattle.entry_core.specs.Request.{Sealed}
 use Rattle.entry_core.specs.Log.{ids}
 use Rattle.entry_core.specs.declared.sealed.GroupId.{GroupId}
 use Rattle.group_core.specs.Group.{Submit, Deliver, Lose, NewInterval, Kick}
 use Rattle.suffix_core.specs.Types.{Osd, Query, Info, Install, Sent, Copy}
+use Rattle.suffix_core.specs.Fits.{Fit, fit_at}
 use Rattle.suffix_core.specs.Group.{Group, group_step, run, start, settle}
 
 -- a request of that number, whatever it asks for
@@ -92,3 +93,19 @@ IsSentAgain group s =
     IsSent (run (Kick ∷ []) (five_chosen group s)) 5 (record { from = Osd 1; to = Osd 2; body = Install 2 5 [] }) ×
     IsSent (run (Kick ∷ []) (half_chosen group s)) 8 (record { from = Osd 0; to = Osd 1; body = Install 5 1 [] }) ×
     IsSent (run (Kick ∷ []) (half_chosen group s)) 9 (record { from = Osd 0; to = Osd 2; body = Install 5 1 [] })
+
+abbrev pub fit_at_message : Option Sent → Copy → Option Fit
+fit_at_message None c = None
+fit_at_message (Some m) c = fit_at m.body c m.from
+
+-- what daemon d would fit at message k
+abbrev pub fit_by : Group → ℕ → ℕ → Option (Option Fit)
+fit_by g d k = option_map (fit_at_message (slice_get g.wire k)) (slice_get g.copies d)
+
+-- the second Info fits the other's request in place of the own one, and the Install nothing; other messages fit nothing
+abbrev pub IsFitted : GroupId → Sealed → Type 0
+IsFitted group s =
+    (fit_by (half_told group s) 0 3 ≡ Some None) ×
+    (fit_by (run (Deliver 3 ∷ []) (half_told group s)) 0 3 ≡ Some (Some (record { start = 0; part = ask s 2 ∷ [] }))) ×
+    (fit_by (half_chosen group s) 1 3 ≡ Some (Some (record { start = 1; part = [] }))) ×
+    (fit_by (half_asked group s) 1 3 ≡ Some None)

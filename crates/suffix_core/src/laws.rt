@@ -3,7 +3,7 @@
 ghost use Rattle.entry_core.specs.declared.sealed.GroupId.{GroupId};
 ghost use Rattle.entry_core.specs.Request.{Sealed};
 ghost use Rattle.suffix_core.specs.Laws.{DecidedIsHeld, FitAnswersTrue, PromisesAreKept, RefusesAlike, SettlesAlike, SuffixesRefineWholeLogs};
-ghost use Rattle.suffix_core.specs.WorkedCases.{IsAllThere, IsHalfDone, IsSentAgain};
+ghost use Rattle.suffix_core.specs.WorkedCases.{IsAllThere, IsFitted, IsHalfDone, IsSentAgain};
 
 /// Whatever is submitted, delivered, lost, repeated, moved, restarted or kicked, in whatever order: a group whose peering sends
 /// suffixes stands for the group whose peering sends whole logs and to which the same happened. Intervals, requests, answers
@@ -29,9 +29,10 @@ pub fn promises_are_kept()
 {}
 
 /// Worked cases, by computation: copies that have everything send no request, peerings that were left half done send the one that
-/// is missing, and a kick sends the same again.
+/// is missing, a kick sends the same again, and two of these messages have a log fitted.
 pub fn worked_cases()
     ensures all_there { (group : GroupId) (s : Sealed) → IsAllThere group s }
     ensures half_done { (group : GroupId) (s : Sealed) → IsHalfDone group s }
     ensures kicked { (group : GroupId) (s : Sealed) → IsSentAgain group s }
+    ensures fitted { (group : GroupId) (s : Sealed) → IsFitted group s }
 {}

@@ -6,4 +6,5 @@ returns c = record {
   all_there = λ group s. (refl, refl, refl, refl, refl);
   half_done = λ group s. (refl, refl, refl, refl, refl, refl, refl, refl);
   kicked = λ group s. (refl, refl, refl, refl);
+  fitted = λ group s. (refl, refl, refl, refl);
 }
