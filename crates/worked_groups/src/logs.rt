@@ -22,7 +22,7 @@ const TICK: u64 = 9;
 
 /// What is asked: one operation on an object, or the names of a group.
 #[derive(Clone, Copy)]
-enum Work {
+pub(crate) enum Work {
     Append,
     Read,
     List(u32),
@@ -30,7 +30,7 @@ enum Work {
 
 /// What is answered: an output, a condition of a denial that has one line of the path 1, or one name.
 #[derive(Clone, Copy)]
-enum Says {
+pub(crate) enum Says {
     Gives(&'static str),
     Denies(Condition),
     Lists(&'static str),
@@ -38,7 +38,7 @@ enum Says {
 
 /// A request's number, the text of who asks, the object, what is asked, and what is answered. Vectors are asked for in
 /// session 1, and listings in session 2.
-type Row = (u32, &'static str, &'static str, Work, Says);
+pub(crate) type Row = (u32, &'static str, &'static str, Work, Says);
 
 /// A pool of four groups.
 fn view(alloc: Global) -> Result<PoolView, OutOfMemory>
@@ -112,7 +112,7 @@ fn listing(
 }
 
 /// The request of a row.
-fn sealed(alloc: Global, row: &Row) -> Result<Sealed, NeedsFault> {
+pub(crate) fn sealed(alloc: Global, row: &Row) -> Result<Sealed, NeedsFault> {
     let (number, text, object, work, _) = *row;
     let ticket = ticket_of(alloc, text)?;
     if let List(group) = work {
@@ -123,7 +123,7 @@ fn sealed(alloc: Global, row: &Row) -> Result<Sealed, NeedsFault> {
 }
 
 /// Decides and pushes. The log is left as it was where it has the id already.
-fn add(log: &mut Log, sealed: &Sealed) -> Result<(), OutOfMemory> {
+pub(crate) fn add(log: &mut Log, sealed: &Sealed) -> Result<(), OutOfMemory> {
     if log.contains(sealed.id()) {
         return Ok(());
     }
@@ -186,7 +186,7 @@ fn of_two(alloc: Global) -> Result<Log, NeedsFault> {
 }
 
 /// Whether a log decides of the request of a row what it says.
-fn decides(alloc: Global, log: &Log, row: &Row) -> Result<bool, NeedsFault> {
+pub(crate) fn decides(alloc: Global, log: &Log, row: &Row) -> Result<bool, NeedsFault> {
     let sealed = sealed(alloc, row)?;
     let decided = log.decide(&sealed)?;
     Ok(is_said(&decided.entry().reply, row.4))

@@ -24,4 +24,6 @@ mod replies;
 #[cfg(test)]
 mod telling;
 #[cfg(test)]
+mod users;
+#[cfg(test)]
 mod words;

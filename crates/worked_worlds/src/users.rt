@@ -1,0 +1,102 @@
+//! Commands on the users by a call of their own, one after another on the same users.
+
+use Command::{Add, Delete, Make, Set};
+use auth_db::{AuthDb, AuthFault, Caps};
+use common_types::{Name, OutOfMemory};
+use grant_core::ProfileTable;
+use std::alloc::Global;
+use std::process::Abort;
+use std::test::Fail;
+use world_core::{AuthCommand, Told, change_users};
+
+/// A command on the user `client.a`.
+#[derive(Clone, Copy)]
+enum Command {
+    Add(&'static str),
+    Make(&'static str),
+    Set(&'static str),
+    Delete,
+}
+
+/// What a command comes to: 0 where it is done, 1 and 2 where the user was made or was there, and else its fault; and the
+/// text that the user then has, if he is there.
+type Row = (Command, Result<u32, AuthFault>, Option<&'static str>);
+
+const ROWS: &[Row; 10] = &[
+    (Set("allow r"), Err(AuthFault::NoEntity), None),
+    (Delete, Err(AuthFault::NoEntity), None),
+    (Add("allow r"), Ok(0), Some("allow r")),
+    (Add("allow w"), Err(AuthFault::Exists), Some("allow r")),
+    (Make("allow r"), Ok(2), Some("allow r")),
+    (Make("allow w"), Err(AuthFault::CapsDiffer), Some("allow r")),
+    (Set("allow rw"), Ok(0), Some("allow rw")),
+    (Delete, Ok(0), None),
+    (Make("allow w"), Ok(1), Some("allow w")),
+    (Set("allow x"), Ok(0), Some("allow x")),
+];
+
+fn osd(alloc: Global, text: &str) -> Result<Caps, OutOfMemory> {
+    let mut caps = Caps::none();
+    caps.osd = Some(Name::new(alloc, text)?);
+    Ok(caps)
+}
+
+fn command_of(alloc: Global, command: Command) -> Result<AuthCommand, OutOfMemory> {
+    let name = Name::new(alloc, "client.a")?;
+    Ok(match command {
+        Add(text) => AuthCommand::Add {
+            name,
+            caps: osd(alloc, text)?,
+        },
+        Make(text) => AuthCommand::GetOrCreate {
+            name,
+            caps: osd(alloc, text)?,
+        },
+        Set(text) => AuthCommand::SetCaps {
+            name,
+            caps: osd(alloc, text)?,
+        },
+        Delete => AuthCommand::Delete { name },
+    })
+}
+
+/// The number of what is told of a command on the users.
+fn number_of(told: Told) -> u32 {
+    match told {
+        Told::Done => 0,
+        Told::Made => 1,
+        Told::There => 2,
+        _ => 3,
+    }
+}
+
+/// Whether the user has this text, or is not there.
+fn has(users: &AuthDb, text: Option<&str>) -> bool {
+    match (users.get("client.a"), text) {
+        (Ok(caps), Some(text)) => match &caps.osd {
+            Some(osd) => osd.as_str() == text,
+            None => false,
+        },
+        (Err(AuthFault::NoEntity), None) => true,
+        _ => false,
+    }
+}
+
+/// Whether a command comes to what its row says.
+fn is_so(alloc: Global, users: &mut AuthDb, row: &Row) -> Result<bool, OutOfMemory> {
+    let (command, wanted, text) = *row;
+    let said = match change_users(users, command_of(alloc, command)?) {
+        Ok(told) => Ok(number_of(told)),
+        Err(fault) => Err(fault),
+    };
+    Ok(said == wanted && has(users, text))
+}
+
+#[test]
+fn commands_on_users_come_to_what_they_tell(rt: HostRuntime) -> Result<(), Fail> {
+    let mut users = AuthDb::new(rt.alloc(), ProfileTable::builtin(rt.alloc())?);
+    for (place, row) in ROWS.iter().enumerate() {
+        assert!(rt; is_so(rt.alloc(), &mut users, row)?, "{place}");
+    }
+    Ok(())
+}
