@@ -81,6 +81,14 @@ fn beginning_of(watched: &Option<Watched>) -> Beginning {
     }
 }
 
+/// Where a picture begins: where its first row does, or at the end where it has none.
+fn begun(beginning: Option<Beginning>, watched: &Option<Watched>) -> Beginning {
+    match beginning {
+        None => beginning_of(watched),
+        Some(beginning) => beginning,
+    }
+}
+
 impl Replay {
     fn new(alloc: Global, group: Option<GroupId>, first: usize) -> Replay {
         Replay {
@@ -270,32 +278,33 @@ impl Replay {
     }
 
     fn into_story(self) -> Result<Story, OutOfMemory> {
-        let title = title_of(self.alloc, &self.group)?;
-        let left_out = self.count.saturating_sub(self.rows.len());
-        let beginning = match self.beginning {
-            None => beginning_of(&self.watched),
-            Some(beginning) => beginning,
+        let Replay {
+            alloc,
+            watched,
+            group,
+            tick: _tick,
+            line: _line,
+            count,
+            first: _first,
+            beginning,
+            rows,
+        } = self;
+        let title = title_of(alloc, &group)?;
+        let mut story = Story {
+            title,
+            left_out: count.saturating_sub(rows.len()),
+            beginning: begun(beginning, &watched),
+            rows,
+            messages: Vec::new(alloc),
+            waiting: Vec::new(alloc),
+            daemons: DaemonSet::first(0),
         };
-        Ok(match self.watched {
-            None => Story {
-                title,
-                left_out,
-                beginning,
-                rows: self.rows,
-                messages: Vec::new(self.alloc),
-                waiting: Vec::new(self.alloc),
-                daemons: DaemonSet::first(0),
-            },
-            Some(watched) => Story {
-                title,
-                left_out,
-                beginning,
-                rows: self.rows,
-                daemons: watched.daemons,
-                messages: watched.messages,
-                waiting: watched.waiting,
-            },
-        })
+        if let Some(watched) = watched {
+            story.daemons = watched.daemons;
+            story.messages = watched.messages;
+            story.waiting = watched.waiting;
+        }
+        Ok(story)
     }
 }
 

@@ -235,16 +235,23 @@ impl Watched {
         before: Before,
         step: GroupStep,
     ) -> Result<(), OutOfMemory> {
-        match step.done {
+        let GroupStep { done, wire } = step;
+        let Before {
+            noted,
+            decided,
+            open,
+            counted: _counted,
+        } = before;
+        match done {
             Ok(said) => {
-                self.rights.keep(before.noted, said)?;
-                self.tell_accepted(told, seen, &step.wire)?;
-                self.tell_decided(told, seen, before.decided)?;
-                self.tell_answered(told, before.open)
+                self.rights.keep(noted, said)?;
+                self.tell_accepted(told, seen, &wire)?;
+                self.tell_decided(told, seen, decided)?;
+                self.tell_answered(told, open)
             }
             Err(WorldFault::OutOfMemory) => Err(AllocError),
             Err(WorldFault::Group(GroupFault::Unreachable)) => {
-                self.tell_taken(told, seen, &step.wire, End::Unreachable)
+                self.tell_taken(told, seen, &wire, End::Unreachable)
             }
             Err(fault) => self.tell_refused(told, fault),
         }
