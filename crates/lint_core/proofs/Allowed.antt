@@ -1,6 +1,6 @@
 -- What a list allows that has some grants of another one, and what compare_core says of it.
-use Rattle.std.proofs.Common.{◌≡◌, ℕ, ◌+◌, List, [], ◌∷◌, ◌++◌, Bool, true, false, ◌&&◌, ◌||◌, map, reverse, refl, sym, ap, subst, ◌∙◌, inl, inr}
-use Rattle.std.specs.List.{list_any, list_all}
+use Rattle.std.proofs.Common.{◌≡◌, ℕ, ◌+◌, List, [], ◌∷◌, ◌++◌, Bool, true, false, ◌&&◌, ◌||◌, map, reverse, refl, sym, ap, subst, ◌∙◌, inl, inr, IsTrue, ◌↔◌}
+use Rattle.std.specs.List.{list_any}
 use Rattle.std.proofs.lemmas.Bool.{false≢true}
 use Rattle.std.proofs.lemmas.List.Folds.{list_any-append}
 use Rattle.cap_text.specs.declared.grant.AllowGrant.{AllowGrant}
@@ -8,9 +8,7 @@ use Rattle.cap_text.specs.declared.grant.Grant.{Grant}
 use Rattle.cap_text.specs.declared.grant.Grant.TheVariants.{Allow, Profile}
 use Rattle.cap_text.specs.declared.grant.ProfileUse.{ProfileUse}
 use Rattle.grant_core.specs.Flat.{Flat, Table, flat, numbered, parts_of, under}
-use Rattle.verdict_core.specs.Target.{Target}
 use Rattle.verdict_core.specs.Verdict.{covers, grants_allow, is_covered, is_usable}
-use Rattle.verdict_core.specs.declared.request.Needs.{Needs}
 use Rattle.compare_core.specs.Widening.{Widens}
 use Rattle.compare_core.proofs.Bools.{all_also, both, both_left, both_right, not_both, true_or_false}
 use Rattle.lint_core.specs.Lint.{AllowsAll}
@@ -67,8 +65,19 @@ through grants others last all more target needs asked h = all target needs aske
 -- nothing is gained where all is allowed already, and nowhere else
 pub all_from_silent : (grants others : Flat) → ¬ Widens grants others → AllowsAll grants others
 all_from_silent grants others none target needs asked h =
-    elim (true_or_false (grants_allow grants target needs)) [ inl yes ↦ yes | inr no ↦ absurd (none (record { target = target; needs = needs }, (asked, h, no))) ]
+    elim (true_or_false (grants_allow grants target needs)) [ inl allowed ↦ allowed | inr denied ↦ absurd (none (record { target = target; needs = needs }, (asked, h, denied))) ]
 
 pub silent_from_all : (grants others : Flat) → AllowsAll grants others → ¬ Widens grants others
 silent_from_all grants others all gained =
     not_both (grants_allow grants gained.0.target gained.0.needs) (all gained.0.target gained.0.needs gained.1.0 gained.1.1) gained.1.2
+
+along : (grants others rest whole : Flat) → rest ≡ grants → whole ≡ others → AllowsAll rest whole → AllowsAll grants others
+along grants others rest whole p q all = subst (λ l. AllowsAll l others) p (subst (AllowsAll rest) q all)
+
+-- what an answer says of equal lists
+pub answer_yes : (grants others rest whole : Flat) (all : Bool) → (IsTrue all ↔ AllowsAll rest whole) → rest ≡ grants → whole ≡ others → all ≡ true → AllowsAll grants others
+answer_yes grants others rest whole all answer p q said = along grants others rest whole p q (answer.0 said)
+
+pub answer_no : (grants others rest whole : Flat) (all : Bool) → (IsTrue all ↔ AllowsAll rest whole) → rest ≡ grants → whole ≡ others → all ≡ false → ¬ AllowsAll grants others
+answer_no grants others rest whole all answer p q said allowed =
+    false≢true (sym said ∙ answer.1 (along rest whole grants others (sym p) (sym q) allowed))

@@ -1,3 +1,3 @@
 pub mod Allowed
 pub mod Sublists
-pub mod Tidying
+pub mod Steps

@@ -1,22 +1,24 @@
 -- A list that can be expanded can be without some of its grants.
-use Rattle.std.proofs.Common.{◌≡◌, ℕ, zero, suc, ◌+◌, ◌<◌, ◌≤◌, List, [], ◌∷◌, ◌++◌, Bool, true, false, ◌&&◌, Option, None, Some, map, reverse, take, drop, length, cond, ltb, refl, sym, ap, subst, ◌∙◌, arith, length-append}
-use Rattle.std.specs.List.{list_all, sum_by, slice_range, remove}
+use Rattle.std.proofs.Common.{◌≡◌, ℕ, suc, ◌+◌, ◌-◌, ◌≤◌, List, [], ◌∷◌, ◌++◌, Bool, true, false, ◌&&◌, Option, None, Some, map, reverse, take, drop, length, cond, ltb, refl, sym, ap, subst, ◌∙◌, arith, length-append}
+use Rattle.std.specs.List.{list_all, sum_by, remove}
 use Rattle.std.specs.Option.{option_or}
-use Rattle.std.proofs.lemmas.Bool.{false≢true, ltb-false, le-ltb}
-use Rattle.std.proofs.lemmas.List.{append-nil, length-map}
+use Rattle.std.proofs.lemmas.Bool.{ltb-false, le-ltb}
+use Rattle.std.proofs.lemmas.List.{append-nil, length-drop, length-map, take_all}
 use Rattle.std.proofs.lemmas.List.Edits.{split_between}
 use Rattle.std.proofs.lemmas.List.Folds.{list_all-append}
-use Rattle.std.proofs.lemmas.List.Sums.{sum_by-append}
+use Rattle.std.proofs.lemmas.List.Sums.{sum_by-append, sum_by-cons}
 use Rattle.std.proofs.Math.Numerals.{add-one}
 use Rattle.cap_text.specs.declared.grant.Grant.{Grant}
 use Rattle.cap_text.specs.declared.grant.Grant.TheVariants.{Allow, Profile}
 use Rattle.cap_text.specs.declared.grant.ProfileUse.{ProfileUse}
 use Rattle.cap_text.specs.Spellable.{is_spellable}
 use Rattle.grant_core.specs.Flat.{Flat, Table, flat, numbered, parts_of, under}
-use Rattle.grant_core.specs.Refusal.{expand_refusal, first_fault, has_profile, list_fault, too_large}
+use Rattle.grant_core.specs.Refusal.{first_fault, has_profile, list_fault}
 use Rattle.grant_core.specs.declared.fault.ExpandFault.{ExpandFault}
+use Rattle.grant_core.specs.declared.fault.ExpandFault.TheVariants.{TooLarge, UnknownProfile}
 use Rattle.compare_core.proofs.Bools.{both, both_left, both_right}
-use Rattle.lint_core.specs.Lint.{alone}
+use Rattle.lint_core.specs.Lint.{AllowsAll, IsNeedless, alone}
+use Rattle.lint_core.proofs.Allowed.{more}
 use Rattle.lint_core.specs.Parts.{CanExpand}
 
 -- whether a grant uses no profile, or one of the table
@@ -51,7 +53,7 @@ unfolding is_known
 no_fault table number [] h = refl
 no_fault table number (Allow g ∷ grants) h = no_fault table (number + 1) grants h
 no_fault table number (Profile used ∷ grants) h =
-    nothing_both _ _ (ap (λ known. cond known None (Some _)) (both_left (has_profile table used.name) _ h)) (no_fault table (number + 1) grants (both_right (has_profile table used.name) _ h))
+    nothing_both _ _ (ap (λ known. cond known None (Some (UnknownProfile number))) (both_left (has_profile table used.name) _ h)) (no_fault table (number + 1) grants (both_right (has_profile table used.name) _ h))
 
 -- a test that all grants pass, all but some pass
 all_less : {X : Type 0} (test : X → Bool) (front middle behind : List X) → list_all test (front ++ (middle ++ behind)) ≡ true → list_all test (front ++ behind) ≡ true
@@ -68,10 +70,14 @@ size parts (Profile used) = length (parts used)
 length_numbered : (parts : ProfileUse → Flat) (number : ℕ) (grants : List Grant) → length (numbered parts number grants) ≡ sum_by (size parts) grants
 unfolding size
 length_numbered parts number [] = refl
-length_numbered parts number (Allow g ∷ grants) = let later = length_numbered parts (number + 1) grants in omega (arith, later)
+length_numbered parts number (Allow g ∷ grants) =
+    let later = length_numbered parts (number + 1) grants in
+    let step = sum_by-cons (size parts) (Allow g) grants in
+    omega (arith, later, step)
 length_numbered parts number (Profile used ∷ grants) =
     length-append (map (under number) (parts used)) (numbered parts (number + 1) grants)
-    ∙ (λ i. length-map (under number) (parts used) i + length_numbered parts (number + 1) grants i)
+    ∙ (simp length-map
+    (ap (λ n. length (parts used) + n) (length_numbered parts (number + 1) grants)) ∙ sym (sum_by-cons (size parts) (Profile used) grants))
 
 fewer : (table : Table) (front middle behind : List Grant) → length (flat table (front ++ behind)) ≤ length (flat table (front ++ (middle ++ behind)))
 fewer table front middle behind =
@@ -98,15 +104,36 @@ part table front middle behind whole =
       spellable = all_less is_spellable front middle behind whole.spellable;
       accepted = nothing_both _ _
           (no_fault table 1 (front ++ behind) (all_less (is_known table) front middle behind (all_known table 1 (front ++ (middle ++ behind)) first)))
-          (ap (λ large. cond large (Some _) None) (le-ltb 256 (length (flat table (front ++ behind))) (omega arith)));
+          (ap (λ large. cond large (Some TooLarge) None) (le-ltb 256 (length (flat table (front ++ behind))) (omega arith)));
     }
 
 pub split : (grants : List Grant) (place : ℕ) → grants ≡ take place grants ++ (alone grants place ++ drop (place + 1) grants)
 split grants place = split_between grants place (place + 1) (omega arith)
 
+-- the slice behind a place
+pub removed : (grants : List Grant) (place : ℕ) → take place grants ++ take (length grants - (place + 1)) (drop (place + 1) grants) ≡ remove grants place
+removed grants place =
+    ap (λ rest. take place grants ++ rest)
+    (take_all (length grants - (place + 1)) (drop (place + 1) grants) (simp length-drop (omega arith)) ∙ ap (λ n. drop n grants) (add-one place))
+
 -- a list without the grant at a place
-pub others : (table : Table) (grants : List Grant) (place : ℕ) → CanExpand table grants → CanExpand table (take place grants ++ drop (place + 1) grants)
-others table grants place whole = part table (take place grants) (alone grants place) (drop (place + 1) grants) (subst (CanExpand table) (split grants place) whole)
+whole_again : (grants : List Grant) (place : ℕ) → grants ≡ take place grants ++ (alone grants place ++ drop (suc place) grants)
+whole_again grants place = split grants place ∙ ap (λ n. take place grants ++ (alone grants place ++ drop n grants)) (add-one place)
+
+pub without : (table : Table) (grants : List Grant) (place : ℕ) → CanExpand table grants
+    → CanExpand table (take place grants ++ take (length grants - (place + 1)) (drop (place + 1) grants))
+without table grants place whole =
+    subst (CanExpand table) (sym (removed grants place))
+    (part table (take place grants) (alone grants place) (drop (suc place) grants) (subst (CanExpand table) (whole_again grants place) whole))
+
+-- the whole list allows all that it allows without a grant
+pub needless_by : (table : Table) (grants : List Grant) (place : ℕ) → AllowsAll (flat table (remove grants place)) (flat table grants) → IsNeedless table grants place
+needless_by table grants place all =
+    (
+      all,
+      subst (λ l. AllowsAll (flat table l) (flat table (remove grants place))) (sym (whole_again grants place))
+      (more table (take place grants) (alone grants place) (drop (suc place) grants)),
+    )
 
 -- one grant alone
 pub only : (table : Table) (grants : List Grant) (place : ℕ) → CanExpand table grants → CanExpand table (alone grants place)

@@ -1,8 +1,8 @@
 -- Statement: contracts of public calls use it.
 -- Which grants of a list nobody needs, said by what is allowed alone. A grant here is one of the list: an allow, or a use of a
 -- profile with all that it comes to (this project's profile).
-use Rattle.std.specs.Prelude.{◌≡◌, ◌≢◌, ℕ, ◌+◌, ◌<◌, ◌⊎◌, List, [], ◌∷◌, true, length}
-use Rattle.std.specs.List.{remove, slice_range}
+use Rattle.std.specs.Prelude.{◌≡◌, ◌≢◌, ℕ, ◌+◌, ◌<◌, ◌⊎◌, List, [], ◌∷◌, true, Some, length}
+use Rattle.std.specs.List.{remove, slice_get, slice_range}
 use Rattle.cap_text.specs.declared.grant.Grant.{Grant}
 use Rattle.grant_core.specs.Flat.{Flat, Table, flat}
 use Rattle.verdict_core.specs.Target.{Target}
@@ -46,6 +46,11 @@ abbrev pub IsStanding : Table → List Grant → ℕ → Standing → Type 0
 IsStanding table grants place Needed = ¬ IsNeedless table grants place
 IsStanding table grants place Needless = IsNeedless table grants place × ((other : ℕ) → other < length grants → ¬ Covers table grants place other)
 IsStanding table grants place (Covered number) = IsNeedless table grants place × IsFirstCover table grants place number
+
+-- how each grant stands to the others, in the list's order
+pub record AreStandings (table : Table) (grants : List Grant) (standings : List Standing) : Type 0 where
+  pub all : length standings ≡ length grants
+  pub each : (place : ℕ) (standing : Standing) → slice_get standings place ≡ Some standing → IsStanding table grants place standing
 
 -- some of the grants, in their order
 abbrev pub IsSublist : List Grant → List Grant → Type 0

@@ -1,14 +1,13 @@
 //! How each grant of a list stands to the others.
 
-ghost use Rattle.std.specs.Prelude.{◌≡◌, ℕ, ◌<◌, Some, length, IfOk, MatchOption};
-ghost use Rattle.std.specs.List.{slice_get};
+ghost use Rattle.std.specs.Prelude.{◌≡◌, ℕ, ◌<◌, length, IfOk, MatchOption};
 ghost use Rattle.common_types.specs.Refused.{RefusedFirst};
 ghost use Rattle.grant_core.specs.Flat.{flat};
 ghost use Rattle.grant_core.specs.Refusal.{expand_refusal};
-ghost use Rattle.lint_core.specs.Lint.{Covers, IsFirstCover, IsStanding};
+ghost use Rattle.lint_core.specs.Lint.{AreStandings, Covers, IsFirstCover, IsStanding};
 ghost use Rattle.lint_core.specs.Parts.{CanExpand};
 
-use crate::tickets::{allows_all, part_ticket, whole_ticket};
+use crate::tickets::{allows_all, part_ticket, parts_allow_all, whole_ticket};
 use cap_text::{CapList, Grant};
 use common_types::OutOfMemory;
 use grant_core::{ExpandFault, ProfileTable};
@@ -63,8 +62,8 @@ fn standing_at(
     requires within { place < length grants.now }
     ensures { IfOk result (λ standing. IsStanding table.now grants.now place standing) }
 {
-    let others = part_ticket(alloc, table, &grants[..place], &grants[place + 1..])?;
-    if !allows_all(alloc, &others, whole)? {
+    let (front, behind) = (&grants[..place], &grants[place + 1..]);
+    if !parts_allow_all(alloc, table, front, behind, whole)? {
         return Ok(Standing::Needed);
     }
     match first_cover(alloc, table, grants, place)? {
@@ -82,8 +81,7 @@ fn standings(
 ) -> Result<Vec<Standing>, OutOfMemory>
     requires expands { CanExpand table.now grants.now }
     requires whole { whole.now.grants ≡ flat table.now grants.now }
-    ensures few { IfOk result (λ standings. length standings.items ≡ length grants.now) }
-    ensures each { IfOk result (λ standings. (place : ℕ) (standing : Standing) → slice_get standings.items place ≡ Some standing → IsStanding table.now grants.now place standing) }
+    ensures { IfOk result (λ standings. AreStandings table.now grants.now standings.items) }
 {
     let mut standings = Vec::new(alloc);
     for place in 0..grants.len() {
@@ -106,8 +104,7 @@ pub fn needless(
     table: &ProfileTable,
     list: &CapList,
 ) -> Result<Vec<Standing>, ExpandFault>
-    ensures all { IfOk result (λ standings. length standings.items ≡ length list.now) }
-    ensures exact { IfOk result (λ standings. (place : ℕ) (standing : Standing) → slice_get standings.items place ≡ Some standing → IsStanding table.now list.now place standing) }
+    ensures exact { IfOk result (λ standings. AreStandings table.now list.now standings.items) }
     ensures refused { RefusedFirst (expand_refusal table.now list.now) ExpandFault.OutOfMemory result }
 {
     let whole = whole_ticket(alloc, table, list)?;

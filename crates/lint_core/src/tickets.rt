@@ -67,3 +67,18 @@ pub(crate) fn allows_all(
 {
     Ok(widening(alloc, ticket, other)?.is_empty())
 }
+
+/// Whether the grants before and behind a place of a list allow all that a ticket does.
+pub(crate) fn parts_allow_all(
+    alloc: Global,
+    table: &ProfileTable,
+    front: &[Grant],
+    behind: &[Grant],
+    whole: &Ticket,
+) -> Result<bool, OutOfMemory>
+    requires { CanExpand table.now (front.now ++ behind.now) }
+    ensures { IfOk result (λ all. IsTrue all ↔ AllowsAll (flat table.now (front.now ++ behind.now)) whole.now.grants) }
+{
+    let parts = part_ticket(alloc, table, front, behind)?;
+    allows_all(alloc, &parts, whole)
+}

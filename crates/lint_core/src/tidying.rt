@@ -7,7 +7,7 @@ ghost use Rattle.grant_core.specs.Refusal.{expand_refusal};
 ghost use Rattle.lint_core.specs.Lint.{IsTidied};
 ghost use Rattle.lint_core.specs.Parts.{CanExpand, IsTidyFrom};
 
-use crate::tickets::{allows_all, part_ticket, whole_ticket};
+use crate::tickets::{parts_allow_all, whole_ticket};
 use cap_text::{CapList, Grant};
 use common_types::OutOfMemory;
 use grant_core::{ExpandFault, ProfileTable};
@@ -28,8 +28,7 @@ fn kept_grants(
 {
     let mut kept = Vec::new(alloc);
     for place in (0..grants.len()).rev() {
-        let others = part_ticket(alloc, table, &grants[..place], &kept)?;
-        if !allows_all(alloc, &others, whole)? {
+        if !parts_allow_all(alloc, table, &grants[..place], &kept, whole)? {
             kept.insert(0, grants[place].copy()?)?;
         }
     }
