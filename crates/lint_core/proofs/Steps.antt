@@ -87,12 +87,13 @@ tidy_with table grants kept place d h tidy less =
         tidy.needed k (omega arith) (subst (λ l. AllowsAll (flat table l) (flat table grants)) (sym (before grants place d (remove kept k) h)) all)
 
 -- all are looked at
-pub tidied_all : (table : Table) (grants kept : List Grant) → IsTidyFrom table grants 0 kept → IsTidied table grants kept
-tidied_all table grants kept tidy = record {
-  kept = tidy.among;
-  same = (tidy.same, tidy.no_more);
-  needed = λ place within needless. tidy.needed place within (through (flat table (remove kept place)) (flat table kept) (flat table grants) needless.0 tidy.same);
-}
+pub tidied_all : (table : Table) (grants kept list tidied : List Grant) → IsTidyFrom table grants 0 kept → grants ≡ list → tidied ≡ kept → IsTidied table list tidied
+tidied_all table grants kept list tidied tidy same is =
+    subst (λ l. IsTidied table l tidied) same (subst (IsTidied table grants) (sym is) (record {
+      kept = tidy.among;
+      same = (tidy.same, tidy.no_more);
+      needed = λ place within needless. tidy.needed place within (through (flat table (remove kept place)) (flat table kept) (flat table grants) needless.0 tidy.same);
+    }))
 
 -- one more is answered
 pub each_more : (P : ℕ → Standing → Type 0) (all : List Standing) (next : Standing) → ((place : ℕ) (standing : Standing) → slice_get all place ≡ Some standing → P place standing) → P (length all) next

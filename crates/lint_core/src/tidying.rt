@@ -41,6 +41,7 @@ fn kept_grants(
 ///
 /// A list that cannot be expanded is refused by its first fault, or memory is; both leave table and list as they are. The
 /// time is that of as many comparisons of the whole list as it has grants, at most 64.
+#[tactic(auto, using(crate::proofs::Steps::tidied_all))]
 pub fn tidied(
     alloc: Global,
     table: &ProfileTable,
