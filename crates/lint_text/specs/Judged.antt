@@ -1,0 +1,12 @@
+-- Refinement: only contracts inside the crate use it.
+-- A text whose grants are looked at.
+use Rattle.std.specs.Prelude.{ℕ, List}
+use Rattle.grant_core.specs.BuiltIn.{built_in}
+use Rattle.lint_core.specs.Lint.{AreStandings}
+use Rattle.lint_text.specs.Linted.{SpellsList}
+use Rattle.lint_text.specs.declared.reading.Judged.{Judged}
+
+-- the text spells the grants, and they stand so to one another
+pub record IsJudged (caps : List ℕ) (judged : Judged) : Type 0 where
+  pub spelled : SpellsList caps judged.list
+  pub are : AreStandings built_in judged.list judged.standings.items
