@@ -8,12 +8,11 @@ ghost use Rattle.gate_text.specs.Text.{refused_text};
 ghost use Rattle.lint_text.specs.Linted.{IsLintAnswer, IsTidyAnswer, is_needless, lines_from, or_nothing};
 
 use crate::lines::{any_needless, push_lines};
-use crate::reading::{Judged, judged_text, list_of};
-use cap_text::{CapList, print};
+use crate::reading::{Judged, Kept, judged_text, kept_of};
+use cap_text::print;
 use common_types::OutOfMemory;
 use gate_text::{Printed, TextFault};
-use grant_core::{ExpandFault, ProfileTable};
-use lint_core::tidied;
+use grant_core::ProfileTable;
 use std::alloc::{AllocError, Global};
 
 /// What is printed of a text that is refused, which fails.
@@ -55,19 +54,14 @@ pub fn lint_caps(alloc: Global, caps: &str, check: bool) -> Result<Printed, OutO
     }
 }
 
-/// The canonical form of what is left of a list, on a line. With a check it fails where a grant went.
-fn tidy_list(
-    alloc: Global,
-    list: &CapList,
-    kept: &CapList,
-    check: bool,
-) -> Result<Printed, OutOfMemory>
-    ensures text { IfOk result (λ printed. string_bytes printed.text ≡ printed_list kept.now ++ codes "\n") }
-    ensures fails { IfOk result (λ printed. printed.fails ≡ (check && not (length kept.now == length list.now))) }
+/// The canonical form of what is kept of a list, on a line. With a check it fails where a grant went.
+fn tidy(alloc: Global, kept: &Kept, check: bool) -> Result<Printed, OutOfMemory>
+    ensures text { IfOk result (λ printed. string_bytes printed.text ≡ printed_list kept.now.kept ++ codes "\n") }
+    ensures fails { IfOk result (λ printed. printed.fails ≡ (check && not (length kept.now.kept == length kept.now.list))) }
 {
-    let mut text = print(alloc, kept)?;
+    let mut text = print(alloc, &kept.kept)?;
     text.push_str("\n")?;
-    let fails = check && kept.grants().len() != list.grants().len();
+    let fails = check && kept.kept.grants().len() != kept.list.grants().len();
     Ok(Printed { text, fails })
 }
 
@@ -77,15 +71,10 @@ fn tidy_list(
 pub fn tidy_caps(alloc: Global, caps: &str, check: bool) -> Result<Printed, OutOfMemory>
     ensures { IfOk result (λ printed. IsTidyAnswer check caps.now (string_bytes printed.text) printed.fails) }
 {
-    let list = match list_of(alloc, caps) {
-        Ok(list) => list,
-        Err(TextFault::OutOfMemory) => return Err(AllocError),
-        Err(fault) => return refused(alloc, fault),
-    };
     let profiles = ProfileTable::builtin(alloc)?;
-    match tidied(alloc, &profiles, &list) {
-        Ok(kept) => tidy_list(alloc, &list, &kept, check),
-        Err(ExpandFault::OutOfMemory) => Err(AllocError),
-        Err(fault) => refused(alloc, TextFault::Expansion(fault)),
+    match kept_of(alloc, &profiles, caps) {
+        Ok(kept) => tidy(alloc, &kept, check),
+        Err(TextFault::OutOfMemory) => Err(AllocError),
+        Err(fault) => refused(alloc, fault),
     }
 }
