@@ -161,9 +161,9 @@ answer() {
         exit
     fi
     use_smaller "$@"
-    if is_proved; then exec "$proved" "$@"; fi
+    if is_proved; then exec -a "$name" "$proved" "$@"; fi
     has_quick || made_now=" and is made now, in ${minutes:-one to five} minutes"
     say "this answer comes from a quick build, which is not proved${made_now:-}; ./$name --prove makes the proved one${note:-}"
-    if has_quick || build_quick; then exec "$quick" "$@"; fi
+    if has_quick || build_quick; then exec -a "$name" "$quick" "$@"; fi
     try_once "$@"
 }

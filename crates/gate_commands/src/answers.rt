@@ -208,10 +208,14 @@ fn printed_files<F: InputFiles, R: Read>(
     Ok(compare_entities(alloc, old.as_slice(), new.as_slice(), how)?)
 }
 
-/// The text that is refused where a comparison of two texts is, which is the old one where both are.
-fn refused_caps<'a>(alloc: Global, old: &'a str, new: &'a str) -> Result<&'a str, OutOfMemory> {
-    let old_is_refused = explain_text(alloc, old, Format::Text)?.fails;
-    Ok(if old_is_refused { old } else { new })
+/// The text that is refused where an answer on two texts is, which is the first one where both are.
+pub(crate) fn refused_caps<'a>(
+    alloc: Global,
+    first: &'a str,
+    second: &'a str,
+) -> Result<&'a str, OutOfMemory> {
+    let first_is_refused = explain_text(alloc, first, Format::Text)?.fails;
+    Ok(if first_is_refused { first } else { second })
 }
 
 /// The answer of `osdgate compare`.

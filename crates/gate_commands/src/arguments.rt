@@ -18,6 +18,10 @@ Example: osdgate compare --auth now.json --auth planned.json --check";
 const WHO_EXAMPLE: &str =
     "Example: ceph auth ls --format json | osdgate who --auth - --pool data --object x --read";
 
+const SHARE_EXAMPLE: &str = "\
+Example: osdgate share --caps 'allow rw pool=data' --caps 'allow r'
+Example: ceph auth ls --format json | osdgate share --auth - --without client.admin --check";
+
 const RUN_EXAMPLE: &str = "Example: osdgate run incident.txt";
 
 const THREADS_EXAMPLE: &str = "Example: osdgate threads 4";
@@ -298,6 +302,51 @@ fn compare_command<'a>(alloc: Global) -> Result<Command<'a>, AllocError> {
     with_options(alloc, command, &[FORMAT])
 }
 
+/// What only the entities of a file are asked with.
+const OF_FILE: [&str; 4] = ["auth", "without", "reads", "known"];
+
+/// The two texts, in whose place a file of entities may be.
+fn two_texts_option<'a>(alloc: Global) -> Result<Arg<'a>, AllocError> {
+    let help = "A capability text; it is given twice, once for each of two tenants";
+    let mut texts = text_option(alloc, "caps", "TEXT", help)
+        .action(ArgAction::Append)
+        .required_unless_present("auth")?;
+    for name in OF_FILE {
+        texts = texts.conflicts_with(name)?;
+    }
+    Ok(texts)
+}
+
+/// The entities that are left out.
+fn without_option<'a>(alloc: Global) -> Arg<'a> {
+    let help =
+        "An entity of the file that is left out, as `client.admin`; it may be given more than once";
+    text_option(alloc, "without", "ENTITY", help).action(ArgAction::Append)
+}
+
+fn share_command<'a>(alloc: Global) -> Result<Command<'a>, AllocError> {
+    let reads = flag(alloc, "reads", "Tells also of two that read the same");
+    let known = flag(
+        alloc,
+        "known",
+        "Entities whose texts are refused are left out, and the status is 0",
+    );
+    let check = flag(
+        alloc,
+        "check",
+        "Ends with status 1 where one writes what another reads or writes",
+    );
+    Command::new(alloc, "share")
+        .about("Tells what two capability texts, or the entities of a file, both reach")
+        .after_help(SHARE_EXAMPLE)
+        .arg(two_texts_option(alloc)?)?
+        .arg(text_option(alloc, "auth", "FILE", AUTH_HELP))?
+        .arg(without_option(alloc))?
+        .arg(reads)?
+        .arg(known)?
+        .arg(check)
+}
+
 fn run_command<'a>(alloc: Global) -> Result<Command<'a>, AllocError> {
     let script = Arg::new(alloc, "script")
         .action(ArgAction::Set)
@@ -350,17 +399,19 @@ enum Kind {
     Explain,
     Compare,
     Who,
+    Share,
     Run,
     Threads,
     Completions,
     Man,
 }
 
-const KINDS: [Kind; 8] = [
+const KINDS: [Kind; 9] = [
     Kind::Verdict,
     Kind::Explain,
     Kind::Compare,
     Kind::Who,
+    Kind::Share,
     Kind::Run,
     Kind::Threads,
     Kind::Completions,
@@ -373,6 +424,7 @@ fn command_of<'a>(alloc: Global, kind: Kind) -> Result<Command<'a>, AllocError> 
         Kind::Explain => explain_command(alloc),
         Kind::Compare => compare_command(alloc),
         Kind::Who => who_command(alloc),
+        Kind::Share => share_command(alloc),
         Kind::Run => run_command(alloc),
         Kind::Threads => threads_command(alloc),
         Kind::Completions => completions_command(alloc),

@@ -1,4 +1,4 @@
-//! The commands that ask the gate, `verdict`, `explain`, `compare` and `who`, and the words of the whole command line.
+//! The commands that ask the gate, `verdict`, `explain`, `compare`, `who` and `share`, and the words of the whole command line.
 //!
 //! Nothing here knows of worlds, so a program of these commands alone is built in less than half the time. The crate
 //! `command_line` has the commands that run worlds, and hands all others over to this one.
@@ -23,6 +23,7 @@ mod question;
 mod read_words;
 mod request_words;
 mod requests_file;
+mod share;
 mod shell_words;
 mod tips;
 mod who;

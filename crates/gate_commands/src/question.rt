@@ -11,6 +11,7 @@ use crate::input_files::InputFiles;
 use crate::no_answer::NoAnswer;
 use crate::read_words::WordsFault;
 use crate::request_words::BadWords;
+use crate::share::answered_share;
 use crate::tips::complaint;
 use crate::who::answered_who;
 use clap::error::ErrorKind;
@@ -41,6 +42,7 @@ fn answer_matches<'a, F: InputFiles, R: Read>(
         Some(("explain", inner)) => answered_explain(alloc, inner),
         Some(("compare", inner)) => answered_compare(alloc, files, reader, inner),
         Some(("who", inner)) => answered_who(alloc, files, reader, inner),
+        Some(("share", inner)) => answered_share(alloc, files, reader, inner),
         Some(("completions", inner)) => answered_completions(alloc, inner),
         Some(("man", _)) => answered_man(alloc),
         _ => Err(NoAnswer::Words(BadWords::Command)),

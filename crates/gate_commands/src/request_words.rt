@@ -17,6 +17,8 @@ pub(crate) enum BadWords {
     Time,
     /// A comparison of files has not two of them, or both are standard input.
     Files,
+    /// What two texts share is asked of other than two of them.
+    TwoTexts,
     /// A call of `--call` does not say what its method does, or lacks a class or a method.
     Call,
     /// There is no class registry of this name.
@@ -42,6 +44,7 @@ impl BadWords {
             BadWords::Files => {
                 "a comparison of files needs `--auth` twice, and standard input once at most"
             }
+            BadWords::TwoTexts => "what two texts share needs `--caps` twice",
             BadWords::Call => {
                 "a `--call` is CLASS.METHOD and `:r`, `:w` or `:rw`, and then `:listed` where the class is on the default list"
             }

@@ -109,8 +109,22 @@ fn answered_requests<'a>(
     Ok(answered)
 }
 
-/// Tells of entities whose profiles Ceph has otherwise, and of those that have no verdict, which fail unless those that are
-/// known were asked for, or all were asked for.
+/// Tells of entities that have no verdict, which fail unless those that are known were asked for.
+pub(crate) fn tell_unjudged(
+    alloc: Global,
+    answered: &mut Answered<'_>,
+    matches: &ArgMatches<'_>,
+    entities: &[Entity],
+) -> Result<(), NoAnswer> {
+    let unjudged = unjudged_line(alloc, entities)?;
+    answered.note.push_str(unjudged.as_str())?;
+    if !unjudged.is_empty() && !matches.get_flag("known") {
+        answered.printed.fails = true;
+    }
+    Ok(())
+}
+
+/// Tells of entities whose profiles Ceph has otherwise, and of those that have no verdict, unless all were asked for.
 fn tell_entities(
     alloc: Global,
     answered: &mut Answered<'_>,
@@ -122,12 +136,7 @@ fn tell_entities(
     if matches.get_flag("all") {
         return Ok(());
     }
-    let unjudged = unjudged_line(alloc, entities)?;
-    answered.note.push_str(unjudged.as_str())?;
-    if !unjudged.is_empty() && !matches.get_flag("known") {
-        answered.printed.fails = true;
-    }
-    Ok(())
+    tell_unjudged(alloc, answered, matches, entities)
 }
 
 /// The answer of `osdgate who` of one request. Its words are looked at before the file of entities is.

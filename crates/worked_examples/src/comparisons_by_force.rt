@@ -46,7 +46,7 @@ const TAGS: &[&str] = &[
 ];
 
 /// The names of targets: those of the texts, what goes on from them, and names that no text has.
-const TARGET_NAMES: &[&str] = &["a", "b", "", "ab", "az", "z"];
+pub(crate) const TARGET_NAMES: &[&str] = &["a", "b", "", "ab", "az", "z"];
 
 /// The next of a fixed row of numbers takes one of the words.
 fn pick(row: &mut u64, words: &[&'static str]) -> &'static str {
@@ -60,10 +60,10 @@ fn pick(row: &mut u64, words: &[&'static str]) -> &'static str {
 }
 
 /// The words of a grant, behind what stands before it.
-fn draw_grant(row: &mut u64, before: &'static str) -> [&'static str; 5] {
+fn draw_grant(row: &mut u64, before: &'static str, tags: &[&'static str]) -> [&'static str; 5] {
     let access = pick(row, ACCESSES);
     if pick(row, ["tag", "no", "no"].as_slice()) == "tag" {
-        [before, access, pick(row, NAMESPACES), pick(row, TAGS), ""]
+        [before, access, pick(row, NAMESPACES), pick(row, tags), ""]
     } else {
         let pool = pick(row, POOLS);
         let namespace = pick(row, NAMESPACES);
@@ -78,20 +78,24 @@ fn push_all(text: &mut String, words: &[&str]) -> Result<(), OutOfMemory> {
     Ok(())
 }
 
-/// A text of up to three grants.
-fn draw_text(alloc: Global, row: &mut u64) -> Result<String, OutOfMemory> {
+/// A text of up to three grants, with these tags.
+pub(crate) fn draw_text(
+    alloc: Global,
+    row: &mut u64,
+    tags: &[&'static str],
+) -> Result<String, OutOfMemory> {
     let mut text = String::new(alloc);
     for before in ["allow ", ", allow ", ", allow "] {
         if pick(row, ["stop", "go", "go"].as_slice()) == "stop" {
             break;
         }
-        push_all(&mut text, draw_grant(row, before).as_slice())?;
+        push_all(&mut text, draw_grant(row, before, tags).as_slice())?;
     }
     Ok(text)
 }
 
 /// An application of a pool, and the key and the value of its pair. One without a name is none, and a key without a name no pair.
-type TagRow = (&'static str, &'static str, &'static str);
+pub(crate) type TagRow = (&'static str, &'static str, &'static str);
 
 const ALL_TAGS: &[TagRow; 15] = &[
     ("", "", ""),
@@ -119,7 +123,7 @@ fn pairs_of(alloc: Global, key: &str, value: &str) -> Result<Pairs, OutOfMemory>
     Ok(Pairs::from_vec(pairs))
 }
 
-fn app_of(alloc: Global, row: &TagRow) -> Result<AppTags, OutOfMemory> {
+pub(crate) fn app_of(alloc: Global, row: &TagRow) -> Result<AppTags, OutOfMemory> {
     Ok(AppTags {
         application: Name::new(alloc, row.0)?,
         pairs: pairs_of(alloc, row.1, row.2)?,
@@ -156,11 +160,11 @@ fn own_calls(alloc: Global, bits: usize) -> Result<Calls, OutOfMemory> {
 }
 
 /// The names of a call, and bits: its method reads, it writes, and its class is listed.
-type CallRow = (&'static str, &'static str, u8);
+pub(crate) type CallRow = (&'static str, &'static str, u8);
 
 /// Sets of calls over every registry: none; of each of four names, which are those of the texts and others, one that reads off
 /// the default list, and those on it that read, write or both; and one that reads with one of the names before that writes.
-const SETS: &[&[CallRow]; 21] = &[
+pub(crate) const SETS: &[&[CallRow]; 21] = &[
     &[],
     &[("counter", "get", 1)],
     &[("counter", "get", 5)],
@@ -184,7 +188,7 @@ const SETS: &[&[CallRow]; 21] = &[
     &[("z", "z", 5), ("vault", "z", 6)],
 ];
 
-fn call_of(alloc: Global, row: &CallRow) -> Result<ClassCall, OutOfMemory> {
+pub(crate) fn call_of(alloc: Global, row: &CallRow) -> Result<ClassCall, OutOfMemory> {
     Ok(ClassCall {
         class: Name::new(alloc, row.0)?,
         method: Name::new(alloc, row.1)?,
@@ -214,7 +218,7 @@ fn set_of(alloc: Global, registry: Registry, number: usize) -> Result<Calls, Out
 }
 
 /// All reads and writes, with each set of calls over a registry.
-fn all_needs(alloc: Global, registry: Registry) -> Result<Vec<Needs>, OutOfMemory> {
+pub(crate) fn all_needs(alloc: Global, registry: Registry) -> Result<Vec<Needs>, OutOfMemory> {
     let sets = match registry {
         Registry::Own => 8usize,
         Registry::Every => SETS.len(),
@@ -325,8 +329,8 @@ fn expect_pairs(
 ) -> Result<(), Fail> {
     let mut row = 20u64;
     for _ in 0..pairs {
-        let old = draw_text(alloc, &mut row)?;
-        let new = draw_text(alloc, &mut row)?;
+        let old = draw_text(alloc, &mut row, TAGS)?;
+        let new = draw_text(alloc, &mut row, TAGS)?;
         let right = is_the_same(alloc, registry, (old.as_str(), new.as_str()), tags, needs)?;
         assert!(rt; right, "{old} to {new}");
     }

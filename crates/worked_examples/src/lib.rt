@@ -18,6 +18,8 @@ mod printed_texts;
 #[cfg(test)]
 mod profiles;
 #[cfg(test)]
+mod sharing_by_force;
+#[cfg(test)]
 mod tickets;
 #[cfg(test)]
 mod users;

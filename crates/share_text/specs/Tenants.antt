@@ -1,0 +1,87 @@
+-- Statement: contracts of public calls use it.
+-- What is printed of what the entities of a file share (this project's profile). Every line ends with byte 10.
+use Rattle.std.specs.Prelude.{ℕ, ◌≡◌, ◌≢◌, ◌⊎◌, ◌&&◌, ◌||◌, List, [], ◌∷◌, ◌++◌, Bool, true, false, Option, Some, None, codes, string_bytes}
+use Rattle.grant_core.specs.Flat.{Flat}
+use Rattle.verdict_core.specs.Target.{Target}
+use Rattle.gate_text.specs.Caret.{shown}
+use Rattle.gate_text.specs.Compared.{ComesTo, IsFaultOf}
+use Rattle.gate_text.specs.Request.{target_words}
+use Rattle.gate_text.specs.declared.compare.TextFault.{TextFault}
+use Rattle.gate_text.specs.declared.compare.TextFault.TheVariants.{OutOfMemory}
+use Rattle.gate_text.specs.declared.entity.Entity.{Entity}
+use Rattle.share_text.specs.Kinds.{IsSharedSo, ShareSo, is_written}
+use Rattle.share_text.specs.declared.kind.Kind.{Kind}
+use Rattle.share_text.specs.declared.kind.Kind.TheVariants.{WritesWrites, WritesReads, ReadsWrites, ReadsReads}
+use Rattle.share_text.specs.declared.tenants.Audit.{Audit}
+use Rattle.share_text.specs.declared.tenants.Tenant.{Tenant}
+
+-- the entity's text comes to the tenant's grants
+abbrev pub IsTenant : Entity → Tenant → Type 0
+IsTenant entity tenant = (string_bytes tenant.name ≡ string_bytes entity.name) × ComesTo (string_bytes entity.osd) tenant.ticket.grants
+
+-- the entity's text has no grants
+abbrev pub IsUnjudged : Entity → Type 0
+IsUnjudged entity = (fault : TextFault) × IsFaultOf (string_bytes entity.osd) fault × (fault ≢ OutOfMemory)
+
+abbrev pub IsTenantOrNone : Entity → Option Tenant → Type 0
+IsTenantOrNone entity (Some tenant) = IsTenant entity tenant
+IsTenantOrNone entity None = IsUnjudged entity
+
+-- the entities that come to grants, in order; the others are left out
+abbrev pub AreTenants : List Entity → List Tenant → Type 0
+AreTenants [] tenants = tenants ≡ []
+AreTenants (entity ∷ entities) tenants =
+    ((tenant : Tenant) × (rest : List Tenant) × IsTenant entity tenant × AreTenants entities rest × (tenants ≡ tenant ∷ rest))
+    ⊎ (IsUnjudged entity × AreTenants entities tenants)
+
+-- The strongest kind in which two tenants share something: both write, or one writes what the other reads, the first one
+-- first, or, where that is asked for, both read.
+abbrev pub IsStrongest : Bool → Flat → Flat → Option Kind → Type 0
+IsStrongest reads ones others (Some WritesWrites) = ShareSo WritesWrites ones others
+IsStrongest reads ones others (Some WritesReads) = (¬ ShareSo WritesWrites ones others) × ShareSo WritesReads ones others
+IsStrongest reads ones others (Some ReadsWrites) =
+    (¬ ShareSo WritesWrites ones others) × (¬ ShareSo WritesReads ones others) × ShareSo ReadsWrites ones others
+IsStrongest reads ones others (Some ReadsReads) =
+    (¬ ShareSo WritesWrites ones others) × (¬ ShareSo WritesReads ones others) × (¬ ShareSo ReadsWrites ones others) × (reads ≡ true)
+    × ShareSo ReadsReads ones others
+IsStrongest reads ones others None =
+    (¬ ShareSo WritesWrites ones others) × (¬ ShareSo WritesReads ones others) × (¬ ShareSo ReadsWrites ones others)
+    × (reads ≡ true → ¬ ShareSo ReadsReads ones others)
+
+-- two names with words between and behind them, and a target that `osdgate verdict` takes
+abbrev pub names_line : List ℕ → List ℕ → List ℕ → List ℕ → Target → List ℕ
+names_line first between second behind target = shown first ++ (between ++ (shown second ++ (behind ++ (target_words target ++ codes "\n"))))
+
+-- who writes stands first, where the other reads
+abbrev pub pair_line : Kind → List ℕ → List ℕ → Target → List ℕ
+pair_line WritesWrites one other target = names_line one (codes " and ") other (codes " write ") target
+pair_line WritesReads one other target = names_line one (codes " writes what ") other (codes " reads ") target
+pair_line ReadsWrites one other target = names_line other (codes " writes what ") one (codes " reads ") target
+pair_line ReadsReads one other target = names_line one (codes " and ") other (codes " read ") target
+
+-- what is told of two tenants by a kind: nothing where there is none, and else a target at which they share so; a check fails
+-- where one of them writes
+abbrev pub IsToldBy : Bool → Option Kind → Tenant → Tenant → List ℕ → Bool → Type 0
+IsToldBy check None one other text fails = (text ≡ []) × (fails ≡ false)
+IsToldBy check (Some kind) one other text fails =
+    (target : Target) × IsSharedSo kind one.ticket.grants other.ticket.grants target
+    × (text ≡ pair_line kind (string_bytes one.name) (string_bytes other.name) target) × (fails ≡ (check && is_written kind))
+
+abbrev pub IsPairTold : Audit → Tenant → Tenant → List ℕ → Bool → Type 0
+IsPairTold audit one other text fails =
+    (found : Option Kind) × IsStrongest audit.reads one.ticket.grants other.ticket.grants found × IsToldBy audit.check found one other text fails
+
+-- what is told of each tenant, and of those behind it, in turn; it fails where it fails for one
+abbrev pub InTurn : (Tenant → List Tenant → List ℕ → Bool → Type 0) → List Tenant → List ℕ → Bool → Type 0
+InTurn IsTold [] text fails = (text ≡ []) × (fails ≡ false)
+InTurn IsTold (one ∷ others) text fails =
+    (front rest : List ℕ) × (first later : Bool) × IsTold one others front first × InTurn IsTold others rest later
+    × (text ≡ front ++ rest) × (fails ≡ (first || later))
+
+-- what is told of a tenant with each of some others
+abbrev pub IsToldWith : Audit → Tenant → List Tenant → List ℕ → Bool → Type 0
+IsToldWith audit one others text fails = InTurn (λ other behind. IsPairTold audit one other) others text fails
+
+-- what is printed of some entities, and whether the command fails: each pair once, in the file's order
+abbrev pub AreTenantsTold : Audit → List Entity → List ℕ → Bool → Type 0
+AreTenantsTold audit entities text fails = (tenants : List Tenant) × AreTenants entities tenants × InTurn (IsToldWith audit) tenants text fails

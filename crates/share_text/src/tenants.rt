@@ -1,0 +1,245 @@
+//! What the entities of a file share.
+
+ghost use Rattle.std.specs.Prelude.{◌≡◌, ◌++◌, ◌&&◌, ◌||◌, [], false, Some, codes, string_bytes, IfOk, OnOk, ◌↔◌, IsTrue};
+ghost use Rattle.share_text.specs.Kinds.{ShareSo, is_written};
+ghost use Rattle.share_text.specs.Tenants as spec;
+ghost use Rattle.share_text.specs.Tenants.{AreTenants, AreTenantsTold, InTurn, IsPairTold, IsStrongest, IsTenantOrNone, IsToldBy, IsToldWith};
+
+use crate::kind::Kind;
+use crate::texts::examples_of;
+use common_types::OutOfMemory;
+use compare_core::OwnedTarget;
+use gate_text::{Entity, Printed, TextFault, push_shown_text, push_target, ticket_of_text};
+use share_core::share;
+use std::alloc::{AllocError, Global};
+use verdict_core::Ticket;
+
+/// What is told of entities that share something.
+#[derive(Clone, Copy, Debug)]
+pub struct Audit {
+    /// Two that read one object are told too, where neither writes what the other may touch.
+    pub reads: bool,
+    /// It fails where one writes what another reads or writes.
+    pub check: bool,
+}
+
+/// An entity whose capability text comes to grants.
+#[derive(Drop)]
+pub(crate) struct Tenant {
+    name: String,
+    ticket: Ticket,
+}
+
+/// The tenant that an entity is, or nothing where its text has no grants.
+fn tenant_of(alloc: Global, entity: &Entity) -> Result<Option<Tenant>, OutOfMemory>
+    ensures { IfOk result (λ found. IsTenantOrNone entity.now found) }
+{
+    match ticket_of_text(alloc, entity.osd.as_str()) {
+        Ok(ticket) => {
+            let name = String::from_str(alloc, entity.name.as_str())?;
+            Ok(Some(Tenant { name, ticket }))
+        }
+        Err(TextFault::OutOfMemory) => Err(AllocError),
+        Err(_) => Ok(None),
+    }
+}
+
+/// The entities whose texts come to grants, in order.
+fn tenants_of(alloc: Global, entities: &[Entity]) -> Result<Vec<Tenant>, OutOfMemory>
+    ensures { IfOk result (λ tenants. AreTenants entities.now tenants.items) }
+{
+    let mut tenants = Vec::new(alloc);
+    for entity in entities {
+        if let Some(tenant) = tenant_of(alloc, entity)? {
+            tenants.push(tenant)?;
+        }
+    }
+    Ok(tenants)
+}
+
+/// Whether two tickets share something of a kind. It takes no memory.
+fn share_so(kind: Kind, ones: &Ticket, others: &Ticket) -> bool
+    ensures { IsTrue result ↔ ShareSo kind ones.now.grants others.now.grants }
+{
+    let one = kind.one();
+    let other = kind.other();
+    share(ones, &one, others, &other)
+}
+
+/// The strongest kind in which two tickets share something. It takes no memory.
+fn strongest(reads: bool, ones: &Ticket, others: &Ticket) -> Option<Kind>
+    ensures { IsStrongest reads ones.now.grants others.now.grants result }
+{
+    if share_so(Kind::WritesWrites, ones, others) {
+        Some(Kind::WritesWrites)
+    } else if share_so(Kind::WritesReads, ones, others) {
+        Some(Kind::WritesReads)
+    } else if share_so(Kind::ReadsWrites, ones, others) {
+        Some(Kind::ReadsWrites)
+    } else if reads && share_so(Kind::ReadsReads, ones, others) {
+        Some(Kind::ReadsReads)
+    } else {
+        None
+    }
+}
+
+/// A line with two names, words between and behind them, and a target.
+fn names_line(
+    alloc: Global,
+    first: &str,
+    between: &str,
+    second: &str,
+    behind: &str,
+    target: &OwnedTarget,
+) -> Result<String, OutOfMemory>
+    ensures { IfOk result (λ text. string_bytes text ≡ spec.names_line first.now between.now second.now behind.now target.now) }
+{
+    let mut text = String::new(alloc);
+    push_shown_text(&mut text, first)?;
+    text.push_str(between)?;
+    push_shown_text(&mut text, second)?;
+    text.push_str(behind)?;
+    push_target(&mut text, target)?;
+    text.push_str("\n")?;
+    Ok(text)
+}
+
+/// The line of two names that share a target so.
+fn pair_line(
+    alloc: Global,
+    kind: Kind,
+    one: &str,
+    other: &str,
+    target: &OwnedTarget,
+) -> Result<String, OutOfMemory>
+    ensures { IfOk result (λ text. string_bytes text ≡ spec.pair_line kind one.now other.now target.now) }
+{
+    match kind {
+        Kind::WritesWrites => names_line(alloc, one, " and ", other, " write ", target),
+        Kind::WritesReads => names_line(alloc, one, " writes what ", other, " reads ", target),
+        Kind::ReadsWrites => names_line(alloc, other, " writes what ", one, " reads ", target),
+        Kind::ReadsReads => names_line(alloc, one, " and ", other, " read ", target),
+    }
+}
+
+/// Nothing is told, which does not fail.
+fn nothing(alloc: Global) -> Printed
+    ensures text { string_bytes result.text ≡ [] }
+    ensures fails { result.fails ≡ false }
+{
+    Printed {
+        text: String::new(alloc),
+        fails: false,
+    }
+}
+
+/// What is told of two tenants that share this target so. A check fails where one of them writes.
+fn told_at(
+    alloc: Global,
+    kind: Kind,
+    one: &Tenant,
+    other: &Tenant,
+    target: &OwnedTarget,
+    check: bool,
+) -> Result<Printed, OutOfMemory>
+    ensures { IfOk result (λ printed. (string_bytes printed.text ≡ spec.pair_line kind (string_bytes one.now.name) (string_bytes other.now.name) target.now) × (printed.fails ≡ (check && is_written kind))) }
+{
+    let text = pair_line(alloc, kind, one.name.as_str(), other.name.as_str(), target)?;
+    let is_written = kind.is_written();
+    Ok(Printed {
+        text,
+        fails: check && is_written,
+    })
+}
+
+/// What is told of two tenants that share something of a kind.
+fn told_so(
+    alloc: Global,
+    kind: Kind,
+    one: &Tenant,
+    other: &Tenant,
+    check: bool,
+) -> Result<Printed, OutOfMemory>
+    requires { ShareSo kind one.now.ticket.grants other.now.ticket.grants }
+    ensures { IfOk result (λ printed. IsToldBy check (Some kind) one.now other.now (string_bytes printed.text) printed.fails) }
+{
+    let examples = examples_of(alloc, kind, &one.ticket, &other.ticket)?;
+    match examples.first() {
+        None => Ok(nothing(alloc)),
+        Some(shared) => told_at(alloc, kind, one, other, &shared.target, check),
+    }
+}
+
+/// What is told of two tenants.
+fn told_pair(
+    alloc: Global,
+    audit: Audit,
+    one: &Tenant,
+    other: &Tenant,
+) -> Result<Printed, OutOfMemory>
+    ensures { IfOk result (λ printed. IsPairTold audit one.now other.now (string_bytes printed.text) printed.fails) }
+{
+    match strongest(audit.reads, &one.ticket, &other.ticket) {
+        None => Ok(nothing(alloc)),
+        Some(kind) => told_so(alloc, kind, one, other, audit.check),
+    }
+}
+
+/// Adds what is told behind what is printed, which fails where one of them does.
+fn push_told(printed: &mut Printed, told: &Printed) -> Result<(), OutOfMemory>
+    ensures text { OnOk result (string_bytes printed.new.text ≡ string_bytes printed.old.text ++ string_bytes told.now.text) }
+    ensures fails { OnOk result (printed.new.fails ≡ (printed.old.fails || told.now.fails)) }
+{
+    printed.text.push_str(told.text.as_str())?;
+    printed.fails = printed.fails || told.fails;
+    Ok(())
+}
+
+/// What is told of a tenant with each of some others.
+fn told_with(
+    alloc: Global,
+    audit: Audit,
+    one: &Tenant,
+    others: &[Tenant],
+) -> Result<Printed, OutOfMemory>
+    ensures { IfOk result (λ printed. IsToldWith audit one.now others.now (string_bytes printed.text) printed.fails) }
+{
+    let mut printed = nothing(alloc);
+    for other in others {
+        let told = told_pair(alloc, audit, one, other)?;
+        push_told(&mut printed, &told)?;
+    }
+    Ok(printed)
+}
+
+/// What is told of each two tenants.
+fn told_each(alloc: Global, audit: Audit, tenants: &[Tenant]) -> Result<Printed, OutOfMemory>
+    ensures { IfOk result (λ printed. InTurn (IsToldWith audit) tenants.now (string_bytes printed.text) printed.fails) }
+{
+    let mut printed = nothing(alloc);
+    for place in 0..tenants.len() {
+        let told = told_with(alloc, audit, &tenants[place], &tenants[place + 1..])?;
+        push_told(&mut printed, &told)?;
+    }
+    Ok(printed)
+}
+
+/// What the program prints of what the entities of a file share: for each two of them, once, in the file's order, that share
+/// something a line by the strongest kind, with one target that `osdgate verdict` takes, quoted for a shell: `ONE and OTHER
+/// write TARGET`, else `WRITER writes what READER reads TARGET`, else, where that is asked for, `ONE and OTHER read TARGET`.
+/// Who calls a method that reads or writes counts as one who reads or writes. With a check it fails where one writes what
+/// the other reads or writes.
+///
+/// An entity whose text has no grants is left out. A name's bytes outside 32 to 126 are shown as `\x` and two hexadecimal
+/// digits. The only error is want of memory, which leaves nothing. Time goes by the pairs of entities, and for each by the
+/// pairs of their grants. The lines are this project's profile.
+pub fn share_entities(
+    alloc: Global,
+    entities: &[Entity],
+    audit: Audit,
+) -> Result<Printed, OutOfMemory>
+    ensures { IfOk result (λ printed. AreTenantsTold audit entities.now (string_bytes printed.text) printed.fails) }
+{
+    let tenants = tenants_of(alloc, entities)?;
+    told_each(alloc, audit, tenants.as_slice())
+}

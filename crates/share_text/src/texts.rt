@@ -1,0 +1,171 @@
+//! What two capability texts share.
+
+ghost use Rattle.std.specs.Prelude.{◌≡◌, ◌++◌, ◌&&◌, true, not, ◌==◌, length, codes, string_bytes, IfOk, OnOk};
+ghost use Rattle.std.specs.List.{flat_map};
+ghost use Rattle.gate_text.specs.Compared.{refused_side};
+ghost use Rattle.share_text.specs.Texts as spec;
+ghost use Rattle.share_text.specs.Texts.{AreAllExamples, AreExamples, AreToldApart, IsShareAnswer, shared_line};
+
+use crate::kind::Kind;
+use common_types::OutOfMemory;
+use gate_text::{Printed, TextFault, push_target, ticket_of_text};
+use share_core::{Shared, sharing};
+use std::alloc::{AllocError, Global};
+use std::fmt::Write;
+use verdict_core::Ticket;
+
+/// The examples of each kind.
+#[derive(Drop)]
+pub(crate) struct Examples {
+    writes_writes: Vec<Shared>,
+    writes_reads: Vec<Shared>,
+    reads_writes: Vec<Shared>,
+    reads_reads: Vec<Shared>,
+}
+
+/// The examples of one kind.
+pub(crate) fn examples_of(
+    alloc: Global,
+    kind: Kind,
+    ones: &Ticket,
+    others: &Ticket,
+) -> Result<Vec<Shared>, OutOfMemory>
+    ensures { IfOk result (λ examples. AreExamples kind ones.now.grants others.now.grants examples.items) }
+{
+    let one = kind.one();
+    let other = kind.other();
+    sharing(alloc, ones, &one, others, &other)
+}
+
+/// The examples of each kind.
+fn all_examples(alloc: Global, ones: &Ticket, others: &Ticket) -> Result<Examples, OutOfMemory>
+    ensures { IfOk result (λ all. AreAllExamples ones.now.grants others.now.grants all) }
+{
+    let writes_writes = examples_of(alloc, Kind::WritesWrites, ones, others)?;
+    let writes_reads = examples_of(alloc, Kind::WritesReads, ones, others)?;
+    let reads_writes = examples_of(alloc, Kind::ReadsWrites, ones, others)?;
+    let reads_reads = examples_of(alloc, Kind::ReadsReads, ones, others)?;
+    Ok(Examples {
+        writes_writes,
+        writes_reads,
+        reads_writes,
+        reads_reads,
+    })
+}
+
+/// Adds the paths of both grants, with a blank behind each.
+fn push_paths(text: &mut String, shared: &Shared) -> Result<(), OutOfMemory>
+    ensures { OnOk result (string_bytes text.new ≡ string_bytes text.old ++ spec.paths_words shared.now) }
+{
+    let path = &shared.path;
+    write!(text, "{path}")?;
+    text.push_str(" ")?;
+    let other_path = &shared.other_path;
+    write!(text, "{other_path}")?;
+    text.push_str(" ")
+}
+
+/// Adds the line of an example.
+fn push_shared(text: &mut String, kind: Kind, shared: &Shared) -> Result<(), OutOfMemory>
+    ensures { OnOk result (string_bytes text.new ≡ string_bytes text.old ++ shared_line kind shared.now) }
+{
+    text.push_str(kind.words())?;
+    push_paths(text, shared)?;
+    push_target(text, &shared.target)?;
+    text.push_str("\n")
+}
+
+/// Adds a line for each example of a kind.
+fn push_kind(text: &mut String, kind: Kind, examples: &[Shared]) -> Result<(), OutOfMemory>
+    ensures { OnOk result (string_bytes text.new ≡ string_bytes text.old ++ flat_map (shared_line kind) examples.now) }
+{
+    for shared in examples {
+        push_shared(text, kind, shared)?;
+    }
+    Ok(())
+}
+
+/// A line for each example, kind by kind.
+fn shared_lines(alloc: Global, all: &Examples) -> Result<String, OutOfMemory>
+    ensures { IfOk result (λ text. string_bytes text ≡ spec.shared_lines all.now) }
+{
+    let mut text = String::new(alloc);
+    push_kind(&mut text, Kind::WritesWrites, all.writes_writes.as_slice())?;
+    push_kind(&mut text, Kind::WritesReads, all.writes_reads.as_slice())?;
+    push_kind(&mut text, Kind::ReadsWrites, all.reads_writes.as_slice())?;
+    push_kind(&mut text, Kind::ReadsReads, all.reads_reads.as_slice())?;
+    Ok(text)
+}
+
+/// The lines, or that nothing is shared.
+fn or_apart(alloc: Global, lines: String) -> Result<String, OutOfMemory>
+    ensures { IfOk result (λ text. string_bytes text ≡ spec.or_apart (string_bytes lines)) }
+{
+    if lines.is_empty() {
+        String::from_str(alloc, "apart\n")
+    } else {
+        Ok(lines)
+    }
+}
+
+/// Whether a check was asked for, and there is an example of one who writes.
+fn fails_check(check: bool, all: &Examples) -> bool
+    ensures { result ≡ (check && spec.is_any_written all.now) }
+{
+    let is_written = !all.writes_writes.is_empty()
+        || !all.writes_reads.is_empty()
+        || !all.reads_writes.is_empty();
+    check && is_written
+}
+
+/// What is printed of two tickets.
+fn told_apart(
+    alloc: Global,
+    ones: &Ticket,
+    others: &Ticket,
+    check: bool,
+) -> Result<Printed, OutOfMemory>
+    ensures { IfOk result (λ printed. AreToldApart check ones.now.grants others.now.grants (string_bytes printed.text) printed.fails) }
+{
+    let all = all_examples(alloc, ones, others)?;
+    let lines = shared_lines(alloc, &all)?;
+    let text = or_apart(alloc, lines)?;
+    let fails = fails_check(check, &all);
+    Ok(Printed { text, fails })
+}
+
+/// What is printed of a text that is refused, which fails.
+fn refused(alloc: Global, side: &str, fault: TextFault) -> Result<Printed, OutOfMemory>
+    ensures { IfOk result (λ printed. (string_bytes printed.text ≡ refused_side side.now fault) × (printed.fails ≡ true)) }
+{
+    let text = format!(in alloc; "refused {side} {fault}\n")?;
+    Ok(Printed { text, fails: true })
+}
+
+/// What the program prints of what two capability texts share: for each kind, `writes writes`, `writes reads`,
+/// `reads writes` and `reads reads`, and each grant of the first text with each of the second that by themselves allow that
+/// at a common target, a line `KIND PATH PATH TARGET`, where TARGET is what `osdgate verdict` takes, quoted for a shell. Who
+/// calls a method that reads or writes counts as one who reads or writes. Where nothing is shared it is `apart`. With a check
+/// it fails where one writes what the other reads or writes.
+///
+/// A text that has no grants is refused, the first one first, which fails: `refused first FAULT`, `refused second FAULT`. The
+/// only error is want of memory, which leaves nothing. The lines are this project's profile.
+pub fn share_texts(
+    alloc: Global,
+    first: &str,
+    second: &str,
+    check: bool,
+) -> Result<Printed, OutOfMemory>
+    ensures { IfOk result (λ printed. IsShareAnswer check first.now second.now (string_bytes printed.text) printed.fails) }
+{
+    let ones = match ticket_of_text(alloc, first) {
+        Ok(ticket) => ticket,
+        Err(TextFault::OutOfMemory) => return Err(AllocError),
+        Err(fault) => return refused(alloc, "first", fault),
+    };
+    match ticket_of_text(alloc, second) {
+        Ok(ticket) => told_apart(alloc, &ones, &ticket, check),
+        Err(TextFault::OutOfMemory) => Err(AllocError),
+        Err(fault) => refused(alloc, "second", fault),
+    }
+}
