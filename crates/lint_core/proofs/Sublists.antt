@@ -128,12 +128,11 @@ without table grants place whole =
 
 -- the whole list allows all that it allows without a grant
 pub needless_by : (table : Table) (grants : List Grant) (place : ℕ) → AllowsAll (flat table (remove grants place)) (flat table grants) → IsNeedless table grants place
-needless_by table grants place all =
-    (
-      all,
-      subst (λ l. AllowsAll (flat table l) (flat table (remove grants place))) (sym (whole_again grants place))
+needless_by table grants place all = (
+  all,
+  subst (λ l. AllowsAll (flat table l) (flat table (remove grants place))) (sym (whole_again grants place))
       (more table (take place grants) (alone grants place) (drop (suc place) grants)),
-    )
+)
 
 -- one grant alone
 pub only : (table : Table) (grants : List Grant) (place : ℕ) → CanExpand table grants → CanExpand table (alone grants place)

@@ -42,11 +42,7 @@ fn kept_grants(
 /// A list that cannot be expanded is refused by its first fault, or memory is; both leave table and list as they are. The
 /// time is that of as many comparisons of the whole list as it has grants, at most 64.
 #[tactic(auto, using(crate::proofs::Steps::tidied_all))]
-pub fn tidied(
-    alloc: Global,
-    table: &ProfileTable,
-    list: &CapList,
-) -> Result<CapList, ExpandFault>
+pub fn tidied(alloc: Global, table: &ProfileTable, list: &CapList) -> Result<CapList, ExpandFault>
     ensures tidied { IfOk result (λ tidied. IsTidied table.now list.now tidied) }
     ensures refused { RefusedFirst (expand_refusal table.now list.now) ExpandFault.OutOfMemory result }
 {

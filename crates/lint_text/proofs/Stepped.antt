@@ -11,5 +11,5 @@ behind xs i d h = drop-cons xs i d h ∙ ap (λ n. get_or xs i d ∷ drop n xs) 
 
 pub lines_step : (before : List ℕ) (grants : List Grant) (standings : List Standing) (i : ℕ) (d : Grant) (e : Standing) → i < length grants → i < length standings
     → lines_from before (i + 1) (drop i grants) (drop i standings)
-        ≡ standing_line before (i + 1) (get_or standings i e) ++ (reach_line before (i + 1) (get_or grants i d) ++ lines_from before (i + 1 + 1) (drop (i + 1) grants) (drop (i + 1) standings))
+    ≡ standing_line before (i + 1) (get_or standings i e) ++ (reach_line before (i + 1) (get_or grants i d) ++ lines_from before (i + 1 + 1) (drop (i + 1) grants) (drop (i + 1) standings))
 lines_step before grants standings i d e h k = (λ at. lines_from before (i + 1) (behind grants i d h at) (behind standings i e k at))

@@ -14,12 +14,7 @@ use grant_core::ProfileTable;
 use std::alloc::{AllocError, Global};
 
 /// What is printed of an entity whose grants are looked at: their lines, behind its name.
-fn linted(
-    alloc: Global,
-    name: &str,
-    judged: &Judged,
-    check: bool,
-) -> Result<Printed, OutOfMemory>
+fn linted(alloc: Global, name: &str, judged: &Judged, check: bool) -> Result<Printed, OutOfMemory>
     requires { length judged.now.standings.items ≡ length judged.now.list }
     ensures text { IfOk result (λ printed. string_bytes printed.text ≡ lines_from (shown name.now ++ codes " ") 1 judged.now.list judged.now.standings.items) }
     ensures fails { IfOk result (λ printed. printed.fails ≡ (check && list_any is_needless judged.now.standings.items)) }
@@ -28,7 +23,12 @@ fn linted(
     push_shown_text(&mut before, name)?;
     before.push_str(" ")?;
     let mut text = String::new(alloc);
-    push_lines(&mut text, before.as_str(), judged.list.grants(), &judged.standings)?;
+    push_lines(
+        &mut text,
+        before.as_str(),
+        judged.list.grants(),
+        &judged.standings,
+    )?;
     let fails = check && any_needless(&judged.standings);
     Ok(Printed { text, fails })
 }

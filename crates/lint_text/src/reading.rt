@@ -62,11 +62,7 @@ pub(crate) fn judged_text(
 }
 
 /// What is kept of the grants of a text, by the built-in profiles.
-pub(crate) fn kept_of(
-    alloc: Global,
-    profiles: &ProfileTable,
-    caps: &str,
-) -> Result<Kept, TextFault>
+pub(crate) fn kept_of(alloc: Global, profiles: &ProfileTable, caps: &str) -> Result<Kept, TextFault>
     requires { profiles.now ≡ built_in }
     ensures kept { IfOk result (λ kept. IsKept caps.now kept) }
     ensures refused { IfErr result (λ fault. IsFaultOf caps.now fault) }
