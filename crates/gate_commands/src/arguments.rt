@@ -22,6 +22,11 @@ const SHARE_EXAMPLE: &str = "\
 Example: osdgate share --caps 'allow rw pool=data' --caps 'allow r'
 Example: ceph auth ls --format json | osdgate share --auth - --without client.admin --check";
 
+const LINT_EXAMPLE: &str = "\
+Example: osdgate lint --caps 'allow r, allow rw pool=data, allow r pool=data'
+Example: osdgate lint --caps 'allow rw, allow r' --tidy
+Example: ceph auth ls --format json | osdgate lint --auth - --check";
+
 const RUN_EXAMPLE: &str = "\
 Example: osdgate run incident.txt
 Example: osdgate run --picture incident.svg incident.txt";
@@ -354,6 +359,40 @@ fn share_command<'a>(alloc: Global) -> Result<Command<'a>, AllocError> {
         .arg(check)
 }
 
+/// One text, in whose place a file of entities may be.
+fn one_text_option<'a>(alloc: Global) -> Result<Arg<'a>, AllocError> {
+    text_option(alloc, "caps", "TEXT", "The capability text")
+        .required_unless_present("auth")?
+        .conflicts_with("auth")?
+        .conflicts_with("known")
+}
+
+fn lint_command<'a>(alloc: Global) -> Result<Command<'a>, AllocError> {
+    let tidy = flag(
+        alloc,
+        "tidy",
+        "Prints the text without grants that nobody needs",
+    );
+    let known = flag(
+        alloc,
+        "known",
+        "Entities whose texts are refused are left out, and the status is 0",
+    );
+    let check = flag(
+        alloc,
+        "check",
+        "Ends with status 1 where a grant is needless",
+    );
+    Command::new(alloc, "lint")
+        .about("Tells which grants of a capability text nobody needs, and the text without them")
+        .after_help(LINT_EXAMPLE)
+        .arg(one_text_option(alloc)?)?
+        .arg(text_option(alloc, "auth", "FILE", AUTH_HELP))?
+        .arg(tidy.conflicts_with("auth")?)?
+        .arg(known)?
+        .arg(check)
+}
+
 fn run_command<'a>(alloc: Global) -> Result<Command<'a>, AllocError> {
     let script = Arg::new(alloc, "script")
         .action(ArgAction::Set)
@@ -414,18 +453,20 @@ enum Kind {
     Compare,
     Who,
     Share,
+    Lint,
     Run,
     Threads,
     Completions,
     Man,
 }
 
-const KINDS: [Kind; 9] = [
+const KINDS: [Kind; 10] = [
     Kind::Verdict,
     Kind::Explain,
     Kind::Compare,
     Kind::Who,
     Kind::Share,
+    Kind::Lint,
     Kind::Run,
     Kind::Threads,
     Kind::Completions,
@@ -439,6 +480,7 @@ fn command_of<'a>(alloc: Global, kind: Kind) -> Result<Command<'a>, AllocError> 
         Kind::Compare => compare_command(alloc),
         Kind::Who => who_command(alloc),
         Kind::Share => share_command(alloc),
+        Kind::Lint => lint_command(alloc),
         Kind::Run => run_command(alloc),
         Kind::Threads => threads_command(alloc),
         Kind::Completions => completions_command(alloc),

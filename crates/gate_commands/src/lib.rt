@@ -1,4 +1,4 @@
-//! The commands that ask the gate, `verdict`, `explain`, `compare`, `who` and `share`, and the words of the whole command line.
+//! The commands that ask the gate, `verdict`, `explain`, `compare`, `who`, `share` and `lint`, and the words of the whole command line.
 //!
 //! Nothing here knows of worlds, so a program of these commands alone is built in less than half the time. The crate
 //! `command_line` has the commands that run worlds, and hands all others over to this one.
@@ -12,6 +12,7 @@ mod entity_list;
 mod file_fault;
 mod input_files;
 mod keyring;
+mod lint;
 mod listing;
 mod man_page;
 mod no_answer;

@@ -8,6 +8,7 @@ use crate::answers::{
 };
 use crate::arguments::command_words;
 use crate::input_files::InputFiles;
+use crate::lint::answered_lint;
 use crate::no_answer::NoAnswer;
 use crate::read_words::WordsFault;
 use crate::request_words::BadWords;
@@ -43,6 +44,7 @@ fn answer_matches<'a, F: InputFiles, R: Read>(
         Some(("compare", inner)) => answered_compare(alloc, files, reader, inner),
         Some(("who", inner)) => answered_who(alloc, files, reader, inner),
         Some(("share", inner)) => answered_share(alloc, files, reader, inner),
+        Some(("lint", inner)) => answered_lint(alloc, files, reader, inner),
         Some(("completions", inner)) => answered_completions(alloc, inner),
         Some(("man", _)) => answered_man(alloc),
         _ => Err(NoAnswer::Words(BadWords::Command)),

@@ -37,7 +37,7 @@ const POOLS: &[&str] = &["", "", " pool=a", " pool=b"];
 
 const PREFIXES: &[&str] = &["", "", " object_prefix a", " object_prefix ab"];
 
-const TAGS: &[&str] = &[
+pub(crate) const TAGS: &[&str] = &[
     " tag p *=*",
     " tag p k=*",
     " tag p *=v",
@@ -138,7 +138,7 @@ fn tags_of(alloc: Global, row: &TagRow) -> Result<Tags, OutOfMemory> {
     Ok(Tags::from_vec(tags))
 }
 
-fn all_tags(alloc: Global) -> Result<Vec<Tags>, OutOfMemory> {
+pub(crate) fn all_tags(alloc: Global) -> Result<Vec<Tags>, OutOfMemory> {
     let mut all = Vec::new(alloc);
     for row in ALL_TAGS {
         all.push(tags_of(alloc, row)?)?;
@@ -259,7 +259,12 @@ fn shows_at(
 }
 
 /// Whether some request over the alphabets is allowed by the new grants and denied by the old one.
-fn gains(old: &Ticket, new: &[(Path, AllowGrant)], tags: &[Tags], needs: &[Needs]) -> bool {
+pub(crate) fn gains(
+    old: &Ticket,
+    new: &[(Path, AllowGrant)],
+    tags: &[Tags],
+    needs: &[Needs],
+) -> bool {
     for pool in TARGET_NAMES {
         for namespace in TARGET_NAMES {
             for object in TARGET_NAMES {

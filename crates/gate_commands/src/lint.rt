@@ -1,0 +1,63 @@
+//! What `osdgate lint` answers.
+
+use crate::answers::{Answered, entities_in};
+use crate::file_fault::Purpose;
+use crate::input_files::InputFiles;
+use crate::no_answer::NoAnswer;
+use crate::pasted::refusal_line;
+use crate::request_words::value_of;
+use crate::who::tell_unjudged;
+use clap::ArgMatches;
+use lint_text::{lint_caps, lint_entities, tidy_caps};
+use std::alloc::Global;
+use std::io::Read;
+
+/// The answer for a text.
+fn answered_text<'a>(
+    alloc: Global,
+    caps: &'a str,
+    matches: &ArgMatches<'_>,
+) -> Result<Answered<'a>, NoAnswer> {
+    let check = matches.get_flag("check");
+    let printed = if matches.get_flag("tidy") {
+        tidy_caps(alloc, caps, check)?
+    } else {
+        lint_caps(alloc, caps, check)?
+    };
+    Ok(Answered {
+        printed,
+        caps,
+        note: refusal_line(alloc, caps)?,
+    })
+}
+
+/// The answer for the entities of a file.
+fn answered_file<'a, F: InputFiles, R: Read>(
+    alloc: Global,
+    files: &F,
+    reader: &mut R,
+    path: &str,
+    matches: &ArgMatches<'_>,
+) -> Result<Answered<'a>, NoAnswer> {
+    let entities = entities_in(alloc, files, reader, Purpose::Entities, path)?;
+    let mut answered = Answered {
+        printed: lint_entities(alloc, entities.as_slice(), matches.get_flag("check"))?,
+        caps: "",
+        note: String::new(alloc),
+    };
+    tell_unjudged(alloc, &mut answered, matches, entities.as_slice())?;
+    Ok(answered)
+}
+
+/// The answer of `osdgate lint`: of a text, or of the entities of a file.
+pub(crate) fn answered_lint<'a, F: InputFiles, R: Read>(
+    alloc: Global,
+    files: &F,
+    reader: &mut R,
+    matches: &ArgMatches<'a>,
+) -> Result<Answered<'a>, NoAnswer> {
+    match matches.get_str("auth") {
+        None => answered_text(alloc, value_of(matches, "caps"), matches),
+        Some(path) => answered_file(alloc, files, reader, path, matches),
+    }
+}

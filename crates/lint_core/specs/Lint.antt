@@ -1,0 +1,65 @@
+-- Statement: contracts of public calls use it.
+-- Which grants of a list nobody needs, said by what is allowed alone. A grant here is one of the list: an allow, or a use of a
+-- profile with all that it comes to (this project's profile).
+use Rattle.std.specs.Prelude.{◌≡◌, ◌≢◌, ℕ, ◌+◌, ◌<◌, ◌⊎◌, List, [], ◌∷◌, true, Some, length}
+use Rattle.std.specs.List.{remove, slice_get, slice_range}
+use Rattle.cap_text.specs.declared.grant.Grant.{Grant}
+use Rattle.grant_core.specs.Flat.{Flat, Table, flat}
+use Rattle.verdict_core.specs.Target.{Target}
+use Rattle.verdict_core.specs.Verdict.{grants_allow}
+use Rattle.verdict_core.specs.declared.request.Needs.{Needs}
+use Rattle.compare_core.specs.Widening.{IsAskedBy}
+use Rattle.compare_core.specs.declared.registry.Registry.TheVariants.{Every}
+use Rattle.lint_core.specs.declared.findings.Standing.{Standing}
+use Rattle.lint_core.specs.declared.findings.Standing.TheVariants.{Needed, Needless, Covered}
+
+-- every request that the other grants allow, these allow too: at each target, each needs, over every class registry
+abbrev pub AllowsAll : Flat → Flat → Type 0
+AllowsAll grants others = (target : Target) (needs : Needs) → IsAskedBy Every needs → grants_allow others target needs ≡ true → grants_allow grants target needs ≡ true
+
+-- neither denies a request that the other allows
+abbrev pub AllowSame : Flat → Flat → Type 0
+AllowSame grants others = AllowsAll grants others × AllowsAll others grants
+
+-- without the grant at this place the list allows the same
+abbrev pub IsNeedless : Table → List Grant → ℕ → Type 0
+IsNeedless table grants place = AllowSame (flat table (remove grants place)) (flat table grants)
+
+-- the grant at a place, alone
+abbrev pub alone : List Grant → ℕ → List Grant
+alone grants place = slice_range grants place (place + 1)
+
+-- another grant alone allows all that the grant at this place allows
+abbrev pub Covers : Table → List Grant → ℕ → ℕ → Type 0
+Covers table grants place other = (other ≢ place) × AllowsAll (flat table (alone grants other)) (flat table (alone grants place))
+
+-- the number from 1 of the first grant that does
+pub record IsFirstCover (table : Table) (grants : List Grant) (place number : ℕ) : Type 0 where
+  pub other : ℕ
+  pub is : number ≡ other + 1
+  pub within : other < length grants
+  pub covers : Covers table grants place other
+  pub first : (earlier : ℕ) → earlier < other → ¬ Covers table grants place earlier
+
+-- how the grant at a place stands to the others
+abbrev pub IsStanding : Table → List Grant → ℕ → Standing → Type 0
+IsStanding table grants place Needed = ¬ IsNeedless table grants place
+IsStanding table grants place Needless = IsNeedless table grants place × ((other : ℕ) → other < length grants → ¬ Covers table grants place other)
+IsStanding table grants place (Covered number) = IsNeedless table grants place × IsFirstCover table grants place number
+
+-- how each grant stands to the others, in the list's order
+pub record AreStandings (table : Table) (grants : List Grant) (standings : List Standing) : Type 0 where
+  pub all : length standings ≡ length grants
+  pub each : (place : ℕ) (standing : Standing) → slice_get standings place ≡ Some standing → IsStanding table grants place standing
+
+-- some of the grants, in their order
+abbrev pub IsSublist : List Grant → List Grant → Type 0
+IsSublist [] grants = Unit {0}
+IsSublist (kept ∷ others) [] = ⊥
+IsSublist (kept ∷ others) (grant ∷ grants) = ((kept ≡ grant) × IsSublist others grants) ⊎ IsSublist (kept ∷ others) grants
+
+-- some of the grants, which allow the same as all, and none of which is needless among them
+pub record IsTidied (table : Table) (grants tidied : List Grant) : Type 0 where
+  pub kept : IsSublist tidied grants
+  pub same : AllowSame (flat table tidied) (flat table grants)
+  pub needed : (place : ℕ) → place < length tidied → ¬ IsNeedless table tidied place

@@ -1,0 +1,14 @@
+//! What the program prints of grants that nobody needs.
+//!
+//! Each text is a value, made of a capability text or of entities. Each call borrows what it is given, and its only error is
+//! want of memory: what is wrong with a capability text is part of what is printed. The forms of the lines are this
+//! project's profile.
+#![tactic(auto)]
+
+mod entities;
+mod lines;
+mod reading;
+mod texts;
+
+pub use entities::lint_entities;
+pub use texts::{lint_caps, tidy_caps};
