@@ -46,11 +46,11 @@ fn push_report(
 /// A line with the beginning of some bytes.
 fn push_bytes(alloc: Global, lines: &mut Vec<String>, bytes: &[u8]) -> Result<(), OutOfMemory> {
     let mut text = String::from_str(alloc, "- ")?;
-    if bytes.len() > MOST_BYTES {
-        push_quoted(&mut text, &bytes[..MOST_BYTES])?;
+    let rest = bytes.len().saturating_sub(MOST_BYTES);
+    let shown = bytes.len().saturating_sub(rest);
+    push_quoted(&mut text, &bytes[..shown])?;
+    if rest > 0 {
         text.push_str(" ..")?;
-    } else {
-        push_quoted(&mut text, bytes)?;
     }
     lines.push(text)?;
     Ok(())
