@@ -75,11 +75,13 @@ fn is_right(alloc: Global, text: &str, tags: &[Tags], needs: &[Needs]) -> Result
     let left = needless(alloc, &table, &kept)?;
     let printed = print(alloc, &kept)?;
     let all_needed = left.iter().all(|one| matches!(one, Standing::Needed));
-    Ok(all_needed
-        && !denies_some(alloc, printed.as_str(), text, tags, needs)?
-        && !denies_some(alloc, text, printed.as_str(), tags, needs)?
-        && are_right(alloc, &list, &told, tags, needs)?
-        && are_right(alloc, &kept, &left, tags, needs)?)
+    Ok(
+        all_needed
+            && !denies_some(alloc, printed.as_str(), text, tags, needs)?
+            && !denies_some(alloc, text, printed.as_str(), tags, needs)?
+            && are_right(alloc, &list, &told, tags, needs)?
+            && are_right(alloc, &kept, &left, tags, needs)?,
+    )
 }
 
 fn expect_texts(
@@ -103,7 +105,7 @@ fn linting_finds_what_looking_finds(rt: HostRuntime) -> Result<(), Fail> {
     let alloc = rt.alloc();
     let tags = all_tags(alloc)?;
     let needs = all_needs(alloc, Registry::Every)?;
-    expect_texts(&rt, alloc, 20, &tags, &needs)
+    expect_texts(&rt, alloc, 5, &tags, &needs)
 }
 
 /// A table with a profile of two grants, neither of which gives what the other does.
@@ -119,10 +121,16 @@ fn two_grants_cover_one(rt: HostRuntime) -> Result<(), Fail> {
     let table = table_of_both(alloc)?;
     let list = parse(alloc, "profile both, allow r pool=a, allow w pool=b")?;
     let told = needless(alloc, &table, &list)?;
-    assert!(rt; matches!(
-        told.as_slice(),
-        [Standing::Needless, Standing::Covered(1), Standing::Covered(1)]
-    ));
+    assert!(rt;
+        matches!(
+            told.as_slice(),
+            [
+                Standing::Needless,
+                Standing::Covered(1),
+                Standing::Covered(1)
+            ]
+        )
+    );
     let kept = tidied(alloc, &table, &list)?;
     assert!(rt; print(alloc, &kept)?.as_str() == "profile both");
     Ok(())
