@@ -5,6 +5,7 @@ use crate::file_fault::Purpose;
 use crate::input_files::InputFiles;
 use crate::no_answer::NoAnswer;
 use crate::pasted::refusal_line;
+use crate::profile_notes::{entity_profile_lines, profile_lines};
 use crate::request_words::value_of;
 use crate::who::tell_unjudged;
 use clap::ArgMatches;
@@ -24,10 +25,12 @@ fn answered_text<'a>(
     } else {
         lint_caps(alloc, caps, check)?
     };
+    let mut note = profile_lines(alloc, caps)?;
+    note.push_str(refusal_line(alloc, caps)?.as_str())?;
     Ok(Answered {
         printed,
         caps,
-        note: refusal_line(alloc, caps)?,
+        note,
     })
 }
 
@@ -43,7 +46,7 @@ fn answered_file<'a, F: InputFiles, R: Read>(
     let mut answered = Answered {
         printed: lint_entities(alloc, entities.as_slice(), matches.get_flag("check"))?,
         caps: "",
-        note: String::new(alloc),
+        note: entity_profile_lines(alloc, entities.as_slice())?,
     };
     tell_unjudged(alloc, &mut answered, matches, entities.as_slice())?;
     Ok(answered)
