@@ -150,7 +150,7 @@ use_smaller() {
     case " ${smaller_lacks:-} " in *" ${1:-} "*) return ;; esac
     if [ -z "${smaller:-}" ] || is_proved || has_quick; then return; fi
     use_program "$smaller"
-    minutes="one to three"
+    minutes="one to four"
 }
 
 # The program's answer on these words, or with the one word --prove its proof.
@@ -162,7 +162,7 @@ answer() {
     fi
     use_smaller "$@"
     if is_proved; then exec -a "$name" "$proved" "$@"; fi
-    has_quick || made_now=" and is made now, in ${minutes:-one to five} minutes"
+    has_quick || made_now=" and is made now, in ${minutes:-two to six} minutes"
     say "this answer comes from a quick build, which is not proved${made_now:-}; ./$name --prove makes the proved one${note:-}"
     if has_quick || build_quick; then exec -a "$name" "$quick" "$@"; fi
     try_once "$@"
