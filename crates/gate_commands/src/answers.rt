@@ -9,7 +9,7 @@ use crate::man_page::man_page;
 use crate::no_answer::{BadFile, NoAnswer};
 use crate::notes::{Outcome, note_of};
 use crate::pasted::refusal_line;
-use crate::pools_file::{Pool, pools_of, taken_line};
+use crate::pools_file::{pools_of, taken_line};
 use crate::profile_notes::profile_lines;
 use crate::request_words::{BadWords, RequestWords, times_of, value_of};
 use clap::ArgMatches;
@@ -19,6 +19,7 @@ use gate_text::{
     Answer, Comparison, Entity, Format, Printed, Verdict, answer, compare_entities, compare_text,
     explain_text, text_of,
 };
+use share_core::Pool;
 use std::alloc::Global;
 use std::io::Read;
 

@@ -53,6 +53,12 @@ const AUTHS_HELP: &str =
 const POOLS_HELP: &str =
     "What `ceph osd dump --format json` or `ceph osd pool ls detail --format json` prints, `-` for standard input: the pool must be one of these, and has its tags";
 
+const LINT_POOLS_HELP: &str =
+    "What `ceph osd dump --format json` or `ceph osd pool ls detail --format json` prints, `-` for standard input: tells also of grants that match none of these pools";
+
+const SHARED_POOLS_HELP: &str =
+    "What `ceph osd dump --format json` or `ceph osd pool ls detail --format json` prints, `-` for standard input: only what these pools have counts, each with its tags";
+
 const REQUESTS_HELP: &str =
     "A file with a request a line, in the words of `osdgate verdict`, in the place of the options of one, `-` for standard input: prints a table of entities and requests";
 
@@ -315,7 +321,7 @@ fn compare_command<'a>(alloc: Global) -> Result<Command<'a>, AllocError> {
 }
 
 /// What only the entities of a file are asked with.
-const OF_FILE: [&str; 4] = ["auth", "without", "reads", "known"];
+const OF_FILE: [&str; 5] = ["auth", "pools", "without", "reads", "known"];
 
 /// The two texts, in whose place a file of entities may be.
 fn two_texts_option<'a>(alloc: Global) -> Result<Arg<'a>, AllocError> {
@@ -353,6 +359,7 @@ fn share_command<'a>(alloc: Global) -> Result<Command<'a>, AllocError> {
         .after_help(SHARE_EXAMPLE)
         .arg(two_texts_option(alloc)?)?
         .arg(text_option(alloc, "auth", "FILE", AUTH_HELP))?
+        .arg(text_option(alloc, "pools", "FILE", SHARED_POOLS_HELP))?
         .arg(without_option(alloc))?
         .arg(reads)?
         .arg(known)?
@@ -381,14 +388,16 @@ fn lint_command<'a>(alloc: Global) -> Result<Command<'a>, AllocError> {
     let check = flag(
         alloc,
         "check",
-        "Ends with status 1 where a grant is needless",
+        "Ends with status 1 where a grant is needless or matches no pool",
     );
+    let pools = text_option(alloc, "pools", "FILE", LINT_POOLS_HELP).conflicts_with("tidy")?;
     Command::new(alloc, "lint")
         .about("Tells which grants of a capability text nobody needs, and the text without them")
         .after_help(LINT_EXAMPLE)
         .arg(one_text_option(alloc)?)?
         .arg(text_option(alloc, "auth", "FILE", AUTH_HELP))?
         .arg(tidy.conflicts_with("auth")?)?
+        .arg(pools)?
         .arg(known)?
         .arg(check)
 }

@@ -5,15 +5,8 @@ use crate::input_files::without_mark;
 use crate::profile_notes::push_name;
 use common_types::{AppTags, Name, OutOfMemory, Pairs, Tags};
 use serde_json::Value;
+use share_core::Pool;
 use std::alloc::Global;
-
-/// A pool of a cluster.
-#[derive(Drop)]
-pub(crate) struct Pool {
-    pub(crate) name: String,
-    /// Its applications, with the pairs of each.
-    pub(crate) tags: Tags,
-}
 
 /// The pool of this name.
 pub(crate) fn pool_of<'a>(pools: &'a [Pool], name: &str) -> Option<&'a Pool> {
@@ -61,7 +54,7 @@ fn pools_of_list(alloc: Global, entries: &[Value]) -> Result<Vec<Pool>, FileFaul
             return Err(FileFault::DoubledPool(number));
         }
         pools.push(Pool {
-            name: String::from_str(alloc, name)?,
+            name: Name::new(alloc, name)?,
             tags: tags_of(alloc, entry, number)?,
         })?;
     }

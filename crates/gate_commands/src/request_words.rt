@@ -1,10 +1,11 @@
 //! Requests as words of the command line.
 
-use crate::pools_file::{Pool, no_pool_line, pool_of};
+use crate::pools_file::{no_pool_line, pool_of};
 use clap::ArgMatches;
 use common_types::{AppTags, Name, OutOfMemory, Pairs, Tags};
 use gate_text::{Asked, Times};
 use object_core::{Bytes, Op};
+use share_core::Pool;
 use std::alloc::{AllocError, AllocFailed, Global};
 use verdict_core::{ClassCall, Target};
 

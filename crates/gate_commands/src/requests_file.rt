@@ -4,7 +4,7 @@ use crate::arguments::request_command;
 use crate::file_fault::FileFault;
 use crate::input_files::without_mark;
 use crate::notes::{Outcome, note_of};
-use crate::pools_file::{Pool, taken_line};
+use crate::pools_file::taken_line;
 use crate::request_words::{NoRequest, RequestWords};
 use crate::shell_words::words_of;
 use crate::tips::first_words;
@@ -13,6 +13,7 @@ use clap::ArgMatches;
 use clap::error::ErrorKind;
 use common_types::OutOfMemory;
 use gate_text::{Asked, answer};
+use share_core::Pool;
 use std::alloc::Global;
 use std::fmt::Write;
 

@@ -1,6 +1,6 @@
 //! What `osdgate share` answers.
 
-use crate::answers::{Answered, entities_in, refused_caps};
+use crate::answers::{Answered, entities_in, pools_given, refused_caps};
 use crate::file_fault::Purpose;
 use crate::input_files::InputFiles;
 use crate::no_answer::NoAnswer;
@@ -61,6 +61,11 @@ fn without(alloc: Global, entities: Vec<Entity>, names: &[&str]) -> Result<Vec<E
     Ok(kept)
 }
 
+/// Whether both files are standard input.
+fn is_one_input(matches: &ArgMatches<'_>) -> bool {
+    matches.get_str("auth") == Some("-") && matches.get_str("pools") == Some("-")
+}
+
 /// The answer for the entities of a file.
 fn answered_file<'a, F: InputFiles, R: Read>(
     alloc: Global,
@@ -68,6 +73,10 @@ fn answered_file<'a, F: InputFiles, R: Read>(
     reader: &mut R,
     matches: &ArgMatches<'_>,
 ) -> Result<Answered<'a>, NoAnswer> {
+    if is_one_input(matches) {
+        return Err(NoAnswer::Words(BadWords::OneInput));
+    }
+    let pools = pools_given(alloc, files, reader, matches)?;
     let path = value_of(matches, "auth");
     let entities = entities_in(alloc, files, reader, Purpose::Entities, path)?;
     let entities = without(alloc, entities, matches.get_strs("without").unwrap_or(&[]))?;
@@ -76,7 +85,12 @@ fn answered_file<'a, F: InputFiles, R: Read>(
         check: matches.get_flag("check"),
     };
     let mut answered = Answered {
-        printed: share_entities(alloc, entities.as_slice(), strictness)?,
+        printed: share_entities(
+            alloc,
+            entities.as_slice(),
+            strictness,
+            pools.as_ref().map(Vec::as_slice),
+        )?,
         caps: "",
         note: entity_profile_lines(alloc, entities.as_slice())?,
     };

@@ -7,7 +7,6 @@ use crate::file_fault::Purpose;
 use crate::input_files::InputFiles;
 use crate::no_answer::NoAnswer;
 use crate::notes::{Outcome, note_of, unjudged_line};
-use crate::pools_file::Pool;
 use crate::profile_notes::entity_profile_lines;
 use crate::request_words::{BadWords, RequestWords, value_of};
 use crate::requests_file::{
@@ -15,6 +14,7 @@ use crate::requests_file::{
 };
 use clap::ArgMatches;
 use gate_text::{Entity, Format, Printed, Times, who_table, who_text};
+use share_core::Pool;
 use std::alloc::Global;
 use std::io::Read;
 

@@ -32,6 +32,12 @@ any_numbered parts test number (Profile used ∷ grants) =
     list_any-append (λ entry. test entry.1) (map (under number) (parts used)) (numbered parts (number + 1) grants)
     ∙ (λ i. any_under test number (parts used) i || any_numbered parts test (number + 1) grants i)
 
+-- what one use comes to
+pub any_of_use : (parts : ProfileUse → Flat) (test : AllowGrant → Bool) (number : ℕ) (used : ProfileUse)
+    → list_any (λ entry. test entry.1) (numbered parts number (Profile used ∷ [])) ≡ (list_any (λ entry. test entry.1) (parts used) || false)
+unfolding some_of
+any_of_use parts test number used = any_numbered parts test number (Profile used ∷ [])
+
 or_more : (a m b : Bool) → (a || b) ≡ true → (a || (m || b)) ≡ true
 or_more true m b h = refl
 or_more false true b h = refl

@@ -1,3 +1,5 @@
 pub mod Allowed
-pub mod Sublists
+pub mod Idle
+pub mod Places
 pub mod Steps
+pub mod Sublists

@@ -22,11 +22,11 @@ passed_over : (kept : List Grant) (grant : Grant) (grants : List Grant) → IsSu
 passed_over [] grant grants h = tt
 passed_over (first ∷ kept) grant grants h = inr h
 
-behind_is : (grants : List Grant) (place : ℕ) (d : Grant) → place < length grants → drop place grants ≡ get_or grants place d ∷ drop (place + 1) grants
+pub behind_is : (grants : List Grant) (place : ℕ) (d : Grant) → place < length grants → drop place grants ≡ get_or grants place d ∷ drop (place + 1) grants
 behind_is grants place d h = drop-cons grants place d h ∙ ap (λ n. get_or grants place d ∷ drop n grants) (sym (add-one place))
 
 -- some grant of a list that has one
-first_of_list : (grants : List Grant) (place : ℕ) → place < length grants → Grant
+pub first_of_list : (grants : List Grant) (place : ℕ) → place < length grants → Grant
 first_of_list [] place h = absurd (omega arith)
 first_of_list (grant ∷ grants) place h = grant
 

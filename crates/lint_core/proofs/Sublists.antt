@@ -107,6 +107,12 @@ part table front middle behind whole =
           (ap (λ large. cond large (Some TooLarge) None) (le-ltb 256 (length (flat table (front ++ behind))) (omega arith)));
     }
 
+-- a profile that alone can be expanded is one of the table
+pub known_name : (table : Table) (used : ProfileUse) → CanExpand table (Profile used ∷ []) → has_profile table used.name ≡ true
+unfolding is_known
+known_name table used whole =
+    both_left (has_profile table used.name) _ (all_known table 1 (Profile used ∷ []) (nothing_first _ _ whole.accepted))
+
 pub split : (grants : List Grant) (place : ℕ) → grants ≡ take place grants ++ (alone grants place ++ drop (place + 1) grants)
 split grants place = split_between grants place (place + 1) (omega arith)
 

@@ -1,2 +1,4 @@
+pub mod Idle
 pub mod Lint
 pub mod Parts
+pub mod Pools

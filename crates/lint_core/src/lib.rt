@@ -5,8 +5,13 @@
 #![tactic(auto)]
 
 mod findings;
+mod laws;
+mod pools;
 mod tickets;
 mod tidying;
 
 pub use findings::{Standing, needless};
+pub use laws::no_grant_is_idle;
+pub use pools::poolless;
+pub use share_core::Pool;
 pub use tidying::tidied;

@@ -1,6 +1,6 @@
 -- Statement: contracts of public calls use it.
 -- What is printed of grants that nobody needs (this project's profile). Every line ends with byte 10.
-use Rattle.std.specs.Prelude.{ℕ, ◌≡◌, ◌≢◌, ◌⊎◌, ◌+◌, ◌&&◌, ◌==◌, not, List, [], ◌∷◌, ◌++◌, Bool, true, false, None, codes, decimal, length, is_some, string_bytes, if◌then◌else◌}
+use Rattle.std.specs.Prelude.{ℕ, ◌≡◌, ◌≢◌, ◌⊎◌, ◌+◌, ◌&&◌, ◌==◌, not, List, [], ◌∷◌, ◌++◌, Bool, true, false, codes, decimal, length, is_some, string_bytes, if◌then◌else◌, ◌||◌, replicate, Option, None, Some}
 use Rattle.std.specs.List.{list_any}
 use Rattle.cap_text.specs.Grammar.{Spells}
 use Rattle.cap_text.specs.Printed.{printed}
@@ -9,8 +9,10 @@ use Rattle.cap_text.specs.declared.grant.Grant.TheVariants.{Allow, Profile}
 use Rattle.grant_core.specs.BuiltIn.{built_in}
 use Rattle.grant_core.specs.Refusal.{expand_refusal}
 use Rattle.lint_core.specs.Lint.{AreStandings, IsTidied}
+use Rattle.lint_core.specs.Pools.{without_pools}
 use Rattle.lint_core.specs.declared.findings.Standing.{Standing}
 use Rattle.lint_core.specs.declared.findings.Standing.TheVariants.{Needed, Needless, Covered}
+use Rattle.share_core.specs.declared.pools.Pool.{Pool}
 use Rattle.gate_text.specs.Caret.{shown}
 use Rattle.gate_text.specs.Compared.{IsFaultOf, fault_text}
 use Rattle.gate_text.specs.Entities.{AreAllTold}
@@ -33,17 +35,30 @@ is_everywhere (Profile used) = not (is_some used.pool)
 abbrev pub reach_line : List ℕ → ℕ → Grant → List ℕ
 reach_line before number grant = if is_everywhere grant then before ++ (decimal number ++ codes " every pool\n") else []
 
+-- which grants match no pool, where pools are given
+abbrev pub poolless_by : Option (List Pool) → List Grant → List Bool
+poolless_by None grants = replicate (length grants) false
+poolless_by (Some pools) grants = without_pools built_in pools grants
+
+abbrev pub pool_line : List ℕ → ℕ → Bool → List ℕ
+pool_line before number without = if without then before ++ (decimal number ++ codes " matches no pool\n") else []
+
 -- the lines of each grant from a number on
-abbrev pub lines_from : List ℕ → ℕ → List Grant → List Standing → List ℕ
-lines_from before number [] standings = []
-lines_from before number (grant ∷ grants) [] = []
-lines_from before number (grant ∷ grants) (standing ∷ standings) =
-    standing_line before number standing ++ (reach_line before number grant ++ lines_from before (number + 1) grants standings)
+abbrev pub lines_from : List ℕ → ℕ → List Grant → List Standing → List Bool → List ℕ
+lines_from before number [] standings without = []
+lines_from before number (grant ∷ grants) [] without = []
+lines_from before number (grant ∷ grants) (standing ∷ standings) [] = []
+lines_from before number (grant ∷ grants) (standing ∷ standings) (none ∷ without) =
+    standing_line before number standing ++ (reach_line before number grant ++ (pool_line before number none ++ lines_from before (number + 1) grants standings without))
 
 abbrev pub is_needless : Standing → Bool
 is_needless Needed = false
 is_needless Needless = true
 is_needless (Covered cover) = true
+
+-- a grant is needless, or matches no pool
+abbrev pub has_mistake : List Standing → List Bool → Bool
+has_mistake standings without = list_any is_needless standings || list_any (λ none. none) without
 
 -- the text spells grants that are expanded by the built-in profiles
 abbrev pub SpellsList : List ℕ → List Grant → Type 0
@@ -61,18 +76,18 @@ pub record IsRefusal (caps text : List ℕ) (fails : Bool) : Type 0 where
 abbrev pub or_nothing : List ℕ → List ℕ
 or_nothing lines = if length lines == 0 then codes "nothing needless\n" else lines
 
--- The lines of each grant of a text. It fails where a check was asked for and a grant is needless.
-pub record IsLinted (check : Bool) (caps text : List ℕ) (fails : Bool) : Type 0 where
+-- The lines of each grant of a text. It fails where a check was asked for and a grant is needless or matches no pool.
+pub record IsLinted (pools : Option (List Pool)) (check : Bool) (caps text : List ℕ) (fails : Bool) : Type 0 where
   pub grants : List Grant
   pub spelled : SpellsList caps grants
   pub standings : List Standing
   pub are : AreStandings built_in grants standings
-  pub printed : text ≡ or_nothing (lines_from [] 1 grants standings)
-  pub ends : fails ≡ (check && list_any is_needless standings)
+  pub printed : text ≡ or_nothing (lines_from [] 1 grants standings (poolless_by pools grants))
+  pub ends : fails ≡ (check && has_mistake standings (poolless_by pools grants))
 
 -- what is printed of a text, and whether the command fails
-abbrev pub IsLintAnswer : Bool → List ℕ → List ℕ → Bool → Type 0
-IsLintAnswer check caps text fails = IsLinted check caps text fails ⊎ IsRefusal caps text fails
+abbrev pub IsLintAnswer : Option (List Pool) → Bool → List ℕ → List ℕ → Bool → Type 0
+IsLintAnswer pools check caps text fails = IsLinted pools check caps text fails ⊎ IsRefusal caps text fails
 
 -- The canonical form of the text without needless grants, on a line. It fails where a check was asked for and a grant went.
 pub record IsTidyText (check : Bool) (caps text : List ℕ) (fails : Bool) : Type 0 where
@@ -87,21 +102,21 @@ abbrev pub IsTidyAnswer : Bool → List ℕ → List ℕ → Bool → Type 0
 IsTidyAnswer check caps text fails = IsTidyText check caps text fails ⊎ IsRefusal caps text fails
 
 -- the lines of each grant of an entity, behind its name
-pub record IsEntityLinted (check : Bool) (entity : Entity) (text : List ℕ) (fails : Bool) : Type 0 where
+pub record IsEntityLinted (pools : Option (List Pool)) (check : Bool) (entity : Entity) (text : List ℕ) (fails : Bool) : Type 0 where
   pub grants : List Grant
   pub spelled : SpellsList (string_bytes entity.osd) grants
   pub standings : List Standing
   pub are : AreStandings built_in grants standings
-  pub printed : text ≡ lines_from (shown (string_bytes entity.name) ++ codes " ") 1 grants standings
-  pub ends : fails ≡ (check && list_any is_needless standings)
+  pub printed : text ≡ lines_from (shown (string_bytes entity.name) ++ codes " ") 1 grants standings (poolless_by pools grants)
+  pub ends : fails ≡ (check && has_mistake standings (poolless_by pools grants))
 
 -- an entity whose text is refused is left out
 abbrev pub IsLeftOut : Entity → List ℕ → Bool → Type 0
 IsLeftOut entity text fails = (fault : TextFault) × IsFaultOf (string_bytes entity.osd) fault × (fault ≢ OutOfMemory) × (text ≡ []) × (fails ≡ false)
 
-abbrev pub IsEntityTold : Bool → Entity → List ℕ → Bool → Type 0
-IsEntityTold check entity text fails = IsEntityLinted check entity text fails ⊎ IsLeftOut entity text fails
+abbrev pub IsEntityTold : Option (List Pool) → Bool → Entity → List ℕ → Bool → Type 0
+IsEntityTold pools check entity text fails = IsEntityLinted pools check entity text fails ⊎ IsLeftOut entity text fails
 
 -- what is printed of some entities, in order, and whether the command fails, which it does where it fails for one
-abbrev pub AreLinted : Bool → List Entity → List ℕ → Bool → Type 0
-AreLinted check entities text fails = AreAllTold (IsEntityTold check) entities text fails
+abbrev pub AreLinted : Option (List Pool) → Bool → List Entity → List ℕ → Bool → Type 0
+AreLinted pools check entities text fails = AreAllTold (IsEntityTold pools check) entities text fails

@@ -3,7 +3,7 @@
 ghost use Rattle.std.specs.Prelude.{◌≡◌, ◌≤◌, ◌++◌, length, string_bytes, OnOk};
 ghost use Rattle.std.specs.List.{list_any};
 ghost use Rattle.lint_text.specs.Linted as spec;
-ghost use Rattle.lint_text.specs.Linted.{is_needless, lines_from, reach_line, standing_line};
+ghost use Rattle.lint_text.specs.Linted.{has_mistake, is_needless, lines_from, pool_line, reach_line, standing_line};
 
 use cap_text::Grant;
 use common_types::OutOfMemory;
@@ -52,29 +52,62 @@ fn push_reach(
     }
 }
 
+/// Adds the line of a grant that matches no pool.
+fn push_without(
+    text: &mut String,
+    before: &str,
+    number: usize,
+    without: bool,
+) -> Result<(), OutOfMemory>
+    ensures { OnOk result (string_bytes text.new ≡ string_bytes text.old ++ pool_line before.now number without) }
+{
+    if without {
+        write!(text, "{before}{number} matches no pool\n")
+    } else {
+        Ok(())
+    }
+}
+
 /// Adds the lines of each grant.
 pub(crate) fn push_lines(
     text: &mut String,
     before: &str,
     grants: &[Grant],
     standings: &[Standing],
+    without: &[bool],
 ) -> Result<(), OutOfMemory>
     requires few { length grants.now ≤ 64 }
     requires all { length standings.now ≡ length grants.now }
-    ensures { OnOk result (string_bytes text.new ≡ string_bytes text.old ++ lines_from before.now 1 grants.now standings.now) }
+    requires each { length without.now ≡ length grants.now }
+    ensures { OnOk result (string_bytes text.new ≡ string_bytes text.old ++ lines_from before.now 1 grants.now standings.now without.now) }
 {
     for (i, grant) in grants.iter().enumerate() {
         push_standing(text, before, i + 1, standings[i])?;
         push_reach(text, before, i + 1, grant)?;
+        push_without(text, before, i + 1, without[i])?;
     }
     Ok(())
 }
 
 /// Whether some grant is needless.
-pub(crate) fn any_needless(standings: &[Standing]) -> bool
+fn any_needless(standings: &[Standing]) -> bool
     ensures { result ≡ list_any is_needless standings.now }
 {
     standings
         .iter()
         .any(|standing| !matches!(standing, Standing::Needed))
+}
+
+/// Whether some grant matches no pool.
+fn any_without(without: &[bool]) -> bool
+    ensures { result ≡ list_any (λ none. none) without.now }
+{
+    without.iter().any(|none| *none)
+}
+
+/// Whether some grant is needless or matches no pool.
+pub(crate) fn is_mistaken(standings: &[Standing], without: &[bool]) -> bool
+    ensures { result ≡ has_mistake standings.now without.now }
+{
+    any_needless(standings) || any_without(without)
 }

@@ -1,18 +1,18 @@
 //! What is printed of one capability text.
 
-ghost use Rattle.std.specs.Prelude.{◌≡◌, ◌&&◌, ◌++◌, ◌==◌, [], not, true, codes, length, IfOk, string_bytes};
-ghost use Rattle.std.specs.List.{list_any};
+ghost use Rattle.std.specs.Prelude.{◌≡◌, ◌&&◌, ◌++◌, ◌==◌, [], not, true, codes, length, option_copied, IfOk, string_bytes};
 ghost use Rattle.cap_text.specs.Printed.{printed as printed_list};
 ghost use Rattle.gate_text.specs.Compared.{fault_text};
 ghost use Rattle.gate_text.specs.Text.{refused_text};
-ghost use Rattle.lint_text.specs.Linted.{IsLintAnswer, IsTidyAnswer, is_needless, lines_from, or_nothing};
+ghost use Rattle.lint_text.specs.Linted.{IsLintAnswer, IsTidyAnswer, has_mistake, lines_from, or_nothing};
 
-use crate::lines::{any_needless, push_lines};
+use crate::lines::{is_mistaken, push_lines};
 use crate::reading::{Judged, Kept, judged_text, kept_of};
 use cap_text::print;
 use common_types::OutOfMemory;
 use gate_text::{Printed, TextFault};
 use grant_core::ProfileTable;
+use lint_core::Pool;
 use std::alloc::{AllocError, Global};
 
 /// What is printed of a text that is refused, which fails.
@@ -25,29 +25,42 @@ fn refused(alloc: Global, fault: TextFault) -> Result<Printed, OutOfMemory>
 
 /// What is printed of a text whose grants are looked at.
 fn linted(alloc: Global, judged: &Judged, check: bool) -> Result<Printed, OutOfMemory>
-    requires { length judged.now.standings.items ≡ length judged.now.list }
-    ensures text { IfOk result (λ printed. string_bytes printed.text ≡ or_nothing (lines_from [] 1 judged.now.list judged.now.standings.items)) }
-    ensures fails { IfOk result (λ printed. printed.fails ≡ (check && list_any is_needless judged.now.standings.items)) }
+    requires all { length judged.now.standings.items ≡ length judged.now.list }
+    requires each { length judged.now.without.items ≡ length judged.now.list }
+    ensures text { IfOk result (λ printed. string_bytes printed.text ≡ or_nothing (lines_from [] 1 judged.now.list judged.now.standings.items judged.now.without.items)) }
+    ensures fails { IfOk result (λ printed. printed.fails ≡ (check && has_mistake judged.now.standings.items judged.now.without.items)) }
 {
     let mut text = String::new(alloc);
-    push_lines(&mut text, "", judged.list.grants(), &judged.standings)?;
+    push_lines(
+        &mut text,
+        "",
+        judged.list.grants(),
+        &judged.standings,
+        &judged.without,
+    )?;
     if text.is_empty() {
         text.push_str("nothing needless\n")?;
     }
-    let fails = check && any_needless(&judged.standings);
+    let fails = check && is_mistaken(&judged.standings, &judged.without);
     Ok(Printed { text, fails })
 }
 
 /// What the program prints of the grants of a capability text that nobody needs, by the built-in profiles: for each grant
 /// without which the text allows the same a line `N needless`, or `N needless, by M` where the grant M is the first other
-/// one that alone allows all that it allows; for each grant that names neither a pool nor a tag a line `N every pool`; and
-/// `nothing needless` where there is no line. Numbers count from 1. With a check it fails where a grant is needless. A text
-/// that has no grants prints `refused FAULT`, which fails.
-pub fn lint_caps(alloc: Global, caps: &str, check: bool) -> Result<Printed, OutOfMemory>
-    ensures { IfOk result (λ printed. IsLintAnswer check caps.now (string_bytes printed.text) printed.fails) }
+/// one that alone allows all that it allows; for each grant that names neither a pool nor a tag a line `N every pool`; where
+/// pools are given, for each grant that matches none of them by its name and tags a line `N matches no pool`; and
+/// `nothing needless` where there is no line. Numbers count from 1. With a check it fails where a grant is needless or
+/// matches no pool. A text that has no grants prints `refused FAULT`, which fails.
+pub fn lint_caps(
+    alloc: Global,
+    caps: &str,
+    pools: Option<&[Pool]>,
+    check: bool,
+) -> Result<Printed, OutOfMemory>
+    ensures { IfOk result (λ printed. IsLintAnswer (option_copied pools.entry) check caps.now (string_bytes printed.text) printed.fails) }
 {
     let profiles = ProfileTable::builtin(alloc)?;
-    match judged_text(alloc, &profiles, caps) {
+    match judged_text(alloc, &profiles, caps, pools) {
         Ok(judged) => linted(alloc, &judged, check),
         Err(TextFault::OutOfMemory) => Err(AllocError),
         Err(fault) => refused(alloc, fault),

@@ -5,3 +5,4 @@ pub mod IntervalLists
 pub mod Current
 pub mod Daemons
 pub mod Kept
+pub mod Tags

@@ -8,6 +8,7 @@ use Rattle.map_core.specs.Map.{after, map_of, pool_in, view_at}
 use Rattle.map_core.specs.Limits.{IsAccepted}
 use Rattle.map_core.specs.Intervals.{set_of, begun, intervals_of}
 use Rattle.map_core.specs.ActingSets.{IsSetOf}
+use Rattle.map_core.specs.PossibleTags.{ArePossible}
 use Rattle.map_core.specs.declared.pool.Pool.{Pool}
 use Rattle.map_core.specs.declared.pool.PoolView.{PoolView}
 use Rattle.map_core.specs.declared.command.MapCommand.{MapCommand}
@@ -32,6 +33,14 @@ PoolsDiffer = (history : History) → IsAccepted history → AllPairs (λ a b. a
 -- there are at most 32
 abbrev pub PoolsAreFew : Type 0
 PoolsAreFew = (history : History) → IsAccepted history → length (map_of history).pools ≤ 32
+
+-- each pool has tags that a pool can have
+abbrev pub TagsArePossible : Type 0
+TagsArePossible = (history : History) → IsAccepted history → All (λ (pool : Pool). ArePossible pool.tags) (map_of history).pools
+
+-- and so has each view, of whatever epoch
+abbrev pub ViewsArePossible : Type 0
+ViewsArePossible = (history : History) (name : List ℕ) (epoch : ℕ) (view : PoolView) → IsAccepted history → view_at history name epoch ≡ Some view → ArePossible view.tags
 
 -- the pool of this name is there, with these numbers
 pub record HasPool (history : History) (name : List ℕ) (pg_num size min_size : ℕ) : Type 0 where

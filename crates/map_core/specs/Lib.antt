@@ -8,3 +8,4 @@ pub mod Replay
 pub mod ActingSets
 pub mod State
 pub mod Printed
+pub mod PossibleTags

@@ -1,6 +1,6 @@
 -- Statement: contracts of public calls use it.
 -- Why a command or a question is refused (names and limits: this project's profile).
-use Rattle.std.specs.Prelude.{◌≢◌, ℕ, ◌+◌, List, [], ◌∷◌, Bool, true, false, not, ◌||◌, ◌&&◌, if◌then◌else◌, ◌==◌, Option, None, Some, length, slice_index_or, nat_lt, nat_le, is_some}
+use Rattle.std.specs.Prelude.{ℕ, List, [], ◌∷◌, Bool, true, false, not, ◌||◌, ◌&&◌, if◌then◌else◌, ◌==◌, Option, None, Some, length, slice_index_or, nat_lt, nat_le, is_some}
 use Rattle.std.specs.List.{list_any, list_all, find}
 use Rattle.std.specs.Option.{option_map_or}
 use Rattle.std.specs.Str.{bytes_eq}

@@ -1,6 +1,6 @@
 //! Laws of the map, each the contract of a function that does nothing.
 
-ghost use Rattle.map_core.specs.Laws.{SetsAreActing, UpAreThere, PoolsDiffer, PoolsAreFew, PoolsStay, ViewsAreOfPools, CommandsBeginIntervals, PresentSetIsLast, OthersLeaveSets};
+ghost use Rattle.map_core.specs.Laws.{SetsAreActing, UpAreThere, PoolsDiffer, PoolsAreFew, PoolsStay, TagsArePossible, ViewsAreOfPools, ViewsArePossible, CommandsBeginIntervals, PresentSetIsLast, OthersLeaveSets};
 
 /// On every map a group's acting set is that of its ranking: at most five daemons, each once, each of them up and one that there is.
 pub fn sets_are_acting()
@@ -12,6 +12,12 @@ pub fn sets_are_acting()
 pub fn pools_differ()
     ensures differ { PoolsDiffer }
     ensures few { PoolsAreFew }
+{}
+
+/// A pool has each application once, and each key of an application once, at every epoch.
+pub fn tags_are_possible()
+    ensures pools { TagsArePossible }
+    ensures views { ViewsArePossible }
 {}
 
 /// A pool keeps its groups and the sizes of its sets for good, and a view of any epoch shows them.

@@ -8,6 +8,7 @@ use crate::fault::Fault;
 use crate::group::add_groups;
 use crate::loads::add_clusters;
 use crate::parse::add_parses;
+use crate::peering::add_peering;
 use crate::script::add_scripts;
 use crate::vector::add_vectors;
 use crate::verdict::add_verdicts;
@@ -39,6 +40,7 @@ PART is one of
   compare   finding what one ticket allows that another denies, at 1, 16 and 64 grants
   vector    running a vector of operations on an object
   group     a request through a group of three daemons, of 1,000 and of 8,000
+  peering   a group's move, where 1,000, 4,000 and 16,000 requests were decided before
   script    a script's lines: comments, ticks, requests, moves of 2,048 groups, restarts
   cluster   requests, verdicts and views on one, two and four threads of one cluster
   check     nothing: the work of each row is done once, and its answer printed
@@ -53,6 +55,7 @@ enum Part {
     Compare,
     Vector,
     Group,
+    Peering,
     Script,
     Cluster,
 }
@@ -65,6 +68,7 @@ const ALL: &[Part] = &[
     Part::Compare,
     Part::Vector,
     Part::Group,
+    Part::Peering,
     Part::Script,
     Part::Cluster,
 ];
@@ -78,6 +82,7 @@ fn parts_of(word: &str) -> Option<(&'static [Part], Mode)> {
         "compare" => Some((&[Part::Compare], Mode::Timed)),
         "vector" => Some((&[Part::Vector], Mode::Timed)),
         "group" => Some((&[Part::Group], Mode::Timed)),
+        "peering" => Some((&[Part::Peering], Mode::Timed)),
         "script" => Some((&[Part::Script], Mode::Timed)),
         "cluster" => Some((&[Part::Cluster], Mode::Timed)),
         "check" => Some((ALL, Mode::Once)),
@@ -99,6 +104,7 @@ fn add_part<C: Clock, R: Threads + Wait + Sync>(
         Part::Compare => add_comparisons(table, name),
         Part::Vector => add_vectors(table, name),
         Part::Group => add_groups(table, name),
+        Part::Peering => add_peering(table, name),
         Part::Script => add_scripts(table, name),
         Part::Cluster => add_clusters(table, rt),
     }

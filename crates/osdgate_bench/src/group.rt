@@ -24,7 +24,7 @@ struct Settling {
 }
 
 /// A group of three daemons, which are all up.
-fn three_daemons(alloc: Global, pool: Name) -> Result<Group, OutOfMemory> {
+pub(crate) fn three_daemons(alloc: Global, pool: Name) -> Result<Group, OutOfMemory> {
     let group = GroupId { pool, number: 0 };
     let acting = ActingSet::from_slice(&[0, 1, 2]).unwrap_or(ActingSet::new());
     Group::new(alloc, group, 2, 3, acting, DaemonSet::first(3))
@@ -77,7 +77,7 @@ fn write_full(alloc: Global, contents: &str) -> Result<Vec<Op>, OutOfMemory> {
 }
 
 /// A ticket of the one grant `allow *`.
-fn all(alloc: Global) -> Result<SharedTicket, Fault> {
+pub(crate) fn all(alloc: Global) -> Result<SharedTicket, Fault> {
     Ok(SharedTicket::of(ticket_of(alloc, "allow *")?)?)
 }
 
@@ -88,7 +88,12 @@ fn address(alloc: Global, name: &str, number: u32) -> Result<(Name, Name), OutOf
 }
 
 /// A request to replace the contents of one of 64 objects by a name.
-fn request(alloc: Global, number: u32, name: &str, ticket: &SharedTicket) -> Result<Sealed, Fault> {
+pub(crate) fn request(
+    alloc: Global,
+    number: u32,
+    name: &str,
+    ticket: &SharedTicket,
+) -> Result<Sealed, Fault> {
     let id = Id::new(1, number);
     let view = view_of(alloc, name)?;
     let (namespace, object) = address(alloc, name, number)?;

@@ -1,5 +1,5 @@
 //! The program `osdgate_bench`: what verdicts, capability texts, expansions, comparisons, vectors of operations,
-//! groups, scripts and clusters cost, in nanoseconds a call.
+//! groups, peering, scripts and clusters cost, in nanoseconds a call.
 //!
 //! Only this crate reads a clock.
 #![tactic(auto)]
@@ -12,6 +12,7 @@ mod grants;
 mod group;
 mod loads;
 mod parse;
+mod peering;
 mod script;
 mod script_lines;
 mod vector;

@@ -98,14 +98,14 @@ can_pool None (Some q) h = (refl, itself q)
 can_pool (Some p) None h = (itself p, refl)
 can_pool (Some p) (Some q) h = (itself p, turned p q h)
 
-must_pool : (o p : Option (List ℕ)) (x : List ℕ) → names o x ≡ true → names p x ≡ true → pools_meet o p ≡ true
+pub must_pool : (o p : Option (List ℕ)) (x : List ℕ) → names o x ≡ true → names p x ≡ true → pools_meet o p ≡ true
 must_pool None p x h k = refl
 must_pool (Some p) None x h k = refl
 must_pool (Some p) (Some q) x h k = text_same p q (same_text p x h ∙ sym (same_text q x k))
 
 -- namespaces
 
-can_namespace : (o p : Option NsMatch) → namespaces_meet o p ≡ true → (matches_namespace o (common_namespace o p) ≡ true) × (matches_namespace p (common_namespace o p) ≡ true)
+pub can_namespace : (o p : Option NsMatch) → namespaces_meet o p ≡ true → (matches_namespace o (common_namespace o p) ≡ true) × (matches_namespace p (common_namespace o p) ≡ true)
 can_namespace None None h = (refl, refl)
 can_namespace None (Some (Exact q)) h = (refl, itself q)
 can_namespace None (Some (Prefix q)) h = (refl, front_of_itself q)
@@ -116,7 +116,7 @@ can_namespace (Some (Prefix p)) None h = (front_of_itself p, refl)
 can_namespace (Some (Prefix p)) (Some (Exact q)) h = (h, itself q)
 can_namespace (Some (Prefix p)) (Some (Prefix q)) h = (longer_left p q h, longer_right p q)
 
-must_namespace : (o p : Option NsMatch) (x : List ℕ) → matches_namespace o x ≡ true → matches_namespace p x ≡ true → namespaces_meet o p ≡ true
+pub must_namespace : (o p : Option NsMatch) (x : List ℕ) → matches_namespace o x ≡ true → matches_namespace p x ≡ true → namespaces_meet o p ≡ true
 must_namespace None p x h k = refl
 must_namespace (Some p) None x h k = refl
 must_namespace (Some (Exact p)) (Some (Exact q)) x h k = text_same p q (same_text p x h ∙ sym (same_text q x k))
@@ -145,13 +145,13 @@ filled (b ∷ bs) prefix h = go (length (b ∷ bs) == 0) (not_empty b bs)
     go true e = absurd (false≢true (sym e))
     go false e = h
 
-can_object : (o p : Option (List ℕ)) → prefixes_meet o p ≡ true → (matches_prefix o (common_object o p) ≡ true) × (matches_prefix p (common_object o p) ≡ true)
+pub can_object : (o p : Option (List ℕ)) → prefixes_meet o p ≡ true → (matches_prefix o (common_object o p) ≡ true) × (matches_prefix p (common_object o p) ≡ true)
 can_object None None h = (refl, refl)
 can_object None (Some q) h = (refl, filled q q (front_of_itself q))
 can_object (Some p) None h = (filled p p (front_of_itself p), refl)
 can_object (Some p) (Some q) h = (filled (longer p q) p (longer_left p q h), filled (longer p q) q (longer_right p q))
 
-must_object : (o p : Option (List ℕ)) (x : List ℕ) → matches_prefix o x ≡ true → matches_prefix p x ≡ true → prefixes_meet o p ≡ true
+pub must_object : (o p : Option (List ℕ)) (x : List ℕ) → matches_prefix o x ≡ true → matches_prefix p x ≡ true → prefixes_meet o p ≡ true
 must_object None p x h k = refl
 must_object (Some p) None x h k = refl
 must_object (Some p) (Some q) x h k = fronts_alike x p q (begins_so p x h) (begins_so q x k)

@@ -1,7 +1,7 @@
 -- Refinement: only contracts inside the crate use it.
 -- Which grants meet, and a target at which they do.
 use Rattle.std.specs.Prelude.{ℕ, List, [], ◌∷◌, length, ◌==◌, ◌++◌, Bool, true, false, not, ◌&&◌, ◌||◌, Option, None, Some, nat_eq, if◌then◌else◌, codes}
-use Rattle.std.specs.List.{starts_with}
+use Rattle.std.specs.List.{starts_with, list_any}
 use Rattle.std.specs.Str.{bytes_eq}
 use Rattle.cap_text.specs.declared.grant.AllowGrant.{AllowGrant}
 use Rattle.cap_text.specs.declared.grant.Access.{Access}
@@ -18,6 +18,8 @@ use Rattle.compare_core.specs.Fresh.{both_any}
 use Rattle.share_core.specs.declared.touches.Touch.{Touch}
 use Rattle.share_core.specs.declared.touches.Touch.TheVariants.{Read, Write, Call, AnyRead, AnyWrite}
 use Rattle.share_core.specs.declared.reaching.Shared.{Shared}
+use Rattle.share_core.specs.declared.pools.Pool.{Pool}
+pub use Rattle.share_core.specs.Pools.{is_for}
 
 -- an access covers some call whose method reads, or writes: that of a class covers its calls, whatever they do
 
@@ -167,3 +169,24 @@ shared_by pair = record { path = pair.0.0; other_path = pair.1.0; target = commo
 
 abbrev pub example_of : Touch → Touch → (List ℕ × AllowGrant) × (List ℕ × AllowGrant) → Option Shared
 example_of one other pair = if reach one other pair.0.1 pair.1.1 then Some (shared_by pair) else None
+
+-- ---- of pools that are given
+
+abbrev pub both_for : AllowGrant → AllowGrant → Pool → Bool
+both_for g h pool = is_for g pool && is_for h pool
+
+-- whether two grants give the touches, and meet wherever both are for the pool
+abbrev pub can_reach : Touch → Touch → AllowGrant → AllowGrant → Bool
+can_reach one other g h = gives g.access one && gives h.access other && namespaces_meet g.namespace h.namespace && prefixes_meet g.prefix h.prefix
+
+-- whether two grants give the touches at a common target of a pool, or of some of the pools
+
+abbrev pub reach_at : Pool → Touch → Touch → AllowGrant → AllowGrant → Bool
+reach_at pool one other g h = can_reach one other g h && both_for g h pool
+
+abbrev pub reach_in : List Pool → Touch → Touch → AllowGrant → AllowGrant → Bool
+reach_in pools one other g h = can_reach one other g h && (pools_meet g.pool h.pool && list_any (both_for g h) pools)
+
+-- a target of a pool for two grants that meet there
+abbrev pub common_in : Pool → AllowGrant → AllowGrant → Target
+common_in pool g h = record { pool = pool.name; tags = pool.tags; namespace = common_namespace g.namespace h.namespace; object = common_object g.prefix h.prefix }

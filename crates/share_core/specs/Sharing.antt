@@ -1,10 +1,11 @@
 -- Statement: contracts of public calls use it.
 -- Whether two tickets reach a common object, said by what is allowed alone.
 -- Source: this project's profile. What tags a pool can have is the Ceph manual's Pools chapter, "Associating a pool with an application".
-use Rattle.std.specs.Prelude.{◌≡◌, ◌≢◌, ℕ, List, [], ◌∷◌, map, flat_map, Bool, true, false, ◌||◌, ◌⊎◌, AllPairs}
+use Rattle.std.specs.Prelude.{◌≡◌, ◌≢◌, ℕ, List, [], ◌∷◌, map, flat_map, Bool, true, false, ◌||◌, ◌⊎◌, AllPairs, Option, Some, None}
 use Rattle.std.specs.List.{All, list_any}
 use Rattle.cap_text.specs.declared.grant.AllowGrant.{AllowGrant}
 use Rattle.common_types.specs.declared.tags.AppTags.{AppTags}
+pub use Rattle.map_core.specs.PossibleTags.{ArePossible}
 use Rattle.verdict_core.specs.Target.{Target}
 use Rattle.verdict_core.specs.Verdict.{grants_allow}
 use Rattle.verdict_core.specs.declared.request.ClassCall.{ClassCall}
@@ -12,6 +13,7 @@ use Rattle.verdict_core.specs.declared.request.Needs.{Needs}
 use Rattle.share_core.specs.declared.touches.Touch.{Touch}
 use Rattle.share_core.specs.declared.touches.Touch.TheVariants.{Read, Write, Call, AnyRead, AnyWrite}
 use Rattle.share_core.specs.declared.reaching.Shared.{Shared}
+use Rattle.share_core.specs.declared.pools.Pool.{Pool}
 
 abbrev pub a_read : Needs
 a_read = record { reads = true; writes = false; calls = [] }
@@ -43,10 +45,6 @@ IsTouch AnyWrite needs = writes_so needs ≡ true
 abbrev pub May : List (List ℕ × AllowGrant) → Target → Touch → Type 0
 May grants target touch = (needs : Needs) × IsTouch touch needs × (grants_allow grants target needs ≡ true)
 
--- tags that a pool can have: its applications differ, and the keys of each differ
-abbrev pub ArePossible : List AppTags → Type 0
-ArePossible tags = AllPairs (λ a b. a.application ≢ b.application) tags × All (λ app. AllPairs (λ p q. p.0 ≢ q.0) app.pairs) tags
-
 -- a target of a pool that can be, at which the ones may touch as the one does, and the others as the other does
 abbrev pub IsShared : List (List ℕ × AllowGrant) → Touch → List (List ℕ × AllowGrant) → Touch → Target → Type 0
 IsShared ones one others other target = ArePossible target.tags × May ones target one × May others target other
@@ -74,3 +72,30 @@ Answers one other [] (example ∷ examples) = ⊥
 Answers one other (pair ∷ rest) [] = (¬ PairShares one other pair) × Answers one other rest []
 Answers one other (pair ∷ rest) (example ∷ examples) =
     (IsExampleOf one other pair example × Answers one other rest examples) ⊎ ((¬ PairShares one other pair) × Answers one other rest (example ∷ examples))
+
+-- ---- of pools that are given, each with exactly its tags
+
+-- a target of this pool, at which the ones may touch as the one does, and the others as the other does
+abbrev pub IsSharedIn : Pool → List (List ℕ × AllowGrant) → Touch → List (List ℕ × AllowGrant) → Touch → Target → Type 0
+IsSharedIn pool ones one others other target = (target.pool ≡ pool.name) × (target.tags ≡ pool.tags) × May ones target one × May others target other
+
+-- there is such a target: a namespace, and an object or a listing
+abbrev pub ShareInOne : Pool → List (List ℕ × AllowGrant) → Touch → List (List ℕ × AllowGrant) → Touch → Type 0
+ShareInOne pool ones one others other = (target : Target) × IsSharedIn pool ones one others other target
+
+-- in some of the pools
+abbrev pub ShareIn : List Pool → List (List ℕ × AllowGrant) → Touch → List (List ℕ × AllowGrant) → Touch → Type 0
+ShareIn [] ones one others other = ⊥
+ShareIn (pool ∷ pools) ones one others other = ShareInOne pool ones one others other ⊎ ShareIn pools ones one others other
+
+-- a target that they share in this pool, which is an object, and no listing; or nothing where they share nothing there
+abbrev pub IsExampleAt : Pool → List (List ℕ × AllowGrant) → Touch → List (List ℕ × AllowGrant) → Touch → Option Target → Type 0
+IsExampleAt pool ones one others other (Some target) = IsSharedIn pool ones one others other target × (target.object ≢ [])
+IsExampleAt pool ones one others other None = ¬ ShareInOne pool ones one others other
+
+-- such a target of the first pool that has one, or nothing where they share nothing in any of the pools
+abbrev pub IsExampleIn : List Pool → List (List ℕ × AllowGrant) → Touch → List (List ℕ × AllowGrant) → Touch → Option Target → Type 0
+IsExampleIn [] ones one others other found = found ≡ None
+IsExampleIn (pool ∷ pools) ones one others other found =
+    ((target : Target) × (found ≡ Some target) × IsExampleAt pool ones one others other found)
+    ⊎ (IsExampleAt pool ones one others other None × IsExampleIn pools ones one others other found)

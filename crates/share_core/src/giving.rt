@@ -30,7 +30,7 @@ fn can_write(access: &Access) -> bool
 }
 
 /// No name, or this one.
-fn names(wanted: &Option<Name>, name: &Name) -> bool
+pub(crate) fn names(wanted: &Option<Name>, name: &Name) -> bool
     ensures { result ≡ verdict.names wanted.now name.now }
 {
     match wanted {

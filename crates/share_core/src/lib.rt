@@ -7,10 +7,14 @@
 #![tactic(auto)]
 
 mod giving;
+mod laws;
 mod meetings;
+mod pools;
 mod reaching;
 mod targets;
 mod touches;
 
+pub use laws::possible_targets_are_held;
+pub use pools::{Pool, example_in, is_for, share_in};
 pub use reaching::{Shared, share, sharing};
 pub use touches::Touch;

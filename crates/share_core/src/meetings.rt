@@ -6,7 +6,7 @@ ghost use Rattle.share_core.specs.Meeting as spec;
 use cap_text::{AllowGrant, NsMatch, Part, Tag};
 use common_types::Name;
 
-fn pools_meet(mine: &Option<Name>, theirs: &Option<Name>) -> bool
+pub(crate) fn pools_meet(mine: &Option<Name>, theirs: &Option<Name>) -> bool
     ensures { result ≡ spec.pools_meet mine.now theirs.now }
 {
     match (mine, theirs) {
@@ -22,7 +22,7 @@ fn are_alike(mine: &Name, theirs: &Name) -> bool
     mine.starts_with(theirs) || theirs.starts_with(mine)
 }
 
-fn namespaces_meet(mine: &Option<NsMatch>, theirs: &Option<NsMatch>) -> bool
+pub(crate) fn namespaces_meet(mine: &Option<NsMatch>, theirs: &Option<NsMatch>) -> bool
     ensures { result ≡ spec.namespaces_meet mine.now theirs.now }
 {
     match (mine, theirs) {
@@ -34,7 +34,7 @@ fn namespaces_meet(mine: &Option<NsMatch>, theirs: &Option<NsMatch>) -> bool
     }
 }
 
-fn prefixes_meet(mine: &Option<Name>, theirs: &Option<Name>) -> bool
+pub(crate) fn prefixes_meet(mine: &Option<Name>, theirs: &Option<Name>) -> bool
     ensures { result ≡ spec.prefixes_meet mine.now theirs.now }
 {
     match (mine, theirs) {

@@ -35,7 +35,7 @@ fn longer<'a>(mine: &'a Name, theirs: &'a Name) -> &'a Name
     }
 }
 
-fn common_namespace(
+pub(crate) fn common_namespace(
     alloc: Global,
     mine: &Option<NsMatch>,
     theirs: &Option<NsMatch>,
@@ -64,7 +64,7 @@ fn or_a(alloc: Global, name: &Name) -> Result<Name, OutOfMemory>
     }
 }
 
-fn common_object(
+pub(crate) fn common_object(
     alloc: Global,
     mine: &Option<Name>,
     theirs: &Option<Name>,

@@ -1,9 +1,10 @@
 -- Statement: contracts of public calls use it.
 -- In what ways two share an object (this project's profile): what the one does, and what the other does, both at one target.
-use Rattle.std.specs.Prelude.{ℕ, List, Bool, true, false, codes}
+use Rattle.std.specs.Prelude.{ℕ, List, Bool, true, false, Option, Some, None, codes}
 use Rattle.grant_core.specs.Flat.{Flat}
 use Rattle.verdict_core.specs.Target.{Target}
-use Rattle.share_core.specs.Sharing.{IsShared, Share}
+use Rattle.share_core.specs.Sharing.{IsExampleIn, IsShared, Share, ShareIn}
+use Rattle.share_core.specs.declared.pools.Pool.{Pool}
 use Rattle.share_core.specs.declared.touches.Touch.{Touch}
 use Rattle.share_core.specs.declared.touches.Touch.TheVariants.{AnyRead, AnyWrite}
 use Rattle.share_text.specs.declared.kind.Kind.{Kind}
@@ -42,3 +43,15 @@ IsSharedSo kind ones others target = IsShared ones (one_touch kind) others (othe
 -- at some target
 abbrev pub ShareSo : Kind → Flat → Flat → Type 0
 ShareSo kind ones others = Share ones (one_touch kind) others (other_touch kind)
+
+-- The same where pools are given, whose targets alone count, each pool with exactly its tags. Without them each target counts
+-- that can be.
+
+abbrev pub ShareWithin : Option (List Pool) → Kind → Flat → Flat → Type 0
+ShareWithin None kind ones others = ShareSo kind ones others
+ShareWithin (Some pools) kind ones others = ShareIn pools ones (one_touch kind) others (other_touch kind)
+
+-- a target that counts: where pools are given, one of the first pool in which they share so
+abbrev pub IsSharedWithin : Option (List Pool) → Kind → Flat → Flat → Target → Type 0
+IsSharedWithin None kind ones others target = IsSharedSo kind ones others target
+IsSharedWithin (Some pools) kind ones others target = IsExampleIn pools ones (one_touch kind) others (other_touch kind) (Some target)

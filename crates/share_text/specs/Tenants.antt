@@ -9,7 +9,8 @@ use Rattle.gate_text.specs.Request.{target_words}
 use Rattle.gate_text.specs.declared.compare.TextFault.{TextFault}
 use Rattle.gate_text.specs.declared.compare.TextFault.TheVariants.{OutOfMemory}
 use Rattle.gate_text.specs.declared.entity.Entity.{Entity}
-use Rattle.share_text.specs.Kinds.{IsSharedSo, ShareSo, is_written}
+use Rattle.share_core.specs.declared.pools.Pool.{Pool}
+use Rattle.share_text.specs.Kinds.{IsSharedWithin, ShareWithin, is_written}
 use Rattle.share_text.specs.declared.kind.Kind.{Kind}
 use Rattle.share_text.specs.declared.kind.Kind.TheVariants.{WritesWrites, WritesReads, ReadsWrites, ReadsReads}
 use Rattle.share_text.specs.declared.tenants.Strictness.{Strictness}
@@ -36,17 +37,17 @@ AreTenants (entity ∷ entities) tenants =
 
 -- The strongest kind in which two tenants share something: both write, or one writes what the other reads, the first one
 -- first, or, where that is asked for, both read.
-abbrev pub IsStrongest : Bool → Flat → Flat → Option Kind → Type 0
-IsStrongest reads ones others (Some WritesWrites) = ShareSo WritesWrites ones others
-IsStrongest reads ones others (Some WritesReads) = (¬ ShareSo WritesWrites ones others) × ShareSo WritesReads ones others
-IsStrongest reads ones others (Some ReadsWrites) =
-    (¬ ShareSo WritesWrites ones others) × (¬ ShareSo WritesReads ones others) × ShareSo ReadsWrites ones others
-IsStrongest reads ones others (Some ReadsReads) =
-    (¬ ShareSo WritesWrites ones others) × (¬ ShareSo WritesReads ones others) × (¬ ShareSo ReadsWrites ones others) × (reads ≡ true)
-    × ShareSo ReadsReads ones others
-IsStrongest reads ones others None =
-    (¬ ShareSo WritesWrites ones others) × (¬ ShareSo WritesReads ones others) × (¬ ShareSo ReadsWrites ones others)
-    × (reads ≡ true → ¬ ShareSo ReadsReads ones others)
+abbrev pub IsStrongest : Option (List Pool) → Bool → Flat → Flat → Option Kind → Type 0
+IsStrongest pools reads ones others (Some WritesWrites) = ShareWithin pools WritesWrites ones others
+IsStrongest pools reads ones others (Some WritesReads) = (¬ ShareWithin pools WritesWrites ones others) × ShareWithin pools WritesReads ones others
+IsStrongest pools reads ones others (Some ReadsWrites) =
+    (¬ ShareWithin pools WritesWrites ones others) × (¬ ShareWithin pools WritesReads ones others) × ShareWithin pools ReadsWrites ones others
+IsStrongest pools reads ones others (Some ReadsReads) =
+    (¬ ShareWithin pools WritesWrites ones others) × (¬ ShareWithin pools WritesReads ones others) × (¬ ShareWithin pools ReadsWrites ones others) × (reads ≡ true)
+    × ShareWithin pools ReadsReads ones others
+IsStrongest pools reads ones others None =
+    (¬ ShareWithin pools WritesWrites ones others) × (¬ ShareWithin pools WritesReads ones others) × (¬ ShareWithin pools ReadsWrites ones others)
+    × (reads ≡ true → ¬ ShareWithin pools ReadsReads ones others)
 
 -- two names with words between and behind them, and a target that `osdgate verdict` takes
 abbrev pub names_line : List ℕ → List ℕ → List ℕ → List ℕ → Target → List ℕ
@@ -61,15 +62,15 @@ pair_line ReadsReads one other target = names_line one (codes " and ") other (co
 
 -- what is told of two tenants by a kind: nothing where there is none, and else a target at which they share so; a check fails
 -- where one of them writes
-abbrev pub IsToldBy : Bool → Option Kind → Tenant → Tenant → List ℕ → Bool → Type 0
-IsToldBy check None one other text fails = (text ≡ []) × (fails ≡ false)
-IsToldBy check (Some kind) one other text fails =
-    (target : Target) × IsSharedSo kind one.ticket.grants other.ticket.grants target
+abbrev pub IsToldBy : Option (List Pool) → Bool → Option Kind → Tenant → Tenant → List ℕ → Bool → Type 0
+IsToldBy pools check None one other text fails = (text ≡ []) × (fails ≡ false)
+IsToldBy pools check (Some kind) one other text fails =
+    (target : Target) × IsSharedWithin pools kind one.ticket.grants other.ticket.grants target
     × (text ≡ pair_line kind (string_bytes one.name) (string_bytes other.name) target) × (fails ≡ (check && is_written kind))
 
-abbrev pub IsPairTold : Strictness → Tenant → Tenant → List ℕ → Bool → Type 0
-IsPairTold strictness one other text fails =
-    (found : Option Kind) × IsStrongest strictness.reads one.ticket.grants other.ticket.grants found × IsToldBy strictness.check found one other text fails
+abbrev pub IsPairTold : Option (List Pool) → Strictness → Tenant → Tenant → List ℕ → Bool → Type 0
+IsPairTold pools strictness one other text fails =
+    (found : Option Kind) × IsStrongest pools strictness.reads one.ticket.grants other.ticket.grants found × IsToldBy pools strictness.check found one other text fails
 
 -- what is told of each tenant, and of those behind it, in turn; it fails where it fails for one
 abbrev pub InTurn : (Tenant → List Tenant → List ℕ → Bool → Type 0) → List Tenant → List ℕ → Bool → Type 0
@@ -79,9 +80,10 @@ InTurn IsTold (one ∷ others) text fails =
     × (text ≡ front ++ rest) × (fails ≡ (first || later))
 
 -- what is told of a tenant with each of some others
-abbrev pub IsToldWith : Strictness → Tenant → List Tenant → List ℕ → Bool → Type 0
-IsToldWith strictness one others text fails = InTurn (λ other behind. IsPairTold strictness one other) others text fails
+abbrev pub IsToldWith : Option (List Pool) → Strictness → Tenant → List Tenant → List ℕ → Bool → Type 0
+IsToldWith pools strictness one others text fails = InTurn (λ other behind. IsPairTold pools strictness one other) others text fails
 
--- what is printed of some entities, and whether the command fails: each pair once, in the file's order
-abbrev pub AreTenantsTold : Strictness → List Entity → List ℕ → Bool → Type 0
-AreTenantsTold strictness entities text fails = (tenants : List Tenant) × AreTenants entities tenants × InTurn (IsToldWith strictness) tenants text fails
+-- what is printed of some entities, and whether the command fails: each pair once, in the file's order; where pools are given,
+-- of their targets alone
+abbrev pub AreTenantsTold : Option (List Pool) → Strictness → List Entity → List ℕ → Bool → Type 0
+AreTenantsTold pools strictness entities text fails = (tenants : List Tenant) × AreTenants entities tenants × InTurn (IsToldWith pools strictness) tenants text fails

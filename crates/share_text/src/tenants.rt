@@ -1,7 +1,8 @@
 //! What the entities of a file share.
 
-ghost use Rattle.std.specs.Prelude.{◌≡◌, ◌++◌, ◌&&◌, ◌||◌, [], false, Some, codes, string_bytes, IfOk, OnOk, ◌↔◌, IsTrue};
-ghost use Rattle.share_text.specs.Kinds.{ShareSo, is_written};
+ghost use Rattle.std.specs.Prelude.{◌≡◌, ◌++◌, ◌&&◌, ◌||◌, [], false, None, Some, codes, string_bytes, option_copied, IfOk, OnOk, ◌↔◌, IsTrue};
+ghost use Rattle.share_core.specs.Sharing.{IsExampleIn, ShareIn};
+ghost use Rattle.share_text.specs.Kinds.{ShareSo, ShareWithin, is_written, one_touch, other_touch};
 ghost use Rattle.share_text.specs.Tenants as spec;
 ghost use Rattle.share_text.specs.Tenants.{AreTenants, AreTenantsTold, InTurn, IsPairTold, IsStrongest, IsTenantOrNone, IsToldBy, IsToldWith};
 
@@ -10,7 +11,7 @@ use crate::texts::examples_of;
 use common_types::OutOfMemory;
 use compare_core::OwnedTarget;
 use gate_text::{Entity, Printed, TextFault, push_shown_text, push_target, ticket_of_text};
-use share_core::share;
+use share_core::{Pool, example_in, share, share_in};
 use std::alloc::{AllocError, Global};
 use verdict_core::Ticket;
 
@@ -66,17 +67,36 @@ fn share_so(kind: Kind, ones: &Ticket, others: &Ticket) -> bool
     share(ones, &one, others, &other)
 }
 
-/// The strongest kind in which two tickets share something. It takes no memory.
-fn strongest(reads: bool, ones: &Ticket, others: &Ticket) -> Option<Kind>
-    ensures { IsStrongest reads ones.now.grants others.now.grants result }
+/// Whether two tickets share something of a kind in some of the pools. It takes no memory.
+fn share_so_in(kind: Kind, ones: &Ticket, others: &Ticket, pools: &[Pool]) -> bool
+    ensures { IsTrue result ↔ ShareIn pools.now ones.now.grants (one_touch kind) others.now.grants (other_touch kind) }
 {
-    if share_so(Kind::WritesWrites, ones, others) {
+    let one = kind.one();
+    let other = kind.other();
+    share_in(ones, &one, others, &other, pools)
+}
+
+/// Whether two tickets share something of a kind, in some of the pools where they are given. It takes no memory.
+fn share_within(kind: Kind, ones: &Ticket, others: &Ticket, pools: Option<&[Pool]>) -> bool
+    ensures { IsTrue result ↔ ShareWithin (option_copied pools.entry) kind ones.now.grants others.now.grants }
+{
+    match pools {
+        None => share_so(kind, ones, others),
+        Some(pools) => share_so_in(kind, ones, others, pools),
+    }
+}
+
+/// The strongest kind in which two tickets share something. It takes no memory.
+fn strongest(reads: bool, ones: &Ticket, others: &Ticket, pools: Option<&[Pool]>) -> Option<Kind>
+    ensures { IsStrongest (option_copied pools.entry) reads ones.now.grants others.now.grants result }
+{
+    if share_within(Kind::WritesWrites, ones, others, pools) {
         Some(Kind::WritesWrites)
-    } else if share_so(Kind::WritesReads, ones, others) {
+    } else if share_within(Kind::WritesReads, ones, others, pools) {
         Some(Kind::WritesReads)
-    } else if share_so(Kind::ReadsWrites, ones, others) {
+    } else if share_within(Kind::ReadsWrites, ones, others, pools) {
         Some(Kind::ReadsWrites)
-    } else if reads && share_so(Kind::ReadsReads, ones, others) {
+    } else if reads && share_within(Kind::ReadsReads, ones, others, pools) {
         Some(Kind::ReadsReads)
     } else {
         None
@@ -161,7 +181,7 @@ fn told_so(
     check: bool,
 ) -> Result<Printed, OutOfMemory>
     requires { ShareSo kind one.now.ticket.grants other.now.ticket.grants }
-    ensures { IfOk result (λ printed. IsToldBy check (Some kind) one.now other.now (string_bytes printed.text) printed.fails) }
+    ensures { IfOk result (λ printed. IsToldBy None check (Some kind) one.now other.now (string_bytes printed.text) printed.fails) }
 {
     let examples = examples_of(alloc, kind, &one.ticket, &other.ticket)?;
     match examples.first() {
@@ -170,18 +190,70 @@ fn told_so(
     }
 }
 
+/// An example of a kind in the first of the pools that has one.
+fn example_so(
+    alloc: Global,
+    kind: Kind,
+    ones: &Ticket,
+    others: &Ticket,
+    pools: &[Pool],
+) -> Result<Option<OwnedTarget>, OutOfMemory>
+    ensures { IfOk result (λ found. IsExampleIn pools.now ones.now.grants (one_touch kind) others.now.grants (other_touch kind) found) }
+{
+    let one = kind.one();
+    let other = kind.other();
+    example_in(alloc, ones, &one, others, &other, pools)
+}
+
+/// What is told of two tenants that share something of a kind in some of the pools.
+fn told_so_in(
+    alloc: Global,
+    kind: Kind,
+    one: &Tenant,
+    other: &Tenant,
+    check: bool,
+    pools: &[Pool],
+) -> Result<Printed, OutOfMemory>
+    requires { ShareIn pools.now one.now.ticket.grants (one_touch kind) other.now.ticket.grants (other_touch kind) }
+    ensures { IfOk result (λ printed. IsToldBy (Some pools.now) check (Some kind) one.now other.now (string_bytes printed.text) printed.fails) }
+{
+    match example_so(alloc, kind, &one.ticket, &other.ticket, pools)? {
+        None => Ok(nothing(alloc)),
+        Some(target) => told_at(alloc, kind, one, other, &target, check),
+    }
+}
+
+/// What is told of two tenants that share something of a kind, in some of the pools where they are given.
+fn told_within(
+    alloc: Global,
+    kind: Kind,
+    one: &Tenant,
+    other: &Tenant,
+    check: bool,
+    pools: Option<&[Pool]>,
+) -> Result<Printed, OutOfMemory>
+    requires { ShareWithin (option_copied pools) kind one.now.ticket.grants other.now.ticket.grants }
+    ensures { IfOk result (λ printed. IsToldBy (option_copied pools.entry) check (Some kind) one.now other.now (string_bytes printed.text) printed.fails) }
+{
+    match pools {
+        None => told_so(alloc, kind, one, other, check),
+        Some(pools) => told_so_in(alloc, kind, one, other, check, pools),
+    }
+}
+
 /// What is told of two tenants.
 fn told_pair(
     alloc: Global,
     strictness: Strictness,
+    pools: Option<&[Pool]>,
     one: &Tenant,
     other: &Tenant,
 ) -> Result<Printed, OutOfMemory>
-    ensures { IfOk result (λ printed. IsPairTold strictness one.now other.now (string_bytes printed.text) printed.fails) }
+    ensures { IfOk result (λ printed. IsPairTold (option_copied pools.entry) strictness one.now other.now (string_bytes printed.text) printed.fails) }
 {
-    match strongest(strictness.reads, &one.ticket, &other.ticket) {
+    match strongest(strictness.reads, &one.ticket, &other.ticket, pools) {
         None => Ok(nothing(alloc)),
-        Some(kind) => told_so(alloc, kind, one, other, strictness.check),
+        Some(kind) => told_within(alloc, kind, one, other, strictness.check, pools),
     }
 }
 
@@ -199,14 +271,15 @@ fn push_told(printed: &mut Printed, told: &Printed) -> Result<(), OutOfMemory>
 fn told_with(
     alloc: Global,
     strictness: Strictness,
+    pools: Option<&[Pool]>,
     one: &Tenant,
     others: &[Tenant],
 ) -> Result<Printed, OutOfMemory>
-    ensures { IfOk result (λ printed. IsToldWith strictness one.now others.now (string_bytes printed.text) printed.fails) }
+    ensures { IfOk result (λ printed. IsToldWith (option_copied pools.entry) strictness one.now others.now (string_bytes printed.text) printed.fails) }
 {
     let mut printed = nothing(alloc);
     for other in others {
-        let told = told_pair(alloc, strictness, one, other)?;
+        let told = told_pair(alloc, strictness, pools, one, other)?;
         push_told(&mut printed, &told)?;
     }
     Ok(printed)
@@ -216,13 +289,20 @@ fn told_with(
 fn told_each(
     alloc: Global,
     strictness: Strictness,
+    pools: Option<&[Pool]>,
     tenants: &[Tenant],
 ) -> Result<Printed, OutOfMemory>
-    ensures { IfOk result (λ printed. InTurn (IsToldWith strictness) tenants.now (string_bytes printed.text) printed.fails) }
+    ensures { IfOk result (λ printed. InTurn (IsToldWith (option_copied pools.entry) strictness) tenants.now (string_bytes printed.text) printed.fails) }
 {
     let mut printed = nothing(alloc);
     for place in 0..tenants.len() {
-        let told = told_with(alloc, strictness, &tenants[place], &tenants[place + 1..])?;
+        let told = told_with(
+            alloc,
+            strictness,
+            pools,
+            &tenants[place],
+            &tenants[place + 1..],
+        )?;
         push_told(&mut printed, &told)?;
     }
     Ok(printed)
@@ -234,16 +314,20 @@ fn told_each(
 /// Who calls a method that reads or writes counts as one who reads or writes. With a check it fails where one writes what
 /// the other reads or writes.
 ///
+/// Where pools are given, a target counts only if it is of one of them, with exactly its tags, and a line has one of the first
+/// pool in which the two share so. Without them each target counts that can be.
+///
 /// An entity whose text has no grants is left out. A name's bytes outside 32 to 126 are shown as `\x` and two hexadecimal
 /// digits. The only error is want of memory, which leaves nothing. Time goes by the pairs of entities, and for each by the
-/// pairs of their grants. The lines are this project's profile.
+/// pairs of their grants; the pools are looked at where two grants meet. The lines are this project's profile.
 pub fn share_entities(
     alloc: Global,
     entities: &[Entity],
     strictness: Strictness,
+    pools: Option<&[Pool]>,
 ) -> Result<Printed, OutOfMemory>
-    ensures { IfOk result (λ printed. AreTenantsTold strictness entities.now (string_bytes printed.text) printed.fails) }
+    ensures { IfOk result (λ printed. AreTenantsTold (option_copied pools.entry) strictness entities.now (string_bytes printed.text) printed.fails) }
 {
     let tenants = tenants_of(alloc, entities)?;
-    told_each(alloc, strictness, tenants.as_slice())
+    told_each(alloc, strictness, pools, tenants.as_slice())
 }

@@ -3,11 +3,11 @@
 use crate::comparisons_by_force::{TAGS, all_needs, all_tags, draw_text, gains};
 use crate::tickets::ticket;
 use cap_text::{CapList, parse, print};
-use common_types::{OutOfMemory, Tags};
+use common_types::{Name, OutOfMemory, Tags};
 use compare_core::Registry;
 use gate_text::{Entity, Printed};
 use grant_core::ProfileTable;
-use lint_core::{Standing, needless, tidied};
+use lint_core::{Pool, Standing, needless, tidied};
 use lint_text::{lint_caps, lint_entities, tidy_caps};
 use std::alloc::Global;
 use std::process::Abort;
@@ -148,7 +148,17 @@ fn entity_lines(alloc: Global, caps: &str) -> Result<Printed, Fail> {
         name: String::from_str(alloc, "client.a")?,
         osd: String::from_str(alloc, caps)?,
     })?;
-    Ok(lint_entities(alloc, &entities, true)?)
+    Ok(lint_entities(alloc, &entities, None, true)?)
+}
+
+/// One pool, of another name than the text's.
+fn pools_of_one(alloc: Global) -> Result<Vec<Pool>, Fail> {
+    let mut pools = Vec::new(alloc);
+    pools.push(Pool {
+        name: Name::new(alloc, "logs")?,
+        tags: Tags::from_vec(Vec::new(alloc)),
+    })?;
+    Ok(pools)
 }
 
 #[test]
@@ -156,8 +166,11 @@ fn lines_are_printed(rt: HostRuntime) -> Result<(), Fail> {
     let alloc = rt.alloc();
     let lines = "1 every pool\n2 needless, by 1\n";
     let caps = "allow rw, allow r pool=data";
-    assert!(rt; is_printed(&lint_caps(alloc, caps, true)?, lines, true));
+    assert!(rt; is_printed(&lint_caps(alloc, caps, None, true)?, lines, true));
     assert!(rt; is_printed(&tidy_caps(alloc, caps, false)?, "allow rw\n", false));
+    let pools = pools_of_one(alloc)?;
+    let lines = "1 every pool\n2 needless, by 1\n2 matches no pool\n";
+    assert!(rt; is_printed(&lint_caps(alloc, caps, Some(&pools), true)?, lines, true));
     let lines = "client.a 1 every pool\nclient.a 2 needless, by 1\n";
     assert!(rt; is_printed(&entity_lines(alloc, caps)?, lines, true));
     Ok(())

@@ -290,7 +290,7 @@ fn told(alloc: Global) -> Result<Printed, OutOfMemory> {
         reads: true,
         check: true,
     };
-    share_entities(alloc, two(alloc)?.as_slice(), strictness)
+    share_entities(alloc, two(alloc)?.as_slice(), strictness, None)
 }
 
 #[test]

@@ -1,4 +1,4 @@
-use Rattle.std.proofs.Common.{◌≡◌, List, ℕ, ◌++◌, ◌∷◌, [], sym, ◌∙◌, ap, set, position}
+use Rattle.std.proofs.Common.{List, ℕ, ◌++◌, ◌∷◌, [], sym, ◌∙◌, ap, set, position}
 use Rattle.map_core.specs.Map.{is_key}
 use Rattle.map_core.proofs.FirstPlaces.{put_pair_at, put_pair_none}
 use Rattle.map_core.proofs.edits.put.Goals as goal

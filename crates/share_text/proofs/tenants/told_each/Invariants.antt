@@ -1,8 +1,8 @@
-use Rattle.std.proofs.Common.{string_bytes}
+use Rattle.std.proofs.Common.{option_copied, string_bytes}
 use Rattle.share_text.specs.Tenants.{IsToldWith}
 use Rattle.share_text.proofs.Telling.{ToldSoFar}
 use Rattle.share_text.proofs.tenants.told_each.Given as goal
 
 -- what is told so far, and of the rest, is what is told of all
 abbrev pub invariant-loop-place : goal.invariant-loop-place
-invariant-loop-place l = ToldSoFar (IsToldWith l.strictness) l.tenants l.place (string_bytes l.printed.text) l.printed.fails
+invariant-loop-place l = ToldSoFar (IsToldWith (option_copied l.pools) l.strictness) l.tenants l.place (string_bytes l.printed.text) l.printed.fails

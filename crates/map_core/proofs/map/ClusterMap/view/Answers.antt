@@ -1,4 +1,4 @@
-use Rattle.std.proofs.Common.{◌≡◌, sym, ◌∙◌, ap, arith, take, ◌-◌, drop}
+use Rattle.std.proofs.Common.{◌≡◌, sym, ◌∙◌, ap, arith, take, ◌-◌}
 use Rattle.map_core.proofs.Current.{viewed, epoch_in, found_now, found_then, limits_now, limits_found, limits_found_then}
 use Rattle.map_core.proofs.map.ClusterMap.view.Goals as goal
 

@@ -1,0 +1,11 @@
+//! What is so of all texts: functions that do nothing, whose clauses are the laws.
+
+ghost use Rattle.std.specs.Prelude.{ℕ, List};
+ghost use Rattle.cap_text.specs.declared.grant.Grant.{Grant};
+ghost use Rattle.lint_core.specs.Idle.{NoneIsIdle};
+
+/// Each grant of a text, by the built-in profiles, allows some request that asks for something: to read, to write, or one
+/// call of some class method. So no grant is told to be idle (this project's profile).
+pub fn no_grant_is_idle()
+    ensures { (text : List ℕ) (grants : List Grant) → NoneIsIdle text grants }
+{}
