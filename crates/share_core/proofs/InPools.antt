@@ -150,6 +150,22 @@ so_share pools ones others one other share =
     any_at (λ mine. list_any (λ theirs. reach_in pools one other mine.1 theirs.1) others) ones r.i r.mine r.at
     (any_at (λ theirs. reach_in pools one other r.mine.1 theirs.1) others r.j r.theirs r.bt (both _ _ r.can (any_for pools r.mine.1 r.theirs.1 i pool at r.both)))
 
+-- whatever is shared in some pools is shared by two grants whose pools meet
+pub record PoolsMeetIn (ones others : List Entry) : Type 0 where
+  pub i : ℕ
+  pub j : ℕ
+  pub mine : Entry
+  pub theirs : Entry
+  pub at : slice_get ones i ≡ Some mine
+  pub bt : slice_get others j ≡ Some theirs
+  pub meets : pools_meet mine.1.pool theirs.1.pool ≡ true
+
+pub pools_meet_in : (pools : List Pool) (ones others : List Entry) (one other : Touch) → ShareIn pools ones one others other → PoolsMeetIn ones others
+pools_meet_in pools ones others one other share =
+    let (i, pool, at, here) = shared_where pools ones others one other share in
+    let r = reached_at pool ones others one other here in
+    record { i = r.i; j = r.j; mine = r.mine; theirs = r.theirs; at = r.at; bt = r.bt; meets = meet_so r.mine.1 r.theirs.1 pool r.both }
+
 -- the example of a pool
 
 -- what the test finds

@@ -9,12 +9,15 @@
 mod giving;
 mod laws;
 mod meetings;
+mod pool_index;
+mod pool_places;
 mod pools;
 mod reaching;
 mod targets;
 mod touches;
 
 pub use laws::possible_targets_are_held;
+pub use pool_index::PoolIndex;
 pub use pools::{Pool, example_in, is_for, share_in};
 pub use reaching::{Shared, share, sharing};
 pub use touches::Touch;
