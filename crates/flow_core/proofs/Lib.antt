@@ -1,0 +1,4 @@
+pub mod Walks
+pub mod Rounds
+pub mod Listing
+pub mod Searches

@@ -1,0 +1,9 @@
+//! Chains of steps between places, which are the numbers below a count.
+//!
+//! Each step is a pair of places. The only error is want of memory.
+#![tactic(auto)]
+
+mod chains;
+
+pub use chains::chains_from;
+pub use std::alloc::AllocError as OutOfMemory;
