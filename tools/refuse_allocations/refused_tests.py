@@ -10,7 +10,14 @@ from dataclasses import dataclass
 HERE = os.path.dirname(os.path.realpath(__file__))
 TOP = os.path.dirname(os.path.dirname(HERE))
 # The crates whose tests pass with any one allocation refused.
-CRATES = ["refused_steps"]
+CRATES = ["refused_steps", "refused_clusters"]
+# The words with which a test may fail: a refusal had left a call in part, and all that the test asks after that then held. Where
+# every allocation is refused, each of them has to come.
+WORDS = {
+    "changes::a_change_is_finished": [f"left at group {it}" for it in range(5)],
+    "listings::a_list_begins_behind_what_stands": [f"{it} pieces stood" for it in range(1, 4)],
+    "workers::a_worker_meets_a_fault": ["a worker met a fault"],
+}
 # So many runs are made at a time.
 LANES = 4
 # Seconds after which a run is said to hang.
@@ -82,19 +89,25 @@ def allocations(program, test, env, room):
 
 @dataclass
 class Row:
-    """A line of the table."""
+    """A line of the table, and which words came, of those with which the test may fail."""
 
     test: str
     allocations: int
     refused: int
     faults: int
     seconds: float
+    words: set[str]
+
+
+def words_of(test, ended):
+    """The words with which a test has failed, of those with which it may."""
+    return set(WORDS.get(test, [])) & set(ended.said.splitlines()) if ended.status else set()
 
 
 def sweep(program, test, step, env, room):
     """Refuses one allocation after another, to the first number that is not met: the one before it may ask for more."""
     begun, numbers = time.time(), range(1, allocations(program, test, env, room) + 1, step)
-    refused, faults, last = 0, 0, 0
+    refused, faults, last, words = 0, 0, 0, set()
     with concurrent.futures.ThreadPoolExecutor(LANES) as lanes:
         while numbers:
             runs = {it: lanes.submit(run, program, test, it, env, room) for it in numbers}
@@ -102,14 +115,24 @@ def sweep(program, test, step, env, room):
                 ended = made.result()
                 if ended.asked:
                     refused, last = refused + 1, max(last, number)
-                if ended.status != 0:
+                came = words_of(test, ended)
+                words |= came
+                if ended.status != 0 and not came:
                     faults += 1
                     how = "hangs" if ended.status is None else f"ends with status {ended.status}"
                     print(f"{test}, allocation {number} refused: {how}\n{ended.said}", flush=True)
             # A run behind the last one, until it is not met: a step that was made again has asked for more.
             following = range(numbers[-1] + step, numbers[-1] + step + 1)
             numbers = following if last == numbers[-1] else range(0)
-    return Row(test, last, refused, faults, time.time() - begun)
+    return Row(test, last, refused, faults, time.time() - begun, words)
+
+
+def missing(row):
+    """Tells of each word that did not come, and how many there are."""
+    left = [word for word in WORDS.get(row.test, []) if word not in row.words]
+    for word in left:
+        print(f"{row.test}: no run ended with \"{word}\"", flush=True)
+    return len(left)
 
 
 def tests_of(program):
@@ -119,15 +142,16 @@ def tests_of(program):
 
 
 def sweep_crate(crate, step, room):
-    """The rows of a crate's tests."""
+    """The rows of a crate's tests. Where every allocation is refused, a word that did not come is a fault, too."""
     program = f"{room}/{crate}"
     subprocess.run([sys.executable, f"{HERE}/keep_tests.py", f"{TOP}/crates/{crate}", program], check=True)
     env = environment(program, build_library(room))
     rows = []
     for test in tests_of(program):
-        rows.append(sweep(program, test, step, env, room))
-        row = rows[-1]
+        row = sweep(program, test, step, env, room)
         print(f"| `{row.test}` | {row.allocations} | {row.refused} | {row.seconds:.0f} |", flush=True)
+        row.faults += missing(row) if step == 1 else 0
+        rows.append(row)
     return rows
 
 

@@ -5,7 +5,9 @@ ghost use Rattle.cluster.specs.Asks.{IsBegun, IsPassOf};
 ghost use Rattle.cluster.specs.Monitors.{IsMonitorOf, FollowsStart};
 
 use auth_db::Caps;
-use cluster::{Asked, Asking, Cluster, ClusterFault, Monitor, Pass, PoolSpec, UserSpec, start};
+use cluster::{
+    Asked, Asking, Cluster, ClusterFault, Monitor, News, Pass, PoolSpec, TellFault, UserSpec, start,
+};
 use common_types::Name;
 use entry_core::Reply;
 use grant_core::ProfileTable;
@@ -14,10 +16,11 @@ use object_core::{Bytes, Op};
 use std::alloc::Global;
 use std::sync::Wait;
 use std::test::Fail;
+use verdict_core::Condition;
 use world_core::{Ops, WorldFault};
 
 /// How often a call is made again for which the published map gave no reading.
-const MOST_TRIES: u32 = 1000;
+pub(crate) const MOST_TRIES: u32 = 1000;
 
 /// How many deliveries a request needs at most, here.
 const MOST_DELIVERIES: u32 = 256;
@@ -78,11 +81,16 @@ pub(crate) fn put_pass(cluster: &Cluster, passes: &mut Vec<Pass>, pass: Pass) ->
     passes.push(pass).is_ok()
 }
 
-// Who asks, in a namespace of the pool `data`.
-pub(crate) fn asking(alloc: Global, session: u32, namespace: &str) -> Result<Asking, ClusterFault> {
+// Who asks, in a namespace of the pool `data`, at a tick.
+pub(crate) fn asking(
+    alloc: Global,
+    session: u32,
+    namespace: &str,
+    tick: u64,
+) -> Result<Asking, ClusterFault> {
     Ok(Asking {
         session,
-        tick: 0,
+        tick,
         pool: Name::new(alloc, "data")?,
         namespace: Name::new(alloc, namespace)?,
     })
@@ -117,7 +125,32 @@ fn ops_of(alloc: Global, wish: Wish) -> Result<Ops, ClusterFault> {
     Ok(ops)
 }
 
-// Submits a request on an object of the default namespace. Where there is no reading the call is made again.
+// Submits a request on an object of the default namespace, at a tick. Where there is no reading the call is made again.
+pub(crate) fn submit_at<R: Wait>(
+    rt: &R,
+    alloc: Global,
+    cluster: &Cluster,
+    pass: &mut Pass,
+    session: u32,
+    object: &str,
+    wish: Wish,
+    tick: u64,
+) -> Result<Asked, ClusterFault>
+    requires { IsPassOf cluster.now pass.old }
+    ensures { IsPassOf cluster.now pass.new }
+{
+    for _try in 0..MOST_TRIES {
+        let asking = asking(alloc, session, "", tick)?;
+        let object = Name::new(alloc, object)?;
+        match cluster.submit(rt, pass, asking, object, ops_of(alloc, wish)?) {
+            Err(ClusterFault::NoReader) => {}
+            answer => return answer,
+        }
+    }
+    Err(ClusterFault::NoReader)
+}
+
+// Submits a request on an object of the default namespace, at the tick 0.
 pub(crate) fn submit<R: Wait>(
     rt: &R,
     alloc: Global,
@@ -130,15 +163,38 @@ pub(crate) fn submit<R: Wait>(
     requires { IsPassOf cluster.now pass.old }
     ensures { IsPassOf cluster.now pass.new }
 {
+    submit_at(rt, alloc, cluster, pass, session, object, wish, 0)
+}
+
+// The monitor's news. Where no reader is left the call is made again.
+pub(crate) fn tell(cluster: &Cluster, monitor: &mut Monitor) -> Option<News>
+    requires { IsMonitorOf cluster.now monitor.old }
+    ensures { IsMonitorOf cluster.now monitor.new }
+{
     for _try in 0..MOST_TRIES {
-        let asking = asking(alloc, session, "")?;
-        let object = Name::new(alloc, object)?;
-        match cluster.submit(rt, pass, asking, object, ops_of(alloc, wish)?) {
-            Err(ClusterFault::NoReader) => {}
-            answer => return answer,
+        match monitor.tell(cluster) {
+            Ok(news) => return Some(news),
+            Err(TellFault::NoReader) => {}
+            Err(_) => return None,
         }
     }
-    Err(ClusterFault::NoReader)
+    None
+}
+
+// Whether a pass learns the news. Where there is no reading the call is made again.
+pub(crate) fn learn(cluster: &Cluster, pass: &mut Pass, news: News) -> bool
+    requires { IsPassOf cluster.now pass.old }
+    ensures { IsPassOf cluster.now pass.new }
+{
+    let _groups = cluster.group_count();
+    let mut news = news;
+    for _try in 0..MOST_TRIES {
+        match pass.learn(news) {
+            Ok(()) => return true,
+            Err((back, _)) => news = back,
+        }
+    }
+    false
 }
 
 // Delivers messages of the request's group until it is answered.
@@ -175,6 +231,17 @@ pub(crate) fn reply_to<R: Wait>(
 {
     let asked = submit(rt, alloc, cluster, pass, session, object, wish)?;
     answered(rt, cluster, pass, &asked)
+}
+
+// Whether a reply is a denial by this condition of grant 1.
+pub(crate) fn is_denied(reply: &Option<Reply>, condition: Condition) -> bool {
+    match reply {
+        Some(Reply::Denied(report)) => match report.lines() {
+            [(path, only)] => path.as_slice() == [1].as_slice() && *only == condition,
+            _ => false,
+        },
+        _ => false,
+    }
 }
 
 // Whether a reply is the one output.

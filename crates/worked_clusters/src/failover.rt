@@ -1,14 +1,17 @@
-//! A tag is removed and a user deleted while a group moves, over a cluster with notes and news.
+//! A tag is removed and a user deleted while a group moves, over a cluster with notes and news, on one thread.
+//!
+//! `apart` does the same on threads.
 
 ghost use Rattle.std.specs.Prelude.{All};
-ghost use Rattle.cluster.specs.Asks.{IsBegun, IsPassOf};
+ghost use Rattle.cluster.specs.Asks.{IsPassOf};
 ghost use Rattle.cluster.specs.Monitors.{IsMonitorOf};
 
-use crate::begun::{Wish, answered, begun, is_output, submit, take_pass};
+use crate::begun::{
+    Wish, answered, begun, is_denied, is_output, learn, reply_to, submit, take_pass, tell,
+};
 use auth_db::{AuthFault, Caps};
-use cluster::{Asked, ChangeFault, Cluster, ClusterFault, Monitor, Pass};
+use cluster::{Cluster, ClusterFault, Monitor, Pass};
 use common_types::Name;
-use entry_core::Reply;
 use map_core::MapCommand;
 use std::alloc::Global;
 use std::sync::Wait;
@@ -16,25 +19,48 @@ use std::test::Fail;
 use verdict_core::Condition;
 use world_core::{AuthCommand, WorldFault};
 
-// The first pass hears what the second has seen, and learns what the monitor has published.
-fn catch_up(
+/// The user who comes and goes.
+const USER: &str = "client.a";
+
+fn name(alloc: Global, text: &str) -> Result<Name, ClusterFault> {
+    Ok(Name::new(alloc, text)?)
+}
+
+// Adds the user, who may do all that a tag of the pool allows.
+pub(crate) fn add_user<R: Wait>(
+    rt: &R,
     alloc: Global,
     cluster: &Cluster,
-    monitor: &mut Monitor,
-    first: &mut Pass,
     second: &mut Pass,
-) -> Result<bool, ClusterFault>
-    requires monitor { IsMonitorOf cluster.now monitor.old }
-    requires passes { IsPassOf cluster.now first.old × IsPassOf cluster.now second.old }
-    ensures monitor { IsMonitorOf cluster.now monitor.new }
-    ensures passes { IsPassOf cluster.now first.new × IsPassOf cluster.now second.new }
+) -> Result<(), ClusterFault>
+    requires { IsPassOf cluster.now second.old }
+    ensures { IsPassOf cluster.now second.new }
 {
-    let note = second.note(cluster, alloc)?;
-    first.hear(cluster, note);
-    match monitor.tell(cluster) {
-        Ok(news) => Ok(first.learn(news).is_ok()),
-        Err(_) => Ok(false),
-    }
+    let mut caps = Caps::none();
+    caps.osd = Some(name(alloc, "allow rwx tag app k=v")?);
+    let add = AuthCommand::Add {
+        name: name(alloc, USER)?,
+        caps,
+    };
+    cluster.auth(rt, second, add)?;
+    Ok(())
+}
+
+// Deletes the user.
+pub(crate) fn delete_user<R: Wait>(
+    rt: &R,
+    alloc: Global,
+    cluster: &Cluster,
+    second: &mut Pass,
+) -> Result<(), ClusterFault>
+    requires { IsPassOf cluster.now second.old }
+    ensures { IsPassOf cluster.now second.new }
+{
+    let delete = AuthCommand::Delete {
+        name: name(alloc, USER)?,
+    };
+    cluster.auth(rt, second, delete)?;
+    Ok(())
 }
 
 // Changes the map.
@@ -45,30 +71,16 @@ fn change<R: Wait>(rt: &R, cluster: &Cluster, monitor: &mut Monitor, command: Ma
     monitor.change_map(rt, cluster, command).is_ok()
 }
 
-fn name(alloc: Global, text: &str) -> Result<Name, ClusterFault> {
-    Ok(Name::new(alloc, text)?)
-}
-
-// The second pass adds the user, and the monitor tags the pool.
-fn prepare<R: Wait>(
+// Tags the pool.
+pub(crate) fn set_tag<R: Wait>(
     rt: &R,
     alloc: Global,
     cluster: &Cluster,
     monitor: &mut Monitor,
-    second: &mut Pass,
 ) -> Result<bool, ClusterFault>
-    requires monitor { IsMonitorOf cluster.now monitor.old }
-    requires pass { IsPassOf cluster.now second.old }
-    ensures monitor { IsMonitorOf cluster.now monitor.new }
-    ensures pass { IsPassOf cluster.now second.new }
+    requires { IsMonitorOf cluster.now monitor.old }
+    ensures { IsMonitorOf cluster.now monitor.new }
 {
-    let mut caps = Caps::none();
-    caps.osd = Some(name(alloc, "allow rwx tag app k=v")?);
-    let add = AuthCommand::Add {
-        name: name(alloc, "client.a")?,
-        caps,
-    };
-    cluster.auth(rt, second, add)?;
     let enable = MapCommand::AppEnable {
         pool: name(alloc, "data")?,
         app: name(alloc, "app")?,
@@ -82,46 +94,62 @@ fn prepare<R: Wait>(
     Ok(change(rt, cluster, monitor, enable) && change(rt, cluster, monitor, set))
 }
 
-// A daemon goes down, the tag is removed, and the user is deleted.
-fn break_off<R: Wait>(
+// A daemon goes down, and the tag is removed.
+pub(crate) fn move_and_untag<R: Wait>(
     rt: &R,
     alloc: Global,
     cluster: &Cluster,
     monitor: &mut Monitor,
-    second: &mut Pass,
 ) -> Result<bool, ClusterFault>
-    requires monitor { IsMonitorOf cluster.now monitor.old }
-    requires pass { IsPassOf cluster.now second.old }
-    ensures monitor { IsMonitorOf cluster.now monitor.new }
-    ensures pass { IsPassOf cluster.now second.new }
+    requires { IsMonitorOf cluster.now monitor.old }
+    ensures { IsMonitorOf cluster.now monitor.new }
 {
-    let down = change(rt, cluster, monitor, MapCommand::OsdDown(0));
     let remove = MapCommand::AppRm {
         pool: name(alloc, "data")?,
         app: name(alloc, "app")?,
         key: name(alloc, "k")?,
     };
-    let removed = change(rt, cluster, monitor, remove);
-    let delete = AuthCommand::Delete {
-        name: name(alloc, "client.a")?,
-    };
-    cluster.auth(rt, second, delete)?;
-    Ok(down && removed)
+    let down = change(rt, cluster, monitor, MapCommand::OsdDown(0));
+    Ok(change(rt, cluster, monitor, remove) && down)
 }
 
-// Whether the reply is a denial by the tag of the one grant.
-fn is_denied_by_tag(reply: &Option<Reply>) -> bool {
-    match reply {
-        Some(Reply::Denied(report)) => match report.lines() {
-            [(_, condition)] => *condition == Condition::Tag,
-            _ => false,
-        },
-        _ => false,
+// The first pass hears what the second has seen, and learns what the monitor has published: whether it does.
+pub(crate) fn catch_up(
+    alloc: Global,
+    cluster: &Cluster,
+    monitor: &mut Monitor,
+    first: &mut Pass,
+    second: &mut Pass,
+) -> Result<bool, ClusterFault>
+    requires monitor { IsMonitorOf cluster.now monitor.old }
+    requires passes { IsPassOf cluster.now first.old × IsPassOf cluster.now second.old }
+    ensures monitor { IsMonitorOf cluster.now monitor.new }
+    ensures passes { IsPassOf cluster.now first.new × IsPassOf cluster.now second.new }
+{
+    let note = second.note(cluster, alloc)?;
+    first.hear(cluster, note);
+    match tell(cluster, monitor) {
+        Some(news) => Ok(learn(cluster, first, news)),
+        None => Ok(false),
     }
 }
 
-// The renewal is refused, since the user is gone; a second request is denied, since the tag is.
-fn go_on<R: Wait>(
+// Opens a session of the user.
+pub(crate) fn open<R: Wait>(
+    rt: &R,
+    alloc: Global,
+    cluster: &Cluster,
+    first: &mut Pass,
+) -> Result<u32, ClusterFault>
+    requires { IsPassOf cluster.now first.old }
+    ensures { IsPassOf cluster.now first.new }
+{
+    let user = name(alloc, USER)?;
+    cluster.open(rt, first, user, None)
+}
+
+// Whether the renewal is refused, since the user is gone, and a second request is denied by the tag of grant 1, which is gone.
+pub(crate) fn goes_on<R: Wait>(
     rt: &R,
     alloc: Global,
     cluster: &Cluster,
@@ -131,14 +159,12 @@ fn go_on<R: Wait>(
     requires { IsPassOf cluster.now first.old }
     ensures { IsPassOf cluster.now first.new }
 {
-    let renewed = cluster.renew(rt, first, session, None);
     let gone = matches!(
-        renewed,
+        cluster.renew(rt, first, session, None),
         Err(ClusterFault::World(WorldFault::Auth(AuthFault::NoEntity)))
     );
-    let asked = submit(rt, alloc, cluster, first, session, "x", Wish::Add)?;
-    let reply = answered(rt, cluster, first, &asked)?;
-    Ok(gone && is_denied_by_tag(&reply))
+    let reply = reply_to(rt, alloc, cluster, first, session, "x", Wish::Add)?;
+    Ok(gone && is_denied(&reply, Condition::Tag))
 }
 
 // The first pass asks, and all else happens before its request is decided.
@@ -154,15 +180,17 @@ fn ask<R: Wait>(
     requires passes { IsPassOf cluster.now first.old × IsPassOf cluster.now second.old }
     ensures monitor { IsMonitorOf cluster.now monitor.new }
 {
-    let prepared = prepare(rt, alloc, cluster, monitor, second)?;
+    add_user(rt, alloc, cluster, second)?;
+    let tagged = set_tag(rt, alloc, cluster, monitor)?;
     let caught_up = catch_up(alloc, cluster, monitor, first, second)?;
-    let session = cluster.open(rt, first, name(alloc, "client.a")?, None)?;
+    let session = open(rt, alloc, cluster, first)?;
     let asked = submit(rt, alloc, cluster, first, session, "x", Wish::Add)?;
-    let broken_off = break_off(rt, alloc, cluster, monitor, second)?;
+    let moved = move_and_untag(rt, alloc, cluster, monitor)?;
+    delete_user(rt, alloc, cluster, second)?;
     let reply = answered(rt, cluster, first, &asked)?;
     let again = catch_up(alloc, cluster, monitor, first, second)?;
-    let went_on = go_on(rt, alloc, cluster, first, session)?;
-    Ok(prepared && caught_up && broken_off && is_output(&reply, "1") && again && went_on)
+    let went_on = goes_on(rt, alloc, cluster, first, session)?;
+    Ok(tagged && caught_up && moved && is_output(&reply, "1") && again && went_on)
 }
 
 // Both passes.

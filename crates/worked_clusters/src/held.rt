@@ -4,10 +4,11 @@ ghost use Rattle.std.specs.Prelude.{All, ◌<◌};
 ghost use Rattle.cluster.specs.Asks.{IsPassOf};
 ghost use Rattle.cluster.specs.Passes.{AreSeatsOf, group_count};
 
-use crate::begun::{begun, take_pass};
-use cluster::{Cluster, ClusterFault, LockedGroup, Pass, Seats, Worked};
+use crate::begun::{MOST_TRIES, begun, take_pass};
+use cluster::{Cluster, ClusterFault, Located, LockedGroup, Pass, Seats, Worked};
 use common_types::Name;
 use entry_core::GroupId;
+use map_core::PoolView;
 use std::alloc::Global;
 use std::sync::Wait;
 use std::sync::atomic::{AtomicU64, Ordering};
@@ -68,6 +69,40 @@ fn hold_group<R: Wait>(rt: &R, cluster: &Cluster, seats: &mut Seats, progress: &
     cluster.turn(rt, seats, 0, Hold { progress })
 }
 
+// A pool. Where there is no reading the call is made again.
+fn view(cluster: &Cluster, pass: &mut Pass, pool: &Name) -> Result<PoolView, ClusterFault>
+    requires { IsPassOf cluster.now pass.old }
+    ensures { IsPassOf cluster.now pass.new }
+{
+    for _try in 0..MOST_TRIES {
+        match cluster.view(pass, pool) {
+            Err(ClusterFault::NoReader) => {}
+            seen => return seen,
+        }
+    }
+    Err(ClusterFault::NoReader)
+}
+
+// Where an object is. Where there is no reading the call is made again.
+fn locate(
+    cluster: &Cluster,
+    pass: &mut Pass,
+    pool: &Name,
+    namespace: &Name,
+    object: &Name,
+) -> Result<Located, ClusterFault>
+    requires { IsPassOf cluster.now pass.old }
+    ensures { IsPassOf cluster.now pass.new }
+{
+    for _try in 0..MOST_TRIES {
+        match cluster.locate(pass, pool, namespace, object) {
+            Err(ClusterFault::NoReader) => {}
+            seen => return seen,
+        }
+    }
+    Err(ClusterFault::NoReader)
+}
+
 // Looks at the map, judges, and works on group 1: whether all is answered.
 fn look<R: Wait>(
     rt: &R,
@@ -81,8 +116,8 @@ fn look<R: Wait>(
     let pool = Name::new(alloc, "data")?;
     let namespace = Name::new(alloc, "")?;
     let object = Name::new(alloc, "x")?;
-    let view = cluster.view(pass, &pool)?;
-    let located = cluster.locate(pass, &pool, &namespace, &object)?;
+    let view = view(cluster, pass, &pool)?;
+    let located = locate(cluster, pass, &pool, &namespace, &object)?;
     let needs = Needs {
         reads: true,
         writes: false,

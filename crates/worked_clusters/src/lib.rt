@@ -4,6 +4,8 @@
 #![tactic(auto)]
 
 #[cfg(test)]
+mod apart;
+#[cfg(test)]
 mod begun;
 #[cfg(test)]
 mod changes;
@@ -23,3 +25,5 @@ mod loads;
 mod locks;
 #[cfg(test)]
 mod notes;
+#[cfg(test)]
+mod tickets;

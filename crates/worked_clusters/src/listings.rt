@@ -65,7 +65,7 @@ fn list<R: Wait>(
     requires { IsPassOf cluster.now pass.old }
 {
     let session = cluster.open(rt, pass, Name::new(alloc, "client.a")?, None)?;
-    let pieces = cluster.list(rt, pass, asking(alloc, session, namespace)?)?;
+    let pieces = cluster.list(rt, pass, asking(alloc, session, namespace, 0)?)?;
     Ok(pieces.len() == 4 && are_answered(rt, cluster, pass, pieces.as_slice(), expected)?)
 }
 
