@@ -1,13 +1,18 @@
-// A library that the loader puts before a quick build: one allocation of the program is refused.
+// A library that the loader puts before a quick build: one allocation of the program is refused, or all below a function.
 //
 // REFUSED_PROGRAM is the program's file, and any other program that loads the library runs as it would. REFUSED_NUMBER
 // counts the allocations from 1; REFUSED_MARK is a file that is made when this one is asked for. REFUSED_ALLOC and
 // REFUSED_REALLOC say where in the program the toolchain's two functions for memory stand, in hexadecimal digits.
+//
+// REFUSED_FIRST and REFUSED_END say, instead of a number, where a function stands and where it ends: all that is asked for while
+// it runs is refused. REFUSED_SEEN is a file that gets the places in the program from which functions were called that asked for
+// memory, a place of so many digits a line.
 #define _GNU_SOURCE
 #include <fcntl.h>
 #include <limits.h>
 #include <link.h>
 #include <stdint.h>
+#include <stdio.h>
 #include <stdlib.h>
 #include <string.h>
 #include <sys/mman.h>
@@ -20,9 +25,45 @@ struct answer {
 };
 
 static uint64_t asked_for, refused_number;
-static const char *mark;
+static const char *mark, *seen_file;
+static uintptr_t base, refused_first, refused_end;
+
+// Places that were seen, by their last bits; where the table is full a place is left out.
+#define PLACES 65536
+static uintptr_t seen[PLACES];
+
+static void see(uintptr_t place) {
+    for (uintptr_t at = place; at < place + 64; at++) {
+        uintptr_t none = 0, *slot = &seen[at % PLACES];
+        if (*slot == place || __atomic_compare_exchange_n(slot, &none, place, 0, __ATOMIC_SEQ_CST, __ATOMIC_SEQ_CST)) return;
+        if (*slot == place) return;
+    }
+}
+
+// Looks at each place that the functions that run now go back to: whether one of them is the refused function. The program keeps
+// a frame for each function, and a frame lies above those that it called.
+static int is_within(void **frame) {
+    int is_found = 0;
+    for (int depth = 0; depth < 4096; depth++) {
+        uintptr_t place = (uintptr_t)frame[1] - base;
+        if (seen_file) see(place);
+        if (refused_first <= place && place < refused_end) is_found = 1;
+        void **next = frame[0];
+        if (next <= frame || (uintptr_t)next - (uintptr_t)frame > 16 << 20 || (uintptr_t)next % 8) break;
+        frame = next;
+    }
+    return is_found;
+}
+
+static void tell_seen(void) {
+    FILE *file = fopen(seen_file, "w");
+    for (int at = 0; file && at < PLACES; at++)
+        if (seen[at]) fprintf(file, "%lx\n", (unsigned long)seen[at]);
+    if (file) fclose(file);
+}
 
 static int is_refused(void) {
+    if (refused_end || seen_file) return is_within(__builtin_frame_address(0));
     uint64_t number = __atomic_add_fetch(&asked_for, 1, __ATOMIC_SEQ_CST);
     if (number != refused_number) return 0;
     int file = open(mark, O_CREAT | O_WRONLY, 0600);
@@ -54,9 +95,9 @@ static int jump(uintptr_t at, void *to) {
     return !mprotect((void *)first, 2 * page, PROT_READ | PROT_EXEC);
 }
 
-static int base_of(struct dl_phdr_info *info, size_t size, void *base) {
+static int base_of(struct dl_phdr_info *info, size_t size, void *place) {
     (void)size;
-    *(uintptr_t *)base = info->dlpi_addr;
+    *(uintptr_t *)place = info->dlpi_addr;
     return 1; // the program is the first of all
 }
 
@@ -75,10 +116,14 @@ static uintptr_t number_in(const char *name, int base) {
 }
 
 __attribute__((constructor)) static void begin(void) {
-    uintptr_t base = 0, alloc = number_in("REFUSED_ALLOC", 16), realloc = number_in("REFUSED_REALLOC", 16);
+    uintptr_t alloc = number_in("REFUSED_ALLOC", 16), realloc = number_in("REFUSED_REALLOC", 16);
     if (!is_the_program()) return;
     refused_number = number_in("REFUSED_NUMBER", 10);
+    refused_first = number_in("REFUSED_FIRST", 16);
+    refused_end = number_in("REFUSED_END", 16);
     mark = getenv("REFUSED_MARK");
+    seen_file = getenv("REFUSED_SEEN");
+    if (seen_file) atexit(tell_seen);
     dl_iterate_phdr(base_of, &base);
     if (!mark || !alloc || !realloc || !jump(base + alloc, allocate) || !jump(base + realloc, grow)) abort();
 }

@@ -37,7 +37,7 @@ def place_of(program, symbol):
 def build_library(room):
     """The library that refuses, built."""
     library = f"{room}/refuse.so"
-    subprocess.run(["cc", "-O1", "-Wall", "-shared", "-fPIC", "-o", library, f"{HERE}/refuse.c"], check=True)
+    subprocess.run(["cc", "-O1", "-fno-omit-frame-pointer", "-Wall", "-shared", "-fPIC", "-o", library, f"{HERE}/refuse.c"], check=True)
     return library
 
 

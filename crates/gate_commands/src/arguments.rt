@@ -321,7 +321,9 @@ fn compare_command<'a>(alloc: Global) -> Result<Command<'a>, AllocError> {
 }
 
 /// What only the entities of a file are asked with.
-const OF_FILE: [&str; 5] = ["auth", "pools", "without", "reads", "known"];
+const OF_FILE: [&str; 7] = [
+    "auth", "pools", "without", "reads", "flows", "known", "format",
+];
 
 /// The two texts, in whose place a file of entities may be.
 fn two_texts_option<'a>(alloc: Global) -> Result<Arg<'a>, AllocError> {
@@ -342,6 +344,15 @@ fn without_option<'a>(alloc: Global) -> Arg<'a> {
     text_option(alloc, "without", "ENTITY", help).action(ArgAction::Append)
 }
 
+/// Where what each entity writes may come to, in the place of what each two of them share.
+fn flows_option<'a>(alloc: Global) -> Result<Arg<'a>, AllocError> {
+    let help =
+        "Tells instead which entities may come to know what another one writes, and through whom";
+    flag(alloc, "flows", help)
+        .conflicts_with("reads")?
+        .conflicts_with("format")
+}
+
 fn share_command<'a>(alloc: Global) -> Result<Command<'a>, AllocError> {
     let reads = flag(alloc, "reads", "Tells also of two that read the same");
     let known = flag(
@@ -352,7 +363,7 @@ fn share_command<'a>(alloc: Global) -> Result<Command<'a>, AllocError> {
     let check = flag(
         alloc,
         "check",
-        "Ends with status 1 where one writes what another reads or writes",
+        "Ends with status 1 where one writes what another reads or writes, with `--flows` where there is a line",
     );
     Command::new(alloc, "share")
         .about("Tells what two capability texts, or the entities of a file, both reach")
@@ -362,8 +373,10 @@ fn share_command<'a>(alloc: Global) -> Result<Command<'a>, AllocError> {
         .arg(text_option(alloc, "pools", "FILE", SHARED_POOLS_HELP))?
         .arg(without_option(alloc))?
         .arg(reads)?
+        .arg(flows_option(alloc)?)?
         .arg(known)?
-        .arg(check)
+        .arg(check)?
+        .arg(option(alloc, FORMAT)?)
 }
 
 /// One text, in whose place a file of entities may be.

@@ -1,6 +1,6 @@
 //! What `osdgate share` answers.
 
-use crate::answers::{Answered, entities_in, pools_given, refused_caps};
+use crate::answers::{Answered, entities_in, format_of, pools_given, refused_caps};
 use crate::file_fault::Purpose;
 use crate::input_files::InputFiles;
 use crate::no_answer::NoAnswer;
@@ -10,8 +10,9 @@ use crate::request_words::{BadWords, value_of};
 use crate::who::tell_unjudged;
 use clap::ArgMatches;
 use common_types::OutOfMemory;
-use gate_text::Entity;
-use share_text::{Strictness, share_entities, share_texts};
+use gate_text::{Entity, Printed};
+use share_core::Pool;
+use share_text::{Strictness, flow_entities, share_entities, share_texts};
 use std::alloc::Global;
 use std::io::Read;
 
@@ -66,6 +67,25 @@ fn is_one_input(matches: &ArgMatches<'_>) -> bool {
     matches.get_str("auth") == Some("-") && matches.get_str("pools") == Some("-")
 }
 
+/// What is printed of some entities, of some pools where they are given.
+fn printed_entities(
+    alloc: Global,
+    entities: &[Entity],
+    pools: Option<&[Pool]>,
+    matches: &ArgMatches<'_>,
+) -> Result<Printed, NoAnswer> {
+    let check = matches.get_flag("check");
+    if matches.get_flag("flows") {
+        return Ok(flow_entities(alloc, entities, pools, check)?);
+    }
+    let strictness = Strictness {
+        reads: matches.get_flag("reads"),
+        check,
+        format: format_of(matches)?,
+    };
+    Ok(share_entities(alloc, entities, strictness, pools)?)
+}
+
 /// The answer for the entities of a file.
 fn answered_file<'a, F: InputFiles, R: Read>(
     alloc: Global,
@@ -80,16 +100,12 @@ fn answered_file<'a, F: InputFiles, R: Read>(
     let path = value_of(matches, "auth");
     let entities = entities_in(alloc, files, reader, Purpose::Entities, path)?;
     let entities = without(alloc, entities, matches.get_strs("without").unwrap_or(&[]))?;
-    let strictness = Strictness {
-        reads: matches.get_flag("reads"),
-        check: matches.get_flag("check"),
-    };
     let mut answered = Answered {
-        printed: share_entities(
+        printed: printed_entities(
             alloc,
             entities.as_slice(),
-            strictness,
             pools.as_ref().map(Vec::as_slice),
+            matches,
         )?,
         caps: "",
         note: entity_profile_lines(alloc, entities.as_slice())?,

@@ -38,10 +38,14 @@ abbrev pub without_comma : List ℕ → List ℕ
 without_comma [] = []
 without_comma (byte ∷ bytes) = if byte == 44 then bytes else byte ∷ bytes
 
--- the document of some entities, from the pieces of theirs; as a text nothing is added
+-- the document of a list under a name, from the pieces of its items; as a text nothing is added
+abbrev pub list_by : List ℕ → Format → List ℕ → List ℕ
+list_by name Text pieces = pieces
+list_by name Json pieces = codes "{\"" ++ (name ++ (codes "\":[" ++ (without_comma pieces ++ codes "]}\n")))
+
+-- of some entities
 abbrev pub entities_by : Format → List ℕ → List ℕ
-entities_by Text pieces = pieces
-entities_by Json pieces = codes "{\"entities\":[" ++ (without_comma pieces ++ codes "]}\n")
+entities_by format pieces = list_by (codes "entities") format pieces
 
 -- ---- verdicts
 

@@ -51,6 +51,29 @@ fn without_comma(pieces: &str) -> &str
     }
 }
 
+/// The document of a list under a name, from the pieces of its items, each of which begins with a comma; as a text nothing is
+/// added. The name is written as it is, so it has no quotes and no backslash. The only error is want of memory.
+pub fn list_by(
+    alloc: Global,
+    name: &str,
+    pieces: String,
+    format: Format,
+) -> Result<String, OutOfMemory>
+    ensures { IfOk result (λ text. string_bytes text ≡ spec.list_by name.now format (string_bytes pieces)) }
+{
+    match format {
+        Format::Text => Ok(pieces),
+        Format::Json => {
+            let mut text = String::from_str(alloc, "{\"")?;
+            text.push_str(name)?;
+            text.push_str("\":[")?;
+            text.push_str(without_comma(pieces.as_str()))?;
+            text.push_str("]}\n")?;
+            Ok(text)
+        }
+    }
+}
+
 /// The document of some entities, from the pieces of theirs; as a text nothing is added.
 pub(crate) fn entities_by(
     alloc: Global,
@@ -59,15 +82,7 @@ pub(crate) fn entities_by(
 ) -> Result<String, OutOfMemory>
     ensures { IfOk result (λ text. string_bytes text ≡ spec.entities_by format (string_bytes pieces)) }
 {
-    match format {
-        Format::Text => Ok(pieces),
-        Format::Json => {
-            let mut text = String::from_str(alloc, "{\"entities\":[")?;
-            text.push_str(without_comma(pieces.as_str()))?;
-            text.push_str("]}\n")?;
-            Ok(text)
-        }
-    }
+    list_by(alloc, "entities", pieces, format)
 }
 
 /// A line of a report.

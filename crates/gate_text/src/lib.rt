@@ -29,6 +29,7 @@ pub use caret::{point_at_fault, push_shown_text};
 pub use compare::{TextFault, compare_text, ticket_of_text};
 pub use compare_auth::compare_entities;
 pub use comparison::Comparison;
+pub use document::list_by;
 pub use entity::Entity;
 pub use explain::explain_text;
 pub use format::Format;

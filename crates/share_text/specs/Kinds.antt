@@ -29,12 +29,11 @@ is_written WritesReads = true
 is_written ReadsWrites = true
 is_written ReadsReads = false
 
--- each with the blank behind it
 abbrev pub kind_words : Kind → List ℕ
-kind_words WritesWrites = codes "writes writes "
-kind_words WritesReads = codes "writes reads "
-kind_words ReadsWrites = codes "reads writes "
-kind_words ReadsReads = codes "reads reads "
+kind_words WritesWrites = codes "writes writes"
+kind_words WritesReads = codes "writes reads"
+kind_words ReadsWrites = codes "reads writes"
+kind_words ReadsReads = codes "reads reads"
 
 -- at this target
 abbrev pub IsSharedSo : Kind → Flat → Flat → Target → Type 0

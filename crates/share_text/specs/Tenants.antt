@@ -1,16 +1,20 @@
 -- Statement: contracts of public calls use it.
 -- What is printed of what the entities of a file share (this project's profile). Every line ends with byte 10.
 use Rattle.std.specs.Prelude.{ℕ, ◌≡◌, ◌≢◌, ◌⊎◌, ◌&&◌, ◌||◌, List, [], ◌∷◌, ◌++◌, Bool, true, false, Option, Some, None, codes, string_bytes}
+use Rattle.serde_json.specs.Data.{Data, object, string, member, no_members}
 use Rattle.grant_core.specs.Flat.{Flat}
 use Rattle.verdict_core.specs.Target.{Target}
 use Rattle.gate_text.specs.Caret.{shown}
 use Rattle.gate_text.specs.Compared.{ComesTo, IsFaultOf}
+use Rattle.gate_text.specs.Documents.{list_by, piece}
 use Rattle.gate_text.specs.Request.{target_words}
 use Rattle.gate_text.specs.declared.compare.TextFault.{TextFault}
 use Rattle.gate_text.specs.declared.compare.TextFault.TheVariants.{OutOfMemory}
 use Rattle.gate_text.specs.declared.entity.Entity.{Entity}
+use Rattle.gate_text.specs.declared.format.Format.{Format}
+use Rattle.gate_text.specs.declared.format.Format.TheVariants.{Text, Json}
 use Rattle.share_core.specs.declared.pools.Pool.{Pool}
-use Rattle.share_text.specs.Kinds.{IsSharedWithin, ShareWithin, is_written}
+use Rattle.share_text.specs.Kinds.{IsSharedWithin, ShareWithin, is_written, kind_words}
 use Rattle.share_text.specs.declared.kind.Kind.{Kind}
 use Rattle.share_text.specs.declared.kind.Kind.TheVariants.{WritesWrites, WritesReads, ReadsWrites, ReadsReads}
 use Rattle.share_text.specs.declared.tenants.Strictness.{Strictness}
@@ -60,17 +64,28 @@ pair_line WritesReads one other target = names_line one (codes " writes what ") 
 pair_line ReadsWrites one other target = names_line other (codes " writes what ") one (codes " reads ") target
 pair_line ReadsReads one other target = names_line one (codes " and ") other (codes " read ") target
 
+-- two that share a target so, as a document: what the first one does, and then the second one
+abbrev pub pair_document : Kind → List ℕ → List ℕ → Target → Data
+pair_document kind first second target =
+    object (member (codes "example") (string (target_words target)) (member (codes "first") (string first)
+    (member (codes "kind") (string (kind_words kind)) (member (codes "second") (string second) no_members))))
+
+-- the same as a text or as a piece of a document
+abbrev pub pair_by : Format → Kind → List ℕ → List ℕ → Target → List ℕ
+pair_by Text kind one other target = pair_line kind one other target
+pair_by Json kind one other target = piece (pair_document kind one other target)
+
 -- what is told of two tenants by a kind: nothing where there is none, and else a target at which they share so; a check fails
 -- where one of them writes
-abbrev pub IsToldBy : Option (List Pool) → Bool → Option Kind → Tenant → Tenant → List ℕ → Bool → Type 0
-IsToldBy pools check None one other text fails = (text ≡ []) × (fails ≡ false)
-IsToldBy pools check (Some kind) one other text fails =
+abbrev pub IsToldBy : Option (List Pool) → Strictness → Option Kind → Tenant → Tenant → List ℕ → Bool → Type 0
+IsToldBy pools strictness None one other text fails = (text ≡ []) × (fails ≡ false)
+IsToldBy pools strictness (Some kind) one other text fails =
     (target : Target) × IsSharedWithin pools kind one.ticket.grants other.ticket.grants target
-    × (text ≡ pair_line kind (string_bytes one.name) (string_bytes other.name) target) × (fails ≡ (check && is_written kind))
+    × (text ≡ pair_by strictness.format kind (string_bytes one.name) (string_bytes other.name) target) × (fails ≡ (strictness.check && is_written kind))
 
 abbrev pub IsPairTold : Option (List Pool) → Strictness → Tenant → Tenant → List ℕ → Bool → Type 0
 IsPairTold pools strictness one other text fails =
-    (found : Option Kind) × IsStrongest pools strictness.reads one.ticket.grants other.ticket.grants found × IsToldBy pools strictness.check found one other text fails
+    (found : Option Kind) × IsStrongest pools strictness.reads one.ticket.grants other.ticket.grants found × IsToldBy pools strictness found one other text fails
 
 -- what is told of each tenant, and of those behind it, in turn; it fails where it fails for one
 abbrev pub InTurn : (Tenant → List Tenant → List ℕ → Bool → Type 0) → List Tenant → List ℕ → Bool → Type 0
@@ -86,4 +101,6 @@ IsToldWith pools strictness one others text fails = InTurn (λ other behind. IsP
 -- what is printed of some entities, and whether the command fails: each pair once, in the file's order; where pools are given,
 -- of their targets alone
 abbrev pub AreTenantsTold : Option (List Pool) → Strictness → List Entity → List ℕ → Bool → Type 0
-AreTenantsTold pools strictness entities text fails = (tenants : List Tenant) × AreTenants entities tenants × InTurn (IsToldWith pools strictness) tenants text fails
+AreTenantsTold pools strictness entities text fails =
+    (tenants : List Tenant) × AreTenants entities tenants × (told : List ℕ) × InTurn (IsToldWith pools strictness) tenants told fails
+    × (text ≡ list_by (codes "pairs") strictness.format told)

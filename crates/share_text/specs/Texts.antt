@@ -20,7 +20,7 @@ paths_words shared = printed_path shared.path ++ (codes " " ++ (printed_path sha
 
 -- the kind, the paths of both grants, and a target that `osdgate verdict` takes
 abbrev pub shared_line : Kind → Shared → List ℕ
-shared_line kind shared = kind_words kind ++ (paths_words shared ++ (target_words shared.target ++ codes "\n"))
+shared_line kind shared = kind_words kind ++ (codes " " ++ (paths_words shared ++ (target_words shared.target ++ codes "\n")))
 
 -- an example for each pair of grants that by themselves share so, each shared by the whole texts too; none exactly where they
 -- share nothing so

@@ -53,10 +53,10 @@ impl Kind {
         ensures { result.now ≡ spec.kind_words self }
     {
         match self {
-            Kind::WritesWrites => "writes writes ",
-            Kind::WritesReads => "writes reads ",
-            Kind::ReadsWrites => "reads writes ",
-            Kind::ReadsReads => "reads reads ",
+            Kind::WritesWrites => "writes writes",
+            Kind::WritesReads => "writes reads",
+            Kind::ReadsWrites => "reads writes",
+            Kind::ReadsReads => "reads reads",
         }
     }
 }

@@ -1,27 +1,35 @@
 //! What the entities of a file share.
 
 ghost use Rattle.std.specs.Prelude.{◌≡◌, ◌++◌, ◌&&◌, ◌||◌, [], false, None, Some, codes, string_bytes, option_copied, IfOk, OnOk, ◌↔◌, IsTrue};
+ghost use Rattle.serde_json.specs.View.{view};
+ghost use Rattle.gate_text.specs.Documents.{piece};
+ghost use Rattle.gate_text.specs.Request.{target_words};
 ghost use Rattle.share_core.specs.Sharing.{IsExampleIn, ShareIn};
 ghost use Rattle.share_text.specs.Kinds.{ShareSo, ShareWithin, is_written, one_touch, other_touch};
 ghost use Rattle.share_text.specs.Tenants as spec;
-ghost use Rattle.share_text.specs.Tenants.{AreTenants, AreTenantsTold, InTurn, IsPairTold, IsStrongest, IsTenantOrNone, IsToldBy, IsToldWith};
+ghost use Rattle.share_text.specs.Tenants.{AreTenants, AreTenantsTold, InTurn, IsPairTold, IsStrongest, IsTenantOrNone, IsToldBy, IsToldWith, pair_document};
 
 use crate::kind::Kind;
 use crate::texts::examples_of;
 use common_types::OutOfMemory;
 use compare_core::OwnedTarget;
-use gate_text::{Entity, Printed, TextFault, push_shown_text, push_target, ticket_of_text};
+use gate_text::{
+    Entity, Format, Printed, TextFault, list_by, push_shown_text, push_target, ticket_of_text,
+};
+use serde_json::{Value, json};
 use share_core::{Pool, example_in, share, share_in};
 use std::alloc::{AllocError, Global};
 use verdict_core::Ticket;
 
-/// How much of what entities share is told, and what fails.
+/// How much of what entities share is told, what fails, and how it is printed.
 #[derive(Clone, Copy, Debug)]
 pub struct Strictness {
     /// Two that read one object are told too, where neither writes what the other may touch.
     pub reads: bool,
     /// It fails where one writes what another reads or writes.
     pub check: bool,
+    /// As lines, or as one document.
+    pub format: Format,
 }
 
 /// An entity whose capability text comes to grants.
@@ -142,6 +150,63 @@ fn pair_line(
     }
 }
 
+/// The words of a target.
+fn words_of(alloc: Global, target: &OwnedTarget) -> Result<String, OutOfMemory>
+    ensures { IfOk result (λ text. string_bytes text ≡ target_words target.now) }
+{
+    let mut text = String::new(alloc);
+    push_target(&mut text, target)?;
+    Ok(text)
+}
+
+/// The document of two names that share a target so.
+fn pair_value(
+    alloc: Global,
+    kind: Kind,
+    first: &str,
+    second: &str,
+    target: &OwnedTarget,
+) -> Result<Value, OutOfMemory>
+    ensures { IfOk result (λ value. view value ≡ pair_document kind first.now second.now target.now) }
+{
+    let example = words_of(alloc, target)?;
+    json!(in alloc; {"example": example, "first": first, "kind": kind.words(), "second": second})
+}
+
+/// The same as a piece of a list.
+fn pair_piece(
+    alloc: Global,
+    kind: Kind,
+    first: &str,
+    second: &str,
+    target: &OwnedTarget,
+) -> Result<String, OutOfMemory>
+    ensures { IfOk result (λ text. string_bytes text ≡ piece (pair_document kind first.now second.now target.now)) }
+{
+    let document = pair_value(alloc, kind, first, second, target)?;
+    let document = document.to_string(alloc)?;
+    let mut text = String::from_str(alloc, ",")?;
+    text.push_str(document.as_str())?;
+    Ok(text)
+}
+
+/// Two names that share a target so, as a line or as a piece of a list.
+fn pair_by(
+    alloc: Global,
+    format: Format,
+    kind: Kind,
+    one: &str,
+    other: &str,
+    target: &OwnedTarget,
+) -> Result<String, OutOfMemory>
+    ensures { IfOk result (λ text. string_bytes text ≡ spec.pair_by format kind one.now other.now target.now) }
+{
+    match format {
+        Format::Text => pair_line(alloc, kind, one, other, target),
+        Format::Json => pair_piece(alloc, kind, one, other, target),
+    }
+}
+
 /// Nothing is told, which does not fail.
 fn nothing(alloc: Global) -> Printed
     ensures text { string_bytes result.text ≡ [] }
@@ -160,15 +225,17 @@ fn told_at(
     one: &Tenant,
     other: &Tenant,
     target: &OwnedTarget,
-    check: bool,
+    strictness: Strictness,
 ) -> Result<Printed, OutOfMemory>
-    ensures { IfOk result (λ printed. (string_bytes printed.text ≡ spec.pair_line kind (string_bytes one.now.name) (string_bytes other.now.name) target.now) × (printed.fails ≡ (check && is_written kind))) }
+    ensures { IfOk result (λ printed. (string_bytes printed.text ≡ spec.pair_by strictness.format kind (string_bytes one.now.name) (string_bytes other.now.name) target.now) × (printed.fails ≡ (strictness.check && is_written kind))) }
 {
-    let text = pair_line(alloc, kind, one.name.as_str(), other.name.as_str(), target)?;
+    let one = one.name.as_str();
+    let other = other.name.as_str();
+    let text = pair_by(alloc, strictness.format, kind, one, other, target)?;
     let is_written = kind.is_written();
     Ok(Printed {
         text,
-        fails: check && is_written,
+        fails: strictness.check && is_written,
     })
 }
 
@@ -178,15 +245,15 @@ fn told_so(
     kind: Kind,
     one: &Tenant,
     other: &Tenant,
-    check: bool,
+    strictness: Strictness,
 ) -> Result<Printed, OutOfMemory>
     requires { ShareSo kind one.now.ticket.grants other.now.ticket.grants }
-    ensures { IfOk result (λ printed. IsToldBy None check (Some kind) one.now other.now (string_bytes printed.text) printed.fails) }
+    ensures { IfOk result (λ printed. IsToldBy None strictness (Some kind) one.now other.now (string_bytes printed.text) printed.fails) }
 {
     let examples = examples_of(alloc, kind, &one.ticket, &other.ticket)?;
     match examples.first() {
         None => Ok(nothing(alloc)),
-        Some(shared) => told_at(alloc, kind, one, other, &shared.target, check),
+        Some(shared) => told_at(alloc, kind, one, other, &shared.target, strictness),
     }
 }
 
@@ -211,15 +278,15 @@ fn told_so_in(
     kind: Kind,
     one: &Tenant,
     other: &Tenant,
-    check: bool,
+    strictness: Strictness,
     pools: &[Pool],
 ) -> Result<Printed, OutOfMemory>
     requires { ShareIn pools.now one.now.ticket.grants (one_touch kind) other.now.ticket.grants (other_touch kind) }
-    ensures { IfOk result (λ printed. IsToldBy (Some pools.now) check (Some kind) one.now other.now (string_bytes printed.text) printed.fails) }
+    ensures { IfOk result (λ printed. IsToldBy (Some pools.now) strictness (Some kind) one.now other.now (string_bytes printed.text) printed.fails) }
 {
     match example_so(alloc, kind, &one.ticket, &other.ticket, pools)? {
         None => Ok(nothing(alloc)),
-        Some(target) => told_at(alloc, kind, one, other, &target, check),
+        Some(target) => told_at(alloc, kind, one, other, &target, strictness),
     }
 }
 
@@ -229,15 +296,15 @@ fn told_within(
     kind: Kind,
     one: &Tenant,
     other: &Tenant,
-    check: bool,
+    strictness: Strictness,
     pools: Option<&[Pool]>,
 ) -> Result<Printed, OutOfMemory>
     requires { ShareWithin (option_copied pools) kind one.now.ticket.grants other.now.ticket.grants }
-    ensures { IfOk result (λ printed. IsToldBy (option_copied pools.entry) check (Some kind) one.now other.now (string_bytes printed.text) printed.fails) }
+    ensures { IfOk result (λ printed. IsToldBy (option_copied pools.entry) strictness (Some kind) one.now other.now (string_bytes printed.text) printed.fails) }
 {
     match pools {
-        None => told_so(alloc, kind, one, other, check),
-        Some(pools) => told_so_in(alloc, kind, one, other, check, pools),
+        None => told_so(alloc, kind, one, other, strictness),
+        Some(pools) => told_so_in(alloc, kind, one, other, strictness, pools),
     }
 }
 
@@ -253,7 +320,7 @@ fn told_pair(
 {
     match strongest(strictness.reads, &one.ticket, &other.ticket, pools) {
         None => Ok(nothing(alloc)),
-        Some(kind) => told_within(alloc, kind, one, other, strictness.check, pools),
+        Some(kind) => told_within(alloc, kind, one, other, strictness, pools),
     }
 }
 
@@ -318,7 +385,10 @@ fn told_each(
 /// pool in which the two share so. Without them each target counts that can be.
 ///
 /// An entity whose text has no grants is left out. A name's bytes outside 32 to 126 are shown as `\x` and two hexadecimal
-/// digits. The only error is want of memory, which leaves nothing. Time goes by the pairs of entities, and for each by the
+/// digits. As a document it has the member `pairs`, of whose items each has `first`, `second`, `kind`, which is what the first
+/// one does and then the second one, and `example`, which is the target.
+///
+/// The only error is want of memory, which leaves nothing. Time goes by the pairs of entities, and for each by the
 /// pairs of their grants; the pools are looked at where two grants meet. The lines are this project's profile.
 pub fn share_entities(
     alloc: Global,
@@ -329,5 +399,9 @@ pub fn share_entities(
     ensures { IfOk result (λ printed. AreTenantsTold (option_copied pools.entry) strictness entities.now (string_bytes printed.text) printed.fails) }
 {
     let tenants = tenants_of(alloc, entities)?;
-    told_each(alloc, strictness, pools, tenants.as_slice())
+    let told = told_each(alloc, strictness, pools, tenants.as_slice())?;
+    Ok(Printed {
+        text: list_by(alloc, "pairs", told.text, strictness.format)?,
+        fails: told.fails,
+    })
 }

@@ -70,6 +70,7 @@ fn push_shared(text: &mut String, kind: Kind, shared: &Shared) -> Result<(), Out
     ensures { OnOk result (string_bytes text.new ≡ string_bytes text.old ++ shared_line kind shared.now) }
 {
     text.push_str(kind.words())?;
+    text.push_str(" ")?;
     push_paths(text, shared)?;
     push_target(text, &shared.target)?;
     text.push_str("\n")

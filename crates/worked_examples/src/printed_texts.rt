@@ -1,10 +1,11 @@
 //! What is printed, once by each call. `sessions/` shows the texts.
 
-use common_types::{OutOfMemory, Tags};
-use compare_core::Registry;
+use common_types::{Name, OutOfMemory, Tags};
+use compare_core::{OwnedTarget, Registry};
 use gate_text::{
-    Asked, Comparison, Entity, Format, NamedEntities, Printed, Times, answer, compare_entities,
-    compare_text, explain_text, point_at_fault, text_of, verdict_text, who_table, who_text,
+    Asked, Comparison, Entity, Format, NamedEntities, Printed, TextFault, Times, answer,
+    compare_entities, compare_text, explain_text, list_by, point_at_fault, push_shown_text,
+    push_target, text_of, ticket_of_text, verdict_text, who_table, who_text,
 };
 use std::alloc::Global;
 use std::test::Fail;
@@ -164,5 +165,58 @@ fn entities_print(rt: HostRuntime) -> Result<(), Fail> {
     let named = NamedEntities::of(alloc, app.as_slice())?;
     assert!(rt; is_found(&named, "client.app"));
     assert!(rt; !is_found(&named, "client"));
+    Ok(())
+}
+
+/// A name as it is shown, and then a target without tags of this pool.
+fn shown_at(alloc: Global, name: &str, pool: &str) -> Result<String, OutOfMemory> {
+    let target = OwnedTarget {
+        pool: Name::new(alloc, pool)?,
+        tags: Tags::from_vec(Vec::new(alloc)),
+        namespace: Name::new(alloc, "")?,
+        object: Name::new(alloc, "it's")?,
+    };
+    let mut line = String::new(alloc);
+    push_shown_text(&mut line, name)?;
+    push_target(&mut line, &target)?;
+    Ok(line)
+}
+
+/// Two pieces as a list.
+fn listed(alloc: Global, format: Format) -> Result<String, OutOfMemory> {
+    list_by(alloc, "names", String::from_str(alloc, ",1,2")?, format)
+}
+
+#[test]
+fn pieces_print(rt: HostRuntime) -> Result<(), Fail> {
+    let alloc = rt.alloc();
+    assert_eq!(rt;
+        shown_at(alloc, "a\u{7} ", "data")?.as_str(),
+        "a\\x07 --pool data --object 'it'\\''s'"
+    );
+    assert_eq!(rt; listed(alloc, Format::Text)?.as_str(), ",1,2");
+    assert_eq!(rt;
+        listed(alloc, Format::Json)?.as_str(),
+        "{\"names\":[1,2]}\n"
+    );
+    Ok(())
+}
+
+/// How many grants a text comes to, or of which kind its fault is.
+fn grants_of(alloc: Global, caps: &str) -> Result<usize, &'static str> {
+    match ticket_of_text(alloc, caps) {
+        Ok(ticket) => Ok(ticket.grants().len()),
+        Err(TextFault::Spelling(_)) => Err("spelling"),
+        Err(TextFault::Expansion(_)) => Err("expansion"),
+        Err(TextFault::OutOfMemory) => Err("memory"),
+    }
+}
+
+#[test]
+fn texts_come_to_tickets(rt: HostRuntime) -> Result<(), Fail> {
+    let alloc = rt.alloc();
+    assert_eq!(rt; grants_of(alloc, "allow r, allow w"), Ok(2));
+    assert_eq!(rt; grants_of(alloc, "allow"), Err("spelling"));
+    assert_eq!(rt; grants_of(alloc, "profile nobody"), Err("expansion"));
     Ok(())
 }

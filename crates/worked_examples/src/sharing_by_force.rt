@@ -6,7 +6,7 @@ use crate::comparisons_by_force::{
 use crate::tickets::ticket;
 use common_types::{OutOfMemory, Tags};
 use compare_core::Registry;
-use gate_text::{Entity, Printed};
+use gate_text::{Entity, Format, Printed};
 use share_core::{Shared, Touch, share, sharing};
 use share_text::{Strictness, share_entities, share_texts};
 use std::alloc::Global;
@@ -289,6 +289,7 @@ fn told(alloc: Global) -> Result<Printed, OutOfMemory> {
     let strictness = Strictness {
         reads: true,
         check: true,
+        format: Format::Text,
     };
     share_entities(alloc, two(alloc)?.as_slice(), strictness, None)
 }

@@ -22,6 +22,8 @@ mod refusals;
 #[cfg(test)]
 mod replies;
 #[cfg(test)]
+mod stories;
+#[cfg(test)]
 mod telling;
 #[cfg(test)]
 mod users;

@@ -109,7 +109,7 @@ fn run_on(alloc: Global, world: &mut World, text: &str) -> Result<usize, Fail> {
 }
 
 // A world of so many daemons, with the built-in profiles.
-fn begun(alloc: Global, daemons: u8) -> Result<World, Fail>
+pub(super) fn begun(alloc: Global, daemons: u8) -> Result<World, Fail>
     requires some { 1 ≤ daemons }
     requires few { daemons ≤ 16 }
 {
