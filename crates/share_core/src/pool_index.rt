@@ -18,7 +18,7 @@ use verdict_core::Ticket;
 /// Tickets in the order in which they were added, of which those are found that may share something with another one: grants
 /// that name two pools never meet. Contracts see it as the lists of their grants.
 ///
-/// It borrows the tickets, and has a number for each, and one for each grant and the pool that the grant names.
+/// It borrows the tickets, and keeps a place for each pool that a ticket names.
 #[derive(Drop)]
 pub struct PoolIndex<'a> {
     tickets: Vec<&'a Ticket>,

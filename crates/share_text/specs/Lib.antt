@@ -1,3 +1,4 @@
 pub mod Kinds
 pub mod Tenants
 pub mod Texts
+pub mod Behind

@@ -1,10 +1,12 @@
 //! What the entities of a file share.
 
-ghost use Rattle.std.specs.Prelude.{◌≡◌, ◌++◌, ◌&&◌, ◌||◌, [], false, None, Some, codes, string_bytes, option_copied, IfOk, OnOk, ◌↔◌, IsTrue};
+ghost use Rattle.std.specs.Prelude.{◌≡◌, ◌++◌, ◌&&◌, ◌||◌, [], false, None, Some, codes, drop, string_bytes, option_copied, IfOk, OnOk, ◌↔◌, IsTrue};
 ghost use Rattle.serde_json.specs.View.{view};
 ghost use Rattle.gate_text.specs.Documents.{piece};
 ghost use Rattle.gate_text.specs.Request.{target_words};
+ghost use Rattle.share_core.specs.Near.{AreNear};
 ghost use Rattle.share_core.specs.Sharing.{IsExampleIn, ShareIn};
+ghost use Rattle.share_text.specs.Behind.{grants_of};
 ghost use Rattle.share_text.specs.Kinds.{ShareSo, ShareWithin, is_written, one_touch, other_touch};
 ghost use Rattle.share_text.specs.Tenants as spec;
 ghost use Rattle.share_text.specs.Tenants.{AreTenants, AreTenantsTold, InTurn, IsPairTold, IsStrongest, IsTenantOrNone, IsToldBy, IsToldWith, pair_document};
@@ -17,7 +19,7 @@ use gate_text::{
     Entity, Format, Printed, TextFault, list_by, push_shown_text, push_target, ticket_of_text,
 };
 use serde_json::{Value, json};
-use share_core::{Pool, example_in, share, share_in};
+use share_core::{Pool, PoolIndex, example_in, share, share_in};
 use std::alloc::{AllocError, Global};
 use verdict_core::Ticket;
 
@@ -334,22 +336,37 @@ fn push_told(printed: &mut Printed, told: &Printed) -> Result<(), OutOfMemory>
     Ok(())
 }
 
-/// What is told of a tenant with each of some others.
+/// What is told of a tenant with each of those from a place on, of whom the near ones are given: the others share nothing with
+/// it, so nothing is told of them.
 fn told_with(
     alloc: Global,
     strictness: Strictness,
     pools: Option<&[Pool]>,
     one: &Tenant,
-    others: &[Tenant],
+    tenants: &[Tenant],
+    from: usize,
+    near: &[usize],
 ) -> Result<Printed, OutOfMemory>
-    ensures { IfOk result (λ printed. IsToldWith (option_copied pools.entry) strictness one.now others.now (string_bytes printed.text) printed.fails) }
+    requires { AreNear one.now.ticket.grants (grants_of tenants.now) from near.now }
+    ensures { IfOk result (λ printed. IsToldWith (option_copied pools.entry) strictness one.now (drop from tenants.now) (string_bytes printed.text) printed.fails) }
 {
     let mut printed = nothing(alloc);
-    for other in others {
-        let told = told_pair(alloc, strictness, pools, one, other)?;
+    for place in near {
+        let told = told_pair(alloc, strictness, pools, one, &tenants[*place])?;
         push_told(&mut printed, &told)?;
     }
     Ok(printed)
+}
+
+/// The tenants' tickets, found by the pools that they name.
+fn index_of(alloc: Global, tenants: &[Tenant]) -> Result<PoolIndex<'_>, OutOfMemory>
+    ensures { IfOk result (λ index. index ≡ grants_of tenants.now) }
+{
+    let mut index = PoolIndex::new(alloc);
+    for tenant in tenants {
+        index.add(&tenant.ticket)?;
+    }
+    Ok(index)
 }
 
 /// What is told of each two tenants.
@@ -361,14 +378,20 @@ fn told_each(
 ) -> Result<Printed, OutOfMemory>
     ensures { IfOk result (λ printed. InTurn (IsToldWith (option_copied pools.entry) strictness) tenants.now (string_bytes printed.text) printed.fails) }
 {
+    let index = index_of(alloc, tenants)?;
     let mut printed = nothing(alloc);
     for place in 0..tenants.len() {
+        let one = &tenants[place];
+        let from = place + 1;
+        let near = index.near(&one.ticket, from)?;
         let told = told_with(
             alloc,
             strictness,
             pools,
-            &tenants[place],
-            &tenants[place + 1..],
+            one,
+            tenants,
+            from,
+            near.as_slice(),
         )?;
         push_told(&mut printed, &told)?;
     }
@@ -388,8 +411,9 @@ fn told_each(
 /// digits. As a document it has the member `pairs`, of whose items each has `first`, `second`, `kind`, which is what the first
 /// one does and then the second one, and `example`, which is the target.
 ///
-/// The only error is want of memory, which leaves nothing. Time goes by the pairs of entities, and for each by the
-/// pairs of their grants; the pools are looked at where two grants meet. The lines are this project's profile.
+/// The only error is want of memory, which leaves nothing. Time goes by the pairs of entities that name a common pool, or of
+/// which one has a grant without a pool, and for each by the pairs of their grants; the pools are looked at where two grants
+/// meet. The lines are this project's profile.
 pub fn share_entities(
     alloc: Global,
     entities: &[Entity],

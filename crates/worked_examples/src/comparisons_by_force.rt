@@ -49,7 +49,7 @@ pub(crate) const TAGS: &[&str] = &[
 pub(crate) const TARGET_NAMES: &[&str] = &["a", "b", "", "ab", "az", "z"];
 
 /// The next of a fixed row of numbers takes one of the words.
-fn pick(row: &mut u64, words: &[&'static str]) -> &'static str {
+pub(crate) fn pick(row: &mut u64, words: &[&'static str]) -> &'static str {
     *row = row
         .wrapping_mul(6364136223846793005)
         .wrapping_add(1442695040888963407);

@@ -22,6 +22,8 @@ mod profiles;
 #[cfg(test)]
 mod sharing_by_force;
 #[cfg(test)]
+mod sharing_by_pools;
+#[cfg(test)]
 mod sharing_in_pools;
 #[cfg(test)]
 mod tickets;

@@ -1,13 +1,17 @@
-use Rattle.std.proofs.Common.{option_copied, arith}
-use Rattle.share_text.specs.Tenants.{IsPairTold}
-use Rattle.share_text.proofs.Telling.{all_told, one_told}
+use Rattle.std.proofs.Common.{drop, option_copied}
+use Rattle.share_text.proofs.NearTold.{first_near, last_near, next_near}
 use Rattle.share_text.proofs.tenants.told_with.Goals as goal
 
-pub loop-other-preserved : goal.loop-other-preserved
-loop-other-preserved c =
-    one_told (λ other behind. IsPairTold (option_copied c.args.pools) c.args.strictness c.args.one.now other) c.args.others.now c.loop-other.other-index c.other-item.result _ _ _ _ _ _ (omega arith) c.other-item.is
-    c.in_ok-told.ensures c.in_ok-push_told.ensures.text c.in_ok-push_told.ensures.fails c.loop-other.invariant
+pub loop-place-init : goal.loop-place-init
+loop-place-init c =
+    first_near (option_copied c.args.pools) c.args.strictness c.args.one.now c.args.tenants.now c.args.from c.args.near.now _ _ c.nothing-printed.ensures.text c.nothing-printed.ensures.fails c.requires
+
+pub loop-place-preserved : goal.loop-place-preserved
+loop-place-preserved c =
+    next_near (option_copied c.args.pools) c.args.strictness c.args.one.now (drop c.args.from c.args.tenants.now) c.args.tenants.now c.args.near.now c.loop-place.place-index
+    c.index-tenants-place.result _ _ _ _ _ _ c.loop-place-test.true c.index-tenants-place.is c.in_ok-told.ensures c.in_ok-push_told.ensures.text c.in_ok-push_told.ensures.fails c.loop-place.invariant
 
 pub returns : goal.returns
 returns c =
-    all_told (λ other behind. IsPairTold (option_copied c.args.pools) c.args.strictness c.args.one.now other) c.args.others.now c.loop-other.other-index _ _ c.loop-other-test.false c.loop-other.invariant
+    last_near (option_copied c.args.pools) c.args.strictness c.args.one.now (drop c.args.from c.args.tenants.now) c.args.tenants.now c.args.near.now c.loop-place.place-index _ _ c.loop-place-test.false
+    c.loop-place.invariant

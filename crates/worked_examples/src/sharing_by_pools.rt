@@ -1,0 +1,189 @@
+//! Random tickets and entities, of which those that name no common pool are not compared.
+
+use crate::comparisons_by_force::pick;
+use crate::tickets::ticket;
+use common_types::OutOfMemory;
+use gate_text::{Entity, Format};
+use share_core::PoolIndex;
+use share_text::{Strictness, share_entities, share_texts};
+use std::alloc::Global;
+use std::process::Abort;
+use std::test::Fail;
+use verdict_core::Ticket;
+
+/// Grants of some pools, and now and then one without a pool.
+const GRANTS: &[&str] = &[
+    "allow r pool=a",
+    "allow w pool=a namespace=x",
+    "allow rw pool=b",
+    "allow x pool=b",
+    "allow w pool=c",
+    "allow r pool=c object_prefix o",
+    "allow rw pool=d",
+    "allow r pool=e",
+    "allow w pool=f namespace=y",
+    "allow r pool=f",
+    "allow rw pool=g",
+    "allow r pool=h",
+    "allow w pool=h object_prefix p",
+    "allow rw tag app k=v",
+];
+
+/// A text of one to three grants.
+fn draw_grants(alloc: Global, row: &mut u64) -> Result<String, OutOfMemory> {
+    let mut text = String::from_str(alloc, pick(row, GRANTS))?;
+    for _ in 0..2u32 {
+        if pick(row, ["stop", "go"].as_slice()) == "go" {
+            text.push_str(", ")?;
+            text.push_str(pick(row, GRANTS))?;
+        }
+    }
+    Ok(text)
+}
+
+fn draw_tickets(alloc: Global, row: &mut u64, count: usize) -> Result<Vec<Ticket>, Fail> {
+    let mut tickets = Vec::new(alloc);
+    for _ in 0..count {
+        let text = draw_grants(alloc, row)?;
+        tickets.push(ticket(alloc, text.as_str(), None)?)?;
+    }
+    Ok(tickets)
+}
+
+/// Whether some grants of two tickets name one pool, or one of them names none.
+fn have_pools_in_common(ones: &Ticket, others: &Ticket) -> bool {
+    for mine in ones.grants() {
+        for theirs in others.grants() {
+            match (&mine.1.pool, &theirs.1.pool) {
+                (Some(mine), Some(theirs)) => {
+                    if mine.as_str() == theirs.as_str() {
+                        return true;
+                    }
+                }
+                _ => return true,
+            }
+        }
+    }
+    false
+}
+
+/// The places from one on of those that have pools in common with a ticket.
+fn looked_for(
+    alloc: Global,
+    tickets: &[Ticket],
+    ones: &Ticket,
+    from: usize,
+) -> Result<Vec<usize>, OutOfMemory> {
+    let mut places = Vec::new(alloc);
+    for (place, others) in tickets.iter().enumerate() {
+        if place >= from && have_pools_in_common(ones, others) {
+            places.push(place)?;
+        }
+    }
+    Ok(places)
+}
+
+/// Whether those that are near each of some tickets are those that looking finds.
+fn are_near_ones_found(alloc: Global, tickets: &[Ticket]) -> Result<bool, OutOfMemory> {
+    let mut index = PoolIndex::new(alloc);
+    for ticket in tickets {
+        index.add(ticket)?;
+    }
+    for (place, ticket) in tickets.iter().enumerate() {
+        for from in [0, place, place + 1, tickets.len()] {
+            let near = index.near(ticket, from)?;
+            let expected = looked_for(alloc, tickets, ticket, from)?;
+            if near.as_slice() != expected.as_slice() {
+                return Ok(false);
+            }
+        }
+    }
+    Ok(true)
+}
+
+#[test]
+fn an_index_finds_who_has_pools_in_common(rt: HostRuntime) -> Result<(), Fail> {
+    let mut row = 11u64;
+    for count in 0..24usize {
+        let tickets = draw_tickets(rt.alloc(), &mut row, count)?;
+        assert!(rt; are_near_ones_found(rt.alloc(), tickets.as_slice())?, "{count} tickets");
+    }
+    Ok(())
+}
+
+fn draw_entities(alloc: Global, row: &mut u64, count: u32) -> Result<Vec<Entity>, OutOfMemory> {
+    let mut entities = Vec::new(alloc);
+    for number in 0..count {
+        entities.push(Entity {
+            name: format!(in alloc; "client.{number}")?,
+            osd: draw_grants(alloc, row)?,
+        })?;
+    }
+    Ok(entities)
+}
+
+/// What stands behind so many blanks.
+fn behind_blanks(text: &str, blanks: u32) -> &str {
+    let mut rest = text;
+    for _ in 0..blanks {
+        rest = match rest.split_once(' ') {
+            None => "",
+            Some((_, behind)) => behind,
+        };
+    }
+    rest
+}
+
+/// Adds the line of two entities by the first example of their texts, which is of the strongest kind.
+fn push_line(text: &mut String, one: &Entity, other: &Entity) -> Result<(), OutOfMemory> {
+    let alloc = *text.allocator();
+    let printed = share_texts(alloc, one.osd.as_str(), other.osd.as_str(), false)?;
+    let line = printed.text.as_str().lines().next().unwrap_or("");
+    let (one, other) = (one.name.as_str(), other.name.as_str());
+    let target = behind_blanks(line, 4);
+    let told = if line.starts_with("writes writes ") {
+        format!(in alloc; "{one} and {other} write {target}\n")?
+    } else if line.starts_with("writes reads ") {
+        format!(in alloc; "{one} writes what {other} reads {target}\n")?
+    } else if line.starts_with("reads writes ") {
+        format!(in alloc; "{other} writes what {one} reads {target}\n")?
+    } else if line.starts_with("reads reads ") {
+        format!(in alloc; "{one} and {other} read {target}\n")?
+    } else {
+        String::new(alloc)
+    };
+    text.push_str(told.as_str())
+}
+
+/// The lines of each two entities.
+fn lines_of_all(alloc: Global, entities: &[Entity]) -> Result<String, OutOfMemory> {
+    let mut text = String::new(alloc);
+    for (place, one) in entities.iter().enumerate() {
+        for other in entities.iter().skip(place + 1) {
+            push_line(&mut text, one, other)?;
+        }
+    }
+    Ok(text)
+}
+
+/// Whether what is told of some entities is what is told of each two of them.
+fn is_each_pair_told(alloc: Global, entities: &[Entity]) -> Result<bool, OutOfMemory> {
+    let strictness = Strictness {
+        reads: true,
+        check: false,
+        format: Format::Text,
+    };
+    let told = share_entities(alloc, entities, strictness, None)?;
+    let lines = lines_of_all(alloc, entities)?;
+    Ok(told.text.as_str() == lines.as_str() && !lines.is_empty())
+}
+
+#[test]
+fn each_two_entities_of_a_file_are_told(rt: HostRuntime) -> Result<(), Fail> {
+    let mut row = 5u64;
+    for count in [2u32, 3, 20, 60] {
+        let entities = draw_entities(rt.alloc(), &mut row, count)?;
+        assert!(rt; is_each_pair_told(rt.alloc(), entities.as_slice())?, "{count} entities");
+    }
+    Ok(())
+}
