@@ -1,3 +1,4 @@
+pub mod Reaching
 pub mod Results
 pub mod Telling
 pub mod NearTold

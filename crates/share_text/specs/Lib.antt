@@ -1,3 +1,5 @@
+pub mod FlowLines
+pub mod Flows
 pub mod Kinds
 pub mod Tenants
 pub mod Texts

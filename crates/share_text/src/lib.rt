@@ -4,9 +4,11 @@
 //! capability text is part of what is printed, or leaves its entity out. The forms of the lines are this project's profile.
 #![tactic(auto)]
 
+mod flows;
 mod kind;
 mod tenants;
 mod texts;
 
+pub use flows::flow_entities;
 pub use tenants::{Strictness, share_entities};
 pub use texts::share_texts;

@@ -37,8 +37,8 @@ pub struct Strictness {
 /// An entity whose capability text comes to grants.
 #[derive(Drop)]
 pub(crate) struct Tenant {
-    name: String,
-    ticket: Ticket,
+    pub(crate) name: String,
+    pub(crate) ticket: Ticket,
 }
 
 /// The tenant that an entity is, or nothing where its text has no grants.
@@ -56,7 +56,7 @@ fn tenant_of(alloc: Global, entity: &Entity) -> Result<Option<Tenant>, OutOfMemo
 }
 
 /// The entities whose texts come to grants, in order.
-fn tenants_of(alloc: Global, entities: &[Entity]) -> Result<Vec<Tenant>, OutOfMemory>
+pub(crate) fn tenants_of(alloc: Global, entities: &[Entity]) -> Result<Vec<Tenant>, OutOfMemory>
     ensures { IfOk result (λ tenants. AreTenants entities.now tenants.items) }
 {
     let mut tenants = Vec::new(alloc);
@@ -87,7 +87,12 @@ fn share_so_in(kind: Kind, ones: &Ticket, others: &Ticket, pools: &[Pool]) -> bo
 }
 
 /// Whether two tickets share something of a kind, in some of the pools where they are given. It takes no memory.
-fn share_within(kind: Kind, ones: &Ticket, others: &Ticket, pools: Option<&[Pool]>) -> bool
+pub(crate) fn share_within(
+    kind: Kind,
+    ones: &Ticket,
+    others: &Ticket,
+    pools: Option<&[Pool]>,
+) -> bool
     ensures { IsTrue result ↔ ShareWithin (option_copied pools.entry) kind ones.now.grants others.now.grants }
 {
     match pools {
@@ -210,7 +215,7 @@ fn pair_by(
 }
 
 /// Nothing is told, which does not fail.
-fn nothing(alloc: Global) -> Printed
+pub(crate) fn nothing(alloc: Global) -> Printed
     ensures text { string_bytes result.text ≡ [] }
     ensures fails { result.fails ≡ false }
 {
@@ -327,7 +332,7 @@ fn told_pair(
 }
 
 /// Adds what is told behind what is printed, which fails where one of them does.
-fn push_told(printed: &mut Printed, told: &Printed) -> Result<(), OutOfMemory>
+pub(crate) fn push_told(printed: &mut Printed, told: &Printed) -> Result<(), OutOfMemory>
     ensures text { OnOk result (string_bytes printed.new.text ≡ string_bytes printed.old.text ++ string_bytes told.now.text) }
     ensures fails { OnOk result (printed.new.fails ≡ (printed.old.fails || told.now.fails)) }
 {

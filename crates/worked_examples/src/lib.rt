@@ -8,6 +8,8 @@ mod capability_texts;
 #[cfg(test)]
 mod comparisons_by_force;
 #[cfg(test)]
+mod flows_by_force;
+#[cfg(test)]
 mod linting_by_force;
 #[cfg(test)]
 mod maps;

@@ -1,0 +1,167 @@
+-- Where what a tenant writes may come to, and what is told of it.
+use Rattle.std.proofs.Common.{◌≡◌, ℕ, zero, suc, ◌+◌, ◌-◌, ◌<◌, ◌≤◌, ◌≢◌, ◌⊎◌, ◌↔◌, List, [], ◌∷◌, ◌++◌, Bool, false, ◌||◌, Option, append_assoc, codes, drop, get_or, take, length, map, refl, sym, ap, subst, ◌∙◌, inl, inr, add-one, arith, length-append}
+use Rattle.std.specs.List.{Contains}
+use Rattle.std.proofs.Math.Seq.{get_or-append_seam, take-append_seam}
+use Rattle.std.proofs.lemmas.Bool.{cases_eq, cases_lt}
+use Rattle.std.proofs.lemmas.List.{drop_more, get_or-map, get_or_append_left, get_or_past, length-map}
+use Rattle.std.proofs.lemmas.List.Elements.{Contains-append_left, Contains-push, Contains-push_cases}
+use Rattle.flow_core.specs.Chains.{IsChain, IsFound, IsShortest, IsStep}
+use Rattle.flow_core.proofs.Listing.{in_none}
+use Rattle.flow_core.proofs.Walks.{found_for}
+use Rattle.gate_text.specs.Caret.{shown}
+use Rattle.share_core.specs.declared.pools.Pool.{Pool}
+use Rattle.share_text.specs.FlowLines.{AreChainsTold, IsChainTold, IsWriterTold}
+use Rattle.share_text.specs.Flows.{AreReaders, AreReachesTold, IsFlowTold, IsPlaceTold, OfEach, WritesTo, flow_line, name_at, through_words}
+use Rattle.share_text.specs.declared.tenants.Tenant.{Tenant}
+
+-- what a list has at a place where its items are seen in another form
+pub seen_at : {X Y : Type 0} (f : X → Y) (xs : List X) (i : ℕ) (x : X) (d : Y) → i < length xs → x ≡ get_or xs i x → get_or (map f xs) i d ≡ f x
+seen_at f xs i x d inside at = get_or-map f xs i x d inside ∙ ap f (sym at)
+
+pub seen_past : {X Y : Type 0} (f : X → Y) (xs : List X) (i : ℕ) (d : Y) → length xs ≤ i → get_or (map f xs) i d ≡ d
+seen_past f xs i d past = get_or_past (map f xs) i d (omega (arith, length-map xs f))
+
+-- the places below a number of which something holds
+abbrev pub ListsBelow : (ℕ → Type 0) → List ℕ → ℕ → Type 0
+ListsBelow Holds places n = (place : ℕ) → Contains places place ↔ ((place < n) × Holds place)
+
+pub lists_none : (Holds : ℕ → Type 0) → ListsBelow Holds [] 0
+lists_none Holds place = (λ inside. absurd (in_none place inside), λ h. let below : place < 0 = h.0 in absurd (omega arith))
+
+with_one : (Holds : ℕ → Type 0) (places : List ℕ) (n place : ℕ) → ListsBelow Holds places n → Holds n → Contains places place ⊎ (n ≡ place) → (place < n + 1) × Holds place
+with_one Holds places n place lists here (inl inside) = let h : (place < n) × Holds place = (lists place).0 inside in (omega arith, h.1)
+with_one Holds places n place lists here (inr same) = (omega arith, subst Holds same here)
+
+is_with_one : (Holds : ℕ → Type 0) (places : List ℕ) (n place : ℕ) → ListsBelow Holds places n → (place ≡ n) ⊎ (place ≡ n → ⊥) → (place < n + 1) × Holds place
+    → Contains (places ++ n ∷ []) place
+is_with_one Holds places n place lists (inl same) h = subst (Contains (places ++ n ∷ [])) (sym same) (Contains-push places n)
+is_with_one Holds places n place lists (inr other) h =
+    let below : place < n + 1 = h.0 in Contains-append_left places (n ∷ []) place ((lists place).1 (omega arith, h.1))
+
+pub lists_one : (Holds : ℕ → Type 0) (places more : List ℕ) (n : ℕ) → more ≡ places ++ n ∷ [] → Holds n → ListsBelow Holds places n → ListsBelow Holds more (n + 1)
+lists_one Holds places more n is here lists =
+    subst (λ l. ListsBelow Holds l (n + 1)) (sym is)
+    (λ place. (λ inside. with_one Holds places n place lists here (Contains-push_cases places n place inside), λ h. is_with_one Holds places n place lists (cases_eq place n) h))
+
+is_without : (Holds : ℕ → Type 0) (places : List ℕ) (n place : ℕ) → ListsBelow Holds places n → (Holds n → ⊥) → (place ≡ n) ⊎ (place ≡ n → ⊥) → (place < n + 1) × Holds place
+    → Contains places place
+is_without Holds places n place lists none (inl same) h = absurd (none (subst Holds same h.1))
+is_without Holds places n place lists none (inr other) h = let below : place < n + 1 = h.0 in (lists place).1 (omega arith, h.1)
+
+pub lists_without : (Holds : ℕ → Type 0) (places : List ℕ) (n : ℕ) → (Holds n → ⊥) → ListsBelow Holds places n → ListsBelow Holds places (n + 1)
+lists_without Holds places n none lists place =
+    (λ inside. let h : (place < n) × Holds place = (lists place).0 inside in (omega arith, h.1), λ h. is_without Holds places n place lists none (cases_eq place n) h)
+
+-- so many lists of places, each of those of which something holds
+pub record AreLists (Holds : ℕ → ℕ → Type 0) (n : ℕ) (lists : List (List ℕ)) (count : ℕ) : Type 0 where
+  pub size : length lists ≡ count
+  pub each : (one : ℕ) → one < count → ListsBelow (Holds one) (get_or lists one []) n
+
+pub no_lists : (Holds : ℕ → ℕ → Type 0) (n : ℕ) → AreLists Holds n [] 0
+no_lists Holds n = record { size = refl; each = λ one below. absurd (omega arith) }
+
+one_of_lists : (Holds : ℕ → ℕ → Type 0) (n : ℕ) (lists : List (List ℕ)) (count : ℕ) (last : List ℕ) (one : ℕ) → AreLists Holds n lists count → ListsBelow (Holds count) last n
+    → (one < count) ⊎ (count ≤ one) → one < count + 1 → ListsBelow (Holds one) (get_or (lists ++ last ∷ []) one []) n
+one_of_lists Holds n lists count last one are is (inl before) below =
+    subst (λ l. ListsBelow (Holds one) l n) (sym (get_or_append_left lists (last ∷ []) [] one (omega (arith, are.size)))) (are.each one before)
+one_of_lists Holds n lists count last one are is (inr past) below =
+    let now : one ≡ count = omega arith in
+    let at : one ≡ length lists = omega (arith, are.size) in
+    subst (λ l. ListsBelow (Holds one) l n) (sym (ap (λ i. get_or (lists ++ last ∷ []) i []) at ∙ get_or-append_seam lists last [] [])) (subst (λ i. ListsBelow (Holds i) last n) (sym now) is)
+
+pub one_list_more : (Holds : ℕ → ℕ → Type 0) (n : ℕ) (lists more : List (List ℕ)) (count : ℕ) (last : List ℕ) → more ≡ lists ++ last ∷ [] → ListsBelow (Holds count) last n
+    → AreLists Holds n lists count → AreLists Holds n more (count + 1)
+one_list_more Holds n lists more count last same is are = record {
+  size = omega (arith, ap length same, length-append lists (last ∷ []), are.size);
+  each = λ one below. subst (λ l. ListsBelow (Holds one) (get_or l one []) n) (sym same) (one_of_lists Holds n lists count last one are is (cases_lt one count) below);
+}
+
+step_in : (Holds : ℕ → ℕ → Type 0) (n : ℕ) (lists : List (List ℕ)) (one other : ℕ) → AreLists Holds n lists n → (one < n) ⊎ (n ≤ one) → IsStep lists one other
+    → (one < n) × (other < n) × Holds one other
+step_in Holds n lists one other are (inl below) step = let h : (other < n) × Holds one other = (are.each one below other).0 step.1 in (below, h.0, h.1)
+step_in Holds n lists one other are (inr past) step =
+    let none : get_or lists one [] ≡ [] = get_or_past lists one [] (omega (arith, are.size)) in absurd (in_none other (subst (λ l. Contains l other) none step.1))
+
+pub steps_are : (Holds : ℕ → ℕ → Type 0) (n : ℕ) (lists : List (List ℕ)) → AreLists Holds n lists n → (one other : ℕ)
+    → IsStep lists one other ↔ ((one < n) × (other < n) × Holds one other)
+steps_are Holds n lists are one other =
+    (step_in Holds n lists one other are (cases_lt one n), λ h. (let below : other < n = h.1 in omega (arith, are.size), (are.each one h.0 other).1 (h.1, h.2)))
+
+-- all but the last place of a chain
+front_of : (chain front : List ℕ) (end : ℕ) → chain ≡ front ++ end ∷ [] → take (length chain - 1) chain ≡ front
+front_of chain front end is =
+    let long : length chain - 1 ≡ length front = omega (arith, ap length is, length-append front (end ∷ [])) in
+    ap (λ n. take n chain) long ∙ (ap (take (length front)) is ∙ take-append_seam front (end ∷ []))
+
+nothing_told : (pools : Option (List Pool)) (check : Bool) (tenants : List Tenant) (writer reader : ℕ) (text : List ℕ) (fails : Bool) → (writer ≡ reader) ⊎ (writer ≡ reader → ⊥)
+    → ((chain : List ℕ) → ¬ IsChain (WritesTo pools tenants) writer reader chain) → text ≡ [] → fails ≡ false → IsPlaceTold pools check tenants writer reader text fails
+nothing_told pools check tenants writer reader text fails (inl same) apart empty ends = inr (same, empty, ends)
+nothing_told pools check tenants writer reader text fails (inr other) apart empty ends = inl (other, inr (apart, empty, ends))
+
+line_told : (pools : Option (List Pool)) (check : Bool) (tenants : List Tenant) (writer reader : ℕ) (chain : List ℕ) (text : List ℕ) (fails : Bool) → (chain ≡ [] → ⊥)
+    → IsFound (WritesTo pools tenants) writer reader chain → text ≡ flow_line tenants writer reader (take (length chain - 1) chain) → fails ≡ check
+    → IsFlowTold pools check tenants writer reader text fails
+line_told pools check tenants writer reader [] text fails some found is ends = absurd (some refl)
+line_told pools check tenants writer reader (place ∷ rest) text fails some found is ends =
+    let front = found.is.ends.0 in
+    let whole : place ∷ rest ≡ front ++ reader ∷ [] = found.is.ends.1 in
+    inl (front, subst (IsShortest (WritesTo pools tenants) writer reader) whole found, is ∙ ap (flow_line tenants writer reader) (front_of (place ∷ rest) front reader whole), ends)
+
+place_told : (pools : Option (List Pool)) (check : Bool) (tenants : List Tenant) (writer reader : ℕ) (chain : List ℕ) (text : List ℕ) (fails : Bool)
+    → IsFound (WritesTo pools tenants) writer reader chain → IsChainTold check tenants writer reader chain text fails → IsPlaceTold pools check tenants writer reader text fails
+place_told pools check tenants writer reader chain text fails found (inl (other, some, is, ends)) =
+    inl (other, line_told pools check tenants writer reader chain text fails some found is ends)
+place_told pools check tenants writer reader chain text fails found (inr (inl same, empty, ends)) = inr (same, empty, ends)
+place_told pools check tenants writer reader chain text fails found (inr (inr none, empty, ends)) =
+    nothing_told pools check tenants writer reader text fails (cases_eq writer reader) (subst (IsFound (WritesTo pools tenants) writer reader) none found) empty ends
+
+-- one place more
+pub one_place_more : (IsTold : ℕ → List ℕ → Bool → Type 0) (n : ℕ) (old new front : List ℕ) (fails ends first : Bool) → IsTold n front first → new ≡ old ++ front
+    → ends ≡ (fails || first) → OfEach IsTold n old fails → OfEach IsTold (n + 1) new ends
+one_place_more IsTold n old new front fails ends first is text same before =
+    subst (λ m. OfEach IsTold m new ends) (sym (add-one n)) (old, front, fails, first, before, is, text, same)
+
+each_for : (IsTold AlsoTold : ℕ → List ℕ → Bool → Type 0) (n : ℕ) → ((place : ℕ) (text : List ℕ) (fails : Bool) → place < n → IsTold place text fails → AlsoTold place text fails)
+    → (text : List ℕ) (fails : Bool) → OfEach IsTold n text fails → OfEach AlsoTold n text fails
+each_for IsTold AlsoTold zero also text fails told = told
+each_for IsTold AlsoTold (suc n) also text fails (front, rest, first, later, before, here, is, ends) =
+    (front, rest, first, later, each_for IsTold AlsoTold n (λ place t f below told. also place t f (omega arith) told) front first before, also n rest later (omega arith) here, is, ends)
+
+writer_told : (pools : Option (List Pool)) (check : Bool) (tenants : List Tenant) (steps : List (List ℕ)) (writer : ℕ) (text : List ℕ) (fails : Bool)
+    → AreReaders pools tenants steps → IsWriterTold check tenants steps writer text fails → OfEach (IsPlaceTold pools check tenants writer) (length tenants) text fails
+writer_told pools check tenants steps writer text fails readers (chains, found, told) =
+    subst (λ n. OfEach (IsPlaceTold pools check tenants writer) n text fails) (found.size ∙ readers.size)
+    (each_for (λ reader. IsChainTold check tenants writer reader (get_or chains reader [])) (IsPlaceTold pools check tenants writer) (length chains)
+    (λ reader t f below here.
+    place_told pools check tenants writer reader (get_or chains reader []) t f
+    (found_for (IsStep steps) (WritesTo pools tenants) (λ one other. (readers.each one other).0) (λ one other. (readers.each one other).1) writer reader (get_or chains reader [])
+    (found.each reader (omega (arith, found.size))))
+    here)
+    text fails told)
+
+pub writers_told : (pools : Option (List Pool)) (check : Bool) (tenants : List Tenant) (steps : List (List ℕ)) (text : List ℕ) (fails : Bool)
+    → AreReaders pools tenants steps → OfEach (IsWriterTold check tenants steps) (length steps) text fails → AreReachesTold pools check tenants text fails
+writers_told pools check tenants steps text fails readers told =
+    subst (λ n. OfEach (λ writer. OfEach (IsPlaceTold pools check tenants writer) (length tenants)) n text fails) readers.size
+    (each_for (IsWriterTold check tenants steps) (λ writer. OfEach (IsPlaceTold pools check tenants writer) (length tenants)) (length steps)
+    (λ writer t f below here. writer_told pools check tenants steps writer t f readers here) text fails told)
+
+pub slices_told : {X : Type 0} (f : X → List ℕ) (pools : Option (List Pool)) (check : Bool) (tenants one two : List Tenant) (steps three : List X) (text : List ℕ) (fails : Bool)
+    → one ≡ tenants → two ≡ tenants → three ≡ steps → AreReaders pools one (map f steps) → OfEach (IsWriterTold check two (map f three)) (length three) text fails
+    → AreReachesTold pools check tenants text fails
+slices_told f pools check tenants one two steps three text fails same also are readers told =
+    let all : OfEach (IsWriterTold check tenants (map f steps)) (length steps) text fails =
+    subst (λ t. OfEach (IsWriterTold check t (map f steps)) (length steps) text fails) also
+    (subst (λ s. OfEach (IsWriterTold check two (map f s)) (length s) text fails) are told) in
+    writers_told pools check tenants (map f steps) text fails (subst (λ t. AreReaders pools t (map f steps)) same readers)
+    (subst (λ n. OfEach (IsWriterTold check tenants (map f steps)) n text fails) (sym (length-map steps f)) all)
+
+-- one name more of those between
+pub between_more : (tenants : List Tenant) (words places text middle after : List ℕ) (i : ℕ) → i < length places → middle ≡ text ++ words
+    → after ≡ middle ++ shown (name_at tenants (get_or places i 0))
+    → after ++ through_words tenants (codes ", ") (drop (i + 1) places) ≡ text ++ through_words tenants words (drop i places)
+between_more tenants words places text middle after i inside first second =
+    let name = shown (name_at tenants (get_or places i 0)) in
+    let rest = through_words tenants (codes ", ") (drop (i + 1) places) in
+    ap (λ l. l ++ rest) (second ∙ ap (λ l. l ++ name) first) ∙ (append_assoc (text ++ words) name rest ∙ (append_assoc text words (name ++ rest)
+    ∙ sym (ap (λ l. text ++ through_words tenants words l) (drop_more places i 0 inside))))

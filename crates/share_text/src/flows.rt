@@ -1,0 +1,174 @@
+//! Where what an entity of a file writes may come to.
+
+ghost use Rattle.std.specs.Prelude.{ℕ, ◌≡◌, ◌++◌, ◌<◌, ◌↔◌, map, length, codes, string_bytes, option_copied, IfOk, OnOk};
+ghost use Rattle.std.specs.List.{Contains};
+ghost use Rattle.gate_text.specs.Caret.{shown};
+ghost use Rattle.share_text.specs.Kinds.{ShareWithin};
+ghost use Rattle.share_text.specs.Flows as spec;
+ghost use Rattle.share_text.specs.Flows.{AreFlowsTold, AreReaders, OfEach, grants_at, name_at, through_words};
+ghost use Rattle.share_text.specs.FlowLines.{AreChainsTold, IsChainTold, IsWriterTold};
+
+use crate::kind::Kind;
+use crate::tenants::{Tenant, nothing, push_told, share_within, tenants_of};
+use common_types::OutOfMemory;
+use flow_core::chains_from;
+use gate_text::{Entity, Printed, push_shown_text};
+use share_core::Pool;
+use std::alloc::Global;
+use verdict_core::Ticket;
+
+/// The places of the tenants that read what one writes, in some of the pools where they are given.
+fn readers_of(
+    alloc: Global,
+    writer: &Ticket,
+    tenants: &[Tenant],
+    pools: Option<&[Pool]>,
+) -> Result<Vec<usize>, OutOfMemory>
+    ensures { IfOk result (λ readers. (reader : ℕ) → Contains readers.items reader ↔ ((reader < length tenants.now) × ShareWithin (option_copied pools.entry) Kind.WritesReads writer.now.grants (grants_at tenants.now reader))) }
+{
+    let mut readers = Vec::new(alloc);
+    for place in 0..tenants.len() {
+        if share_within(Kind::WritesReads, writer, &tenants[place].ticket, pools) {
+            readers.push(place)?;
+        }
+    }
+    Ok(readers)
+}
+
+/// For each tenant the places of those that read what it writes.
+fn steps_of(
+    alloc: Global,
+    tenants: &[Tenant],
+    pools: Option<&[Pool]>,
+) -> Result<Vec<Vec<usize>>, OutOfMemory>
+    ensures { IfOk result (λ steps. AreReaders (option_copied pools.entry) tenants.now (map (λ readers. readers.items) steps.items)) }
+{
+    let mut steps = Vec::new(alloc);
+    for writer in tenants {
+        steps.push(readers_of(alloc, &writer.ticket, tenants, pools)?)?;
+    }
+    Ok(steps)
+}
+
+/// Adds the name at a place as it is shown.
+fn push_name(text: &mut String, tenants: &[Tenant], place: usize) -> Result<(), OutOfMemory>
+    ensures { OnOk result (string_bytes text.new ≡ string_bytes text.old ++ shown (name_at tenants.now place)) }
+{
+    match tenants.get(place) {
+        None => Ok(()),
+        Some(tenant) => push_shown_text(text, tenant.name.as_str()),
+    }
+}
+
+/// Adds the names of those between.
+fn push_between(text: &mut String, tenants: &[Tenant], between: &[usize]) -> Result<(), OutOfMemory>
+    ensures { OnOk result (string_bytes text.new ≡ string_bytes text.old ++ through_words tenants.now (codes " through ") between.now) }
+{
+    let mut words = " through ";
+    for place in between {
+        text.push_str(words)?;
+        push_name(text, tenants, *place)?;
+        words = ", ";
+    }
+    Ok(())
+}
+
+/// The line of a writer and a reader, with those between.
+fn flow_line(
+    alloc: Global,
+    tenants: &[Tenant],
+    writer: usize,
+    reader: usize,
+    between: &[usize],
+) -> Result<String, OutOfMemory>
+    ensures { IfOk result (λ text. string_bytes text ≡ spec.flow_line tenants.now writer reader between.now) }
+{
+    let mut text = String::new(alloc);
+    push_name(&mut text, tenants, writer)?;
+    text.push_str(" reaches ")?;
+    push_name(&mut text, tenants, reader)?;
+    push_between(&mut text, tenants, between)?;
+    text.push_str("\n")?;
+    Ok(text)
+}
+
+/// What is told of two tenants, of which the one reaches the other by a chain, or not where it has no places.
+fn told_chain(
+    alloc: Global,
+    tenants: &[Tenant],
+    writer: usize,
+    reader: usize,
+    chain: &[usize],
+    check: bool,
+) -> Result<Printed, OutOfMemory>
+    ensures { IfOk result (λ printed. IsChainTold check tenants.now writer reader chain.now (string_bytes printed.text) printed.fails) }
+{
+    if writer == reader || chain.is_empty() {
+        return Ok(nothing(alloc));
+    }
+    let between = &chain[..chain.len() - 1];
+    let text = flow_line(alloc, tenants, writer, reader, between)?;
+    Ok(Printed { text, fails: check })
+}
+
+/// What is told of a tenant with each that it reaches by a chain.
+fn told_chains(
+    alloc: Global,
+    tenants: &[Tenant],
+    writer: usize,
+    chains: &[Vec<usize>],
+    check: bool,
+) -> Result<Printed, OutOfMemory>
+    ensures { IfOk result (λ printed. AreChainsTold check tenants.now writer (map (λ chain. chain.items) chains.now) (string_bytes printed.text) printed.fails) }
+{
+    let mut printed = nothing(alloc);
+    for reader in 0..chains.len() {
+        let chain = chains[reader].as_slice();
+        let told = told_chain(alloc, tenants, writer, reader, chain, check)?;
+        push_told(&mut printed, &told)?;
+    }
+    Ok(printed)
+}
+
+/// What is told of each tenant, by the chains that steps give.
+fn told_writers(
+    alloc: Global,
+    tenants: &[Tenant],
+    steps: &[Vec<usize>],
+    check: bool,
+) -> Result<Printed, OutOfMemory>
+    ensures { IfOk result (λ printed. OfEach (IsWriterTold check tenants.now (map (λ readers. readers.items) steps.now)) (length steps.now) (string_bytes printed.text) printed.fails) }
+{
+    let mut printed = nothing(alloc);
+    for writer in 0..steps.len() {
+        let chains = chains_from(alloc, steps, writer)?;
+        let told = told_chains(alloc, tenants, writer, chains.as_slice(), check)?;
+        push_told(&mut printed, &told)?;
+    }
+    Ok(printed)
+}
+
+/// What the program prints of where what an entity writes may come to: for each who writes, and each other who reads, in the
+/// file's order, a line `WRITER reaches READER` where the one writes what the other reads, and else
+/// `WRITER reaches READER through MIDDLE, MIDDLE` where each of these writes what the next one reads, by as few between as can
+/// be. Who calls a method that reads or writes counts as one who reads or writes. With a check it fails where there is a line.
+///
+/// It is what may come to be known, not what does: an entity between need not write what it reads. Where pools are given, a
+/// target counts only if it is of one of them, with exactly its tags. Without them each target counts that can be.
+///
+/// An entity whose text has no grants is left out. A name's bytes outside 32 to 126 are shown as `\x` and two hexadecimal
+/// digits. The only error is want of memory, which leaves nothing. Time goes by the pairs of entities, and for each by the
+/// pairs of their grants, and then for each entity by the pairs of which one writes what the other reads. The lines are this
+/// project's profile.
+pub fn flow_entities(
+    alloc: Global,
+    entities: &[Entity],
+    pools: Option<&[Pool]>,
+    check: bool,
+) -> Result<Printed, OutOfMemory>
+    ensures { IfOk result (λ printed. AreFlowsTold (option_copied pools.entry) check entities.now (string_bytes printed.text) printed.fails) }
+{
+    let tenants = tenants_of(alloc, entities)?;
+    let steps = steps_of(alloc, tenants.as_slice(), pools)?;
+    told_writers(alloc, tenants.as_slice(), steps.as_slice(), check)
+}

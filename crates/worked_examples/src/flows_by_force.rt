@@ -1,0 +1,329 @@
+//! Flows of small clusters, compared with the distances that stepping through each place in turn comes to.
+
+use common_types::{Name, OutOfMemory, Tags};
+use flow_core::chains_from;
+use gate_text::{Entity, Printed, ticket_of_text};
+use share_core::{Pool, Touch, share, share_in};
+use share_text::flow_entities;
+use std::alloc::Global;
+use std::process::Abort;
+use std::test::Fail;
+use verdict_core::Ticket;
+
+/// How many entities a cluster has, each of which goes by a digit.
+const COUNT: usize = 7;
+
+/// As far as where no chain leads.
+const FAR: u8 = 99;
+
+/// How far each place is from each.
+type Distances = [[u8; COUNT]; COUNT];
+
+/// The first grants of texts.
+const WRITES: &[&str] = &[
+    "allow w pool=a",
+    "allow w pool=b",
+    "allow w pool=c",
+    "allow w pool=d",
+    "allow x pool=a",
+    "allow w pool=e namespace=n",
+    "allow r pool=z",
+];
+
+/// What stands behind them. The last one leaves a text without grants.
+const READS: &[&str] = &[
+    ", allow r pool=a",
+    ", allow r pool=b",
+    ", allow r pool=c",
+    ", allow r pool=d",
+    ", allow class-read pool=b",
+    ", allow r pool=e namespace=m",
+    "",
+    " pool=",
+];
+
+/// The next of a fixed row of numbers.
+fn draw(row: &mut u64) -> usize {
+    *row = row
+        .wrapping_mul(6364136223846793005)
+        .wrapping_add(1442695040888963407);
+    (*row >> 33) as usize
+}
+
+fn pick(row: &mut u64, words: &[&'static str]) -> &'static str {
+    if words.is_empty() {
+        return "";
+    }
+    words[draw(row) % words.len()]
+}
+
+/// An entity that goes by a digit.
+fn draw_entity(alloc: Global, row: &mut u64, digit: &str) -> Result<Entity, OutOfMemory> {
+    let mut osd = String::from_str(alloc, pick(row, WRITES))?;
+    osd.push_str(pick(row, READS))?;
+    Ok(Entity {
+        name: String::from_str(alloc, digit)?,
+        osd,
+    })
+}
+
+fn draw_entities(alloc: Global, row: &mut u64) -> Result<Vec<Entity>, OutOfMemory> {
+    let mut entities = Vec::new(alloc);
+    for digit in ["0", "1", "2", "3", "4", "5", "6"] {
+        entities.push(draw_entity(alloc, row, digit)?)?;
+    }
+    Ok(entities)
+}
+
+/// Some of the pools that the texts name.
+fn some_pools(alloc: Global) -> Result<Vec<Pool>, Fail> {
+    let mut pools = Vec::new(alloc);
+    for name in ["a", "c"] {
+        pools.push(Pool {
+            name: Name::new(alloc, name)?,
+            tags: Tags::from_vec(Vec::new(alloc)),
+        })?;
+    }
+    Ok(pools)
+}
+
+/// The tickets of the entities, and none where one has no grants.
+fn tickets_of(alloc: Global, entities: &[Entity]) -> Result<Vec<Option<Ticket>>, OutOfMemory> {
+    let mut tickets = Vec::new(alloc);
+    for entity in entities {
+        tickets.push(ticket_of_text(alloc, entity.osd.as_str()).ok())?;
+    }
+    Ok(tickets)
+}
+
+/// Whether the one writes what the other reads.
+fn writes_to(one: &Option<Ticket>, other: &Option<Ticket>, pools: Option<&[Pool]>) -> bool {
+    match (one, other, pools) {
+        (Some(one), Some(other), None) => share(one, &Touch::AnyWrite, other, &Touch::AnyRead),
+        (Some(one), Some(other), Some(pools)) => {
+            share_in(one, &Touch::AnyWrite, other, &Touch::AnyRead, pools)
+        }
+        _ => false,
+    }
+}
+
+/// One where there is a step.
+fn direct(tickets: &[Option<Ticket>], pools: Option<&[Pool]>) -> Distances {
+    let mut found = [[FAR; COUNT]; COUNT];
+    for (row, one) in found.iter_mut().zip(tickets) {
+        for (far, other) in row.iter_mut().zip(tickets) {
+            if writes_to(one, other, pools) {
+                *far = 1;
+            }
+        }
+    }
+    found
+}
+
+fn far_from(far: &Distances, from: usize, to: usize) -> u8 {
+    match far.get(from).copied() {
+        Some(row) => row.get(to).copied().unwrap_or(FAR),
+        None => FAR,
+    }
+}
+
+/// No further than through this place.
+fn go_through(far: &mut Distances, middle: usize) {
+    let behind = match far.get(middle).copied() {
+        Some(row) => row,
+        None => [FAR; COUNT],
+    };
+    for row in far.iter_mut() {
+        let before = row.get(middle).copied().unwrap_or(FAR);
+        for (far, more) in row.iter_mut().zip(behind.iter()) {
+            *far = before.saturating_add(*more).min(*far);
+        }
+    }
+}
+
+fn all_through(mut far: Distances) -> Distances {
+    for middle in 0..COUNT {
+        go_through(&mut far, middle);
+    }
+    far
+}
+
+/// How many steps the places behind a start make, each of which is one, or far where one is not.
+fn walked(steps: &Distances, start: usize, places: &[usize]) -> u8 {
+    let mut count = 0u8;
+    let mut before = start;
+    for place in places {
+        if far_from(steps, before, *place) != 1 {
+            return FAR;
+        }
+        count = count.saturating_add(1);
+        before = *place;
+    }
+    count
+}
+
+/// The writer, those between and the reader of a line: the reader stands second in it.
+fn places_of(alloc: Global, line: &str) -> Result<Vec<usize>, OutOfMemory> {
+    let mut places = Vec::new(alloc);
+    let mut reader = None;
+    for digit in line.bytes().filter(|byte| byte.is_ascii_digit()) {
+        let place = (digit as usize).saturating_sub(48);
+        if places.len() == 1 && reader.is_none() {
+            reader = Some(place);
+        } else {
+            places.push(place)?;
+        }
+    }
+    if let Some(reader) = reader {
+        places.push(reader)?;
+    }
+    Ok(places)
+}
+
+/// Whether a line tells of a shortest chain from the one to the other.
+fn is_line_right(
+    alloc: Global,
+    line: &str,
+    steps: &Distances,
+    ends: (usize, usize),
+    far: u8,
+) -> Result<bool, OutOfMemory> {
+    let places = places_of(alloc, line)?;
+    match places.split_first() {
+        None => Ok(false),
+        Some((writer, rest)) => Ok(
+            *writer == ends.0
+                && rest.last().copied() == Some(ends.1)
+                && walked(steps, *writer, rest) == far,
+        ),
+    }
+}
+
+/// Whether each two of which the one is reached have a line, in order, and no others.
+fn are_lines_right(alloc: Global, text: &str, steps: &Distances) -> Result<bool, OutOfMemory> {
+    let far = all_through(*steps);
+    let mut lines = text.lines();
+    for writer in 0..COUNT {
+        for reader in 0..COUNT {
+            let expected = far_from(&far, writer, reader);
+            if reader != writer && expected < FAR {
+                let line = lines.next().unwrap_or("");
+                if !is_line_right(alloc, line, steps, (writer, reader), expected)? {
+                    return Ok(false);
+                }
+            }
+        }
+    }
+    Ok(lines.next().is_none())
+}
+
+/// Whether the flows of some entities are those that distances tell.
+fn are_flows_right(
+    alloc: Global,
+    entities: &[Entity],
+    pools: Option<&[Pool]>,
+) -> Result<bool, OutOfMemory> {
+    let tickets = tickets_of(alloc, entities)?;
+    let steps = direct(&tickets, pools);
+    let printed = flow_entities(alloc, entities, pools, true)?;
+    let is_any = !printed.text.is_empty();
+    Ok(printed.fails == is_any && are_lines_right(alloc, printed.text.as_str(), &steps)?)
+}
+
+#[test]
+fn flows_are_those_of_distances(rt: HostRuntime) -> Result<(), Fail> {
+    let alloc = rt.alloc();
+    let pools = some_pools(alloc)?;
+    let mut row = 11u64;
+    for _ in 0..24u32 {
+        let entities = draw_entities(alloc, &mut row)?;
+        assert!(rt; are_flows_right(alloc, &entities, None)?);
+        assert!(rt; are_flows_right(alloc, &entities, Some(&pools))?);
+    }
+    Ok(())
+}
+
+/// The steps of random places, some of which do not exist.
+fn draw_steps(
+    alloc: Global,
+    row: &mut u64,
+    found: &mut Distances,
+) -> Result<Vec<Vec<usize>>, OutOfMemory> {
+    let mut steps = Vec::new(alloc);
+    for distances in found.iter_mut() {
+        let mut places = Vec::new(alloc);
+        for _ in 0..draw(row) % 4 {
+            let place = draw(row) % 9;
+            places.push(place)?;
+            if let Some(far) = distances.get_mut(place) {
+                *far = 1;
+            }
+        }
+        steps.push(places)?;
+    }
+    Ok(steps)
+}
+
+/// Whether each chain is one of steps, as long as the distance, and there is none where no chain leads.
+fn are_chains_right(chains: &[Vec<usize>], start: usize, steps: &Distances) -> bool {
+    let far = all_through(*steps);
+    for (place, chain) in chains.iter().enumerate() {
+        let expected = far_from(&far, start, place);
+        let is_right = match chain.last() {
+            None => expected == FAR,
+            Some(last) => *last == place && walked(steps, start, chain) == expected,
+        };
+        if !is_right {
+            return false;
+        }
+    }
+    chains.len() == COUNT
+}
+
+#[test]
+fn chains_are_those_of_distances(rt: HostRuntime) -> Result<(), Fail> {
+    let alloc = rt.alloc();
+    let mut row = 5u64;
+    for _ in 0..40u32 {
+        let mut found = [[FAR; COUNT]; COUNT];
+        let steps = draw_steps(alloc, &mut row, &mut found)?;
+        for start in 0..9usize {
+            let chains = chains_from(alloc, &steps, start)?;
+            assert!(rt; are_chains_right(&chains, start, &found));
+        }
+    }
+    Ok(())
+}
+
+/// What comes from a database over a lake to reports, and to a dashboard, which writes back.
+const CLUSTER: &[(&str, &str); 6] = &[
+    ("client.database", "allow rw pool=database"),
+    ("client.lake", "allow r pool=database, allow w pool=lake"),
+    ("client.broken", "allow everything"),
+    ("client.report", "allow r pool=lake, allow w pool=report"),
+    ("client.reader", "allow r pool=report"),
+    ("client.apart", "allow rw pool=apart"),
+];
+
+/// What is printed of them.
+fn told(alloc: Global) -> Result<Printed, OutOfMemory> {
+    let mut entities = Vec::new(alloc);
+    for (name, osd) in CLUSTER {
+        entities.push(Entity {
+            name: String::from_str(alloc, name)?,
+            osd: String::from_str(alloc, osd)?,
+        })?;
+    }
+    flow_entities(alloc, entities.as_slice(), None, false)
+}
+
+#[test]
+fn flows_print(rt: HostRuntime) -> Result<(), Fail> {
+    let printed = told(rt.alloc())?;
+    assert_eq!(rt;
+        printed.text.as_str(),
+        "client.database reaches client.lake\nclient.database reaches client.report through client.lake\nclient.database reaches client.reader through client.lake, client.report\nclient.lake reaches client.report\nclient.lake reaches client.reader through client.report\nclient.report reaches client.reader\n"
+    );
+    assert!(rt; !printed.fails);
+    Ok(())
+}
