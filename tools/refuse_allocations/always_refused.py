@@ -40,7 +40,10 @@ class Program:
     def __init__(self, crate, room):
         self.crate, self.room, self.path = crate, room, f"{room}/{crate}"
         folder = f"{TOP}/crates/{crate}"
+        # A test that takes too long on a busy machine is no reason to stop: it counts for nothing.
         subprocess.run([sys.executable, f"{refused_tests.HERE}/keep_tests.py", folder, self.path], check=False)
+        if not os.path.exists(self.path):
+            sys.exit(f"{crate}: its tests are not linked")
         self.env = refused_tests.environment(self.path, refused_tests.build_library(room))
         lines = subprocess.run(["nm", "-n", "--defined-only", self.path], capture_output=True, text=True, check=True).stdout
         rows = [line.split(" ", 2) for line in lines.splitlines()]
@@ -109,6 +112,12 @@ def main(crates):
             calls = {call: rows for call, rows in calls_in(program, public, lanes).items() if not named.get(call)}
             tried = lanes.map(lambda rows, it=program: failing(it, rows), calls.values())
             named.update({call: test and f"{crate}: {test}" for call, test in zip(calls, tried)})
+            print(f"{crate}: {len(calls)} calls tried", file=sys.stderr, flush=True)
+    return table(named)
+
+
+def table(named):
+    """Prints a line for each crate, and the calls that no test misses; the exit status."""
     by_crate = {}
     for (crate, call), test in sorted(named.items()):
         by_crate.setdefault(crate, []).append((call, test))
