@@ -1,5 +1,5 @@
 -- Where what a tenant writes may come to, and what is told of it.
-use Rattle.std.proofs.Common.{◌≡◌, ℕ, zero, suc, ◌+◌, ◌-◌, ◌<◌, ◌≤◌, ◌≢◌, ◌⊎◌, ◌↔◌, List, [], ◌∷◌, ◌++◌, Bool, false, ◌||◌, Option, append_assoc, codes, drop, get_or, take, length, map, refl, sym, ap, subst, ◌∙◌, inl, inr, add-one, arith, length-append}
+use Rattle.std.proofs.Common.{◌≡◌, ℕ, zero, suc, ◌+◌, ◌-◌, ◌<◌, ◌≤◌, ◌⊎◌, ◌↔◌, List, [], ◌∷◌, ◌++◌, Bool, false, ◌||◌, Option, append_assoc, codes, drop, get_or, take, length, map, refl, sym, ap, subst, ◌∙◌, inl, inr, add-one, arith, length-append}
 use Rattle.std.specs.List.{Contains}
 use Rattle.std.proofs.Math.Seq.{get_or-append_seam, take-append_seam}
 use Rattle.std.proofs.lemmas.Bool.{cases_eq, cases_lt}
@@ -10,7 +10,7 @@ use Rattle.flow_core.proofs.Listing.{in_none}
 use Rattle.flow_core.proofs.Walks.{found_for}
 use Rattle.gate_text.specs.Caret.{shown}
 use Rattle.share_core.specs.declared.pools.Pool.{Pool}
-use Rattle.share_text.specs.FlowLines.{AreChainsTold, IsChainTold, IsWriterTold}
+use Rattle.share_text.specs.FlowLines.{IsChainTold, IsWriterTold}
 use Rattle.share_text.specs.Flows.{AreReaders, AreReachesTold, IsFlowTold, IsPlaceTold, OfEach, WritesTo, flow_line, name_at, through_words}
 use Rattle.share_text.specs.declared.tenants.Tenant.{Tenant}
 

@@ -1,4 +1,4 @@
-use Rattle.std.proofs.Common.{◌≡◌, ◌++◌, ◌∷◌, [], ap, ◌∙◌, sym, subst, arith, option_copied, length, map, ℕ, List}
+use Rattle.std.proofs.Common.{◌≡◌, ◌∷◌, [], ap, ◌∙◌, sym, subst, arith, option_copied, length, map, ℕ}
 use Rattle.std.proofs.lemmas.List.{map-append}
 use Rattle.share_text.specs.Flows.{grants_at}
 use Rattle.share_text.specs.Kinds.{ShareWithin}

@@ -1,4 +1,4 @@
-use Rattle.std.proofs.Common.{◌≡◌, [], ap, ◌∙◌, sym, subst, arith, get_or, length, map, string_bytes, ℕ}
+use Rattle.std.proofs.Common.{◌≡◌, [], ◌∙◌, sym, subst, arith, get_or, length, map, string_bytes}
 use Rattle.std.proofs.lemmas.List.{length-map}
 use Rattle.share_text.specs.FlowLines.{IsChainTold}
 use Rattle.share_text.specs.Flows.{OfEach}

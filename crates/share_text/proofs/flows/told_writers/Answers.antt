@@ -1,4 +1,4 @@
-use Rattle.std.proofs.Common.{◌≡◌, ap, ◌∙◌, sym, subst, arith, length, map, string_bytes}
+use Rattle.std.proofs.Common.{◌≡◌, subst, arith, length, map, string_bytes}
 use Rattle.share_text.specs.FlowLines.{AreChainsTold, IsWriterTold}
 use Rattle.share_text.specs.Flows.{OfEach}
 use Rattle.share_text.proofs.Reaching.{one_place_more}
