@@ -10,9 +10,9 @@ use Rattle.group_core.specs.History.{Begins, History}
 use Rattle.group_core.proofs.Invariant.{OfOsd}
 use Rattle.suffix_core.specs.Types.{Body, Interval, Query, Info, Install, Installed, Append, Appended, Request, Reply, NotHere, Sent, Offer, Role, Idle, Peering, Installing, Active, Copy}
 use Rattle.entry_core.specs.Fitting.{part_of, last_id}
-use Rattle.suffix_core.specs.Steps.{Stepped}
-use Rattle.suffix_core.specs.ActingSets.{others}
-use Rattle.suffix_core.specs.Beginnings.{count_at}
+use Rattle.copy_core.specs.Steps.{Stepped}
+use Rattle.copy_core.specs.ActingSets.{others}
+use Rattle.copy_core.specs.Beginnings.{count_at}
 use Rattle.suffix_core.specs.Standing.{Both}
 
 -- the log that daemon m had when it promised interval n, or a later one, first

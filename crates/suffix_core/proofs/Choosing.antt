@@ -18,7 +18,7 @@ use Rattle.group_core.proofs.Choices.{best_among, chosen_opened, first_at_most}
 use Rattle.group_core.proofs.Invariant.{Leads, StateOk}
 use Rattle.group_core.proofs.Stable.{is_first_unique}
 use Rattle.suffix_core.specs.Types.{Offer, Copy}
-use Rattle.suffix_core.specs.Choice.{best, own_offer, can_choose}
+use Rattle.copy_core.specs.Choice.{best, own_offer, can_choose}
 use Rattle.suffix_core.specs.Standing.{Both}
 use Rattle.suffix_core.specs.Fits.{Fit, choice_fit}
 use Rattle.suffix_core.proofs.Agreeing.{Past, IsPart, OfferAgrees, whole}

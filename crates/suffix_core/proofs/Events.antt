@@ -21,8 +21,8 @@ use Rattle.group_core.proofs.Invariant.{CopyOk, SentOk}
 use Rattle.group_core.proofs.Groups.{Good, step_good, start_good, empty_good}
 use Rattle.group_core.proofs.Kept.{Kept, run_kept, start_kept}
 use Rattle.suffix_core.specs.Types.{Body, Interval, Query, Info, Install, Installed, Append, Appended, Request, Reply, NotHere, Sent, Copy}
-use Rattle.suffix_core.specs.Steps.{blank, restarted}
-use Rattle.suffix_core.specs.Rules.{copy_step, retransmit}
+use Rattle.copy_core.specs.Steps.{blank, restarted}
+use Rattle.copy_core.specs.Copy.{copy_step, retransmit}
 use Rattle.suffix_core.specs.Group.{Group, to_daemon, to_primary, steps, answered, copy_hears, arrives, without, deliver, lose, again, has_all_requests, has_all_intervals, take_request, submit, announced, begin, with_up, new_interval, restart, retransmit_from, retransmit_primary, kick, group_step, run, start}
 use Rattle.suffix_core.specs.Standing.{Both}
 use Rattle.suffix_core.proofs.Agreeing.{BodyAgrees, SentAgrees, CopyAgrees}

@@ -11,7 +11,7 @@ use Rattle.group_core.specs.History.{History, IsSound}
 use Rattle.group_core.proofs.Eaches.{Each-get}
 use Rattle.group_core.proofs.Invariant.{CopyOk, BodyOk, SentOk}
 use Rattle.suffix_core.specs.Types.{Body, Interval, Query, Info, Install, Installed, Append, Appended, Request, Reply, NotHere, Sent, Copy}
-use Rattle.suffix_core.specs.ActingSets.{others}
+use Rattle.copy_core.specs.ActingSets.{others}
 use Rattle.suffix_core.specs.Group.{Group, run, start}
 use Rattle.suffix_core.specs.Fits.{Fit, info_fit_as, info_fit, install_fit, fit_at, FitsAnswerTrue}
 use Rattle.suffix_core.specs.Laws.{FitAnswersTrue}

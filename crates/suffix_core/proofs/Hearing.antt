@@ -18,10 +18,10 @@ use Rattle.group_core.proofs.Rules.{After, comes_after}
 use Rattle.group_core.proofs.Stable.{CopyOk-stays, BodyOk-stays}
 use Rattle.group_core.proofs.Groups.{get-set_same, get-set_other}
 use Rattle.suffix_core.specs.Types.{Body, Sent, Role, Idle, Peering, Installing, Active, Copy}
-use Rattle.suffix_core.specs.Steps.{Stepped}
-use Rattle.suffix_core.specs.ActingSets.{others}
-use Rattle.suffix_core.specs.Decided.{decided_by}
-use Rattle.suffix_core.specs.Rules.{on_body}
+use Rattle.copy_core.specs.Steps.{Stepped}
+use Rattle.copy_core.specs.ActingSets.{others}
+use Rattle.copy_core.specs.Decided.{decided_by}
+use Rattle.copy_core.specs.Copy.{on_body}
 use Rattle.suffix_core.proofs.Agreeing.{BodyAgrees, SentAgrees, RoleAgrees, CopyAgrees, StepAgrees}
 use Rattle.suffix_core.proofs.Lists.{Both-append, Both-set, Both-weaker}
 use Rattle.suffix_core.proofs.Pasts.{Past-stays, unchosen_before}

@@ -14,7 +14,7 @@ use Rattle.group_core.proofs.Fronts.{but_last-begins}
 use Rattle.group_core.proofs.Groups.{replicated}
 use Rattle.group_core.proofs.Prefixes.{Begins-trans}
 use Rattle.suffix_core.specs.Types.{Active, Copy}
-use Rattle.suffix_core.specs.ActingSets.{others}
+use Rattle.copy_core.specs.ActingSets.{others}
 use Rattle.suffix_core.specs.Group.{Group, run, start}
 use Rattle.suffix_core.specs.Laws.{IsLatest, GroupHolds, DecidedIsHeld}
 use Rattle.suffix_core.proofs.Agreeing.{RoleAgrees, CopyAgrees}

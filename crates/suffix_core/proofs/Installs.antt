@@ -15,9 +15,9 @@ use Rattle.group_core.specs.Each.{Each}
 use Rattle.group_core.specs.Asked.{IsAsked, InLog}
 use Rattle.group_core.specs.History.{History}
 use Rattle.suffix_core.specs.Types.{Offer, Active, Copy}
-use Rattle.suffix_core.specs.ActingSets.{others}
-use Rattle.suffix_core.specs.Beginnings.{told_ids, common, common_of, count_at}
-use Rattle.suffix_core.specs.Rules.{install_from, install_chosen}
+use Rattle.copy_core.specs.ActingSets.{others}
+use Rattle.copy_core.specs.Beginnings.{told_ids, common, common_of, count_at}
+use Rattle.copy_core.specs.Copy.{install_from, install_chosen}
 use Rattle.suffix_core.specs.Standing.{Both}
 use Rattle.suffix_core.proofs.Agreeing.{IsPart, OfferAgrees, InstallAgrees, SentAgrees, StepAgrees, whole}
 use Rattle.suffix_core.proofs.Lists.{Both-map_each, Each-in, in-filter}

@@ -17,9 +17,9 @@ use Rattle.group_core.proofs.Changes.{put, promise_sound}
 use Rattle.group_core.proofs.Leading.{IsLeading, Leading, serve_leads}
 use Rattle.group_core.proofs.Rules.{StateOk-promise}
 use Rattle.suffix_core.specs.Types.{Copy}
-use Rattle.suffix_core.specs.Steps.{still, send}
-use Rattle.suffix_core.specs.ActingSets.{asked}
-use Rattle.suffix_core.specs.Rules.{try_choice, query, queries, learn_sets, leads, lead, on_interval}
+use Rattle.copy_core.specs.Steps.{still, send}
+use Rattle.copy_core.specs.ActingSets.{asked}
+use Rattle.copy_core.specs.Copy.{try_choice, query, queries, learn_sets, leads, lead, on_interval}
 use Rattle.suffix_core.specs.Standing.{Both}
 use Rattle.suffix_core.specs.Fits.{Fit, choice_fit, interval_fit}
 use Rattle.suffix_core.proofs.Agreeing.{Past, SentAgrees, CopyAgrees, StepAgrees, whole}

@@ -18,9 +18,9 @@ use Rattle.group_core.proofs.Invariant.{RoleOk, StateOk, CopyOk, SentOk, Extends
 use Rattle.group_core.proofs.Prefixes.{Begins-trans, Begins-refl, Begins-nil, Begins-take, Begins-compare}
 use Rattle.group_core.proofs.Stable.{IsSettled-stays}
 use Rattle.suffix_core.specs.Types.{Role, Idle, Peering, Installing, Active, Body, Interval, Query, Info, Install, Installed, Append, Appended, Request, Reply, NotHere, Sent, Copy}
-use Rattle.suffix_core.specs.Steps.{restarted}
-use Rattle.suffix_core.specs.Decided.{decided_by}
-use Rattle.suffix_core.specs.Rules.{on_body}
+use Rattle.copy_core.specs.Steps.{restarted}
+use Rattle.copy_core.specs.Decided.{decided_by}
+use Rattle.copy_core.specs.Copy.{on_body}
 use Rattle.suffix_core.specs.Group.{Group, answered, copy_hears, arrives, without, deliver, lose, again, has_all_requests, has_all_intervals, take_request, begin, with_up, group_step, run, start}
 use Rattle.suffix_core.specs.Laws.{CopyKeeps, GroupKeeps, PromisesAreKept}
 use Rattle.suffix_core.proofs.Agreeing.{BodyAgrees, SentAgrees, CopyAgrees}

@@ -17,11 +17,11 @@ use Rattle.group_core.proofs.Eaches.{Each-map_all}
 use Rattle.group_core.proofs.Groups.{last_is}
 use Rattle.group_core.proofs.Invariant.{Owns, IsPlaced, RoleOk, StateOk, CopyOk, SentOk}
 use Rattle.suffix_core.specs.Types.{Append, Offer, Role, Idle, Peering, Installing, Active, Copy}
-use Rattle.suffix_core.specs.Steps.{send}
-use Rattle.suffix_core.specs.ActingSets.{others, asked, missing}
-use Rattle.suffix_core.specs.Choice.{is_informed}
-use Rattle.suffix_core.specs.Beginnings.{count_at}
-use Rattle.suffix_core.specs.Rules.{query, install_from, append_again, uninformed, retransmit_as}
+use Rattle.copy_core.specs.Steps.{send}
+use Rattle.copy_core.specs.ActingSets.{others, asked, missing}
+use Rattle.copy_core.specs.Choice.{is_informed}
+use Rattle.copy_core.specs.Beginnings.{count_at}
+use Rattle.copy_core.specs.Copy.{query, install_from, append_again, uninformed, retransmit_as}
 use Rattle.suffix_core.specs.Standing.{Both}
 use Rattle.suffix_core.proofs.Agreeing.{Past, InstallAgrees, QueryAgrees, SentAgrees, RoleAgrees, whole}
 use Rattle.suffix_core.proofs.Lists.{Both-map, Both-map_each, Each-in, in-filter}

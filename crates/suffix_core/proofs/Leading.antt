@@ -13,7 +13,7 @@ use Rattle.group_core.specs.Asked.{IsAsked, InLog}
 use Rattle.group_core.specs.History.{Begins}
 use Rattle.group_core.proofs.Eaches.{Each-get}
 use Rattle.group_core.proofs.Logs.{LegalFrom-at, LegalFrom-front}
-use Rattle.suffix_core.specs.Beginnings.{common}
+use Rattle.copy_core.specs.Beginnings.{common}
 use Rattle.suffix_core.proofs.Lists.{Each-front, Each-rest, get-split}
 
 pub legal_of : (xs ys : List Entry) → Begins xs ys → Legal ys → Legal xs

@@ -15,7 +15,7 @@ use Rattle.group_core.proofs.Invariant.{CopyOk, SentOk}
 use Rattle.group_core.proofs.Longer.{IsSound-longer, CopyOk-longer, BodyOk-longer}
 use Rattle.group_core.proofs.Groups.{get-map}
 use Rattle.suffix_core.specs.Types.{Request, Sent, Copy}
-use Rattle.suffix_core.specs.Steps.{restarted}
+use Rattle.copy_core.specs.Steps.{restarted}
 use Rattle.suffix_core.specs.Group.{Group, to_daemon, to_primary}
 use Rattle.suffix_core.specs.Standing.{Both}
 use Rattle.suffix_core.proofs.Agreeing.{SentAgrees, CopyAgrees, whole}

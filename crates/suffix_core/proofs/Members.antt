@@ -15,11 +15,11 @@ use Rattle.group_core.specs.Asked.{IsAsked, InLog}
 use Rattle.group_core.specs.History.{History, IsSound}
 use Rattle.group_core.proofs.Invariant.{RoleOk, CopyOk}
 use Rattle.suffix_core.specs.Types.{Installed, Role, Idle, Peering, Installing, Active, Copy}
-use Rattle.suffix_core.specs.Steps.{still, send}
-use Rattle.suffix_core.specs.ActingSets.{others, counted, all_count}
-use Rattle.suffix_core.specs.Decided.{with_entry}
-use Rattle.suffix_core.specs.Serve.{serve}
-use Rattle.suffix_core.specs.Rules.{promise_interval, install_fitted, on_install, on_installed, acknowledged, on_append, complete, on_appended}
+use Rattle.copy_core.specs.Steps.{still, send}
+use Rattle.copy_core.specs.ActingSets.{others, counted, all_count}
+use Rattle.copy_core.specs.Decided.{with_entry}
+use Rattle.copy_core.specs.Serve.{serve}
+use Rattle.copy_core.specs.Copy.{promise_interval, install_fitted, on_install, on_installed, acknowledged, on_append, complete, on_appended}
 use Rattle.suffix_core.proofs.Agreeing.{Past, IsPart, InstallAgrees, RoleAgrees, CopyAgrees, StepAgrees, whole}
 use Rattle.suffix_core.proofs.Leading.{legal_of, asked_of}
 use Rattle.suffix_core.proofs.Pasts.{past_unique, past_of_state}

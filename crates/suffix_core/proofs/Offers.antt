@@ -9,7 +9,7 @@ use Rattle.peer_core.specs.Choice.{covers, is_better as whole_is_better, best as
 use Rattle.group_core.specs.Types.{PeerInfo, Role as WholeRole}
 use Rattle.group_core.specs.History.{History}
 use Rattle.suffix_core.specs.Types.{Offer, Copy}
-use Rattle.suffix_core.specs.Choice.{size_of, is_better, best, own_offer, is_informed, can_choose}
+use Rattle.copy_core.specs.Choice.{size_of, is_better, best, own_offer, is_informed, can_choose}
 use Rattle.suffix_core.specs.Standing.{Both}
 use Rattle.suffix_core.proofs.Agreeing.{IsPart, OfferAgrees, whole}
 

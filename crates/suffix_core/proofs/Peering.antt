@@ -18,10 +18,10 @@ use Rattle.group_core.specs.History.{History, IsSound}
 use Rattle.group_core.proofs.Eaches.{Each-push}
 use Rattle.group_core.proofs.Invariant.{Leads, RoleOk, StateOk, CopyOk}
 use Rattle.suffix_core.specs.Types.{Offer, Role, Idle, Peering, Installing, Active, Copy}
-use Rattle.suffix_core.specs.Steps.{still}
-use Rattle.suffix_core.specs.ActingSets.{others}
-use Rattle.suffix_core.specs.Choice.{best, own_offer, is_informed, can_choose}
-use Rattle.suffix_core.specs.Rules.{fit_chosen, try_choice, on_info_as, on_info}
+use Rattle.copy_core.specs.Steps.{still}
+use Rattle.copy_core.specs.ActingSets.{others}
+use Rattle.copy_core.specs.Choice.{best, own_offer, is_informed, can_choose}
+use Rattle.copy_core.specs.Copy.{fit_chosen, try_choice, on_info_as, on_info}
 use Rattle.suffix_core.specs.Standing.{Both}
 use Rattle.suffix_core.specs.Fits.{Fit, choice_fit, info_fit_as}
 use Rattle.suffix_core.proofs.Agreeing.{Past, InfoAgrees, ToldAgrees, OfferAgrees, RoleAgrees, CopyAgrees, StepAgrees, whole}

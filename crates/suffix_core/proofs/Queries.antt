@@ -15,9 +15,9 @@ use Rattle.group_core.specs.Asked.{IsAsked, InLog}
 use Rattle.group_core.specs.History.{History, IsSound}
 use Rattle.group_core.proofs.Invariant.{StateOk, CopyOk}
 use Rattle.suffix_core.specs.Types.{Idle, Copy}
-use Rattle.suffix_core.specs.Steps.{still, send}
-use Rattle.suffix_core.specs.ActingSets.{others}
-use Rattle.suffix_core.specs.Rules.{promise_interval, info, same_id, agrees_at, start_for, on_query}
+use Rattle.copy_core.specs.Steps.{still, send}
+use Rattle.copy_core.specs.ActingSets.{others}
+use Rattle.copy_core.specs.Copy.{promise_interval, info, same_id, agrees_at, start_for, on_query}
 use Rattle.suffix_core.proofs.Agreeing.{Past, IsPart, QueryAgrees, OfBoth, ToldAgrees, InfoStands, RoleAgrees, CopyAgrees, StepAgrees, whole}
 use Rattle.suffix_core.proofs.Lists.{get-take, take-next, At, at_place}
 use Rattle.suffix_core.proofs.Leading.{legal_of, asked_of, same_at}

@@ -7,8 +7,8 @@ use Rattle.group_core.specs.Asked.{IsAsked, InLog}
 use Rattle.group_core.specs.History.{History, IsSound}
 use Rattle.group_core.proofs.Invariant.{CopyOk, BodyOk, Extends}
 use Rattle.suffix_core.specs.Types.{Body, Interval, Query, Info, Install, Installed, Append, Appended, Request, Reply, NotHere, Copy}
-use Rattle.suffix_core.specs.ActingSets.{others}
-use Rattle.suffix_core.specs.Rules.{on_body}
+use Rattle.copy_core.specs.ActingSets.{others}
+use Rattle.copy_core.specs.Copy.{on_body}
 use Rattle.suffix_core.proofs.Agreeing.{BodyAgrees, RoleAgrees, CopyAgrees, StepAgrees, whole}
 use Rattle.suffix_core.proofs.Pasts.{Past-stays, unchosen_before}
 use Rattle.suffix_core.proofs.Stays.{BodyAgrees-stays, RoleAgrees-stays}

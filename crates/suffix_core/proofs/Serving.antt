@@ -12,11 +12,11 @@ use Rattle.peer_core.specs.Copy.{waits as whole_waits, busy_request as whole_bus
 use Rattle.group_core.specs.Types.{Role as WholeRole, Active as WholeActive, Daemon, Append as WholeAppend, Appended as WholeAppended, Party, Osd, Sent as WholeSent}
 use Rattle.group_core.specs.History.{History}
 use Rattle.suffix_core.specs.Types.{Append, Appended, Sent, Role, Idle, Peering, Installing, Active, Copy}
-use Rattle.suffix_core.specs.Steps.{Stepped, still, send}
-use Rattle.suffix_core.specs.ActingSets.{others}
-use Rattle.suffix_core.specs.Decided.{with_entry}
-use Rattle.suffix_core.specs.Serve.{push_new, serve_one, serve}
-use Rattle.suffix_core.specs.Rules.{waits, busy_request, on_request_as, on_request, complete, acknowledged}
+use Rattle.copy_core.specs.Steps.{Stepped, still, send}
+use Rattle.copy_core.specs.ActingSets.{others}
+use Rattle.copy_core.specs.Decided.{with_entry}
+use Rattle.copy_core.specs.Serve.{push_new, serve_one, serve}
+use Rattle.copy_core.specs.Copy.{waits, busy_request, on_request_as, on_request, complete, acknowledged}
 use Rattle.suffix_core.proofs.Agreeing.{SentAgrees, RoleAgrees, CopyAgrees, StepAgrees, whole}
 use Rattle.suffix_core.proofs.Lists.{Both-map}
 

@@ -5,7 +5,7 @@ use Rattle.group_core.specs.Types.{PeerInfo, Role as WholeRole, Body as WholeBod
 use Rattle.group_core.specs.Group.{Group as WholeGroup, run as whole_run, start as whole_start}
 use Rattle.group_core.specs.History.{History}
 use Rattle.suffix_core.specs.Types.{Body, Interval, Query, Info, Install, Installed, Append, Appended, Request, Reply, NotHere, Sent, Offer, Role, Idle, Peering, Installing, Active, Copy}
-use Rattle.suffix_core.specs.ActingSets.{others}
+use Rattle.copy_core.specs.ActingSets.{others}
 use Rattle.suffix_core.specs.Group.{Group, run, start}
 use Rattle.suffix_core.specs.Standing.{Both, SameBody, SameSent, SameRole, SameCopy, StandsFor}
 use Rattle.suffix_core.specs.Laws.{SuffixesRefineWholeLogs}

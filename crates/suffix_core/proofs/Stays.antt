@@ -8,8 +8,8 @@ use Rattle.group_core.specs.Types.{PeerInfo, Role as WholeRole, Daemon, Body as 
 use Rattle.group_core.specs.History.{History}
 use Rattle.group_core.proofs.Invariant.{OfOsd}
 use Rattle.suffix_core.specs.Types.{Body, Interval, Query, Info, Install, Installed, Append, Appended, Request, Reply, NotHere, Sent, Offer, Role, Idle, Peering, Installing, Active, Copy}
-use Rattle.suffix_core.specs.ActingSets.{others}
-use Rattle.suffix_core.specs.Beginnings.{count_at}
+use Rattle.copy_core.specs.ActingSets.{others}
+use Rattle.copy_core.specs.Beginnings.{count_at}
 use Rattle.suffix_core.specs.Standing.{Both}
 use Rattle.suffix_core.proofs.Agreeing.{Past, QueryAgrees, InfoAgrees, ToldAgrees, OfferAgrees, InstallAgrees, OfBoth, BodyAgrees, SentAgrees, RoleAgrees, CopyAgrees}
 use Rattle.suffix_core.proofs.Lists.{Both-weaker}

@@ -10,7 +10,7 @@ use Rattle.group_core.specs.Asked.{IsReplied}
 use Rattle.group_core.specs.Group.{Event, run as whole_run, start as whole_start, refusal_of as whole_refusal_of, settle as whole_settle, delivered as whole_delivered}
 use Rattle.group_core.specs.declared.answers.Answer.{Answer}
 use Rattle.suffix_core.specs.Types.{Active, Copy}
-use Rattle.suffix_core.specs.Decided.{decided_by}
+use Rattle.copy_core.specs.Decided.{decided_by}
 use Rattle.suffix_core.specs.Group.{Group, group_step, run, start, refusal_of, settle, delivered}
 use Rattle.suffix_core.specs.Standing.{StandsFor}
 use Rattle.suffix_core.specs.Fits.{FitsAnswerTrue}

@@ -1,11 +1,4 @@
 pub mod Types
-pub mod Steps
-pub mod ActingSets
-pub mod Decided
-pub mod Serve
-pub mod Choice
-pub mod Beginnings
-pub mod Rules
 pub mod Group
 pub mod Standing
 pub mod Fits

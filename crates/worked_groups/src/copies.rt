@@ -56,7 +56,7 @@ const ONE: Party = Party::Osd(1);
 const TWO: Party = Party::Osd(2);
 
 // A listing of one who may do nothing: what is decided of it does not matter here.
-fn request(alloc: Global, number: u32) -> Result<Sealed, OutOfMemory> {
+pub(crate) fn request(alloc: Global, number: u32) -> Result<Sealed, OutOfMemory> {
     let view = PoolView {
         epoch: 2,
         pool: Name::new(alloc, "data")?,
@@ -71,7 +71,7 @@ fn request(alloc: Global, number: u32) -> Result<Sealed, OutOfMemory> {
 }
 
 // Sets of intervals, each of which has the same members.
-fn sets(alloc: Global, count: usize, members: &[u8]) -> Result<IntervalSets, OutOfMemory> {
+pub(crate) fn sets(alloc: Global, count: usize, members: &[u8]) -> Result<IntervalSets, OutOfMemory> {
     let set = ActingSet::from_slice(members).unwrap_or(ActingSet::new());
     let mut sets = IntervalSets::new();
     for _ in 0..count {

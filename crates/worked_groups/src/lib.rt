@@ -14,4 +14,6 @@ mod logs;
 #[cfg(test)]
 mod operations;
 #[cfg(test)]
+mod suffixes;
+#[cfg(test)]
 mod tickets;

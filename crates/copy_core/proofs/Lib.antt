@@ -1,0 +1,12 @@
+pub mod Finding
+pub mod Serving
+pub mod Counting
+pub mod Counted
+pub mod Asking
+pub mod Whole
+pub mod Messages
+mod Passing
+mod Known
+mod Alike
+mod Told
+mod Installs
