@@ -10,6 +10,7 @@ use crate::loads::add_clusters;
 use crate::parse::add_parses;
 use crate::peering::add_peering;
 use crate::script::add_scripts;
+use crate::share::add_shares;
 use crate::vector::add_vectors;
 use crate::verdict::add_verdicts;
 use std::alloc::Global;
@@ -42,6 +43,7 @@ PART is one of
   group     a request through a group of three daemons, of 1,000 and of 8,000
   peering   a group's move, where 1,000, 4,000 and 16,000 requests were decided before
   script    a script's lines: comments, ticks, requests, moves of 2,048 groups, restarts
+  share     what entities share, 1,000 and 10,000 of them, each with three grants for a pool of its own
   cluster   requests, verdicts and views on one, two and four threads of one cluster
   check     nothing: the work of each row is done once, and its answer printed
 ";
@@ -57,6 +59,7 @@ enum Part {
     Group,
     Peering,
     Script,
+    Share,
     Cluster,
 }
 
@@ -70,6 +73,7 @@ const ALL: &[Part] = &[
     Part::Group,
     Part::Peering,
     Part::Script,
+    Part::Share,
     Part::Cluster,
 ];
 
@@ -84,6 +88,7 @@ fn parts_of(word: &str) -> Option<(&'static [Part], Mode)> {
         "group" => Some((&[Part::Group], Mode::Timed)),
         "peering" => Some((&[Part::Peering], Mode::Timed)),
         "script" => Some((&[Part::Script], Mode::Timed)),
+        "share" => Some((&[Part::Share], Mode::Timed)),
         "cluster" => Some((&[Part::Cluster], Mode::Timed)),
         "check" => Some((ALL, Mode::Once)),
         _ => None,
@@ -106,6 +111,7 @@ fn add_part<C: Clock, R: Threads + Wait + Sync>(
         Part::Group => add_groups(table, name),
         Part::Peering => add_peering(table, name),
         Part::Script => add_scripts(table, name),
+        Part::Share => add_shares(table, name),
         Part::Cluster => add_clusters(table, rt),
     }
 }

@@ -1,5 +1,5 @@
 //! The program `osdgate_bench`: what verdicts, capability texts, expansions, comparisons, vectors of operations,
-//! groups, peering, scripts and clusters cost, in nanoseconds a call.
+//! groups, peering, scripts, shared objects and clusters cost, in nanoseconds a call.
 //!
 //! Only this crate reads a clock.
 #![tactic(auto)]
@@ -15,6 +15,7 @@ mod parse;
 mod peering;
 mod script;
 mod script_lines;
+mod share;
 mod vector;
 mod verdict;
 

@@ -1,0 +1,70 @@
+//! What it costs to find what the entities of a file share.
+
+use crate::fault::Fault;
+use cap_text::parse;
+use common_types::OutOfMemory;
+use gate_text::{Entity, Format};
+use share_text::{Strictness, share_entities};
+use std::alloc::Global;
+use std::time::Clock;
+use stopwatch::{Table, Work};
+
+/// Entities, none of which shares anything with another one.
+#[derive(Drop)]
+struct Tenants {
+    alloc: Global,
+    entities: Vec<Entity>,
+}
+
+impl Work for Tenants {
+    fn once(&self, _turn: usize) -> Result<bool, OutOfMemory> {
+        let strictness = Strictness {
+            reads: true,
+            check: true,
+            format: Format::Text,
+        };
+        let told = share_entities(self.alloc, self.entities.as_slice(), strictness, None)?;
+        Ok(told.text.is_empty())
+    }
+
+    fn size(&self) -> u64 {
+        (self.entities.len() as u64).max(1)
+    }
+}
+
+/// The entity of a number, with three grants for a pool of its own.
+fn entity(alloc: Global, name: &str, number: u32) -> Result<Entity, Fault> {
+    let pool = format!(in alloc; "{name}{number}")?;
+    let osd = format!(in alloc;
+        "allow rw pool={pool}, allow r pool={pool} namespace=a, allow class-read pool={pool} object_prefix b"
+    )?;
+    let _list = parse(alloc, osd.as_str())?;
+    Ok(Entity {
+        name: format!(in alloc; "client.{number}")?,
+        osd,
+    })
+}
+
+fn entities(alloc: Global, name: &str, count: u32) -> Result<Vec<Entity>, Fault> {
+    let mut entities = Vec::new(alloc);
+    for number in 0..count {
+        entities.push(entity(alloc, name, number)?)?;
+    }
+    Ok(entities)
+}
+
+/// Adds the rows of what entities share: the time for each of them.
+pub(crate) fn add_shares<C: Clock>(table: &mut Table<'_, C>, name: &str) -> Result<(), Fault> {
+    let alloc = table.alloc();
+    for (row, count) in [
+        ("share, 1,000 entities of own pools", 1000u32),
+        ("share, 10,000 entities of own pools", 10000),
+    ] {
+        let work = Tenants {
+            alloc,
+            entities: entities(alloc, name, count)?,
+        };
+        table.row(row, &work)?;
+    }
+    Ok(())
+}
