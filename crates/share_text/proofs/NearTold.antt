@@ -1,5 +1,5 @@
 -- What is told of the near ones alone is what is told of all.
-use Rattle.std.proofs.Common.{◌≡◌, ◌<◌, ◌≤◌, ℕ, zero, suc, ◌+◌, ◌-◌, List, [], ◌∷◌, ◌++◌, map, Bool, true, false, ◌||◌, ◌⊎◌, Option, None, Some, drop, get_or, length, slice_get, slice_index, slice_index_or, leb, refl, sym, ap, subst, ◌∙◌, inl, inr, append_assoc, arith}
+use Rattle.std.proofs.Common.{◌≡◌, ◌<◌, ◌≤◌, ℕ, zero, suc, ◌+◌, ◌-◌, List, [], ◌∷◌, ◌++◌, Bool, true, false, ◌||◌, ◌⊎◌, Option, None, Some, drop, get_or, length, slice_get, slice_index, slice_index_or, leb, refl, sym, ap, subst, ◌∙◌, inl, inr, append_assoc, arith}
 use Rattle.std.specs.Prelude.{All, AllPairs, Contains}
 use Rattle.std.specs.Option.{option_map}
 use Rattle.std.proofs.lemmas.Bool.{leb-true, leb-false}
@@ -20,7 +20,7 @@ use Rattle.share_text.specs.declared.tenants.Tenant.{Tenant}
 
 -- of two who share nothing, nothing is told
 
-no_share : (pools : Option (List Pool)) (kind : Kind) (ones others : Flat) → AreApart ones others → ¬ ShareWithin pools kind ones others
+pub no_share : (pools : Option (List Pool)) (kind : Kind) (ones others : Flat) → AreApart ones others → ¬ ShareWithin pools kind ones others
 no_share None kind ones others apart = (apart.anywhere (one_touch kind) (other_touch kind)).0
 no_share (Some pools) kind ones others apart = (apart.in_pools pools (one_touch kind) (other_touch kind)).0
 

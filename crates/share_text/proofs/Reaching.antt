@@ -1,18 +1,25 @@
 -- Where what a tenant writes may come to, and what is told of it.
-use Rattle.std.proofs.Common.{◌≡◌, ℕ, zero, suc, ◌+◌, ◌-◌, ◌<◌, ◌≤◌, ◌⊎◌, ◌↔◌, List, [], ◌∷◌, ◌++◌, Bool, false, ◌||◌, Option, append_assoc, codes, drop, get_or, take, length, map, refl, sym, ap, subst, ◌∙◌, inl, inr, add-one, arith, length-append}
+use Rattle.std.proofs.Common.{◌≡◌, ℕ, zero, suc, ◌+◌, ◌-◌, ◌<◌, ◌≤◌, ◌⊎◌, ◌↔◌, List, [], ◌∷◌, ◌++◌, Bool, false, ◌||◌, Option, Some, append_assoc, codes, drop, get_or, slice_get, slice_index, take, length, map, refl, sym, ap, subst, ◌∙◌, inl, inr, add-one, arith, length-append}
 use Rattle.std.specs.List.{Contains}
 use Rattle.std.proofs.Math.Seq.{get_or-append_seam, take-append_seam}
 use Rattle.std.proofs.lemmas.Bool.{cases_eq, cases_lt}
 use Rattle.std.proofs.lemmas.List.{drop_more, get_or-map, get_or_append_left, get_or_past, length-map}
 use Rattle.std.proofs.lemmas.List.Elements.{Contains-append_left, Contains-push, Contains-push_cases}
+use Rattle.std.proofs.lemmas.Option.{slice_get-get_or}
 use Rattle.flow_core.specs.Chains.{IsChain, IsFound, IsShortest, IsStep}
 use Rattle.flow_core.proofs.Listing.{in_none}
 use Rattle.flow_core.proofs.Walks.{found_for}
 use Rattle.gate_text.specs.Caret.{shown}
+use Rattle.grant_core.specs.Flat.{Flat}
+use Rattle.share_core.specs.Near.{AreApart, AreNear}
 use Rattle.share_core.specs.declared.pools.Pool.{Pool}
+use Rattle.share_text.specs.Behind.{grants_of}
 use Rattle.share_text.specs.FlowLines.{IsChainTold, IsWriterTold}
-use Rattle.share_text.specs.Flows.{AreReaders, AreReachesTold, IsFlowTold, IsPlaceTold, OfEach, WritesTo, flow_line, name_at, through_words}
+use Rattle.share_text.specs.Flows.{AreReaders, AreReachesTold, IsFlowTold, IsPlaceTold, OfEach, WritesTo, flow_line, grants_at, name_at, through_words}
+use Rattle.share_text.specs.Kinds.{ShareWithin}
+use Rattle.share_text.specs.declared.kind.Kind.TheVariants.{WritesReads}
 use Rattle.share_text.specs.declared.tenants.Tenant.{Tenant}
+use Rattle.share_text.proofs.NearTold.{length_grants, no_share}
 
 -- what a list has at a place where its items are seen in another form
 pub seen_at : {X Y : Type 0} (f : X → Y) (xs : List X) (i : ℕ) (x : X) (d : Y) → i < length xs → x ≡ get_or xs i x → get_or (map f xs) i d ≡ f x
@@ -25,32 +32,73 @@ seen_past f xs i d past = get_or_past (map f xs) i d (omega (arith, length-map x
 abbrev pub ListsBelow : (ℕ → Type 0) → List ℕ → ℕ → Type 0
 ListsBelow Holds places n = (place : ℕ) → Contains places place ↔ ((place < n) × Holds place)
 
-pub lists_none : (Holds : ℕ → Type 0) → ListsBelow Holds [] 0
-lists_none Holds place = (λ inside. absurd (in_none place inside), λ h. let below : place < 0 = h.0 in absurd (omega arith))
+-- those among some places of which something holds
+abbrev pub Keeps : (ℕ → Type 0) → List ℕ → List ℕ → Type 0
+Keeps Holds among kept = (place : ℕ) → Contains kept place ↔ (Contains among place × Holds place)
 
-with_one : (Holds : ℕ → Type 0) (places : List ℕ) (n place : ℕ) → ListsBelow Holds places n → Holds n → Contains places place ⊎ (n ≡ place) → (place < n + 1) × Holds place
-with_one Holds places n place lists here (inl inside) = let h : (place < n) × Holds place = (lists place).0 inside in (omega arith, h.1)
-with_one Holds places n place lists here (inr same) = (omega arith, subst Holds same here)
+pub keeps_none : (Holds : ℕ → Type 0) → Keeps Holds [] []
+keeps_none Holds place = (λ inside. absurd (in_none place inside), λ h. h.0)
 
-is_with_one : (Holds : ℕ → Type 0) (places : List ℕ) (n place : ℕ) → ListsBelow Holds places n → (place ≡ n) ⊎ (place ≡ n → ⊥) → (place < n + 1) × Holds place
-    → Contains (places ++ n ∷ []) place
-is_with_one Holds places n place lists (inl same) h = subst (Contains (places ++ n ∷ [])) (sym same) (Contains-push places n)
-is_with_one Holds places n place lists (inr other) h =
-    let below : place < n + 1 = h.0 in Contains-append_left places (n ∷ []) place ((lists place).1 (omega arith, h.1))
+was_kept : (Holds : ℕ → Type 0) (among kept : List ℕ) (n place : ℕ) → Keeps Holds among kept → Holds n → Contains kept place ⊎ (n ≡ place)
+    → Contains (among ++ n ∷ []) place × Holds place
+was_kept Holds among kept n place keeps here (inl inside) = let h : Contains among place × Holds place = (keeps place).0 inside in (Contains-append_left among (n ∷ []) place h.0, h.1)
+was_kept Holds among kept n place keeps here (inr same) = (subst (Contains (among ++ n ∷ [])) same (Contains-push among n), subst Holds same here)
 
-pub lists_one : (Holds : ℕ → Type 0) (places more : List ℕ) (n : ℕ) → more ≡ places ++ n ∷ [] → Holds n → ListsBelow Holds places n → ListsBelow Holds more (n + 1)
-lists_one Holds places more n is here lists =
-    subst (λ l. ListsBelow Holds l (n + 1)) (sym is)
-    (λ place. (λ inside. with_one Holds places n place lists here (Contains-push_cases places n place inside), λ h. is_with_one Holds places n place lists (cases_eq place n) h))
+is_kept : (Holds : ℕ → Type 0) (among kept : List ℕ) (n place : ℕ) → Keeps Holds among kept → Holds place → Contains among place ⊎ (n ≡ place) → Contains (kept ++ n ∷ []) place
+is_kept Holds among kept n place keeps holds (inl inside) = Contains-append_left kept (n ∷ []) place ((keeps place).1 (inside, holds))
+is_kept Holds among kept n place keeps holds (inr same) = subst (Contains (kept ++ n ∷ [])) same (Contains-push kept n)
 
-is_without : (Holds : ℕ → Type 0) (places : List ℕ) (n place : ℕ) → ListsBelow Holds places n → (Holds n → ⊥) → (place ≡ n) ⊎ (place ≡ n → ⊥) → (place < n + 1) × Holds place
-    → Contains places place
-is_without Holds places n place lists none (inl same) h = absurd (none (subst Holds same h.1))
-is_without Holds places n place lists none (inr other) h = let below : place < n + 1 = h.0 in (lists place).1 (omega arith, h.1)
+pub keeps_one : (Holds : ℕ → Type 0) (among all kept more : List ℕ) (n : ℕ) → all ≡ among ++ n ∷ [] → more ≡ kept ++ n ∷ [] → Holds n → Keeps Holds among kept → Keeps Holds all more
+keeps_one Holds among all kept more n whole is here keeps =
+    subst (λ l. Keeps Holds l more) (sym whole)
+    (subst (Keeps Holds (among ++ n ∷ [])) (sym is)
+    (λ place. (
+      λ inside. was_kept Holds among kept n place keeps here (Contains-push_cases kept n place inside),
+      λ h. is_kept Holds among kept n place keeps h.1 (Contains-push_cases among n place h.0),
+    )))
 
-pub lists_without : (Holds : ℕ → Type 0) (places : List ℕ) (n : ℕ) → (Holds n → ⊥) → ListsBelow Holds places n → ListsBelow Holds places (n + 1)
-lists_without Holds places n none lists place =
-    (λ inside. let h : (place < n) × Holds place = (lists place).0 inside in (omega arith, h.1), λ h. is_without Holds places n place lists none (cases_eq place n) h)
+was_before : (Holds : ℕ → Type 0) (among kept : List ℕ) (n place : ℕ) → Keeps Holds among kept → (Holds n → ⊥) → Holds place → Contains among place ⊎ (n ≡ place) → Contains kept place
+was_before Holds among kept n place keeps none holds (inl inside) = (keeps place).1 (inside, holds)
+was_before Holds among kept n place keeps none holds (inr same) = absurd (none (subst Holds (sym same) holds))
+
+pub keeps_without : (Holds : ℕ → Type 0) (among all kept : List ℕ) (n : ℕ) → all ≡ among ++ n ∷ [] → (Holds n → ⊥) → Keeps Holds among kept → Keeps Holds all kept
+keeps_without Holds among all kept n whole none keeps =
+    subst (λ l. Keeps Holds l kept) (sym whole)
+    (λ place. (
+      λ inside. let h : Contains among place × Holds place = (keeps place).0 inside in (Contains-append_left among (n ∷ []) place h.0, h.1),
+      λ h. was_before Holds among kept n place keeps none h.1 (Contains-push_cases among n place h.0),
+    ))
+
+-- the near ones that read are all that read
+
+is_near : (grants : Flat) (tenants : List Tenant) (near : List ℕ) (place : ℕ) → AreNear grants (grants_of tenants) 0 near → Contains near place → place < length tenants
+is_near grants tenants near place are (k, low, is) =
+    let inside : get_or near k place < length (grants_of tenants) = (are.inside k place low).1 in
+    omega (arith, inside, is, length_grants tenants)
+
+pub grants_near : (grants : Flat) (tenants : List Tenant) (near : List ℕ) (i : ℕ) (tenant : Tenant) → AreNear grants (grants_of tenants) 0 near → i < length near
+    → tenant ≡ get_or tenants (slice_index near i) tenant → grants_at tenants (slice_index near i) ≡ tenant.ticket.grants
+grants_near grants tenants near i tenant are inside at =
+    let below : slice_index near i < length (grants_of tenants) = (are.inside i 0 inside).1 in
+    seen_at (λ (tenant : Tenant). tenant.ticket.grants) tenants (slice_index near i) tenant [] (omega (arith, below, length_grants tenants)) at
+
+reads_near : (pools : Option (List Pool)) (grants : Flat) (tenants : List Tenant) (near : List ℕ) (place : ℕ) → ShareWithin pools WritesReads grants (grants_at tenants place)
+    → Contains near place ⊎ AreApart grants (grants_at tenants place) → Contains near place
+reads_near pools grants tenants near place reads (inl inside) = inside
+reads_near pools grants tenants near place reads (inr apart) = absurd (no_share pools WritesReads grants (grants_at tenants place) apart reads)
+
+pub all_readers : (pools : Option (List Pool)) (grants : Flat) (tenants : List Tenant) (near readers : List ℕ) → AreNear grants (grants_of tenants) 0 near
+    → Keeps (λ reader. ShareWithin pools WritesReads grants (grants_at tenants reader)) near readers
+    → ListsBelow (λ reader. ShareWithin pools WritesReads grants (grants_at tenants reader)) readers (length tenants)
+all_readers pools grants tenants near readers are keeps place = (
+  λ inside.
+      let h : Contains near place × ShareWithin pools WritesReads grants (grants_at tenants place) = (keeps place).0 inside in
+      (is_near grants tenants near place are h.0, h.1),
+  λ h.
+      let below : place < length tenants = h.0 in
+      let at : slice_get (grants_of tenants) place ≡ Some (grants_at tenants place) = slice_get-get_or (grants_of tenants) place [] (omega (arith, below, length_grants tenants)) in
+      (keeps place).1 (reads_near pools grants tenants near place h.1 (are.others place (grants_at tenants place) at (omega arith)), h.1),
+)
 
 -- so many lists of places, each of those of which something holds
 pub record AreLists (Holds : ℕ → ℕ → Type 0) (n : ℕ) (lists : List (List ℕ)) (count : ℕ) : Type 0 where

@@ -3,13 +3,15 @@
 ghost use Rattle.std.specs.Prelude.{ℕ, ◌≡◌, ◌++◌, ◌<◌, ◌↔◌, map, length, codes, string_bytes, option_copied, IfOk, OnOk};
 ghost use Rattle.std.specs.List.{Contains};
 ghost use Rattle.gate_text.specs.Caret.{shown};
+ghost use Rattle.share_core.specs.Near.{AreNear};
+ghost use Rattle.share_text.specs.Behind.{grants_of};
 ghost use Rattle.share_text.specs.Kinds.{ShareWithin};
 ghost use Rattle.share_text.specs.Flows as spec;
 ghost use Rattle.share_text.specs.Flows.{AreFlowsTold, AreReaders, OfEach, grants_at, name_at, through_words};
 ghost use Rattle.share_text.specs.FlowLines.{AreChainsTold, IsChainTold, IsWriterTold};
 
 use crate::kind::Kind;
-use crate::tenants::{Tenant, nothing, push_told, share_within, tenants_of};
+use crate::tenants::{Tenant, index_of, nothing, push_told, share_within, tenants_of};
 use common_types::OutOfMemory;
 use flow_core::chains_from;
 use gate_text::{Entity, Printed, push_shown_text};
@@ -17,19 +19,23 @@ use share_core::Pool;
 use std::alloc::Global;
 use verdict_core::Ticket;
 
-/// The places of the tenants that read what one writes, in some of the pools where they are given.
+/// The places of the tenants that read what one writes, in some of the pools where they are given. The near ones are given: the
+/// others share nothing with it.
 fn readers_of(
     alloc: Global,
     writer: &Ticket,
+    near: &[usize],
     tenants: &[Tenant],
     pools: Option<&[Pool]>,
 ) -> Result<Vec<usize>, OutOfMemory>
+    requires { AreNear writer.now.grants (grants_of tenants.now) 0 near.now }
     ensures { IfOk result (λ readers. (reader : ℕ) → Contains readers.items reader ↔ ((reader < length tenants.now) × ShareWithin (option_copied pools.entry) Kind.WritesReads writer.now.grants (grants_at tenants.now reader))) }
 {
     let mut readers = Vec::new(alloc);
-    for place in 0..tenants.len() {
-        if share_within(Kind::WritesReads, writer, &tenants[place].ticket, pools) {
-            readers.push(place)?;
+    for place in near {
+        let tenant = &tenants[*place];
+        if share_within(Kind::WritesReads, writer, &tenant.ticket, pools) {
+            readers.push(*place)?;
         }
     }
     Ok(readers)
@@ -43,9 +49,12 @@ fn steps_of(
 ) -> Result<Vec<Vec<usize>>, OutOfMemory>
     ensures { IfOk result (λ steps. AreReaders (option_copied pools.entry) tenants.now (map (λ readers. readers.items) steps.items)) }
 {
+    let index = index_of(alloc, tenants)?;
     let mut steps = Vec::new(alloc);
     for writer in tenants {
-        steps.push(readers_of(alloc, &writer.ticket, tenants, pools)?)?;
+        let near = index.near(&writer.ticket, 0)?;
+        let readers = readers_of(alloc, &writer.ticket, near.as_slice(), tenants, pools)?;
+        steps.push(readers)?;
     }
     Ok(steps)
 }
@@ -157,9 +166,9 @@ fn told_writers(
 /// target counts only if it is of one of them, with exactly its tags. Without them each target counts that can be.
 ///
 /// An entity whose text has no grants is left out. A name's bytes outside 32 to 126 are shown as `\x` and two hexadecimal
-/// digits. The only error is want of memory, which leaves nothing. Time goes by the pairs of entities, and for each by the
-/// pairs of their grants, and then for each entity by the pairs of which one writes what the other reads. The lines are this
-/// project's profile.
+/// digits. The only error is want of memory, which leaves nothing. Time goes by the pairs of entities that name a common pool,
+/// or of which one has a grant without a pool, and for each by the pairs of their grants, and then for each entity by the pairs
+/// of which one writes what the other reads. The lines are this project's profile.
 pub fn flow_entities(
     alloc: Global,
     entities: &[Entity],

@@ -364,7 +364,7 @@ fn told_with(
 }
 
 /// The tenants' tickets, found by the pools that they name.
-fn index_of(alloc: Global, tenants: &[Tenant]) -> Result<PoolIndex<'_>, OutOfMemory>
+pub(crate) fn index_of(alloc: Global, tenants: &[Tenant]) -> Result<PoolIndex<'_>, OutOfMemory>
     ensures { IfOk result (λ index. index ≡ grants_of tenants.now) }
 {
     let mut index = PoolIndex::new(alloc);

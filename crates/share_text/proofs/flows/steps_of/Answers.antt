@@ -18,10 +18,10 @@ loop-writer-preserved c =
     let writer = c.loop-writer.writer-index in
     let WritesFor = λ (writer reader : ℕ). ShareWithin (option_copied c.args.pools) WritesReads (grants_at tenants writer) (grants_at tenants reader) in
     one_list_more WritesFor (length tenants) (map (λ readers. readers.items) c.loop-writer.steps.items) (map (λ readers. readers.items) c.push.new.self.items) writer
-    c.in_ok-readers_of.field-0.items
-    (ap (map (λ readers. readers.items)) c.in_ok-push.ensures.items ∙ map-append (λ readers. readers.items) c.loop-writer.steps.items (c.in_ok-readers_of.field-0 ∷ []))
-    (subst (λ grants. ListsBelow (λ reader. ShareWithin (option_copied c.args.pools) WritesReads grants (grants_at tenants reader)) c.in_ok-readers_of.field-0.items (length tenants))
-    (sym (seen_at (λ (tenant : Tenant). tenant.ticket.grants) tenants writer c.writer-item.result [] c.loop-writer-test.true c.writer-item.is)) c.in_ok-readers_of.ensures)
+    c.in_ok-readers.readers.items
+    (ap (map (λ readers. readers.items)) c.in_ok-push.ensures.items ∙ map-append (λ readers. readers.items) c.loop-writer.steps.items (c.in_ok-readers.readers ∷ []))
+    (subst (λ grants. ListsBelow (λ reader. ShareWithin (option_copied c.args.pools) WritesReads grants (grants_at tenants reader)) c.in_ok-readers.readers.items (length tenants))
+    (sym (seen_at (λ (tenant : Tenant). tenant.ticket.grants) tenants writer c.writer-item.result [] c.loop-writer-test.true c.writer-item.is)) c.in_ok-readers.ensures)
     c.loop-writer.invariant
 
 pub returns : goal.returns
