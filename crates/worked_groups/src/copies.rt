@@ -71,7 +71,11 @@ pub(crate) fn request(alloc: Global, number: u32) -> Result<Sealed, OutOfMemory>
 }
 
 // Sets of intervals, each of which has the same members.
-pub(crate) fn sets(alloc: Global, count: usize, members: &[u8]) -> Result<IntervalSets, OutOfMemory> {
+pub(crate) fn sets(
+    alloc: Global,
+    count: usize,
+    members: &[u8],
+) -> Result<IntervalSets, OutOfMemory> {
     let set = ActingSet::from_slice(members).unwrap_or(ActingSet::new());
     let mut sets = IntervalSets::new();
     for _ in 0..count {

@@ -126,10 +126,8 @@ fn is_said(body: &Body, says: Says) -> bool {
 // Whether what was sent is this, in this order.
 fn are_sent(sent: &[Sent], want: Sends) -> bool {
     sent.len() == want.len()
-        && sent
-            .iter()
-            .zip(want)
-            .all(|(sent, (to, says))| sent.to == *to && is_said(&sent.body, *says))
+        && sent.iter().zip(want).all(|(sent, (to, says))| sent.to == *to
+            && is_said(&sent.body, *says))
 }
 
 fn holds(daemon: &Daemon, numbers: &[u32], base: u64) -> bool {
