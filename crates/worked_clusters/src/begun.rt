@@ -186,7 +186,6 @@ pub(crate) fn learn(cluster: &Cluster, pass: &mut Pass, news: News) -> bool
     requires { IsPassOf cluster.now pass.old }
     ensures { IsPassOf cluster.now pass.new }
 {
-    let _groups = cluster.group_count();
     let mut news = news;
     for _try in 0..MOST_TRIES {
         match pass.learn(news) {

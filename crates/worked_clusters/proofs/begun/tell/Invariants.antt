@@ -2,4 +2,4 @@ use Rattle.cluster.specs.Monitors.{IsMonitorOf}
 use Rattle.worked_clusters.proofs.begun.tell.Given as goal
 
 abbrev pub invariant-loop-try : goal.invariant-loop-try
-invariant-loop-try g l = IsMonitorOf l.cluster l.monitor
+invariant-loop-try l = IsMonitorOf l.cluster l.monitor
