@@ -73,9 +73,9 @@ fn look_at(group: &Group) -> u64 {
 
 /// Looks at a group.
 #[derive(Drop)]
-struct Look;
+struct Looking;
 
-impl Step for Look {
+impl Step for Looking {
     ghost use Rattle.refused_clusters.specs.Looks.{look_entry, LookTells};
 
     type Value = LockedGroup;
@@ -97,5 +97,5 @@ pub(crate) fn look<R: Wait>(rt: &R, cluster: &Cluster, seats: &mut Seats) -> u64
     requires group { 0 < group_count cluster.now }
     ensures { AreSeatsOf cluster.now seats.new }
 {
-    cluster.turn(rt, seats, 0, Look)
+    cluster.turn(rt, seats, 0, Looking)
 }

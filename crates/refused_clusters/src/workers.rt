@@ -5,7 +5,7 @@ ghost use Rattle.cluster.specs.Asks.{IsPassOf};
 
 use crate::begun::{begun, put_pass, take_pass};
 use crate::steps::{Expected, Row, Step, are_made};
-use Run::{Before, Done, Met};
+use Outcome::{Before, Done, Met};
 use cluster::{Cluster, ClusterFault, Gate, Pass, run_workers};
 use std::alloc::Global;
 use std::sync::Wait;
@@ -18,7 +18,7 @@ const ROUNDS: u32 = 24;
 
 /// How the workers ended: by no fault, by one before any round, or by one in a round.
 #[derive(Clone, Copy, PartialEq, Eq)]
-enum Run {
+enum Outcome {
     Done,
     Before,
     Met,
@@ -52,7 +52,7 @@ fn run<R: Threads + Wait + Sync>(
     alloc: Global,
     cluster: &Cluster,
     passes: Vec<Pass>,
-) -> (Vec<Pass>, Option<Run>)
+) -> (Vec<Pass>, Option<Outcome>)
     requires { All (IsPassOf cluster.now) passes.items }
     ensures { All (IsPassOf cluster.now) result.0.items }
 {
@@ -75,7 +75,7 @@ fn run_again<R: Threads + Wait + Sync>(
     alloc: Global,
     cluster: &Cluster,
     passes: Vec<Pass>,
-) -> (Vec<Pass>, Option<Run>)
+) -> (Vec<Pass>, Option<Outcome>)
     requires { All (IsPassOf cluster.now) passes.items }
     ensures { All (IsPassOf cluster.now) result.0.items }
 {
@@ -94,7 +94,7 @@ fn ask_and_run<R: Threads + Wait + Sync>(
     alloc: Global,
     cluster: &Cluster,
     passes: Vec<Pass>,
-) -> Option<Run>
+) -> Option<Outcome>
     requires { All (IsPassOf cluster.now) passes.items }
 {
     let mut passes = passes;
