@@ -106,7 +106,10 @@ fn an_index_finds_who_has_pools_in_common(rt: HostRuntime) -> Result<(), Fail> {
     let mut row = 11u64;
     for count in 0..24usize {
         let tickets = draw_tickets(rt.alloc(), &mut row, count)?;
-        assert!(rt; are_near_ones_found(rt.alloc(), tickets.as_slice())?, "{count} tickets");
+        assert!(rt;
+            are_near_ones_found(rt.alloc(), tickets.as_slice())?,
+            "{count} tickets"
+        );
     }
     Ok(())
 }
@@ -183,7 +186,10 @@ fn each_two_entities_of_a_file_are_told(rt: HostRuntime) -> Result<(), Fail> {
     let mut row = 5u64;
     for count in [2u32, 3, 20, 60] {
         let entities = draw_entities(rt.alloc(), &mut row, count)?;
-        assert!(rt; is_each_pair_told(rt.alloc(), entities.as_slice())?, "{count} entities");
+        assert!(rt;
+            is_each_pair_told(rt.alloc(), entities.as_slice())?,
+            "{count} entities"
+        );
     }
     Ok(())
 }
