@@ -33,27 +33,6 @@ fn prepare<R: Threads + Wait + Sync>(
     matches!(tagged, Ok(true)) && added.is_ok()
 }
 
-// A daemon goes down and the tag is removed while the user is deleted: whether all is done.
-fn break_off<R: Threads + Wait + Sync>(
-    rt: &R,
-    alloc: Global,
-    cluster: &Cluster,
-    monitor: &mut Monitor,
-    second: &mut Pass,
-) -> bool
-    requires monitor { IsMonitorOf cluster.now monitor.old }
-    requires pass { IsPassOf cluster.now second.old }
-    ensures monitor { IsMonitorOf cluster.now monitor.new }
-    ensures pass { IsPassOf cluster.now second.new }
-{
-    let (moved, deleted) = join_mut(
-        rt,
-        &mut || move_and_untag(rt, alloc, cluster, monitor),
-        &mut || delete_user(rt, alloc, cluster, second),
-    );
-    matches!(moved, Ok(true)) && deleted.is_ok()
-}
-
 // Whether the request is answered `1`.
 fn is_answered<R: Wait>(rt: &R, cluster: &Cluster, first: &mut Pass, asked: &Asked) -> bool
     requires { IsPassOf cluster.now first.old }
@@ -65,27 +44,47 @@ fn is_answered<R: Wait>(rt: &R, cluster: &Cluster, first: &mut Pass, asked: &Ask
     }
 }
 
-// All else happens, on two threads, while the first pass works on a third until its request is answered: whether all is right.
-fn work_meanwhile<R: Threads + Wait + Sync>(
+// A daemon goes down and the tag is removed while the first pass works on another thread until its request is answered: whether
+// both is right.
+fn move_meanwhile<R: Threads + Wait + Sync>(
     rt: &R,
     alloc: Global,
     cluster: &Cluster,
     monitor: &mut Monitor,
     first: &mut Pass,
-    second: &mut Pass,
     asked: &Asked,
 ) -> bool
     requires monitor { IsMonitorOf cluster.now monitor.old }
-    requires passes { IsPassOf cluster.now first.old × IsPassOf cluster.now second.old }
+    requires pass { IsPassOf cluster.now first.old }
     ensures monitor { IsMonitorOf cluster.now monitor.new }
-    ensures passes { IsPassOf cluster.now first.new × IsPassOf cluster.now second.new }
+    ensures pass { IsPassOf cluster.now first.new }
 {
-    let (right, broken_off) = join_mut(
+    let (right, moved) = join_mut(
         rt,
         &mut || is_answered(rt, cluster, first, asked),
-        &mut || break_off(rt, alloc, cluster, monitor, second),
+        &mut || move_and_untag(rt, alloc, cluster, monitor),
     );
-    right && broken_off
+    right && matches!(moved, Ok(true))
+}
+
+// The second pass deletes the user while the first one asks for its answer again: whether both is right.
+fn delete_meanwhile<R: Threads + Wait + Sync>(
+    rt: &R,
+    alloc: Global,
+    cluster: &Cluster,
+    first: &mut Pass,
+    second: &mut Pass,
+    asked: &Asked,
+) -> bool
+    requires { IsPassOf cluster.now first.old × IsPassOf cluster.now second.old }
+    ensures { IsPassOf cluster.now first.new × IsPassOf cluster.now second.new }
+{
+    let (right, deleted) = join_mut(
+        rt,
+        &mut || is_answered(rt, cluster, first, asked),
+        &mut || delete_user(rt, alloc, cluster, second),
+    );
+    right && deleted.is_ok()
 }
 
 // The first pass opens a session and asks.
@@ -119,10 +118,11 @@ fn fail_over<R: Threads + Wait + Sync>(
     let prepared = prepare(rt, alloc, cluster, monitor, second);
     let caught_up = catch_up(alloc, cluster, monitor, first, second)?;
     let (session, asked) = ask(rt, alloc, cluster, first)?;
-    let right = work_meanwhile(rt, alloc, cluster, monitor, first, second, &asked);
+    let moved = move_meanwhile(rt, alloc, cluster, monitor, first, &asked);
+    let deleted = delete_meanwhile(rt, alloc, cluster, first, second, &asked);
     let again = catch_up(alloc, cluster, monitor, first, second)?;
     let went_on = goes_on(rt, alloc, cluster, first, session)?;
-    Ok(prepared && caught_up && right && again && went_on)
+    Ok(prepared && caught_up && moved && deleted && again && went_on)
 }
 
 // Both passes.
