@@ -1,0 +1,13 @@
+pub mod Types
+pub mod Group
+pub mod Budget
+pub mod Replicated
+pub mod Asked
+pub mod Sane
+pub mod Reached
+pub mod Sound
+pub mod Furthest
+pub mod WireRoom
+pub mod Recovery
+pub mod Inside
+pub mod Moves
