@@ -16,7 +16,7 @@ use Rattle.group_copies.specs.Budget.{body_budget, sent_budget, role_budget, cop
 use Rattle.group_copies.specs.Reached.{IsReached}
 use Rattle.group_copies.specs.Sound.{IsSound}
 use Rattle.group_copies.proofs.Calls.{dropped_is}
-use Rattle.group_copies.proofs.Reached.{Twin, twin_of, stands, next_twin}
+use Rattle.group_copies.proofs.Reached.{twin_of, stands, next_stands}
 
 -- both can make as many deliveries
 
@@ -60,11 +60,10 @@ budget_same g w s = (let one = sent_same g.wire w.wire s.wire in let two = copie
 pub found_lowers : (old new : Group) (k : ℕ) (m : Sent) → IsReached old → slice_get old.wire k ≡ Some m → new ≡ group_step old (Deliver k) → budget new < budget old
 found_lowers old new k m r here is =
     let t = twin_of old r in
-    let next = next_twin old (Deliver k) tt t in
     let b : Beside SameSent m t.whole.wire k = beside SameSent old.wire t.whole.wire k m (stands t).wire here in
     let low = deliver_lowers t.whole k b.item b.is (whole_reached_bounded t.whole t.reached) in
     let was = budget_same old t.whole (stands t) in
-    let now = budget_same (group_step old (Deliver k)) (whole_group_step t.whole (Deliver k)) (stands next) in
+    let now = budget_same (group_step old (Deliver k)) (whole_group_step t.whole (Deliver k)) (next_stands old (Deliver k) t) in
     let same : budget new ≡ budget (group_step old (Deliver k)) = ap budget is in
     omega arith
 

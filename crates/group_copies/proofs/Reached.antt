@@ -17,7 +17,7 @@ use Rattle.group_core.proofs.Eaches.{Each-append}
 use Rattle.group_core.proofs.Audits.{audit_length}
 use Rattle.group_core.proofs.Groups.{audit_legal}
 use Rattle.group_core.proofs.AskedOnce.{decided_few as whole_decided_few}
-use Rattle.group_core.proofs.Reached.{reached_step as whole_reached_step, reached_audit as whole_reached_audit, reached_fits as whole_reached_fits}
+use Rattle.group_core.proofs.Reached.{reached_audit as whole_reached_audit, reached_fits as whole_reached_fits}
 use Rattle.suffix_core.specs.Standing.{Both, SameCopy, StandsFor}
 use Rattle.suffix_core.proofs.Agreeing.{CopyAgrees}
 use Rattle.suffix_core.proofs.Lists.{Beside, beside}
@@ -45,12 +45,9 @@ twin_of g r = subst Twin r.is (record {
 pub stands : {g : Group} (t : Twin g) → StandsFor g t.whole
 stands {g} t = stands_for g t.whole t.lock.agree
 
-pub next_twin : (g : Group) (e : Event) → EventFits e → Twin g → Twin (group_step g e)
-next_twin g e fits t = record {
-  whole = whole_group_step t.whole e;
-  reached = whole_reached_step t.whole e t.reached fits;
-  lock = step_locked g t.whole e t.lock;
-}
+-- and so does the next one for the next one
+pub next_stands : (g : Group) (e : Event) (t : Twin g) → StandsFor (group_step g e) (whole_group_step t.whole e)
+next_stands g e t = stands_for (group_step g e) (whole_group_step t.whole e) (step_locked g t.whole e t.lock).agree
 
 run-append : (es fs : List Event) (g : Group) → run (es ++ fs) g ≡ run fs (run es g)
 run-append [] fs g = refl

@@ -15,7 +15,7 @@ use Rattle.group_copies.specs.Types.{Copy, Sent, Osd}
 use Rattle.group_copies.specs.Group.{Group, Deliver, group_step}
 use Rattle.group_copies.specs.Reached.{IsReached}
 use Rattle.group_copies.proofs.Calls.{arrived_is}
-use Rattle.group_copies.proofs.Reached.{Twin, twin_of, stands, next_twin}
+use Rattle.group_copies.proofs.Reached.{twin_of, stands, next_stands}
 
 Both-length : {X Y : Type 0} (R : X → Y → Type 0) (xs : List X) (ys : List Y) → Both R xs ys → length xs ≡ length ys
 Both-length R [] [] both = refl
@@ -34,7 +34,7 @@ sent_few g r k d m c here to up found =
     let t = twin_of g r in
     let w = t.whole in
     let s = stands t in
-    let next = next_twin g (Deliver k) tt t in
+    let next = next_stands g (Deliver k) t in
     let m' : Beside SameSent m w.wire k = beside SameSent g.wire w.wire k m s.wire here in
     let c' : Beside SameCopy c w.copies d = beside SameCopy g.copies w.copies d c s.copies found in
     let up' : is_in w.up d ≡ true = ap (λ l. is_in l d) s.up ∙ up in
@@ -42,7 +42,7 @@ sent_few g r k d m c here to up found =
     let sent' : List WholeSent = (whole_copy_step c'.item (record { from = m'.item.from; body = m'.item.body })).sent in
     let step : (group_step g (Deliver k)).wire ≡ remove g.wire k ++ sent = ap (λ (v : Group). v.wire) (arrived_is g k d m (Some c) here to up found) in
     let step' : (whole_group_step w (Deliver k)).wire ≡ remove w.wire k ++ sent' = ap (λ (v : WholeGroup). v.wire) (whole_arrived w k d m'.item (Some c'.item) m'.is (m'.agrees.to ∙ to) up' c'.is) in
-    let all : length (group_step g (Deliver k)).wire ≡ length (whole_group_step w (Deliver k)).wire = Both-length SameSent (group_step g (Deliver k)).wire (whole_group_step w (Deliver k)).wire (stands next).wire in
+    let all : length (group_step g (Deliver k)).wire ≡ length (whole_group_step w (Deliver k)).wire = Both-length SameSent (group_step g (Deliver k)).wire (whole_group_step w (Deliver k)).wire next.wire in
     let rest : length (remove g.wire k) ≡ length (remove w.wire k) = Both-length SameSent (remove g.wire k) (remove w.wire k) (Both-remove SameSent g.wire w.wire k s.wire) in
     let one : length (group_step g (Deliver k)).wire ≡ length (remove g.wire k) + length sent = ap (λ l. length l) step ∙ length-append (remove g.wire k) sent in
     let two : length (whole_group_step w (Deliver k)).wire ≡ length (remove w.wire k) + length sent' = ap (λ l. length l) step' ∙ length-append (remove w.wire k) sent' in
