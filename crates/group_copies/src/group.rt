@@ -351,7 +351,8 @@ impl Group {
     ghost use Rattle.group_copies.specs.Types as types;
     ghost use Rattle.group_copies.specs.Reached.{HasJustTaken, IsReached, Settles};
     ghost use Rattle.group_copies.specs.Replicated.{IsReplicated};
-    ghost use Rattle.group_copies.specs.Asked.{AllAsked, IsReplied};
+    ghost use Rattle.group_copies.specs.Asked.{AllAsked};
+    ghost use Rattle.group_core.specs.Asked.{IsReplied};
     ghost use Rattle.group_copies.specs.Sane.{AllSane};
     ghost use Rattle.group_core.specs.Each.{Each};
     ghost use Rattle.group_copies.specs.Group.{is_distinct};
