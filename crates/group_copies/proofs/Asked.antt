@@ -23,13 +23,13 @@ use Rattle.group_copies.specs.Reached.{IsReached}
 use Rattle.group_copies.proofs.Asks.{comes_in, kicked_in}
 use Rattle.group_copies.proofs.Reached.{Twin, twin_of, stands}
 
+kept_if : {X : Type 0} (P : X → Type 0) (b : Bool) (x : X) (xs : List X) → P x → Each P xs → Each P (if b then x ∷ xs else xs)
+kept_if P true x xs this each = (this, each)
+kept_if P false x xs this each = each
+
 Each-filter : {X : Type 0} (P : X → Type 0) (f : X → Bool) (xs : List X) → Each P xs → Each P (filter f xs)
 Each-filter P f [] each = tt
-Each-filter P f (x ∷ xs) each = go (f x)
-  where
-    go : (b : Bool) → Each P (if b then x ∷ filter f xs else filter f xs)
-    go true = (each.0, Each-filter P f xs each.1)
-    go false = Each-filter P f xs each.1
+Each-filter P f (x ∷ xs) each = kept_if P (f x) x (filter f xs) each.0 (Each-filter P f xs each.1)
 
 -- what copies and messages of a group hold
 pub record Holds (P : Sealed → Type 0) (copies : List Copy) (wire : List Sent) : Type 0 where
