@@ -9,6 +9,7 @@ import concurrent.futures
 import glob
 import os
 import re
+import struct
 import subprocess
 import sys
 import tempfile
@@ -67,8 +68,8 @@ class Program:
         status, seconds = self.run(test, {"REFUSED_SEEN": file})
         if status != 0 or not os.path.exists(file):
             return set(), seconds
-        with open(file, encoding="utf-8") as it:
-            places = [int(line, 16) for line in it]
+        with open(file, "rb") as it:
+            places = {it for (it,) in struct.iter_unpack("=Q", it.read()) if it}
         return {bisect.bisect_right(self.starts, it) - 1 for it in places if it < self.starts[-1]} - {-1}, seconds
 
     def is_missed(self, function, test):

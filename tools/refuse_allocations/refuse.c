@@ -6,13 +6,12 @@
 //
 // REFUSED_FIRST and REFUSED_END say, instead of a number, where a function stands and where it ends: all that is asked for while
 // it runs is refused. REFUSED_SEEN is a file that gets the places in the program from which functions were called that asked for
-// memory, a place of so many digits a line.
+// memory, as numbers of eight bytes, between zeros.
 #define _GNU_SOURCE
 #include <fcntl.h>
 #include <limits.h>
 #include <link.h>
 #include <stdint.h>
-#include <stdio.h>
 #include <stdlib.h>
 #include <string.h>
 #include <sys/mman.h>
@@ -25,12 +24,12 @@ struct answer {
 };
 
 static uint64_t asked_for, refused_number;
-static const char *mark, *seen_file;
+static const char *mark;
 static uintptr_t base, refused_first, refused_end;
 
 // Places that were seen, by their last bits; where the table is full a place is left out.
 #define PLACES 65536
-static uintptr_t seen[PLACES];
+static uintptr_t *seen;
 
 static void see(uintptr_t place) {
     for (uintptr_t at = place; at < place + 64; at++) {
@@ -46,7 +45,7 @@ static int is_within(void **frame) {
     int is_found = 0;
     for (int depth = 0; depth < 4096; depth++) {
         uintptr_t place = (uintptr_t)frame[1] - base;
-        if (seen_file) see(place);
+        if (seen) see(place);
         if (refused_first <= place && place < refused_end) is_found = 1;
         void **next = frame[0];
         if (next <= frame || (uintptr_t)next - (uintptr_t)frame > 16 << 20 || (uintptr_t)next % 8) break;
@@ -55,15 +54,17 @@ static int is_within(void **frame) {
     return is_found;
 }
 
-static void tell_seen(void) {
-    FILE *file = fopen(seen_file, "w");
-    for (int at = 0; file && at < PLACES; at++)
-        if (seen[at]) fprintf(file, "%lx\n", (unsigned long)seen[at]);
-    if (file) fclose(file);
+// The table is the file itself, since a program may end without a last word.
+static uintptr_t *table_in(const char *name) {
+    int file = open(name, O_CREAT | O_RDWR | O_TRUNC, 0600);
+    if (file < 0 || ftruncate(file, PLACES * sizeof *seen)) abort();
+    void *table = mmap(NULL, PLACES * sizeof *seen, PROT_READ | PROT_WRITE, MAP_SHARED, file, 0);
+    if (table == MAP_FAILED) abort();
+    return table;
 }
 
 static int is_refused(void) {
-    if (refused_end || seen_file) return is_within(__builtin_frame_address(0));
+    if (refused_end || seen) return is_within(__builtin_frame_address(0));
     uint64_t number = __atomic_add_fetch(&asked_for, 1, __ATOMIC_SEQ_CST);
     if (number != refused_number) return 0;
     int file = open(mark, O_CREAT | O_WRONLY, 0600);
@@ -122,8 +123,8 @@ __attribute__((constructor)) static void begin(void) {
     refused_first = number_in("REFUSED_FIRST", 16);
     refused_end = number_in("REFUSED_END", 16);
     mark = getenv("REFUSED_MARK");
-    seen_file = getenv("REFUSED_SEEN");
-    if (seen_file) atexit(tell_seen);
+    const char *seen_file = getenv("REFUSED_SEEN");
+    if (seen_file) seen = table_in(seen_file);
     dl_iterate_phdr(base_of, &base);
     if (!mark || !alloc || !realloc || !jump(base + alloc, allocate) || !jump(base + realloc, grow)) abort();
 }
