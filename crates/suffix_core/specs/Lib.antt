@@ -4,3 +4,9 @@ pub mod Standing
 pub mod Fits
 pub mod Laws
 pub mod WorkedCases
+pub mod Asked
+pub mod Sane
+pub mod Budget
+pub mod Reached
+pub mod Recovery
+pub mod Replicated

@@ -1,0 +1,12 @@
+pub mod Reached
+pub mod Daemons
+pub mod Calls
+pub mod Moving
+pub mod Lowering
+pub mod Refusals
+pub mod Settles
+pub mod Settling
+pub mod Sends
+pub mod Promises
+pub mod Asks
+pub mod Asked

@@ -1,0 +1,13 @@
+use Rattle.std.proofs.Common.{subst}
+use Rattle.suffix_core.specs.Reached.{IsReached}
+use Rattle.group_copies.proofs.Reached.{decided_few}
+use Rattle.group_copies.proofs.group.Group.audit.Goals as goal
+
+pub returns-in_err-copy-clause-few : goal.returns-in_err-copy-clause-few
+returns-in_err-copy-clause-few c = decided_few c.args.self.now (subst IsReached c.self.view_is c.self.invariant.reached)
+
+pub returns-in_err-push-clause-few : goal.returns-in_err-push-clause-few
+returns-in_err-push-clause-few c = decided_few c.args.self.now (subst IsReached c.self.view_is c.self.invariant.reached)
+
+pub returns-clause-few : goal.returns-clause-few
+returns-clause-few c = decided_few c.args.self.now (subst IsReached c.self.view_is c.self.invariant.reached)

@@ -1,0 +1,12 @@
+use Rattle.std.proofs.Common.{◌≡◌, ap, sym, ◌∙◌, subst}
+use Rattle.suffix_core.specs.Group.{last_set}
+use Rattle.suffix_core.specs.Reached.{HasJustTaken, unsent}
+use Rattle.group_copies.proofs.Calls.{whole_back}
+use Rattle.group_copies.proofs.group.Group.take_back.Goals as goal
+
+pub invariant_of-self : goal.invariant_of-self
+invariant_of-self c =
+    let taken = c.requires.1.1 in
+    let wire : c.take_back_sent.new.wire.sent ≡ unsent (last_set c.self.inside.state.sets) c.self.inside.state.wire.sent = c.take_back_sent.ensures ∙ ap (λ l. unsent l c.self.inside.state.wire.sent) c.last_set.ensures in
+    whole_back _ c.requires.0 c.requires.1.0 c.self.inside.state.decided c.take_back_sent.new.wire.sent c.pop.new.self
+    (subst (λ v. HasJustTaken v c.requires.0 c.requires.1.0) (sym c.self.view_is) taken) c.self.invariant wire c.pop.ensures

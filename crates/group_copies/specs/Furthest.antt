@@ -1,0 +1,16 @@
+-- Refinement: only contracts inside the crate use it.
+-- The copy that is furthest on: its log begins with all that was decided.
+use Rattle.std.specs.Prelude.{List, [], ◌∷◌, map}
+use Rattle.entry_core.specs.declared.entry.Entry.{Entry}
+use Rattle.peer_core.specs.declared.role.PeerInfo.{PeerInfo}
+use Rattle.peer_core.specs.Choice.{best}
+use Rattle.suffix_core.specs.Types.{Copy}
+
+-- what a copy that sent its whole log would tell
+abbrev pub whole_offer : Copy → PeerInfo
+whole_offer c = record { number = c.number; base = c.base; log = c.log }
+
+-- the log of the copy of the greatest base, and of these the longest
+abbrev pub furthest : List Copy → List Entry
+furthest [] = []
+furthest (c ∷ cs) = (best (whole_offer c) (map whole_offer cs)).log

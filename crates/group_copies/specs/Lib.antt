@@ -1,0 +1,5 @@
+pub mod Sound
+pub mod Furthest
+pub mod WireRoom
+pub mod Inside
+pub mod Moves

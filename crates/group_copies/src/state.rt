@@ -1,0 +1,23 @@
+//! What a group has.
+
+use crate::answers::Answers;
+use crate::requests::Requests;
+use crate::wire::Wire;
+use entry_core::GroupId;
+use copy_core::Daemon;
+use peer_core::IntervalSets;
+use place_core::DaemonSet;
+
+/// The copies of one group, the messages among them, its intervals, its requests and its answers.
+#[derive(Drop)]
+pub(crate) struct GroupState {
+    pub group: GroupId,
+    pub min_size: usize,
+    pub copies: Vec<Daemon>,
+    pub wire: Wire,
+    pub sets: IntervalSets,
+    pub up: DaemonSet,
+    pub requests: Requests,
+    pub answers: Answers,
+    pub decided: usize,
+}

@@ -1,0 +1,14 @@
+-- Statement: contracts of public calls use it.
+-- What every group keeps, whatever happens.
+use Rattle.std.specs.Prelude.{ℕ, ◌≡◌, true, List, Option, Some, slice_get}
+use Rattle.entry_core.specs.Log.{is_in}
+use Rattle.peer_core.specs.ActingSets.{set_of}
+use Rattle.group_core.specs.History.{Begins}
+use Rattle.suffix_core.specs.Laws.{IsLatest}
+use Rattle.suffix_core.specs.Group.{Group}
+use Rattle.suffix_core.specs.Types.{Active, Copy}
+
+-- where an active copy is the latest, what was decided begins the log of each member of its interval
+abbrev pub IsReplicated : Group → Type 0
+IsReplicated g = (d : ℕ) (c : Copy) (flight : Option (List ℕ)) → slice_get g.copies d ≡ Some c → c.role ≡ Active flight → IsLatest g c →
+    (m : ℕ) (other : Copy) → is_in (set_of g.sets c.promise) m ≡ true → slice_get g.copies m ≡ Some other → Begins g.audit other.log
