@@ -6,7 +6,7 @@ use Rattle.map_core.specs.State.{History}
 use Rattle.entry_core.specs.declared.reply.Reply.{Reply}
 use Rattle.entry_core.specs.declared.sealed.GroupId.{GroupId}
 use Rattle.group_core.specs.Each.{Each}
-use Rattle.group_core.specs.Group.{Group, Event, Deliver}
+use Rattle.suffix_core.specs.Group.{Group, Event, Deliver}
 use Rattle.group_core.specs.declared.fault.GroupFault.{GroupFault}
 use Rattle.group_core.specs.declared.fault.GroupFault.TheVariants.{NoMessage, Unreachable, Full, OutOfMemory, Doubled}
 use Rattle.cluster.specs.declared.cluster.Cluster.{Cluster}

@@ -14,8 +14,8 @@ use Rattle.turn_lock.specs.Turns.{StartsWith, made, made_by, state_after}
 use Rattle.map_core.specs.State.{History}
 use Rattle.map_core.specs.declared.command.MapCommand.{MapCommand}
 use Rattle.entry_core.specs.declared.sealed.GroupId.{GroupId}
-use Rattle.group_core.specs.Group.{Group, Event, has_all_intervals}
-use Rattle.group_core.specs.Moves.{event_of}
+use Rattle.suffix_core.specs.Group.{Group, Event, has_all_intervals}
+use Rattle.group_copies.specs.Moves.{event_of}
 use Rattle.group_core.specs.declared.opening.GroupMove.{GroupMove}
 use Rattle.group_core.specs.declared.fault.GroupFault.{GroupFault}
 use Rattle.cluster.specs.declared.groups.GroupEntry.{GroupEntry}

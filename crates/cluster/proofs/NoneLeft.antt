@@ -2,8 +2,8 @@
 use Rattle.std.proofs.Common.{◌≡◌, ℕ, Bool, true, false, List, [], ◌∷◌, refl}
 use Rattle.std.specs.Prelude.{Option, Some, None, if◌then◌else◌, slice_get}
 use Rattle.entry_core.specs.Log.{is_in}
-use Rattle.group_core.specs.Types.{Party, Client, Osd, Sent}
-use Rattle.group_core.specs.Group.{Group, refusal_to, refusal_at}
+use Rattle.suffix_core.specs.Types.{Party, Client, Osd, Sent}
+use Rattle.suffix_core.specs.Group.{Group, refusal_to, refusal_at}
 use Rattle.group_core.specs.declared.fault.GroupFault.{GroupFault}
 use Rattle.group_core.specs.declared.fault.GroupFault.TheVariants.{NoMessage, Unreachable}
 

@@ -6,7 +6,7 @@ use Rattle.map_core.specs.State.{History}
 use Rattle.map_core.specs.declared.command.MapCommand.{MapCommand}
 use Rattle.map_core.specs.declared.command.MapCommand.TheVariants.{PoolCreate, AppEnable, AppSet, AppRm, OsdUp, OsdDown, OsdRestart}
 use Rattle.entry_core.specs.declared.sealed.GroupId.{GroupId}
-use Rattle.group_core.specs.Group.{Group, Event, Submit, Deliver, Lose, Repeat, NewInterval, Restart, Kick, group_step, is_submitted}
+use Rattle.suffix_core.specs.Group.{Group, Event, Submit, Deliver, Lose, Repeat, NewInterval, Restart, Kick, group_step, is_submitted}
 use Rattle.world_core.proofs.Merge.{number_refl}
 use Rattle.world_core.proofs.Requests.{Facts, message_facts, submit_facts, interval_facts, restart_facts}
 use Rattle.cluster.specs.declared.groups.GroupEntry.{GroupEntry}

@@ -6,7 +6,7 @@ use Rattle.std.specs.Option.{option_to_list}
 use mathlib.Core.Logic.{dite}
 use native.Mathlib.Decide.{ℕ_discrete, dec_le}
 use Rattle.std.proofs.lemmas.List.{append_assoc, append-nil}
-use Rattle.group_core.specs.Group.{Group, Event, Deliver}
+use Rattle.suffix_core.specs.Group.{Group, Event, Deliver}
 use Rattle.group_core.specs.declared.fault.GroupFault.{GroupFault}
 use Rattle.group_core.specs.declared.fault.GroupFault.TheVariants.{NoMessage, Unreachable, Full, OutOfMemory, Doubled}
 use Rattle.cluster.specs.declared.cluster.Cluster.{Cluster}

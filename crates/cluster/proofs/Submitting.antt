@@ -16,7 +16,7 @@ use Rattle.entry_core.specs.Locality.{group_for}
 use Rattle.entry_core.specs.Request.{Sealed}
 use Rattle.entry_core.specs.declared.sealed.GroupId.{GroupId}
 use Rattle.group_core.specs.Each.{Each}
-use Rattle.group_core.specs.Group.{Group, Submit}
+use Rattle.suffix_core.specs.Group.{Group, Submit}
 use Rattle.group_core.specs.declared.fault.GroupFault.{GroupFault}
 use Rattle.world_core.specs.Front.{◌>>=◌, need, refuse_if, id_of, asks_more}
 use Rattle.world_core.specs.Moves.{IsAt}

@@ -10,7 +10,7 @@ use Rattle.turn_lock.specs.Turns.{StartsWith, state_after}
 use Rattle.map_core.specs.State.{History}
 use Rattle.map_core.specs.declared.command.MapCommand.{MapCommand}
 use Rattle.entry_core.specs.declared.sealed.GroupId.{GroupId}
-use Rattle.group_core.specs.Group.{Group, Event, has_all_intervals}
+use Rattle.suffix_core.specs.Group.{Group, Event, has_all_intervals}
 use Rattle.cluster.specs.declared.groups.GroupEntry.{GroupEntry}
 use Rattle.cluster.specs.declared.groups.GroupEntry.TheVariants.{Happened, Looked, Idle}
 use Rattle.cluster.specs.declared.cluster.Cluster.{Cluster}

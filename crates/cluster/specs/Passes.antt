@@ -6,7 +6,7 @@ use Rattle.turn_lock.specs.Turns.{last_word}
 use Rattle.turn_lock.specs.Seats.{lock_of, first_of, seat_lock, seen_by, IsSeatOf, IsFresh, HasItsOwn, IsSameSeat, HasSameShare}
 use Rattle.turn_lock.specs.Turned.{Turned, Closes}
 use Rattle.map_core.specs.State.{History}
-use Rattle.group_core.specs.Group.{Group}
+use Rattle.suffix_core.specs.Group.{Group}
 use Rattle.cluster.specs.declared.groups.GroupEntry.{GroupEntry}
 use Rattle.cluster.specs.declared.users.UserTable.{UserTable}
 use Rattle.cluster.specs.declared.users.UserEntry.{UserEntry}

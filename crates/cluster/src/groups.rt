@@ -1,11 +1,12 @@
 //! A group under a turn lock, and the steps on it.
 
 ghost use Rattle.std.specs.Prelude.{◌≡◌, Option};
-ghost use Rattle.group_core.specs.Group.{Deliver};
+ghost use Rattle.suffix_core.specs.Group.{Deliver};
 ghost use Rattle.cluster.specs.Groups.{group_after, entry_fits, submission_entry, SubmissionTells, work_entry, WorkTells, answer_entry, AnswerTells};
 
 use entry_core::{Id, Reply, Sealed, TryCopy};
-use group_core::{Group, GroupFault};
+use group_copies::Group;
+use group_core::GroupFault;
 use std::marker::Model;
 use turn_lock::{Recorded, Step};
 
@@ -21,7 +22,7 @@ pub struct GroupEvent {
 }
 
 impl Model for GroupEvent {
-    ghost use Rattle.group_core.specs.Group.{Event, Kick};
+    ghost use Rattle.suffix_core.specs.Group.{Event, Kick};
 
     ghost Value = { Event };
 

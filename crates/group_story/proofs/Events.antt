@@ -11,10 +11,10 @@ use Rattle.map_core.specs.State.{MapState}
 use Rattle.map_core.specs.Map.{map_of, after}
 use Rattle.map_core.specs.declared.command.MapCommand.{MapCommand}
 use Rattle.map_core.specs.declared.command.MapCommand.TheVariants.{PoolCreate, AppEnable, AppSet, AppRm, OsdUp, OsdDown, OsdRestart}
-use Rattle.group_core.specs.Types.{Sent}
+use Rattle.suffix_core.specs.Types.{Sent}
 use Rattle.group_core.specs.Each.{Each}
-use Rattle.group_core.specs.Group.{Group, group_step, run}
-use Rattle.group_core.specs.Group as group
+use Rattle.suffix_core.specs.Group.{Group, group_step, run}
+use Rattle.suffix_core.specs.Group as group
 use Rattle.wire_steps.specs.Wire.{kept, place_of, TellsStep}
 use Rattle.wire_steps.proofs.Steps.{Sends, nothing, sends}
 use Rattle.world_core.specs.declared.event.Event.{Event}

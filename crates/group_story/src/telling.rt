@@ -7,7 +7,7 @@ ghost use Rattle.world_core.specs.World.{counts, world_step};
 
 use common_types::OutOfMemory;
 use entry_core::GroupId;
-use peer_core::Sent;
+use copy_core::Sent;
 use std::alloc::Global;
 use wire_steps::{WireStep, hold_wire, tell_step};
 use world_core::{Event, Told, World, WorldFault};

@@ -1,6 +1,6 @@
 -- Refinement: only contracts inside the crate use it.
 -- A turn that only looks.
-use Rattle.group_core.specs.Group.{Group}
+use Rattle.suffix_core.specs.Group.{Group}
 use Rattle.cluster.specs.declared.groups.GroupEntry.{GroupEntry}
 use Rattle.cluster.specs.declared.groups.GroupEntry.TheVariants.{Looked}
 

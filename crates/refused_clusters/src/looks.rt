@@ -5,8 +5,9 @@ ghost use Rattle.cluster.specs.Passes.{AreSeatsOf, group_count};
 
 use cluster::{Cluster, LockedGroup, Seats};
 use entry_core::{Id, reply_number};
-use group_core::Group;
-use peer_core::{Body, Party, Sent};
+use group_copies::Group;
+use copy_core::{Body, Sent};
+use peer_core::Party;
 use std::sync::Wait;
 use turn_lock::Step;
 
@@ -33,7 +34,7 @@ fn number_of(party: Party) -> u64 {
 fn with_body(look: u64, body: &Body) -> u64 {
     match body {
         Body::Interval(sets) => mix(mix(look, 1), sets.len() as u64),
-        Body::Query { interval } => mix(mix(look, 2), *interval),
+        Body::Query { interval, .. } => mix(mix(look, 2), *interval),
         Body::Info { interval, .. } => mix(mix(look, 3), *interval),
         Body::Install { interval, .. } => mix(mix(look, 4), *interval),
         Body::Installed { interval } => mix(mix(look, 5), *interval),

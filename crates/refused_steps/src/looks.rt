@@ -1,7 +1,8 @@
 //! What can be seen of messages and replies, as one number that takes no memory.
 
 use entry_core::{Id, Reply, reply_number};
-use peer_core::{Body, Party, Sent};
+use copy_core::{Body, Sent};
+use peer_core::Party;
 
 /// Where each look begins.
 pub(crate) const NOTHING: u64 = 14695981039346656037;
@@ -46,7 +47,7 @@ fn number_of(party: Party) -> u64 {
 fn with_body(look: u64, body: &Body) -> u64 {
     match body {
         Body::Interval(sets) => mix(mix(look, 1), sets.len() as u64),
-        Body::Query { interval } => mix(mix(look, 2), *interval),
+        Body::Query { interval, .. } => mix(mix(look, 2), *interval),
         Body::Info { interval, .. } => mix(mix(look, 3), *interval),
         Body::Install { interval, .. } => mix(mix(look, 4), *interval),
         Body::Installed { interval } => mix(mix(look, 5), *interval),

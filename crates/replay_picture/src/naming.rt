@@ -2,7 +2,8 @@
 
 use common_types::OutOfMemory;
 use entry_core::{GroupId, Id};
-use peer_core::{Body, Party};
+use copy_core::Body;
+use peer_core::Party;
 use picture_text::Topic;
 use std::alloc::Global;
 use std::fmt::Write;
@@ -43,7 +44,7 @@ fn of_request(alloc: Global, kind: &str, id: Id) -> Result<String, OutOfMemory> 
 pub(crate) fn name_of(alloc: Global, body: &Body) -> Result<String, OutOfMemory> {
     match body {
         Body::Interval(sets) => of_interval(alloc, "Interval", sets.len() as u64),
-        Body::Query { interval } => of_interval(alloc, "Query", *interval),
+        Body::Query { interval, .. } => of_interval(alloc, "Query", *interval),
         Body::Info { interval, .. } => of_interval(alloc, "Info", *interval),
         Body::Install { interval, .. } => of_interval(alloc, "Install", *interval),
         Body::Installed { interval } => of_interval(alloc, "Installed", *interval),

@@ -2,8 +2,8 @@
 -- What happens to the messages of a group that are on their way: a step takes the message at a place, or none, and sends
 -- others behind those that stay. Each is told once, in order.
 use Rattle.std.specs.Prelude.{ℕ, ◌≡◌, List, ◌++◌, Option, Some, None, remove, slice_get}
-use Rattle.group_core.specs.Types.{Sent}
-use Rattle.group_core.specs.Group.{Group, Event, Submit, Deliver, Lose, Repeat, NewInterval, Restart, Kick, group_step}
+use Rattle.suffix_core.specs.Types.{Sent}
+use Rattle.suffix_core.specs.Group.{Group, Event, Submit, Deliver, Lose, Repeat, NewInterval, Restart, Kick, group_step}
 
 -- the message that a step takes at a place
 abbrev pub taken_from : List Sent → Option ℕ → Option Sent

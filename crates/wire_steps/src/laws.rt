@@ -1,6 +1,6 @@
 //! What holds of every step of a group: functions that do nothing, whose clauses are the laws.
 
-ghost use Rattle.group_core.specs.Group.{Group, Event};
+ghost use Rattle.suffix_core.specs.Group.{Group, Event};
 ghost use Rattle.wire_steps.specs.Wire.{TakesAndSends};
 
 /// Whatever happens to a group, its wire is then the one before without the message that was taken, and behind it what was sent. So

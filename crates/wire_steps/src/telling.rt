@@ -1,11 +1,11 @@
 //! What one step does to the messages of a group that are on their way.
 
 ghost use Rattle.std.specs.Prelude.{◌≡◌, ◌++◌, ℕ, List, Option, length, IfOk};
-ghost use Rattle.group_core.specs.Types.{Sent};
+ghost use Rattle.suffix_core.specs.Types.{Sent};
 ghost use Rattle.wire_steps.specs.Wire.{taken_from, kept, TellsStep};
 
 use common_types::{Items, OutOfMemory, TryCopy};
-use peer_core::Sent;
+use copy_core::Sent;
 use std::alloc::Global;
 
 /// What is kept of a wire before a step, to tell afterwards what the step did.

@@ -21,10 +21,10 @@ use Rattle.map_core.proofs.OnePool.{pool_after_step}
 use Rattle.entry_core.specs.Request.{Sealed}
 use Rattle.entry_core.specs.declared.sealed.GroupId.{GroupId}
 use Rattle.group_core.specs.Each.{Each}
-use Rattle.group_core.specs.Group.{Group, EventFits, group_step, run, start, last_set, is_submitted}
-use Rattle.group_core.specs.Group as group
-use Rattle.group_core.specs.Reached.{IsReached}
-use Rattle.group_core.specs.Within.{ActsWithin}
+use Rattle.suffix_core.specs.Group.{Group, EventFits, group_step, run, start, last_set, is_submitted}
+use Rattle.suffix_core.specs.Group as group
+use Rattle.suffix_core.specs.Reached.{IsReached}
+use Rattle.suffix_core.specs.Within.{ActsWithin}
 use Rattle.group_core.specs.declared.fault.GroupFault.{GroupFault}
 use Rattle.group_core.specs.declared.fault.GroupFault.TheVariants as group_fault
 use Rattle.group_core.proofs.Groups.{run-append}

@@ -9,7 +9,7 @@ use Rattle.entry_core.specs.declared.sealed.GroupId.{GroupId}
 use Rattle.group_core.specs.Each.{Each}
 use Rattle.group_core.specs.Asked.{IsAsked}
 use Rattle.group_core.specs.History.{Begins}
-use Rattle.group_core.specs.Group.{Group, Event, group_step}
+use Rattle.suffix_core.specs.Group.{Group, Event, group_step}
 use Rattle.group_core.proofs.Groups.{audit_grows}
 use Rattle.entry_core.specs.Locality.{group_for}
 use Rattle.world_core.specs.Groups.{is_same_group, is_of}

@@ -20,8 +20,8 @@ use Rattle.map_core.proofs.OnePool.{pool_after_step}
 use Rattle.entry_core.specs.Log.{is_in}
 use Rattle.entry_core.specs.declared.sealed.GroupId.{GroupId}
 use Rattle.group_core.specs.Each.{Each}
-use Rattle.group_core.specs.Group.{Group, group_step, refusal_of, last_set, same_set}
-use Rattle.group_core.specs.Group as group
+use Rattle.suffix_core.specs.Group.{Group, group_step, refusal_of, last_set, same_set}
+use Rattle.suffix_core.specs.Group as group
 use Rattle.world_core.specs.Event.{Fault, Map, OfGroup}
 use Rattle.world_core.specs.Front.{Front, front_step}
 use Rattle.world_core.specs.Refusing.{RefusedOrMemory}

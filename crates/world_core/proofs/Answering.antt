@@ -8,7 +8,7 @@ use Rattle.map_core.specs.Map.{map_of}
 use Rattle.entry_core.specs.Request.{Sealed}
 use Rattle.entry_core.specs.Locality.{group_for}
 use Rattle.entry_core.specs.declared.reply.Reply.{Reply}
-use Rattle.group_core.specs.Group.{Group, submitted, is_submitted, answer_of}
+use Rattle.suffix_core.specs.Group.{Group, submitted, is_submitted, answer_of}
 use Rattle.world_core.specs.Event.{Fault, NoRequest}
 use Rattle.world_core.specs.Front.{Front}
 use Rattle.world_core.specs.World.{group_at}

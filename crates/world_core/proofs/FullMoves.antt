@@ -11,8 +11,8 @@ use Rattle.map_core.specs.declared.command.MapCommand.TheVariants.{PoolCreate, A
 use Rattle.map_core.proofs.Daemons.{set_sized}
 use Rattle.entry_core.specs.Log.{is_in}
 use Rattle.entry_core.specs.declared.sealed.GroupId.{GroupId}
-use Rattle.group_core.specs.Group.{Group, last_set, same_set, has_all_intervals, refusal_of}
-use Rattle.group_core.specs.Group as group
+use Rattle.suffix_core.specs.Group.{Group, last_set, same_set, has_all_intervals, refusal_of}
+use Rattle.suffix_core.specs.Group as group
 use Rattle.group_core.specs.declared.fault.GroupFault.{GroupFault}
 use Rattle.group_core.specs.declared.fault.GroupFault.TheVariants as group_fault
 use Rattle.world_core.specs.World.{members_of}

@@ -9,7 +9,7 @@ use Rattle.map_core.specs.Intervals.{set_of}
 use Rattle.map_core.specs.declared.pool.Pool.{Pool}
 use Rattle.entry_core.specs.declared.sealed.GroupId.{GroupId}
 use Rattle.group_core.specs.Each.{Each}
-use Rattle.group_core.specs.Group.{Group, last_set}
+use Rattle.suffix_core.specs.Group.{Group, last_set}
 use Rattle.world_core.specs.Groups.{is_same_group}
 use Rattle.world_core.specs.World.{World, group_at, groups_of}
 use Rattle.world_core.specs.Moves.{AreGroupsOf, IsAt}

@@ -5,7 +5,7 @@ use Rattle.std.specs.Prelude.{fold}
 use Rattle.std.specs.List.{filter}
 use Rattle.std.specs.Option.{option_map}
 use Rattle.entry_core.specs.declared.sealed.GroupId.{GroupId}
-use Rattle.group_core.specs.Group.{Group, run, group_step}
+use Rattle.suffix_core.specs.Group.{Group, run, group_step}
 use Rattle.world_core.specs.Event.{Event}
 use Rattle.world_core.specs.Groups.{is_same_group}
 use Rattle.world_core.specs.Front.{front_step}

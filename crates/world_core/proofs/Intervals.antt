@@ -15,7 +15,7 @@ use Rattle.map_core.proofs.IntervalLists.{size_stays}
 use Rattle.map_core.proofs.Kept.{commands_begin_intervals, present_set_is_last}
 use Rattle.entry_core.specs.Log.{is_in}
 use Rattle.entry_core.specs.declared.sealed.GroupId.{GroupId}
-use Rattle.group_core.specs.Group.{last_set, same_set}
+use Rattle.suffix_core.specs.Group.{last_set, same_set}
 use Rattle.world_core.specs.World.{members_of}
 use Rattle.world_core.proofs.Merge.{bytes_refl, number_refl}
 use Rattle.world_core.proofs.Bytes.{bytes_same, number_same, both_true}

@@ -6,9 +6,9 @@ use Rattle.entry_core.specs.Log.{is_in}
 use Rattle.entry_core.specs.declared.sealed.GroupId.{GroupId}
 use Rattle.group_core.specs.Each.{Each}
 use Rattle.group_core.specs.History.{Begins}
-use Rattle.group_core.specs.Types.{Party, Client, Osd, Sent}
-use Rattle.group_core.specs.Group.{Group, group_step, left_by, refusal_to, refusal_at, arrives, deliver, without, copy_hears}
-use Rattle.group_core.specs.Group as group
+use Rattle.suffix_core.specs.Types.{Party, Client, Osd, Sent}
+use Rattle.suffix_core.specs.Group.{Group, group_step, left_by, refusal_to, refusal_at, arrives, deliver, without, copy_hears}
+use Rattle.suffix_core.specs.Group as group
 use Rattle.group_core.specs.declared.fault.GroupFault.{GroupFault}
 use Rattle.group_core.specs.declared.fault.GroupFault.TheVariants as group_fault
 use Rattle.group_core.proofs.Groups.{audit_grows}

@@ -13,7 +13,7 @@ use Rattle.map_core.specs.declared.command.MapCommand.TheVariants.{PoolCreate}
 use Rattle.map_core.proofs.Acceptance.{all_fail, or_left, not_false}
 use Rattle.map_core.proofs.Current.{daemons_stay}
 use Rattle.entry_core.specs.declared.sealed.GroupId.{GroupId}
-use Rattle.group_core.specs.Group.{start}
+use Rattle.suffix_core.specs.Group.{start}
 use Rattle.world_core.specs.World.{begun_group, members_of}
 use Rattle.place_core.specs.Placement.{numbers_of}
 use Rattle.world_core.proofs.Places.{numbered}

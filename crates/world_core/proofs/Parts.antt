@@ -6,7 +6,7 @@ use Rattle.std.proofs.lemmas.Option.{slice_get_read}
 use Rattle.std.proofs.lemmas.Grind.{flat_map-append}
 use Rattle.entry_core.specs.Request.{Sealed}
 use Rattle.group_core.specs.Each.{Each}
-use Rattle.group_core.specs.Group.{Group}
+use Rattle.suffix_core.specs.Group.{Group}
 use Rattle.world_core.specs.Submitting.{AreNew}
 use Rattle.world_core.specs.Inside.{run_entries, entries_told}
 use Rattle.world_core.specs.Sound.{FitsAt}

@@ -14,7 +14,7 @@ use Rattle.map_core.specs.Refusal.{first_of, acting_tests, groups_in}
 use Rattle.map_core.specs.declared.pool.Pool.{Pool}
 use Rattle.map_core.proofs.Acceptance.{all_fail, not_false}
 use Rattle.entry_core.specs.declared.sealed.GroupId.{GroupId}
-use Rattle.group_core.specs.Group.{Group}
+use Rattle.suffix_core.specs.Group.{Group}
 use Rattle.world_core.specs.Groups.{is_same_group}
 use Rattle.world_core.specs.World.{group_at, at_group, groups_of}
 use Rattle.world_core.specs.Moves.{AreGroupsOf, IsAt, place_in}

@@ -6,10 +6,10 @@ use Rattle.entry_core.specs.declared.entry.Entry.{Entry}
 use Rattle.entry_core.proofs.Lawful.{verdict_is_sealed}
 use Rattle.entry_core.proofs.FoundEntries.{find_tells}
 use Rattle.group_core.specs.Each.{Each}
-use Rattle.group_core.specs.Group.{submitted}
+use Rattle.suffix_core.specs.Group.{submitted}
 use Rattle.group_core.specs.Asked.{IsAsked}
 use Rattle.world_core.specs.World.{World, world_after}
-use Rattle.group_core.specs.Types.{EntryReply}
+use Rattle.suffix_core.specs.Types.{EntryReply}
 use Rattle.world_core.specs.Answers.{answer_at, IsAnswered, AnswersAreDecided}
 use Rattle.world_core.proofs.Worlds.{WorldStands, world_stands, world_legal, world_replied}
 

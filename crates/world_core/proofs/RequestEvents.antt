@@ -11,7 +11,7 @@ use Rattle.map_core.specs.declared.pool.Pool.{Pool}
 use Rattle.entry_core.specs.Locality.{group_for}
 use Rattle.entry_core.specs.Request.{Sealed}
 use Rattle.group_core.specs.Each.{Each}
-use Rattle.group_core.specs.Group.{Group, Submit, group_step, has_all_requests}
+use Rattle.suffix_core.specs.Group.{Group, Submit, group_step, has_all_requests}
 use Rattle.group_core.specs.declared.fault.GroupFault.TheVariants as group_fault
 use Rattle.world_core.specs.Event.{Ask, Event, ListNames, Told, Fault, OfGroup, OutOfMemory}
 use Rattle.world_core.specs.Event as events

@@ -7,11 +7,11 @@ use Rattle.map_core.specs.State.{MapState}
 use Rattle.entry_core.specs.Log.{is_in}
 use Rattle.entry_core.specs.Request.{Sealed}
 use Rattle.entry_core.specs.declared.sealed.GroupId.{GroupId}
-use Rattle.peer_core.specs.Steps.{restarted}
-use Rattle.group_core.specs.Types.{Daemon, Body, Interval, Query, Info, Install, Installed, Append, Appended, Request, Reply, NotHere, Party, Osd, Client, Sent}
+use Rattle.copy_core.specs.Steps.{restarted}
+use Rattle.suffix_core.specs.Types.{Daemon, Body, Interval, Query, Info, Install, Installed, Append, Appended, Request, Reply, NotHere, Party, Osd, Client, Sent}
 use Rattle.group_core.specs.Each.{Each}
-use Rattle.group_core.specs.Group.{Group, last_set, is_answered, answered, copy_hears, arrives, without, deliver, lose, again, is_submitted, has_all_requests, has_all_intervals, take_request, begin, with_up, same_set, group_step, run}
-use Rattle.group_core.specs.Group as group
+use Rattle.suffix_core.specs.Group.{Group, last_set, is_answered, answered, copy_hears, arrives, without, deliver, lose, again, is_submitted, has_all_requests, has_all_intervals, take_request, begin, with_up, same_set, group_step, run}
+use Rattle.suffix_core.specs.Group as group
 use Rattle.group_core.specs.declared.fault.GroupFault.TheVariants as group_fault
 use Rattle.entry_core.specs.Locality.{group_for}
 use Rattle.world_core.specs.Groups.{is_same_group}

@@ -10,7 +10,7 @@ use Rattle.std.proofs.lemmas.Bool.{ltb-true, lt-ltb}
 use Rattle.entry_core.specs.declared.entry.Entry.{Entry}
 use Rattle.group_core.specs.Each.{Each}
 use Rattle.group_core.specs.History.{Begins}
-use Rattle.group_core.specs.Group.{Group}
+use Rattle.suffix_core.specs.Group.{Group}
 use Rattle.world_core.specs.Standing.{audit_in}
 use Rattle.world_core.specs.declared.audit.Run.{Run}
 use Rattle.world_core.specs.Inside.{run_entries, entries_told}

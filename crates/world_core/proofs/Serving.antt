@@ -8,7 +8,7 @@ use Rattle.entry_core.specs.Log.{is_in, LegalFrom, reply_in}
 use Rattle.entry_core.specs.declared.reply.Reply.{Reply}
 use Rattle.entry_core.specs.declared.entry.Entry.{Entry}
 use Rattle.group_core.specs.Each.{Each}
-use Rattle.group_core.specs.Group.{submitted}
+use Rattle.suffix_core.specs.Group.{submitted}
 use Rattle.group_core.specs.Asked.{IsAsked}
 use Rattle.group_core.proofs.Audits.{legal_rest}
 use Rattle.world_core.specs.Event.{Event, Told, Fault}

@@ -12,7 +12,7 @@ use Rattle.map_core.specs.declared.command.MapCommand.TheVariants.{PoolCreate, A
 use Rattle.map_core.proofs.Current.{after_push}
 use Rattle.entry_core.specs.Request.{Sealed}
 use Rattle.entry_core.specs.declared.sealed.GroupId.{GroupId}
-use Rattle.group_core.specs.Group.{Group, group_step}
+use Rattle.suffix_core.specs.Group.{Group, group_step}
 use Rattle.world_core.specs.Event.{Event, Auth, Map, Open, Renew, Close, Submit, ListNames, Deliver, Lose, Repeat, Kick}
 use Rattle.world_core.specs.Groups.{is_same_group}
 use Rattle.world_core.specs.Front.{Front, front_step, sealed_by}

@@ -13,8 +13,8 @@ use Rattle.map_core.specs.declared.command.MapCommand.TheVariants.{PoolCreate, A
 use Rattle.map_core.proofs.Kept.{pools_differ}
 use Rattle.entry_core.specs.declared.sealed.GroupId.{GroupId}
 use Rattle.group_core.specs.Each.{Each}
-use Rattle.group_core.specs.Group.{Group, group_step, refusal_of}
-use Rattle.group_core.specs.Group as group
+use Rattle.suffix_core.specs.Group.{Group, group_step, refusal_of}
+use Rattle.suffix_core.specs.Group as group
 use Rattle.world_core.specs.Groups.{is_same_group}
 use Rattle.world_core.specs.World.{Part, part, group_at, at_group, groups_of, map_parts, parts_of, created_by, refused_in, part_refusal, parts_refusal}
 use Rattle.world_core.specs.Event.{Map}

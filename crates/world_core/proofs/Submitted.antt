@@ -5,7 +5,7 @@ use Rattle.std.specs.List.{find}
 use Rattle.std.specs.Map.{lookup}
 use Rattle.std.proofs.lemmas.List.{map-append}
 use Rattle.entry_core.specs.Request.{Sealed}
-use Rattle.group_core.specs.Group.{submitted}
+use Rattle.suffix_core.specs.Group.{submitted}
 use Rattle.group_core.proofs.ById.{same_turned}
 use Rattle.world_core.specs.Front.{Pieced}
 use Rattle.world_core.specs.Submitting.{requests_in, AreKeyed, lists_in}

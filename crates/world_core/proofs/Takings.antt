@@ -10,8 +10,8 @@ use Rattle.std.specs.Bool.{◌==◌}
 use Rattle.std.proofs.lemmas.Option.{slice_get_read}
 use Rattle.entry_core.specs.Request.{Sealed}
 use Rattle.group_core.specs.Each.{Each}
-use Rattle.group_core.specs.Group.{Group, Submit, group_step, has_all_requests}
-use Rattle.group_core.specs.Reached.{HasJustTaken}
+use Rattle.suffix_core.specs.Group.{Group, Submit, group_step, has_all_requests}
+use Rattle.suffix_core.specs.Reached.{HasJustTaken}
 use Rattle.world_core.specs.Taking.{Takes, TakesAll, is_full_at}
 use Rattle.world_core.proofs.RunPlaces.{set_there}
 

@@ -13,12 +13,12 @@ use Rattle.entry_core.specs.Request.{Sealed}
 use Rattle.entry_core.specs.Log.{Legal, find}
 use Rattle.entry_core.specs.declared.entry.Entry.{Entry}
 use Rattle.entry_core.specs.declared.sealed.GroupId.{GroupId}
-use Rattle.group_core.specs.Types.{EntryReply}
+use Rattle.suffix_core.specs.Types.{EntryReply}
 use Rattle.group_core.specs.Each.{Each}
 use Rattle.group_core.specs.Asked.{IsAsked, IsReplied}
 use Rattle.group_core.specs.History.{Begins}
-use Rattle.group_core.specs.Group.{Group, group_step, run, start, submitted, answer_of}
-use Rattle.group_core.specs.Group as group
+use Rattle.suffix_core.specs.Group.{Group, group_step, run, start, submitted, answer_of}
+use Rattle.suffix_core.specs.Group as group
 use Rattle.group_core.proofs.Groups.{start_good}
 use Rattle.group_core.proofs.Kept.{run_kept, start_kept, answer_replied, answer_stands}
 use Rattle.world_core.specs.Event.{Event, Auth, Map, Open, Renew, Close, Submit, ListNames, Deliver, Lose, Repeat, Kick}

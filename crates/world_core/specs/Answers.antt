@@ -7,8 +7,8 @@ use Rattle.entry_core.specs.Laws.{is_denied}
 use Rattle.entry_core.specs.Deciding.{is_allowed_sealed}
 use Rattle.entry_core.specs.declared.entry.Entry.{Entry}
 use Rattle.entry_core.specs.Request.{Sealed}
-use Rattle.group_core.specs.Types.{EntryReply}
-use Rattle.group_core.specs.Group.{Group, answer_of, submitted}
+use Rattle.suffix_core.specs.Types.{EntryReply}
+use Rattle.suffix_core.specs.Group.{Group, answer_of, submitted}
 use Rattle.group_core.specs.Asked.{IsReplied}
 use Rattle.group_core.specs.History.{Begins}
 use Rattle.world_core.specs.Event.{Event}

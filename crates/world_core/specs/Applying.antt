@@ -2,8 +2,8 @@
 -- What one event does to a world, and one call to a group and its runs.
 use Rattle.std.specs.Prelude.{◌≡◌, ◌⊎◌, ℕ, List, [], ◌∷◌, ◌++◌, true, false, if◌then◌else◌, None, Some, Result, Ok, Err, IfOk, length, nat_lt, slice_get, slice_set}
 use Rattle.entry_core.specs.declared.sealed.GroupId.{GroupId}
-use Rattle.group_core.specs.Group.{Group, group_step, left_by}
-use Rattle.group_core.specs.Group as group
+use Rattle.suffix_core.specs.Group.{Group, group_step, left_by}
+use Rattle.suffix_core.specs.Group as group
 use Rattle.group_core.specs.declared.fault.GroupFault.{GroupFault}
 use Rattle.group_core.specs.declared.fault.GroupFault.TheVariants as group_fault
 use Rattle.world_core.specs.Event.{Event, Deliver, Lose, Repeat, Kick, Told, Done, Fault, OutOfMemory, OfGroup}

@@ -4,9 +4,9 @@ use Rattle.std.specs.Prelude.{◌≡◌, ◌⊎◌, ℕ, List, [], ◌∷◌, Op
 use Rattle.grant_core.specs.Flat.{Table}
 use Rattle.entry_core.specs.Request.{Sealed}
 use Rattle.entry_core.specs.declared.sealed.GroupId.{GroupId}
-use Rattle.group_core.specs.Group.{Group, is_submitted}
-use Rattle.group_core.specs.Replicated.{IsReplicated}
-use Rattle.group_core.specs.Types.{EntryReply}
+use Rattle.suffix_core.specs.Group.{Group, is_submitted}
+use Rattle.suffix_core.specs.Replicated.{IsReplicated}
+use Rattle.suffix_core.specs.Types.{EntryReply}
 use Rattle.world_core.specs.Event.{Event, Fault, NoRequest, OutOfMemory}
 use Rattle.world_core.specs.World.{World, first_world, group_at, refusal_of, world_after, world_step}
 use Rattle.world_core.specs.Holds.{AreAccepted, HasIntervals}

@@ -5,8 +5,8 @@ use Rattle.std.specs.List.{filter}
 use Rattle.grant_core.specs.Flat.{Table}
 use Rattle.map_core.specs.Intervals.{intervals_of}
 use Rattle.entry_core.specs.declared.sealed.GroupId.{GroupId}
-use Rattle.group_core.specs.Group.{Group, run}
-use Rattle.group_core.specs.Group as group
+use Rattle.suffix_core.specs.Group.{Group, run}
+use Rattle.suffix_core.specs.Group as group
 use Rattle.world_core.specs.Event.{Event}
 use Rattle.world_core.specs.Groups.{is_same_group}
 use Rattle.world_core.specs.Front.{Front, first_front, front_step, front_after}

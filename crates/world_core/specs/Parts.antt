@@ -4,7 +4,7 @@ use Rattle.std.specs.Prelude.{◌≤◌, List, length, []}
 use Rattle.std.specs.List.{flat_map}
 use Rattle.entry_core.specs.Request.{Sealed}
 use Rattle.entry_core.specs.declared.entry.Entry.{Entry}
-use Rattle.group_core.specs.Group.{Group}
+use Rattle.suffix_core.specs.Group.{Group}
 use Rattle.world_core.specs.Front.{Front}
 use Rattle.world_core.specs.World.{World}
 use Rattle.world_core.specs.Sound.{IsSound}

@@ -12,8 +12,8 @@ use Rattle.entry_core.specs.Request.{Sealed}
 use Rattle.entry_core.specs.declared.sealed.GroupId.{GroupId}
 use Rattle.group_core.specs.Each.{Each}
 use Rattle.group_core.specs.Asked.{IsAsked}
-use Rattle.group_core.specs.Group.{Group, Event, Submit, Deliver, Lose, Repeat, NewInterval, Restart, Kick, last_set, run, start}
-use Rattle.group_core.specs.Within.{IsReachedWithin}
+use Rattle.suffix_core.specs.Group.{Group, Event, Submit, Deliver, Lose, Repeat, NewInterval, Restart, Kick, last_set, run, start}
+use Rattle.suffix_core.specs.Within.{IsReachedWithin}
 use Rattle.world_core.specs.Groups.{is_for}
 use Rattle.world_core.specs.Front.{Front}
 use Rattle.world_core.specs.World.{World, group_at, groups_of}

@@ -8,7 +8,7 @@ use Rattle.entry_core.specs.declared.entry.Entry.{Entry}
 use Rattle.entry_core.specs.declared.sealed.GroupId.{GroupId}
 use Rattle.group_core.specs.Each.{Each}
 use Rattle.group_core.specs.Asked.{IsAsked}
-use Rattle.group_core.specs.Group.{Group}
+use Rattle.suffix_core.specs.Group.{Group}
 use Rattle.entry_core.specs.Locality.{IsPlaced}
 use Rattle.world_core.specs.Merging.{part_of}
 use Rattle.world_core.specs.World.{World, group_at}

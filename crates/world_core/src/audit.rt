@@ -7,7 +7,7 @@ ghost use Rattle.world_core.specs.Inside.{entries_told};
 ghost use Rattle.world_core.specs.Sound.{FitsAt};
 
 use entry_core::{Entry, Items, OutOfMemory, TryCopy};
-use group_core::Group;
+use group_copies::Group;
 use std::alloc::Global;
 
 /// The entries of one group that one event decided.

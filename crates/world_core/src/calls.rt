@@ -1,13 +1,14 @@
 //! Calls on one group, each of which is an event of the world.
 
 ghost use Rattle.std.specs.Prelude.{◌≡◌, ◌<◌, ◌++◌, length};
-ghost use Rattle.group_core.specs.Group.{Deliver};
+ghost use Rattle.suffix_core.specs.Group.{Deliver};
 ghost use Rattle.world_core.specs.Applying.{CalledAt, LosesFreely, StepsOrMemory, event_of, runs_from, told_call};
 
 use crate::audit::{Run, keep};
 use crate::event::Told;
 use crate::fault::WorldFault;
-use group_core::{Group, GroupFault};
+use group_copies::Group;
+use group_core::GroupFault;
 
 /// What happens to one group.
 #[derive(Clone, Copy, Drop)]

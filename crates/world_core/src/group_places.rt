@@ -3,7 +3,7 @@
 ghost use Rattle.std.specs.Prelude.{◌≡◌, ◌≤◌, List, All, length, IfOk};
 ghost use Rattle.std.specs.Option.{option_map};
 ghost use Rattle.entry_core.specs.Locality.{group_for};
-ghost use Rattle.group_core.specs.Group.{Group};
+ghost use Rattle.suffix_core.specs.Group.{Group};
 ghost use Rattle.map_core.specs.Limits.{IsPool};
 ghost use Rattle.map_core.specs.Refusal.{acting_refusal};
 ghost use Rattle.world_core.specs.Event.{OfMap};

@@ -1,7 +1,7 @@
 //! The requests that were submitted.
 
 ghost use Rattle.std.specs.Prelude.{◌≡◌, ◌++◌, [], ◌∷◌, None, OnOk, OnErr, length, take, option_copied};
-ghost use Rattle.group_core.specs.Group.{submitted};
+ghost use Rattle.suffix_core.specs.Group.{submitted};
 ghost use Rattle.world_core.specs.Submitting.{AreNew};
 
 use entry_core::{Id, IdHash, OutOfMemory, Sealed, TryCopy};

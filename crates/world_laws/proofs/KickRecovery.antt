@@ -9,18 +9,18 @@ use Rattle.entry_core.specs.Locality.{group_for}
 use Rattle.entry_core.specs.Log.{is_in}
 use Rattle.entry_core.specs.Request.{Sealed}
 use Rattle.entry_core.specs.declared.sealed.GroupId.{GroupId}
-use Rattle.group_core.specs.Types.{Sent, Party, Client, Osd}
+use Rattle.suffix_core.specs.Types.{Sent, Party, Client, Osd}
 use Rattle.group_core.specs.Each.{Each}
 use Rattle.group_core.specs.declared.answers.Answer.{Answer}
-use Rattle.group_core.specs.Group.{Group, group_step, run, settle, kick, deliver, lose, refusal_to, refusal_at, missing_at, submitted, is_answered, answer_of}
-use Rattle.group_core.specs.Group as group
+use Rattle.suffix_core.specs.Group.{Group, group_step, run, settle, kick, deliver, lose, refusal_to, refusal_at, missing_at, submitted, is_answered, answer_of}
+use Rattle.suffix_core.specs.Group as group
 use Rattle.group_core.specs.declared.fault.GroupFault.TheVariants as group_fault
-use Rattle.group_core.specs.Budget.{budget, settled_group}
-use Rattle.group_laws.specs.Recovery.{lost_all, IsLoss, Recovers}
-use Rattle.group_laws.proofs.RecoveryLaws.{all_lost, can_lose}
-use Rattle.group_laws.proofs.RecoveryTests.{ready_from}
-use Rattle.group_laws.proofs.Statements.{recovers}
-use Rattle.group_laws.proofs.SameGroups.{same_settle}
+use Rattle.suffix_core.specs.Budget.{budget, settled_group}
+use Rattle.suffix_laws.specs.Recovery.{lost_all, IsLoss, Recovers}
+use Rattle.suffix_laws.proofs.RecoveryLaws.{all_lost, can_lose}
+use Rattle.suffix_laws.proofs.RecoveryTests.{ready_from}
+use Rattle.suffix_laws.proofs.Statements.{recovers}
+use Rattle.suffix_laws.proofs.SameGroups.{same_settle}
 use Rattle.world_core.specs.declared.event.Event.{Event}
 use Rattle.world_core.specs.declared.event.Event.TheVariants.{Deliver, Lose, Repeat, Kick}
 use Rattle.world_core.specs.declared.fault.WorldFault.TheVariants.{Group as OfGroup}

@@ -16,7 +16,7 @@ use Rattle.entry_core.specs.declared.entry.Entry.{Entry}
 use Rattle.entry_core.specs.declared.reply.Reply.{Reply}
 use Rattle.entry_core.specs.declared.reply.Reply.TheVariants.{Names}
 use Rattle.group_core.specs.Each.{Each}
-use Rattle.group_core.specs.Group.{submitted}
+use Rattle.suffix_core.specs.Group.{submitted}
 use Rattle.group_core.specs.Asked.{IsAsked}
 use Rattle.group_core.proofs.Audits.{legal_rest}
 use Rattle.world_core.specs.declared.event.Ask.{Ask}

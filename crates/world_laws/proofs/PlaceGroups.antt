@@ -14,7 +14,7 @@ use Rattle.map_core.specs.declared.command.MapCommand.TheVariants.{PoolCreate, A
 use Rattle.map_core.proofs.Current.{after_push}
 use Rattle.map_core.proofs.Acceptance.{all_fail, not_false}
 use Rattle.entry_core.specs.declared.sealed.GroupId.{GroupId}
-use Rattle.group_core.specs.Group.{Group, group_step}
+use Rattle.suffix_core.specs.Group.{Group, group_step}
 use Rattle.world_core.specs.declared.event.Event.{Event}
 use Rattle.world_core.specs.declared.event.Event.TheVariants.{Auth, Map, Open, Renew, Close, Submit, List as ListNames, Deliver, Lose, Repeat, Kick}
 use Rattle.world_core.specs.declared.fault.WorldFault.TheVariants.{Map as OfMap}

@@ -16,7 +16,7 @@ use Rattle.entry_core.specs.declared.entry.Entry.{Entry}
 use Rattle.entry_core.specs.declared.sealed.GroupId.{GroupId}
 use Rattle.group_core.specs.Each.{Each}
 use Rattle.group_core.specs.Asked.{IsAsked}
-use Rattle.group_core.specs.Group.{Group, submitted, is_submitted}
+use Rattle.suffix_core.specs.Group.{Group, submitted, is_submitted}
 use Rattle.world_core.specs.Groups.{is_same_group, is_for}
 use Rattle.world_core.specs.declared.session.Session.{Session}
 use Rattle.world_core.specs.Stands.{next_at, IsGiven, IsSealedWell, FrontStands}

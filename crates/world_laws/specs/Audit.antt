@@ -5,8 +5,8 @@ use Rattle.std.specs.List.{flat_map}
 use Rattle.entry_core.specs.declared.entry.Entry.{Entry}
 use Rattle.entry_core.specs.declared.sealed.GroupId.{GroupId}
 use Rattle.group_core.specs.Each.{Each}
-use Rattle.group_core.specs.Group.{Group, group_step}
-use Rattle.group_core.specs.Group as group
+use Rattle.suffix_core.specs.Group.{Group, group_step}
+use Rattle.suffix_core.specs.Group as group
 use Rattle.world_core.specs.declared.event.Event.{Event}
 use Rattle.world_core.specs.World.{World, Part, group_at, act, created_by}
 use Rattle.world_core.specs.Standing.{audit_at}

@@ -7,7 +7,7 @@ use Rattle.map_core.specs.State.{History}
 use Rattle.map_core.specs.Map.{is_named, map_of}
 use Rattle.map_core.specs.declared.pool.Pool.{Pool}
 use Rattle.entry_core.specs.declared.sealed.GroupId.{GroupId}
-use Rattle.group_core.specs.Group.{Group}
+use Rattle.suffix_core.specs.Group.{Group}
 use Rattle.world_core.specs.declared.event.Event.{Event}
 use Rattle.world_core.specs.Front.{group_refusal}
 use Rattle.world_core.specs.World.{World, group_at, groups_of, world_step, world_after}

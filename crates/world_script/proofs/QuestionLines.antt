@@ -8,7 +8,7 @@ use Rattle.map_core.specs.Refusal.{view_refusal}
 use Rattle.map_core.specs.declared.pool.PoolView.{PoolView}
 use Rattle.place_core.specs.Placement.{group_of}
 use Rattle.entry_core.specs.Request.{Sealed}
-use Rattle.group_core.specs.Group.{submitted}
+use Rattle.suffix_core.specs.Group.{submitted}
 use Rattle.world_core.specs.declared.fault.WorldFault.{WorldFault as Fault}
 use Rattle.world_core.specs.declared.fault.WorldFault.TheVariants.{NoRequest, BadObjectName, Map as OfMap}
 use Rattle.world_core.specs.Front.{Front, is_object_name, is_namespace}

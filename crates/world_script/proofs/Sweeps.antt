@@ -5,11 +5,11 @@ use Rattle.std.specs.Prelude.{nat_lt}
 use Rattle.std.specs.Option.{option_map, option_or}
 use Rattle.std.proofs.lemmas.List.Sums.{fold-append}
 use Rattle.entry_core.specs.declared.sealed.GroupId.{GroupId}
-use Rattle.group_core.specs.Types.{Sent, Party, Osd, Client}
-use Rattle.group_core.specs.Group.{Group, group_step, refusal_to, refusal_at}
-use Rattle.group_core.specs.Group as group
+use Rattle.suffix_core.specs.Types.{Sent, Party, Osd, Client}
+use Rattle.suffix_core.specs.Group.{Group, group_step, refusal_to, refusal_at}
+use Rattle.suffix_core.specs.Group as group
 use Rattle.entry_core.specs.Log.{is_in}
-use Rattle.group_core.specs.Budget.{budget}
+use Rattle.suffix_core.specs.Budget.{budget}
 use Rattle.group_core.specs.declared.fault.GroupFault.TheVariants.{Unreachable}
 use Rattle.group_core.proofs.Reached.{reached_bounded}
 use Rattle.group_core.proofs.Settles.{Bounded, deliver_lowers, lose_lowers}

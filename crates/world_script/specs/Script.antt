@@ -20,9 +20,9 @@ use Rattle.place_core.specs.Placement.{group_of}
 use Rattle.entry_core.specs.Request.{Sealed}
 use Rattle.entry_core.specs.declared.reply.Reply.{Reply}
 use Rattle.entry_core.specs.declared.sealed.GroupId.{GroupId}
-use Rattle.group_core.specs.Group.{Group, submitted}
-use Rattle.group_core.specs.Budget.{budget}
-use Rattle.group_core.specs.Recovery.{is_ready}
+use Rattle.suffix_core.specs.Group.{Group, submitted}
+use Rattle.suffix_core.specs.Budget.{budget}
+use Rattle.suffix_core.specs.Recovery.{is_ready}
 use Rattle.world_core.specs.declared.event.Ask.{Ask}
 use Rattle.world_core.specs.declared.event.Event.{Event}
 use Rattle.world_core.specs.declared.fault.WorldFault.{WorldFault as Fault}

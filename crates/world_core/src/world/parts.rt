@@ -14,7 +14,7 @@ use crate::submissions::Submissions;
 use crate::world::World;
 use auth_db::AuthDb;
 use entry_core::OutOfMemory;
-use group_core::Group;
+use group_copies::Group;
 use map_core::ClusterMap;
 use std::alloc::Global;
 

@@ -1,7 +1,7 @@
 use Rattle.std.proofs.Common.{ap, sym}
 use Rattle.std.specs.Prelude.{Option}
 use Rattle.std.specs.Option.{option_map}
-use Rattle.group_core.specs.Moves.{event_of}
+use Rattle.group_copies.specs.Moves.{event_of}
 use Rattle.group_core.specs.declared.opening.GroupMove.{GroupMove}
 use Rattle.cluster.specs.MapCommands.{move_entry, MoveTells}
 use Rattle.cluster.proofs.Moved.{inside_of, moved, refused, still_monitor}

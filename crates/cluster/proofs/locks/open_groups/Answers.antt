@@ -1,6 +1,6 @@
 use Rattle.std.proofs.Common.{[], ◌∷◌, ◌++◌, map, sym, ap, ◌∙◌, subst}
 use Rattle.std.proofs.lemmas.List.{map-append}
-use Rattle.group_core.specs.Group.{Group}
+use Rattle.suffix_core.specs.Group.{Group}
 use Rattle.turn_lock.specs.Seats.{first_of}
 use Rattle.cluster.specs.Places.{Beside, IsFreshRow}
 use Rattle.cluster.specs.Passes.{group_in, shares_of}

@@ -4,7 +4,7 @@ use Rattle.std.specs.Option.{option_map, option_or}
 use Rattle.map_core.specs.Map.{map_of, epoch_of}
 use Rattle.map_core.specs.Limits.{IsAccepted}
 use Rattle.map_core.specs.Refusal.{refusal}
-use Rattle.group_core.specs.Group.{Group}
+use Rattle.suffix_core.specs.Group.{Group}
 use Rattle.world_core.specs.Event.{Fault, Map, OfMap, OfGroup}
 use Rattle.world_core.specs.Refusing.{RefusedOrMemory}
 use Rattle.world_core.specs.World.{parts_of, parts_refusal, created_by}

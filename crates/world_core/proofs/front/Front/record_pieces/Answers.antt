@@ -1,7 +1,7 @@
 use Rattle.std.proofs.Common.{◌≡◌, ◌∙◌, ◌++◌, ◌<◌, Ok, length, get_or, sym, ap, subst}
 use Rattle.entry_core.specs.Request.{Sealed}
 use Rattle.group_core.specs.Each.{Each}
-use Rattle.group_core.specs.Group.{submitted}
+use Rattle.suffix_core.specs.Group.{submitted}
 use Rattle.std.specs.Prelude.{None}
 use Rattle.world_core.specs.Event.{ListNames}
 use Rattle.world_core.specs.Front.{Front, requests_of, session_at, asks_more, listed}

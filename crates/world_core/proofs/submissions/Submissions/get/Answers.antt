@@ -1,5 +1,5 @@
 use Rattle.std.proofs.Common.{◌∙◌, ap}
-use Rattle.group_core.specs.Group.{submitted}
+use Rattle.suffix_core.specs.Group.{submitted}
 use Rattle.world_core.proofs.Submitted.{request_found}
 use Rattle.world_core.proofs.submissions.Submissions.get.Goals as goal
 

@@ -1,6 +1,6 @@
 use Rattle.std.proofs.Common.{◌∙◌, ◌++◌, ◌∷◌, [], ℕ, ap, sym, subst, nat_eq}
 use Rattle.indexmap.proofs.CallerLemmas.{insert_entry-new}
-use Rattle.group_core.specs.Group.{submitted}
+use Rattle.suffix_core.specs.Group.{submitted}
 use Rattle.world_core.specs.Submitting.{requests_in, AreKeyed}
 use Rattle.world_core.proofs.Submitted.{request_found, keyed_push, requests_push}
 use Rattle.world_core.proofs.submissions.Submissions.push.Goals as goal
