@@ -16,8 +16,8 @@ use Rattle.group_core.specs.Each.{Each}
 use Rattle.suffix_core.specs.Group.{Group, group_step, run, deliver, delivered, delivered_now, delivered_to, refusal_to, refusal_at}
 use Rattle.suffix_core.specs.Group as group
 use Rattle.group_core.specs.declared.fault.GroupFault.TheVariants as group_fault
-use Rattle.suffix_laws.specs.Calm.{answer_with}
-use Rattle.group_core.proofs.Settling.{delivered_idle}
+use Rattle.group_laws.specs.Calm.{answer_with}
+use Rattle.suffix_core.proofs.Runs.{delivered_idle}
 use Rattle.world_core.specs.declared.event.Event.{Event}
 use Rattle.world_core.specs.declared.event.Event.TheVariants.{Deliver}
 use Rattle.world_core.specs.declared.fault.WorldFault.TheVariants.{Group as OfGroup}

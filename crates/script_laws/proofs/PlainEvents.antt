@@ -27,7 +27,7 @@ use Rattle.suffix_core.specs.Group.{Group, last_set, same_set, has_all_intervals
 use Rattle.suffix_core.specs.Group as group
 use Rattle.group_core.specs.declared.fault.GroupFault.{GroupFault}
 use Rattle.group_core.specs.declared.fault.GroupFault.TheVariants as group_fault
-use Rattle.suffix_laws.specs.Calm.{IsCalm, answer_with}
+use Rattle.group_laws.specs.Calm.{IsCalm, answer_with}
 use Rattle.suffix_laws.proofs.CalmGroups.{begins_calm}
 use Rattle.world_core.specs.declared.event.Ask.{Ask}
 use Rattle.world_core.specs.declared.event.Event.{Event}

@@ -13,15 +13,17 @@ use Rattle.group_core.specs.declared.answers.Answer.{Answer}
 use Rattle.suffix_core.specs.Group.{Group, IsSet, last_set, is_submitted, has_all_requests, has_all_intervals, take_request, begin, with_up, same_set, group_step, run, start}
 use Rattle.suffix_core.specs.Group as group
 use Rattle.suffix_core.specs.Budget.{budget, settled_group, settle_count}
-use Rattle.suffix_laws.specs.Quiet.{IsQuiet, made_by, opening_cost, request_cost}
-use Rattle.suffix_laws.specs.Calm.{IsCalm, IsSmall, IsCalmGroup, unserved_cost, answer_with}
+use Rattle.group_laws.specs.Quiet.{IsQuiet, opening_cost, request_cost}
+use Rattle.suffix_laws.specs.Quiet.{made_by}
+use Rattle.group_laws.specs.Calm.{IsCalm, IsSmall, unserved_cost, answer_with}
+use Rattle.suffix_laws.specs.Calm.{IsCalmGroup}
 use Rattle.suffix_laws.specs.Laws.{KeepsCount, DecidesInOrder}
 use Rattle.suffix_laws.proofs.Statements.{serves_in_time, decides_in_order, answers_nothing, serving_keeps_count, waiting_keeps_count}
 use Rattle.suffix_laws.proofs.CalmGroups.{steps_calm, settles_calm}
-use Rattle.suffix_laws.proofs.QuietLaws.{quiet_opening}
-use Rattle.suffix_laws.proofs.SmallRuns.{small_opening}
+use Rattle.suffix_laws.proofs.Statements.{quiet_opening}
+use Rattle.suffix_laws.proofs.Statements.{small_opening}
 use Rattle.suffix_laws.proofs.SameGroups.{same_step, same_run}
-use Rattle.group_core.proofs.Settling.{delivered_idle}
+use Rattle.suffix_core.proofs.Runs.{delivered_idle}
 use Rattle.script_laws.specs.Plain.{serving_cost, waiting_cost}
 use Rattle.world_core.proofs.Requests.{message_facts}
 use Rattle.world_core.proofs.Intervals.{same_set_refl}

@@ -16,7 +16,7 @@ use Rattle.peer_core.specs.Choice.{covers}
 use Rattle.group_core.specs.Each.{Each}
 use Rattle.group_core.specs.Asked.{IsAsked}
 use Rattle.suffix_core.specs.Group.{Group, answer_of, submitted, last_set}
-use Rattle.suffix_laws.specs.Calm.{answer_with}
+use Rattle.group_laws.specs.Calm.{answer_with}
 use Rattle.suffix_core.specs.Recovery.{is_ready, greatest_base}
 use Rattle.entry_core.specs.Locality.{group_for}
 use Rattle.world_core.specs.declared.event.Event.{Event}

@@ -16,8 +16,8 @@ use Rattle.group_core.specs.Each.{Each}
 use Rattle.suffix_core.specs.Group.{Group, run}
 use Rattle.suffix_core.specs.Group as group
 use Rattle.suffix_core.specs.Budget.{budget, settled_group, settle_count}
-use Rattle.suffix_laws.specs.Quiet.{request_cost}
-use Rattle.suffix_laws.specs.Calm.{answer_with, unserved_cost}
+use Rattle.group_laws.specs.Quiet.{request_cost}
+use Rattle.group_laws.specs.Calm.{answer_with, unserved_cost}
 use Rattle.group_core.proofs.Audits.{legal_rest}
 use Rattle.suffix_laws.proofs.SameGroups.{same_settle}
 use Rattle.world_core.specs.declared.event.Event.{Event}

@@ -23,7 +23,7 @@ use Rattle.group_core.specs.Each.{Each}
 use Rattle.suffix_core.specs.Group.{Group, group_step, last_set}
 use Rattle.suffix_core.specs.Group as group
 use Rattle.suffix_core.specs.Budget.{settle_count}
-use Rattle.suffix_laws.specs.Calm.{IsCalm, answer_with}
+use Rattle.group_laws.specs.Calm.{IsCalm, answer_with}
 use Rattle.suffix_laws.proofs.SameGroups.{same_step, takes_last}
 use Rattle.world_core.specs.declared.event.Event.{Event}
 use Rattle.world_core.specs.Groups.{is_same_group, is_for}

@@ -23,3 +23,8 @@ pub mod Settling
 pub mod Keeping
 pub mod Holding
 pub mod Fitting
+pub mod Runs
+pub mod Shown
+pub mod Additions
+pub mod Refusals
+pub mod Twins

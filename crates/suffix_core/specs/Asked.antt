@@ -1,6 +1,5 @@
 -- Statement: contracts of public calls use it.
 -- Where a request that a group holds comes from.
-use Rattle.std.specs.Prelude.{List}
 use Rattle.entry_core.specs.Request.{Sealed}
 use Rattle.group_core.specs.Asked.{IsAsked, InLog}
 use Rattle.group_core.specs.Each.{Each}

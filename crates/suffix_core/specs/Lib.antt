@@ -10,3 +10,4 @@ pub mod Budget
 pub mod Reached
 pub mod Recovery
 pub mod Replicated
+pub mod Within

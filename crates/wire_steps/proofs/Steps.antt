@@ -38,9 +38,9 @@ answered_sends g (Reply id reply) =
     elim (is_answered g.answers id) as (λ b. Sends (if b then g else record g { answers = g.answers ++ record { id = id; reply = reply } ∷ [] }).wire g.wire)
     [ true ↦ nothing g.wire | false ↦ nothing g.wire ]
 answered_sends g (Interval sets) = nothing g.wire
-answered_sends g (Query n) = nothing g.wire
-answered_sends g (Info n base log) = nothing g.wire
-answered_sends g (Install n log) = nothing g.wire
+answered_sends g (Query n len end) = nothing g.wire
+answered_sends g (Info n base from part) = nothing g.wire
+answered_sends g (Install n from part) = nothing g.wire
 answered_sends g (Installed n) = nothing g.wire
 answered_sends g (Append n place s) = nothing g.wire
 answered_sends g (Appended n place) = nothing g.wire

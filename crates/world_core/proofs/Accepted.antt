@@ -27,7 +27,7 @@ use Rattle.suffix_core.specs.Reached.{IsReached}
 use Rattle.suffix_core.specs.Within.{ActsWithin}
 use Rattle.group_core.specs.declared.fault.GroupFault.{GroupFault}
 use Rattle.group_core.specs.declared.fault.GroupFault.TheVariants as group_fault
-use Rattle.group_core.proofs.Groups.{run-append}
+use Rattle.suffix_core.proofs.Runs.{run-append}
 use Rattle.world_core.specs.Event.{Ask, Event, Auth, Map, Open, Renew, Close, Submit, ListNames, Deliver, Lose, Repeat, Kick, Fault, OfMap, OfGroup}
 use Rattle.entry_core.specs.Locality.{group_for}
 use Rattle.world_core.specs.Groups.{is_same_group, is_for}

@@ -10,7 +10,7 @@ use Rattle.group_core.specs.Each.{Each}
 use Rattle.group_core.specs.Asked.{IsAsked}
 use Rattle.group_core.specs.History.{Begins}
 use Rattle.suffix_core.specs.Group.{Group, Event, group_step}
-use Rattle.group_core.proofs.Groups.{audit_grows}
+use Rattle.suffix_core.proofs.Additions.{audit_grows}
 use Rattle.entry_core.specs.Locality.{group_for}
 use Rattle.world_core.specs.Groups.{is_same_group, is_of}
 use Rattle.world_core.specs.Merging.{part_of}

@@ -11,7 +11,7 @@ use Rattle.suffix_core.specs.Group.{Group, group_step, left_by, refusal_to, refu
 use Rattle.suffix_core.specs.Group as group
 use Rattle.group_core.specs.declared.fault.GroupFault.{GroupFault}
 use Rattle.group_core.specs.declared.fault.GroupFault.TheVariants as group_fault
-use Rattle.group_core.proofs.Groups.{audit_grows}
+use Rattle.suffix_core.proofs.Additions.{audit_grows}
 use Rattle.world_core.specs.Event.{Event, Auth, Map, Open, Renew, Close, Submit, ListNames, Deliver, Lose, Repeat, Kick, Told, Fault, OutOfMemory, OfMap, OfGroup, Done}
 use Rattle.map_core.specs.Refusal.{acting_refusal}
 use Rattle.map_core.specs.declared.fault.MapFault.{MapFault}

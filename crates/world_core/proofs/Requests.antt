@@ -43,9 +43,9 @@ is_if x false g h p q = q
 is_answered_body : (x : Facts) (g : Group) (b : Body) → Is x g → Is x (answered g b)
 is_answered_body x g (Reply r reply) is = is_if x (is_answered g.answers r) g (record g { answers = g.answers ++ record { id = r; reply = reply } ∷ [] }) is is
 is_answered_body x g (Interval sets) is = is
-is_answered_body x g (Query i) is = is
-is_answered_body x g (Info i base log) is = is
-is_answered_body x g (Install i log) is = is
+is_answered_body x g (Query i len end) is = is
+is_answered_body x g (Info i base from part) is = is
+is_answered_body x g (Install i from part) is = is
 is_answered_body x g (Installed i) is = is
 is_answered_body x g (Append i place s) is = is
 is_answered_body x g (Appended i place) is = is

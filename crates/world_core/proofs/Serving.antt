@@ -24,8 +24,7 @@ use Rattle.world_core.proofs.Limits.{few_submissions}
 use Rattle.world_core.proofs.Messages.{accepted_when}
 use Rattle.world_core.proofs.Sounds.{sound_on, few_numbers}
 use Rattle.world_core.proofs.Worlds.{world_legal, world_replied, audit_grows, answers_stand, world_one_list}
-use Rattle.group_core.proofs.Groups.{replicated}
-use Rattle.group_core.proofs.Reached.{reached_good}
+use Rattle.suffix_core.proofs.Twins.{reached_replicated}
 use Rattle.world_core.specs.Calls.{KeepsPromises}
 use Rattle.world_core.proofs.Replied.{world_answered}
 use Rattle.world_core.specs.Holds.{AcceptedFrom}
@@ -145,7 +144,7 @@ sound_promises w h = record {
   intervals = λ id g there. (h.kept.groups id g there).sets.are;
   groups = λ id g there. record {
     served = group_served w id g h.kept there;
-    replicated = replicated g (reached_good g (h.kept.groups id g there).within.is.reached);
+    replicated = reached_replicated g (h.kept.groups id g there).within.is.reached;
   };
   answers = λ id reply is. world_answered w id reply h.stands is;
 }

@@ -9,9 +9,8 @@ use Rattle.suffix_core.specs.Types.{Daemon, Body, Interval, Query, Info, Install
 use Rattle.group_core.specs.Each.{Each}
 use Rattle.group_core.specs.Asked.{IsAsked, HasSubmit, InLog}
 use Rattle.suffix_core.specs.Group.{Group, Event, Submit, Deliver, Lose, Repeat, NewInterval, Restart, Kick, last_set, is_answered, answered, copy_hears, arrives, without, deliver, lose, again, is_submitted, has_all_requests, has_all_intervals, take_request, begin, with_up, same_set, group_step, run, start, submitted}
-use Rattle.group_core.proofs.Groups.{run_good, start_good, audit_legal, run-append}
-use Rattle.group_core.proofs.Kept.{run_kept, start_kept}
-use Rattle.group_core.proofs.Submits.{all_submitted}
+use Rattle.suffix_core.proofs.Runs.{run-append}
+use Rattle.suffix_core.proofs.Twins.{run_legal, run_asked, all_submitted}
 use Rattle.entry_core.specs.Locality.{group_for}
 pub use Rattle.world_core.specs.Sound.{Submits, Stands}
 
@@ -27,9 +26,9 @@ is_if id false x y p q = q
 is_answered_body : (id : GroupId) (g : Group) (b : Body) → Is id g → Is id (answered g b)
 is_answered_body id g (Reply r reply) is = is_if id (is_answered g.answers r) g (record g { answers = g.answers ++ record { id = r; reply = reply } ∷ [] }) is is
 is_answered_body id g (Interval sets) is = is
-is_answered_body id g (Query i) is = is
-is_answered_body id g (Info i base log) is = is
-is_answered_body id g (Install i log) is = is
+is_answered_body id g (Query i len end) is = is
+is_answered_body id g (Info i base from part) is = is
+is_answered_body id g (Install i from part) is = is
 is_answered_body id g (Installed i) is = is
 is_answered_body id g (Append i place s) is = is
 is_answered_body id g (Appended i place) is = is
@@ -92,7 +91,7 @@ stands_step submissions g e h new =
 
 pub stands_legal : (submissions : List Sealed) (g : Group) → Stands submissions g → Legal g.audit
 stands_legal submissions g h =
-    subst (λ v. Legal v.audit) h.is (audit_legal (run h.events (start g.group h.min_size h.count h.acting h.up)) (run_good h.events (start g.group h.min_size h.count h.acting h.up) (start_good g.group h.min_size h.count h.acting h.up)))
+    subst (λ v. Legal v.audit) h.is (run_legal g.group h.min_size h.count h.acting h.up h.events)
 
 -- what was submitted under a number is one of the requests
 pub found_each : (P : Sealed → Type 0) (rs : List Sealed) (id : ℕ) (s : Sealed) → Each P rs → submitted rs id ≡ Some s → P s
@@ -118,9 +117,8 @@ each_map P Q f (x ∷ xs) h = (f x h.0, each_map P Q f xs h.1)
 pub stands_asked : (submissions : List Sealed) (g : Group) → Stands submissions g → Each (λ e. IsAsked submissions e.sealed × (group_for e.sealed ≡ g.group)) g.audit
 stands_asked submissions g h =
     let made : Group = run h.events (start g.group h.min_size h.count h.acting h.up) in
-    let kept = run_kept h.events (start g.group h.min_size h.count h.acting h.up) (start_good g.group h.min_size h.count h.acting h.up) (start_kept g.group h.min_size h.count h.acting h.up) in
     let from : Each (HasSubmit h.events) made.requests = all_submitted g.group h.min_size h.count h.acting h.up h.events in
-    let asked : InLog (IsAsked made.requests) made.audit = kept.asked.audit in
+    let asked : InLog (IsAsked made.requests) made.audit = run_asked g.group h.min_size h.count h.acting h.up h.events in
     let P : Group → Type 0 = λ v. Each (λ e. IsAsked submissions e.sealed × (group_for e.sealed ≡ g.group)) v.audit in
     subst P h.is (each_map (λ e. IsAsked made.requests e.sealed) (λ e. IsAsked submissions e.sealed × (group_for e.sealed ≡ g.group))
     (λ e a. let f = found_each (HasSubmit h.events) made.requests e.sealed.id e.sealed from a in submitted_in submissions g.group h.events f.before f.after e.sealed f.whole h.submits) made.audit asked)

@@ -19,8 +19,9 @@ use Rattle.group_core.specs.Asked.{IsAsked, IsReplied}
 use Rattle.group_core.specs.History.{Begins}
 use Rattle.suffix_core.specs.Group.{Group, group_step, run, start, submitted, answer_of}
 use Rattle.suffix_core.specs.Group as group
-use Rattle.group_core.proofs.Groups.{start_good}
-use Rattle.group_core.proofs.Kept.{run_kept, start_kept, answer_replied, answer_stands}
+use Rattle.group_core.proofs.Kept.{answer_replied}
+use Rattle.suffix_core.proofs.Additions.{answer_stands}
+use Rattle.suffix_core.proofs.Twins.{run_replied}
 use Rattle.world_core.specs.Event.{Event, Auth, Map, Open, Renew, Close, Submit, ListNames, Deliver, Lose, Repeat, Kick}
 use Rattle.entry_core.specs.Locality.{group_for, IsPlaced}
 use Rattle.world_core.specs.Groups.{is_same_group, is_of}
@@ -256,9 +257,8 @@ find_part rs s id (e ∷ es) is h = go (is_of (group_for s) e) refl (e.sealed.id
 group_replied : (rs : List Sealed) (g : Group) (id : ℕ) (reply : EntryReply) → Stands rs g → answer_of g.answers id ≡ Some reply → IsReplied g.audit id reply
 group_replied rs g id reply h is =
     let made : Group = run h.events (start g.group h.min_size h.count h.acting h.up) in
-    let kept = run_kept h.events (start g.group h.min_size h.count h.acting h.up) (start_good g.group h.min_size h.count h.acting h.up) (start_kept g.group h.min_size h.count h.acting h.up) in
     let P : Group → Type 0 = λ v. IsReplied v.audit id reply in
-    subst P h.is (answer_replied made.audit made.answers id reply kept.answers (ap (λ v. answer_of v.answers id) h.is ∙ is))
+    subst P h.is (answer_replied made.audit made.answers id reply (run_replied g.group h.min_size h.count h.acting h.up h.events) (ap (λ v. answer_of v.answers id) h.is ∙ is))
 
 pub world_replied : (w : World) → WorldStands w → (id : ℕ) (reply : EntryReply) → answer_at w id ≡ Some reply → IsReplied w.audit id reply
 world_replied w h id reply is = go (submitted w.front.submissions id) refl is

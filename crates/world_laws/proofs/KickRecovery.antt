@@ -16,10 +16,11 @@ use Rattle.suffix_core.specs.Group.{Group, group_step, run, settle, kick, delive
 use Rattle.suffix_core.specs.Group as group
 use Rattle.group_core.specs.declared.fault.GroupFault.TheVariants as group_fault
 use Rattle.suffix_core.specs.Budget.{budget, settled_group}
-use Rattle.suffix_laws.specs.Recovery.{lost_all, IsLoss, Recovers}
-use Rattle.suffix_laws.proofs.RecoveryLaws.{all_lost, can_lose}
-use Rattle.suffix_laws.proofs.RecoveryTests.{ready_from}
-use Rattle.suffix_laws.proofs.Statements.{recovers}
+use Rattle.suffix_laws.specs.Recovery.{lost_all, Recovers}
+use Rattle.group_laws.specs.Recovery.{IsLoss}
+use Rattle.suffix_laws.proofs.Losses.{all_lost, can_lose}
+use Rattle.suffix_laws.proofs.Recovery.{ready_from}
+use Rattle.suffix_laws.proofs.Recovery.{recovers}
 use Rattle.suffix_laws.proofs.SameGroups.{same_settle}
 use Rattle.world_core.specs.declared.event.Event.{Event}
 use Rattle.world_core.specs.declared.event.Event.TheVariants.{Deliver, Lose, Repeat, Kick}

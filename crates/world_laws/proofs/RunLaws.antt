@@ -10,7 +10,7 @@ use Rattle.entry_core.specs.declared.sealed.GroupId.{GroupId}
 use Rattle.group_core.specs.Each.{Each}
 use Rattle.group_core.specs.History.{Begins}
 use Rattle.suffix_core.specs.Group.{Group, Event, group_step}
-use Rattle.group_core.proofs.Groups.{audit_grows}
+use Rattle.suffix_core.proofs.Additions.{audit_grows}
 use Rattle.world_core.specs.Groups.{is_same_group}
 use Rattle.world_core.specs.World.{World, Part, group_at, act, decided_in, created_by}
 use Rattle.world_core.specs.Standing.{audit_in, audit_at}

@@ -1,0 +1,12 @@
+-- Statement: contracts of other crates use it.
+-- A group whose acting sets each lay within the daemons that were up, as the map gives them.
+use Rattle.group_core.specs.Each.{Each}
+use Rattle.group_core.specs.Within.{LiesWithin, ActsWithin}
+use Rattle.suffix_core.specs.Group.{Group}
+use Rattle.suffix_core.specs.Reached.{IsReached}
+
+-- each acting set that was handed in lay within the daemons that were handed in as up, and that there are
+pub record IsReachedWithin (g : Group) : Type 0 where
+  pub reached : IsReached g
+  pub first : LiesWithin reached.daemons reached.acting reached.up
+  pub later : Each (ActsWithin reached.daemons) reached.events

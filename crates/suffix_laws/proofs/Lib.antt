@@ -1,0 +1,10 @@
+pub mod SameGroups
+pub mod Counts
+pub mod Settling
+pub mod Opens
+pub mod Appends
+pub mod CalmGroups
+pub mod Serving
+pub mod Losses
+pub mod Recovery
+pub mod Statements
