@@ -11,8 +11,8 @@ use Rattle.suffix_core.specs.Group as group
 use Rattle.entry_core.specs.Log.{is_in}
 use Rattle.suffix_core.specs.Budget.{budget}
 use Rattle.group_core.specs.declared.fault.GroupFault.TheVariants.{Unreachable}
-use Rattle.group_core.proofs.Reached.{reached_bounded}
-use Rattle.group_core.proofs.Settles.{Bounded, deliver_lowers, lose_lowers}
+use Rattle.suffix_core.specs.Reached.{IsReached}
+use Rattle.group_copies.proofs.Lowering.{found_lowers, loss_lowers}
 use Rattle.world_core.specs.declared.event.Event.{Event}
 use Rattle.world_core.specs.declared.fault.WorldFault.{WorldFault as Fault}
 use Rattle.world_core.specs.declared.fault.WorldFault.TheVariants.{OutOfMemory, Group as OfGroup}
@@ -67,9 +67,10 @@ sweep_lowers w sweep id keeps some = go (group_at id w.groups) refl some
     go None is some = absurd (no_message (sym some))
     go (Some g) is some =
         let m = first_message g.wire some in
-        let ok : Bounded g = reached_bounded g (keeps.groups id g is).served.within.reached in
+        let ok : IsReached g = (keeps.groups id g is).served.within.reached in
         let low : budget (group_step g (group_event sweep)) + 1 ≤ budget g =
-        lowers sweep g m.0 m.1 (λ k n at. deliver_lowers g k n at ok) (λ k n at. lose_lowers g k n at) in
+        lowers sweep g m.0 m.1 (λ k n at. let less = found_lowers g (group_step g (group.Deliver k)) k n ok at refl in omega (arith, less))
+        (λ k n at. let less = loss_lowers g (group_step g (group.Lose k)) k (ap (group.missing_at k) at, refl) in omega (arith, less)) in
         let here : budget_in (group_at id w.groups) ≡ budget g = ap budget_in is in
         let there : budget_in (group_at id (world_step w (event_at sweep id 0)).groups) ≡ budget (group_step g (group_event sweep)) = ap budget_in (after_group w sweep id g is) in
         omega (arith, low, here, there)
