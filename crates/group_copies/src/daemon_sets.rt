@@ -23,7 +23,7 @@ pub(crate) fn has_member(set: &ActingSet, daemon: u8) -> bool
 }
 
 /// Whether two sets have the same members in the same order.
-#[tactic(auto, using(crate::proofs::Sets::equals_is))]
+#[tactic(auto, using(group_core::proofs::Sets::equals_is))]
 pub(crate) fn same_set(one: &ActingSet, other: &ActingSet) -> bool
     ensures { result ≡ same_set one.now other.now }
 {

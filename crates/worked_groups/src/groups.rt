@@ -1,3 +1,4 @@
+mod by_suffixes;
 mod limits;
 mod moves;
 mod moving;

@@ -9,7 +9,7 @@ use std::test::Fail;
 
 // What a message says, in short: requests are given by their numbers.
 #[derive(Clone, Copy)]
-enum Says {
+pub(crate) enum Says {
     Sets(usize, &'static [u8]),
     Query(u64, usize, u32),
     Info(u64, u64, usize, &'static [u32]),
@@ -90,7 +90,7 @@ fn has(part: &Items<Sealed>, numbers: &[u32]) -> bool {
 }
 
 // Whether a message says that.
-fn is_said(body: &Body, says: Says) -> bool {
+pub(crate) fn is_said(body: &Body, says: Says) -> bool {
     match (body, says) {
         (
             Body::Query {
