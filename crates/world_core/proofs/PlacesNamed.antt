@@ -1,12 +1,12 @@
 -- The map refuses none of its places.
-use Rattle.std.proofs.Common.{◌≡◌, ◌∙◌, ℕ, ◌+◌, ◌<◌, ◌≤◌, List, ◌∷◌, Bool, true, false, not, cond, if◌then◌else◌, Some, None, is_some, fold, refl, sym, ap, arith, []}
+use Rattle.std.proofs.Common.{◌≡◌, ◌∙◌, ℕ, ◌+◌, ◌<◌, ◌≤◌, List, ◌∷◌, Bool, true, false, not, cond, if◌then◌else◌, Option, Some, None, is_some, fold, refl, sym, ap, arith, []}
 use Rattle.std.specs.Prelude.{nat_le}
 use Rattle.std.specs.List.{find}
 use Rattle.std.specs.Option.{option_map_or}
 use Rattle.std.proofs.lemmas.Bool.Decides.{nat_tests}
 use Rattle.map_core.specs.State.{MapState, History}
 use Rattle.map_core.specs.Map.{change_first, is_named, tagged, created, after, initial, map_of, pool_in}
-use Rattle.map_core.specs.Refusal.{refusal, tests, acting_refusal, first_of, groups_in, is_word}
+use Rattle.map_core.specs.Refusal.{refusal, tests, acting_refusal, acting_tests, first_of, groups_in, is_word}
 use Rattle.map_core.specs.Limits.{AcceptedFrom, IsAccepted}
 use Rattle.map_core.specs.declared.fault.MapFault.TheVariants as fault
 use Rattle.map_core.specs.declared.pool.Pool.{Pool}
@@ -89,3 +89,18 @@ place_there h id p accepted found less =
     by true b c x y z = absurd (cc)
     by false true c x y z = absurd (cc)
     by false false true x y z = absurd (cc)
+
+-- a number below those of its pool is that of a group, and no other number is
+pub some_there : (h : History) (id : GroupId) → IsAccepted h → id.number < groups_in (map_of h).pools id.pool → acting_refusal h id.pool id.number ≡ None
+unfolding pool_in groups_in
+some_there h id accepted less = go (find (is_named id.pool) (map_of h).pools) refl less
+  where
+    go : (o : Option Pool) → find (is_named id.pool) (map_of h).pools ≡ o → id.number < option_map_or (λ (p : Pool). p.pg_num) o 0 → acting_refusal h id.pool id.number ≡ None
+    go None e low = absurd (omega arith)
+    go (Some p) e low = place_there h id p accepted e low
+
+pub none_missing : (h : History) (id : GroupId) → groups_in (map_of h).pools id.pool ≤ id.number → acting_refusal h id.pool id.number ≡ None → ⊥
+none_missing h id most none =
+    let fails = all_fail (acting_tests (map_of h).pools id.pool id.number) none in
+    let low : nat_le (groups_in (map_of h).pools id.pool) id.number ≡ false = fails.1.1.0 in
+    grind (arith, nat_tests)

@@ -1,11 +1,11 @@
 //! Where a group stands among the groups of the world.
 
-ghost use Rattle.std.specs.Prelude.{◌≡◌, ◌≤◌, List, All, length, IfOk};
+ghost use Rattle.std.specs.Prelude.{◌≡◌, ◌≤◌, ◌+◌, ℕ, List, All, length, IfOk};
 ghost use Rattle.std.specs.Option.{option_map};
 ghost use Rattle.entry_core.specs.Locality.{group_for};
 ghost use Rattle.suffix_core.specs.Group.{Group};
 ghost use Rattle.map_core.specs.Limits.{IsPool};
-ghost use Rattle.map_core.specs.Refusal.{acting_refusal};
+ghost use Rattle.map_core.specs.Refusal.{acting_refusal, groups_in};
 ghost use Rattle.world_core.specs.Event.{OfMap};
 ghost use Rattle.world_core.specs.Front.{error_of};
 ghost use Rattle.world_core.specs.Moves.{AreGroupsOf, IsAt};
@@ -18,7 +18,7 @@ use entry_core::{GroupId, Sealed};
 use map_core::{ClusterMap, Pool};
 
 /// The place of a group among the groups of a map's pools: as many as the earlier pools have, and its number. It takes no
-/// memory, and a step for each pool, of which there are at most 32.
+/// memory, and a step for each pool up to the group's own, of which there are at most 32.
 ///
 /// M9 for a pool's name that is none, M2 for a pool that is not there, M10 for a number that the pool has not.
 pub fn place_of(map: &ClusterMap, group: &GroupId) -> Result<usize, WorldFault>
@@ -26,10 +26,13 @@ pub fn place_of(map: &ClusterMap, group: &GroupId) -> Result<usize, WorldFault>
     ensures place { IfOk result (λ place. (groups : List Group) → AreGroupsOf map.now groups → IsAt groups group.now place) }
 {
     let _epoch = map.epoch();
-    let pools = map.pools();
+    let (before, count) = groups_before(map.pools(), &group.pool);
+    if group.number < count {
+        return Ok(before + group.number as usize);
+    }
     match map.acting_refusal(&group.pool, group.number) {
         Some(fault) => Err(WorldFault::Map(fault)),
-        None => Ok(place_in(pools, &group.pool, group.number)),
+        None => unreachable!(),
     }
 }
 
@@ -44,20 +47,23 @@ pub(crate) fn place_of_request(map: &ClusterMap, request: &Sealed) -> usize
     place_for(pools, request)
 }
 
-/// How many groups the pools before the one of a name have, and a group's number there.
-fn place_in(pools: &[Pool], name: &Name, number: u32) -> usize
+/// How many groups the pools before the one of a name have, and how many it has itself: none where there is no such pool.
+#[tactic(auto, unfolding(map_core::specs::Refusal::groups_in, map_core::specs::Map::pool_in))]
+fn groups_before(pools: &[Pool], name: &Name) -> (usize, u32)
     requires limits { All IsPool pools.now }
     requires few { length pools.now ≤ 32 }
-    ensures { result ≡ spec.place_in pools.now (record { pool = name.now; number = number }) }
+    ensures before { (number : ℕ) → spec.place_in pools.now (record { pool = name.now; number = number }) ≡ result.0 + number }
+    ensures own { result.1 ≡ groups_in pools.now name.now }
+    ensures few { result.0 ≤ 2048 }
 {
     let mut before: usize = 0;
     for pool in pools {
         if pool.name.equals(name) {
-            break;
+            return (before, pool.pg_num);
         }
         before += pool.pg_num as usize;
     }
-    before + number as usize
+    (before, 0)
 }
 
 /// How many groups the pools before a request's have, and its group's number. It takes no memory.
@@ -66,5 +72,6 @@ pub(crate) fn place_for(pools: &[Pool], request: &Sealed) -> usize
     requires few { length pools.now ≤ 32 }
     ensures { result ≡ spec.place_in pools.now (group_for request.now) }
 {
-    place_in(pools, &request.view().pool, request.group_number())
+    let (before, _) = groups_before(pools, &request.view().pool);
+    before + request.group_number() as usize
 }
