@@ -7,7 +7,7 @@ use Rattle.entry_core.specs.Request.{Sealed}
 use Rattle.copy_core.specs.Copy.{copy_step}
 use Rattle.copy_core.specs.Steps.{restarted}
 use Rattle.suffix_core.specs.Types.{Party, Client, Osd, Body, Interval, Query, Info, Install, Installed, Append, Appended, Request, Reply, NotHere, Sent, Daemon}
-use Rattle.suffix_core.specs.Group.{Group, Event, Submit, Deliver, Lose, Repeat, NewInterval, Restart, Kick, group_step, answered, is_answered, arrives, copy_hears, deliver, lose, again, without, begin, with_up, submit, take_request, is_submitted, has_all_requests, has_all_intervals, new_interval, same_set, last_set, announced_by, resent_by, retransmit_of, to_primary}
+use Rattle.suffix_core.specs.Group.{Group, Event, Submit, Deliver, Lose, Repeat, NewInterval, Restart, Kick, group_step, answered, is_answered, arrives, copy_hears, deliver, lose, again, without, begin, with_up, submit, take_request, is_submitted, has_all_requests, has_all_intervals, new_interval, same_set, last_set, announced, resent, retransmit_primary, to_primary}
 use Rattle.wire_steps.specs.Wire.{kept, place_of, TakesAndSends}
 
 -- the second wire, and then what was sent
@@ -75,7 +75,7 @@ again_sends g (Some m) = once g.wire (m ∷ [])
 pub begin_sends : (g : Group) (acting : List ℕ) → Sends (begin g acting).wire g.wire
 begin_sends g acting =
     let h : Group = record g { sets = g.sets ++ acting ∷ [] } in
-    twice g.wire (announced_by h) (resent_by h)
+    twice g.wire (announced h.sets) (resent h.sets h.requests h.answers)
 
 pub submit_sends : (g : Group) (s : Sealed) → Sends (submit g s).wire g.wire
 submit_sends g s =
@@ -113,7 +113,7 @@ sends g (Lose k) = lose_sends g k (slice_get g.wire k) refl
 sends g (Repeat k) = again_sends g (slice_get g.wire k)
 sends g (NewInterval acting up) = new_interval_sends g acting up
 sends g (Restart d) = restart_sends g (record g { copies = map (λ c. if c.number == d then restarted c else c) g.copies }) d refl
-sends g Kick = thrice g.wire (announced_by g) (retransmit_of g (last_set g.sets)) (resent_by g)
+sends g Kick = thrice g.wire (announced g.sets) (retransmit_primary g.copies (last_set g.sets)) (resent g.sets g.requests g.answers)
 
 pub takes_and_sends : (g : Group) (e : Event) → TakesAndSends g e
 takes_and_sends g e = let told = sends g e in record { sent = told.0; after = told.1 }
