@@ -125,6 +125,7 @@ begin_all : (g : Group) (acting : List ℕ) → Each (IsAsked g.requests) g.requ
 begin_all g acting each all =
     more (IsAsked g.requests) g.copies (g.wire ++ announced (g.sets ++ acting ∷ [])) (resent (g.sets ++ acting ∷ []) g.requests g.answers)
     (more (IsAsked g.requests) g.copies g.wire (announced (g.sets ++ acting ∷ [])) all (announced_all (IsAsked g.requests) (g.sets ++ acting ∷ []))) (resent_all (IsAsked g.requests) (g.sets ++ acting ∷ []) g.requests g.answers each)
+
 -- a fact that follows from another
 
 module _ (P Q : Sealed → Type 0) (to : (s : Sealed) → P s → Q s) where

@@ -10,6 +10,8 @@ use Rattle.group_core.proofs.Reached.{reached_sane as whole_reached_sane}
 use Rattle.suffix_core.specs.Laws.{GroupHolds}
 use Rattle.suffix_core.specs.Standing.{Both, SameRole, SameCopy}
 use Rattle.suffix_core.proofs.Holding.{decided_held}
+use Rattle.suffix_core.specs.Fits.{FitsAnswerTrue}
+use Rattle.suffix_core.proofs.Fitting.{fit_answers}
 use Rattle.suffix_core.specs.Types.{Role, Idle, Peering, Installing, Active, Copy}
 use Rattle.suffix_core.specs.Group.{Group, Answer, is_distinct}
 use Rattle.suffix_core.specs.Replicated.{IsReplicated}
@@ -25,6 +27,9 @@ reached_replicated g r = (reached_holds g r).replicated
 
 pub reached_answers : (g : Group) → IsReached g → Each (λ (a : Answer). IsReplied g.audit a.id a.reply) g.answers
 reached_answers g r = (reached_holds g r).answers
+
+pub reached_fitting : (g : Group) → IsReached g → FitsAnswerTrue g
+reached_fitting g r = subst FitsAnswerTrue r.is (fit_answers r.group r.min_size r.daemons r.acting r.up r.events)
 
 pub reached_room : (g : Group) → IsReached g → length g.requests ≤ 16384
 reached_room g r = (let t = twin_of g r in subst (λ l. length l ≤ 16384) (stands t).requests t.lock.kept.room)

@@ -5,8 +5,8 @@ ghost use Rattle.peer_core.specs.Choice.{is_better};
 ghost use Rattle.group_copies.specs.Furthest.{whole_offer};
 ghost use Rattle.group_copies.specs.Furthest.{furthest as furthest_log};
 
-use entry_core::Entry;
 use copy_core::Daemon;
+use entry_core::Entry;
 
 /// Whether the first copy is further on.
 fn is_further(one: &Daemon, other: &Daemon) -> bool

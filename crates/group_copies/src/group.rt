@@ -12,15 +12,15 @@ use crate::effects::{
     take_request,
 };
 use crate::element_at::at;
-use group_core::GroupFault;
 use crate::furthest::furthest;
 use crate::ready::{covers, greatest_base};
 use crate::requests::Requests;
 use crate::sending::{announced, resent, retransmit_primary, to_primary};
 use crate::state::GroupState;
 use crate::wire::Wire;
-use entry_core::{Entry, GroupId, Id, Items, OutOfMemory, Reply, Sealed, TryCopy};
 use copy_core::{Daemon, Sent};
+use entry_core::{Entry, GroupId, Id, Items, OutOfMemory, Reply, Sealed, TryCopy};
+use group_core::GroupFault;
 use peer_core::{IntervalSets, Party};
 use place_core::{ActingSet, DaemonSet};
 use std::alloc::Global;
@@ -354,6 +354,7 @@ impl Group {
     ghost use Rattle.suffix_core.specs.Asked.{AllAsked};
     ghost use Rattle.group_core.specs.Asked.{IsReplied};
     ghost use Rattle.suffix_core.specs.Sane.{AllSane};
+    ghost use Rattle.suffix_core.specs.Fits.{FitsAnswerTrue};
     ghost use Rattle.group_core.specs.Each.{Each};
     ghost use Rattle.suffix_core.specs.Group.{is_distinct};
 
@@ -406,7 +407,8 @@ impl Group {
 
     /// Whatever was done to it: what was decided is legal, and begins the log of each member of an interval whose primary is
     /// active while none of them promised more; each answer is the reply that was decided; each request in a log, a message
-    /// or a queue is the one that was submitted under its id, and none was submitted twice.
+    /// or a queue is the one that was submitted under its id, and none was submitted twice. Whichever message is delivered next:
+    /// the part that its addressee fits to its log then, if it fits one, fits.
     pub fn keeps_promises(&self)
         ensures reached { IsReached self.now }
         ensures legal { Legal self.now.audit }
@@ -414,6 +416,7 @@ impl Group {
         ensures answered { Each (λ a. IsReplied self.now.audit a.id a.reply) self.now.answers }
         ensures asked { AllAsked self.now }
         ensures sane { AllSane self.now }
+        ensures fits { FitsAnswerTrue self.now }
         ensures requests { length self.now.requests ≤ 16384 }
         ensures intervals { length self.now.sets ≤ 1024 }
         ensures once { is_distinct (map (λ r. r.id) self.now.requests) ≡ true }

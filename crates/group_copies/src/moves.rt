@@ -9,12 +9,11 @@ ghost use Rattle.suffix_core.specs.Reached.{Refuses};
 
 use crate::daemon_sets::{has_member, last_set, same_set};
 use crate::effects::{change_up, restart_one};
-use group_core::GroupFault;
 use crate::group::{Group, INTERVALS};
 use crate::opening::{Opening, open, prepare};
-use group_core::GroupMove;
 use crate::state::GroupState;
 use crate::wire::Wire;
+use group_core::{GroupFault, GroupMove};
 use peer_core::IntervalSets;
 use place_core::ActingSet;
 use std::marker::Model;

@@ -3,8 +3,8 @@
 use crate::answers::Answers;
 use crate::requests::Requests;
 use crate::wire::Wire;
-use entry_core::GroupId;
 use copy_core::Daemon;
+use entry_core::GroupId;
 use peer_core::IntervalSets;
 use place_core::DaemonSet;
 

@@ -2,7 +2,7 @@ use Rattle.std.proofs.Common.{subst}
 use Rattle.suffix_core.specs.Reached.{IsReached}
 use Rattle.group_copies.proofs.Reached.{reached_legal}
 use Rattle.group_copies.proofs.Asked.{reached_asked}
-use Rattle.group_copies.proofs.Promises.{reached_replicated, reached_answers, reached_sane, reached_room, reached_intervals, reached_once}
+use Rattle.group_copies.proofs.Promises.{reached_replicated, reached_answers, reached_sane, reached_fitting, reached_room, reached_intervals, reached_once}
 use Rattle.group_copies.proofs.group.Group.keeps_promises.Goals as goal
 
 pub returns-clause-legal : goal.returns-clause-legal
@@ -19,6 +19,9 @@ returns-clause-asked c = reached_asked c.args.self.now (subst IsReached c.self.v
 
 pub returns-clause-sane : goal.returns-clause-sane
 returns-clause-sane c = reached_sane c.args.self.now (subst IsReached c.self.view_is c.self.invariant.reached)
+
+pub returns-clause-fits : goal.returns-clause-fits
+returns-clause-fits c = reached_fitting c.args.self.now (subst IsReached c.self.view_is c.self.invariant.reached)
 
 pub returns-clause-requests : goal.returns-clause-requests
 returns-clause-requests c = reached_room c.args.self.now (subst IsReached c.self.view_is c.self.invariant.reached)
