@@ -28,3 +28,5 @@ pub mod Shown
 pub mod Additions
 pub mod Refusals
 pub mod Twins
+pub mod Counts
+pub mod Lowering

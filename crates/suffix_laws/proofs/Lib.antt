@@ -1,5 +1,5 @@
 pub mod SameGroups
-pub mod Counts
+pub mod Made
 pub mod Settling
 pub mod Opens
 pub mod Appends

@@ -23,7 +23,7 @@ use Rattle.suffix_laws.specs.Recovery.{IsReady, lost_all, Recovers}
 use Rattle.suffix_core.specs.Within.{IsReachedWithin}
 use Rattle.suffix_laws.proofs.Losses.{can_lose}
 use Rattle.suffix_core.proofs.Twins.{lock_stands}
-use Rattle.suffix_laws.proofs.Counts.{budget_same, count_same, sent_many}
+use Rattle.suffix_core.proofs.Counts.{budget_same, count_same, sent_many}
 use Rattle.suffix_laws.proofs.Serving.{served_same}
 
 -- the greatest base of a copy that is up

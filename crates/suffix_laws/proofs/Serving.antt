@@ -19,7 +19,8 @@ use Rattle.suffix_laws.specs.Quiet.{IsServed, made_by}
 use Rattle.suffix_laws.specs.Calm.{IsUnserved}
 use Rattle.suffix_laws.specs.Laws.{ServesInTime, DecidesInOrder, AnswersNothing, KeepsCount}
 use Rattle.suffix_core.proofs.Twins.{lock_stands}
-use Rattle.suffix_laws.proofs.Counts.{count_same, settled_stands, empty_same, made_same, submit_same}
+use Rattle.suffix_core.proofs.Counts.{count_same, settled_stands, empty_same, submit_same}
+use Rattle.suffix_laws.proofs.Made.{made_same}
 
 module _ (g : Group) (w : WholeGroup) (l : Lock g w) where
   now : StandsFor g w

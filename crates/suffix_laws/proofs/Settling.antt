@@ -1,72 +1,19 @@
 -- Settling ends.
-use Rattle.std.proofs.Common.{ℕ, ◌≡◌, ◌≤◌, ◌+◌, ◌-◌, [], slice_get, ◌∙◌, ap, arith}
-use Rattle.std.specs.Prelude.{Some}
-use Rattle.group_core.specs.Group.{Group as WholeGroup, settle as whole_settle, group_step as whole_group_step}
-use Rattle.group_core.proofs.Reached.{reached_bounded}
-use Rattle.group_core.proofs.Settles.{Bounded, deliver_lowers as whole_deliver_lowers, lose_lowers as whole_lose_lowers, settle_done as whole_settle_done, delivered_few as whole_delivered_few}
-use Rattle.suffix_core.specs.Standing.{SameSent}
-use Rattle.suffix_core.specs.Types.{Sent}
-use Rattle.suffix_core.specs.Group.{Group, Deliver, Lose, group_step, settle, delivered}
+use Rattle.std.proofs.Common.{[], slice_get, ap, arith}
+use Rattle.suffix_core.specs.Group.{Group}
 use Rattle.suffix_core.specs.Budget.{budget}
 use Rattle.suffix_core.specs.Reached.{IsReached}
-use Rattle.suffix_core.proofs.Events.{Lock, step_locked}
-use Rattle.suffix_core.proofs.Lists.{Beside, beside}
+use Rattle.suffix_core.proofs.Runs.{settle_is_run, settle_idle, delivered_idle}
+use Rattle.suffix_core.proofs.Lowering.{deliver_lowers, lose_lowers, settle_done, delivered_few, settle_more}
 use Rattle.suffix_laws.specs.Laws.{SettlingEnds}
-use Rattle.suffix_core.proofs.Runs.{settle_is_run, settle-add, settle_idle, delivered_idle}
-use Rattle.suffix_core.proofs.Twins.{twin_of, lock_stands, settle_locked}
-use Rattle.suffix_laws.proofs.Counts.{budget_same, delivered_same, empty_same}
-
--- what holds of the one for which a group stands
-
-module _ (g : Group) (w : WholeGroup) (l : Lock g w) (ok : Bounded w) where
-  beside_sent : (k : ℕ) (m : Sent) → slice_get g.wire k ≡ Some m → Beside SameSent m w.wire k
-  beside_sent k m is = beside SameSent g.wire w.wire k m (lock_stands g w l).wire is
-
-  pub deliver_lowers : (k : ℕ) (m : Sent) → slice_get g.wire k ≡ Some m → budget (group_step g (Deliver k)) + 1 ≤ budget g
-  deliver_lowers k m is =
-      let b = beside_sent k m is in
-      let low = whole_deliver_lowers w k b.item b.is ok in
-      let was = budget_same g w (lock_stands g w l) in
-      let now = budget_same (group_step g (Deliver k)) (whole_group_step w (Deliver k)) (lock_stands (group_step g (Deliver k)) (whole_group_step w (Deliver k)) (step_locked g w (Deliver k) l)) in
-      omega arith
-
-  pub lose_lowers : (k : ℕ) (m : Sent) → slice_get g.wire k ≡ Some m → budget (group_step g (Lose k)) + 1 ≤ budget g
-  lose_lowers k m is =
-      let b = beside_sent k m is in
-      let low = whole_lose_lowers w k b.item b.is in
-      let was = budget_same g w (lock_stands g w l) in
-      let now = budget_same (group_step g (Lose k)) (whole_group_step w (Lose k)) (lock_stands (group_step g (Lose k)) (whole_group_step w (Lose k)) (step_locked g w (Lose k) l)) in
-      omega arith
-
-  pub settle_done : (n : ℕ) → budget g ≤ n → (settle n g).wire ≡ []
-  settle_done n le =
-      let same = budget_same g w (lock_stands g w l) in
-      empty_same (settle n g) (whole_settle n w) (lock_stands (settle n g) (whole_settle n w) (settle_locked n g w l)) (whole_settle_done n w ok (omega arith))
-
-  pub delivered_few : (n : ℕ) → delivered n g ≤ budget g
-  delivered_few n =
-      let few = whole_delivered_few n w ok in
-      let same = budget_same g w (lock_stands g w l) in
-      let as_many = delivered_same n g w l in
-      omega arith
-
-  -- more deliveries change nothing
-  pub settle_more : (n : ℕ) → budget g ≤ n → settle n g ≡ settle (budget g) g
-  settle_more n le =
-      let done : (settle (budget g) g).wire ≡ [] = settle_done (budget g) (omega arith) in
-      settle-add (budget g) (n - budget g) n g (omega arith) ∙ settle_idle (n - budget g) (settle (budget g) g) (ap (λ ms. slice_get ms 0) done)
 
 pub settling : (g : Group) → IsReached g → SettlingEnds g
-settling g r =
-    let t = twin_of g r in
-    let w : WholeGroup = t.whole in
-    let ok : Bounded w = reached_bounded t.whole t.reached in
-    record {
-      delivers = λ k m is. deliver_lowers g w t.lock ok k m is;
-      loses = λ k m is. lose_lowers g w t.lock ok k m is;
-      empties = settle_done g w t.lock ok (budget g) (omega arith);
-      counts = delivered_few g w t.lock ok (budget g);
-      runs = λ n. settle_is_run n [] g;
-      stops = λ n enough. settle_more g w t.lock ok n enough;
-      rests = λ empty. (settle_idle (budget g) g (ap (λ ms. slice_get ms 0) empty), delivered_idle (budget g) g (ap (λ ms. slice_get ms 0) empty));
-    }
+settling g r = record {
+  delivers = deliver_lowers g r;
+  loses = lose_lowers g r;
+  empties = settle_done g r (budget g) (omega arith);
+  counts = delivered_few g r (budget g);
+  runs = λ n. settle_is_run n [] g;
+  stops = settle_more g r;
+  rests = λ empty. (settle_idle (budget g) g (ap (λ ms. slice_get ms 0) empty), delivered_idle (budget g) g (ap (λ ms. slice_get ms 0) empty));
+}

@@ -19,7 +19,8 @@ use Rattle.suffix_laws.specs.Calm.{IsCalmGroup}
 use Rattle.suffix_laws.specs.Laws.{OnlyAdds, AnswersAreDecided, made_so_far, ServesInTime, DecidesInOrder, AnswersNothing, KeepsCount}
 use Rattle.suffix_core.proofs.Additions.{audit_grows, answer_stands}
 use Rattle.suffix_core.proofs.Twins.{reached_step, reached_holds, all_submitted}
-use Rattle.suffix_laws.proofs.Counts.{count_same, all_made_same}
+use Rattle.suffix_core.proofs.Counts.{count_same}
+use Rattle.suffix_laws.proofs.Made.{all_made_same}
 use Rattle.suffix_laws.proofs.Serving.{serves_same, order_same, nothing_same, keeps_same}
 
 pub only_adds : (g : Group) → IsReached g → OnlyAdds g

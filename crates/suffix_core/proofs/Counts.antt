@@ -1,4 +1,4 @@
--- Groups that stand for each other make as many deliveries.
+-- A group settles in as many deliveries as the one for which it stands.
 use Rattle.std.proofs.Common.{ℕ, zero, suc, ◌≡◌, ◌+◌, not, nat_lt, List, [], ◌∷◌, length, refl, sym, ◌∙◌, ap, subst, arith, if◌then◌else◌}
 use Rattle.std.specs.Prelude.{Option, Some, None, slice_get}
 use Rattle.entry_core.specs.Log.{is_in}
@@ -6,14 +6,12 @@ use Rattle.entry_core.specs.Request.{Sealed}
 use Rattle.group_core.specs.Types.{Daemon, Party, Osd, Client, Role as WholeRole, Body as WholeBody, Sent as WholeSent}
 use Rattle.group_core.specs.Budget.{body_budget as whole_body_budget, sent_budget as whole_sent_budget, role_budget as whole_role_budget, copies_budget as whole_copies_budget, budget as whole_budget, settle_count as whole_settle_count, settled_group as whole_settled_group}
 use Rattle.group_core.specs.Group.{Group as WholeGroup, group_step as whole_group_step, settle as whole_settle, delivered_to as whole_delivered_to, delivered_now as whole_delivered_now, delivered as whole_delivered, refusal_of as whole_refusal_of}
-use Rattle.group_laws.specs.Quiet.{found_one as whole_found_one, made_by as whole_made_by, deliveries_made as whole_deliveries_made}
 use Rattle.suffix_core.specs.Standing.{Both, SameBody, SameSent, SameRole, SameCopy, StandsFor}
 use Rattle.suffix_core.proofs.Lists.{IfBoth, Both-get}
 use Rattle.suffix_core.proofs.Events.{Lock, step_locked}
 use Rattle.suffix_core.specs.Types.{Role, Idle, Peering, Installing, Active, Copy, Body, Interval, Query, Info, Install, Installed, Append, Appended, Request, Reply, NotHere, Sent}
-use Rattle.suffix_core.specs.Group.{Group, Event, Submit, Deliver, Lose, Repeat, NewInterval, Restart, Kick, Doubled, Full, is_submitted, group_step, settle, delivered_to, delivered_now, delivered, refusal_of}
+use Rattle.suffix_core.specs.Group.{Group, Submit, Deliver, Doubled, Full, is_submitted, group_step, settle, delivered_to, delivered_now, delivered, refusal_of}
 use Rattle.suffix_core.specs.Budget.{body_budget, sent_budget, role_budget, copies_budget, budget, settle_count, settled_group}
-use Rattle.suffix_laws.specs.Quiet.{found_one, made_by, deliveries_made}
 use Rattle.suffix_core.proofs.Twins.{lock_stands, settle_locked}
 
 -- both can make as many
@@ -107,30 +105,6 @@ as_many (m ∷ ms) (w ∷ ws) both = ap suc (as_many ms ws both.1)
 
 pub sent_many : (g : Group) (w : WholeGroup) → StandsFor g w → length w.wire ≡ length g.wire
 sent_many g w s = as_many g.wire w.wire s.wire
-
--- events make as many
-
-found_same : (found : Option Sent) (found' : Option WholeSent) → IfBoth SameSent found found' → whole_found_one found' ≡ found_one found
-found_same None None says = refl
-found_same None (Some m') says = absurd says
-found_same (Some m) None says = absurd says
-found_same (Some m) (Some m') says = refl
-
-pub made_same : (g : Group) (w : WholeGroup) (e : Event) → StandsFor g w → whole_made_by w e ≡ made_by g e
-made_same g w (Deliver k) s = found_same (slice_get g.wire k) (slice_get w.wire k) (Both-get SameSent g.wire w.wire k s.wire)
-made_same g w (Submit r) s = refl
-made_same g w (Lose k) s = refl
-made_same g w (Repeat k) s = refl
-made_same g w (NewInterval acting up) s = refl
-made_same g w (Restart d) s = refl
-made_same g w Kick s = refl
-
-pub all_made_same : (es : List Event) (g : Group) (w : WholeGroup) → Lock g w → whole_deliveries_made es w ≡ deliveries_made es g
-all_made_same [] g w l = refl
-all_made_same (e ∷ es) g w l =
-    let first = made_same g w e (lock_stands g w l) in
-    let rest = all_made_same es (group_step g e) (whole_group_step w e) (step_locked g w e l) in
-    (λ i. first i + rest i)
 
 -- a submission is refused alike
 pub submit_same : (g : Group) (w : WholeGroup) (r : Sealed) → StandsFor g w → whole_refusal_of w (Submit r) ≡ refusal_of g (Submit r)
