@@ -12,7 +12,7 @@ use Rattle.entry_core.specs.Log.{is_in}
 use Rattle.suffix_core.specs.Budget.{budget}
 use Rattle.group_core.specs.declared.fault.GroupFault.TheVariants.{Unreachable}
 use Rattle.suffix_core.specs.Reached.{IsReached}
-use Rattle.group_copies.proofs.Lowering.{found_lowers, loss_lowers}
+use Rattle.suffix_core.proofs.Lowering.{deliver_lowers, lose_lowers}
 use Rattle.world_core.specs.declared.event.Event.{Event}
 use Rattle.world_core.specs.declared.fault.WorldFault.{WorldFault as Fault}
 use Rattle.world_core.specs.declared.fault.WorldFault.TheVariants.{OutOfMemory, Group as OfGroup}
@@ -69,8 +69,7 @@ sweep_lowers w sweep id keeps some = go (group_at id w.groups) refl some
         let m = first_message g.wire some in
         let ok : IsReached g = (keeps.groups id g is).served.within.reached in
         let low : budget (group_step g (group_event sweep)) + 1 ≤ budget g =
-        lowers sweep g m.0 m.1 (λ k n at. let less = found_lowers g (group_step g (group.Deliver k)) k n ok at refl in omega (arith, less))
-        (λ k n at. let less = loss_lowers g (group_step g (group.Lose k)) k (ap (group.missing_at k) at, refl) in omega (arith, less)) in
+        lowers sweep g m.0 m.1 (deliver_lowers g ok) (lose_lowers g ok) in
         let here : budget_in (group_at id w.groups) ≡ budget g = ap budget_in is in
         let there : budget_in (group_at id (world_step w (event_at sweep id 0)).groups) ≡ budget (group_step g (group_event sweep)) = ap budget_in (after_group w sweep id g is) in
         omega (arith, low, here, there)
