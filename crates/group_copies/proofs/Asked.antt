@@ -14,14 +14,14 @@ use Rattle.group_core.specs.Asked.{IsAsked, InLog}
 use Rattle.group_core.proofs.Eaches.{Each-append, Each-push, Each-map, Each-map_all, Each-weaker, Each-get, Each-set, Each-remove}
 use Rattle.group_core.specs.Group.{Group as WholeGroup, start as whole_start, group_step as whole_group_step}
 use Rattle.suffix_core.proofs.Locked.{asked_push}
-use Rattle.suffix_core.proofs.Standing.{stands_for}
+use Rattle.suffix_core.proofs.Lists.{Each-rest}
+use Rattle.suffix_core.proofs.Twins.{twin_of, lock_stands, run_asked}
 use Rattle.suffix_core.proofs.Events.{Lock, step_locked, start_locked}
 use Rattle.suffix_core.specs.Types.{Role, Idle, Peering, Installing, Active, Offer, Copy, Body, Interval, Query, Info, Install, Installed, Append, Appended, Request, Reply, NotHere, Party, Osd, Client, Sent}
 use Rattle.suffix_core.specs.Asked.{InRole, InCopy, InBody, AllAsked}
 use Rattle.suffix_core.specs.Group.{Group, Event, Submit, Deliver, Lose, Repeat, NewInterval, Restart, Kick, Answer, last_set, is_answered, is_submitted, same_set, to_daemon, to_primary, steps, answered, copy_hears, arrives, without, deliver, lose, again, has_all_requests, has_all_intervals, take_request, submit, resent, announced, begin, with_up, retransmit_from, retransmit_primary, group_step, run, start}
 use Rattle.suffix_core.specs.Reached.{IsReached}
 use Rattle.group_copies.proofs.Asks.{comes_in, kicked_in}
-use Rattle.group_copies.proofs.Reached.{Twin, twin_of, stands}
 
 kept_if : {X : Type 0} (P : X → Type 0) (b : Bool) (x : X) (xs : List X) → P x → Each P xs → Each P (if b then x ∷ xs else xs)
 kept_if P true x xs this each = (this, each)
@@ -161,10 +161,6 @@ module _ (P Q : Sealed → Type 0) (to : (s : Sealed) → P s → Q s) where
 
 -- a request is taken
 
-Each-last : {X : Type 0} (Q : X → Type 0) (xs : List X) (x : X) → Each Q (xs ++ x ∷ []) → Q x
-Each-last Q [] x each = each.0
-Each-last Q (y ∷ xs) x each = Each-last Q xs x each.1
-
 submit_all : (g : Group) (s : Sealed) → Each (IsAsked (submit g s).requests) (submit g s).requests → IsHolding g → IsHolding (submit g s)
 submit_all g s = go (is_submitted g.requests s.id) (has_all_requests g)
   where
@@ -172,7 +168,7 @@ submit_all g s = go (is_submitted g.requests s.id) (has_all_requests g)
     taken each all =
         more (IsAsked (g.requests ++ s ∷ [])) g.copies g.wire (to_primary (last_set g.sets) (Request s ∷ []))
         (holds_weaker (IsAsked g.requests) (IsAsked (g.requests ++ s ∷ [])) (λ t. asked_push g.requests s t) g.copies g.wire all)
-        (told_first (IsAsked (g.requests ++ s ∷ [])) (last_set g.sets) (s ∷ []) (Each-last (IsAsked (g.requests ++ s ∷ [])) g.requests s each, tt))
+        (told_first (IsAsked (g.requests ++ s ∷ [])) (last_set g.sets) (s ∷ []) (Each-rest (IsAsked (g.requests ++ s ∷ [])) g.requests (s ∷ []) each))
 
     go : (b q : Bool) → Each (IsAsked (if b then g else (if q then g else take_request g s)).requests) (if b then g else (if q then g else take_request g s)).requests → IsHolding g → IsHolding (if b then g else (if q then g else take_request g s))
     go true q each all = all
@@ -199,7 +195,7 @@ step_holding Kick g each next all =
     (resent_all (IsAsked g.requests) g.sets g.requests g.answers each)
 
 asked_requests : (g : Group) (w : WholeGroup) → Lock g w → Each (IsAsked g.requests) g.requests
-asked_requests g w l = subst (λ rs. Each (IsAsked rs) rs) (stands_for g w l.agree).requests l.kept.asked.requests
+asked_requests g w l = subst (λ rs. Each (IsAsked rs) rs) (lock_stands g w l).requests l.kept.asked.requests
 
 run_holding : (es : List Event) (g : Group) (w : WholeGroup) → Lock g w → IsHolding g → IsHolding (run es g)
 run_holding [] g w l all = all
@@ -220,5 +216,5 @@ reached_asked g r =
       requests = asked_requests g t.whole t.lock;
       copies = all.copies_hold;
       wire = all.wire_holds;
-      audit = subst (λ es. InLog (IsAsked g.requests) es) (stands t).audit (subst (λ rs. InLog (IsAsked rs) t.whole.audit) (stands t).requests t.lock.kept.asked.audit);
+      audit = subst (λ (v : Group). InLog (IsAsked v.requests) v.audit) r.is (run_asked r.group r.min_size r.daemons r.acting r.up r.events);
     }

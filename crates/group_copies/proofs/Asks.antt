@@ -1,5 +1,5 @@
 -- Each rule keeps a fact of each request that stands in a copy.
-use Rattle.std.proofs.Common.{ℕ, zero, suc, take, drop, ◌≡◌, ◌+◌, Bool, true, false, not, ◌==◌, ◌&&◌, nat_lt, List, [], ◌∷◌, ◌++◌, length, refl, sym, subst, if◌then◌else◌}
+use Rattle.std.proofs.Common.{ℕ, take, drop, ◌≡◌, ◌+◌, Bool, true, false, not, ◌==◌, ◌&&◌, nat_lt, List, [], ◌∷◌, ◌++◌, length, refl, sym, subst, if◌then◌else◌}
 use Rattle.std.specs.Prelude.{Option, Some, None}
 use Rattle.std.specs.List.{list_any, filter}
 use Rattle.entry_core.specs.Log.{decide, decide-sealed, find, is_in, ids}
@@ -18,7 +18,7 @@ use Rattle.suffix_core.specs.Types.{Offer, Role, Idle, Peering, Installing, Acti
 use Rattle.group_core.specs.Each.{Each}
 use Rattle.group_core.specs.Asked.{InLog}
 use Rattle.suffix_core.specs.Asked.{InRole, InCopy, InBody}
-use Rattle.group_core.proofs.Eaches.{Each-append, Each-push, Each-map, Each-map_all}
+use Rattle.group_core.proofs.Eaches.{Each-append, Each-push, Each-take, Each-drop, Each-map, Each-map_all}
 
 module _ (P : Sealed → Type 0) where
   pub record InStep (s : Stepped) : Type 0 where
@@ -30,18 +30,8 @@ module _ (P : Sealed → Type 0) where
 
   -- parts of logs, and logs that are fitted to parts
 
-  drop_in : {X : Type 0} (Q : X → Type 0) (n : ℕ) (xs : List X) → Each Q xs → Each Q (drop n xs)
-  drop_in Q zero xs each = each
-  drop_in Q (suc n) [] each = tt
-  drop_in Q (suc n) (x ∷ xs) each = drop_in Q n xs each.1
-
-  take_in : {X : Type 0} (Q : X → Type 0) (n : ℕ) (xs : List X) → Each Q xs → Each Q (take n xs)
-  take_in Q zero xs each = tt
-  take_in Q (suc n) [] each = tt
-  take_in Q (suc n) (x ∷ xs) each = (each.0, take_in Q n xs each.1)
-
   part_in : (log : List Entry) (start : ℕ) → InLog P log → Each P (part_of log start)
-  part_in log start each = Each-map P (λ (e : Entry). P e.sealed) (λ (e : Entry). e.sealed) (λ e this. this) (drop start log) (drop_in (λ (e : Entry). P e.sealed) start log each)
+  part_in log start each = Each-map P (λ (e : Entry). P e.sealed) (λ (e : Entry). e.sealed) (λ e this. this) (drop start log) (Each-drop (λ (e : Entry). P e.sealed) start log each)
 
   behind_in : (part : List Sealed) (log : List Entry) → InLog P log → Each P part → InLog P (decided_behind log part)
   behind_in [] log each new = each
@@ -55,7 +45,7 @@ module _ (P : Sealed → Type 0) where
   fitted_in log start part each new = go (can_fit log start part)
     where
       go : (b : Bool) → IfIn (if b then Some (decided_behind (take (kept log start part) log) (drop (agreed (drop start log) part) part)) else None)
-      go true = behind_in (drop (agreed (drop start log) part) part) (take (kept log start part) log) (take_in (λ (e : Entry). P e.sealed) (kept log start part) log each) (drop_in P (agreed (drop start log) part) part new)
+      go true = behind_in (drop (agreed (drop start log) part) part) (take (kept log start part) log) (Each-take (λ (e : Entry). P e.sealed) (kept log start part) log each) (Each-drop P (agreed (drop start log) part) part new)
       go false = tt
 
   best_in : (a : Offer) (bs : List Offer) → Each P a.part → Each (λ (i : Offer). Each P i.part) bs → Each P (best a bs).part

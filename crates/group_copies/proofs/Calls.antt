@@ -16,7 +16,9 @@ use Rattle.suffix_core.specs.Group.{Group, Answer, Event, Submit, Deliver, Lose,
 use Rattle.group_copies.specs.Furthest.{furthest}
 use Rattle.suffix_core.specs.Reached.{IsReached, HasJustTaken, unsent}
 use Rattle.group_copies.specs.Sound.{IsSound}
-use Rattle.group_copies.proofs.Reached.{reached_step, reached_start, reached_audit, audit_count}
+use Rattle.suffix_core.proofs.Twins.{reached_step, reached_start}
+use Rattle.suffix_core.proofs.Refusals.{opens_is}
+use Rattle.group_copies.proofs.Reached.{reached_audit, audit_count}
 use Rattle.group_core.proofs.Groups.{get-set_same}
 pub use Rattle.group_core.proofs.Calls.{get_below, get_past, get_in, get_or_some}
 use Rattle.group_copies.proofs.Daemons.{furthest-map, restarted_if}
@@ -159,9 +161,6 @@ next_heard {g} {n} w k d m c c' wire copies decided here to up found is_copy is_
 
 -- intervals
 
-downed : List ℕ → List ℕ → Daemon → Bool
-downed was up c = is_in was c.number && not (is_in up c.number)
-
 pub next_same : {g : Group} {n : ℕ} → IsSound g n → (acting up : List ℕ) (copies : List Daemon) → IsSet acting → same_set acting (last_set g.sets) ≡ true →
     copies ≡ map (λ c. if is_in g.up c.number && not (is_in up c.number) then restarted c else c) g.copies → take n (furthest g.copies) ≡ g.audit →
     Next g (NewInterval acting up) (record g { up = up; copies = copies; audit = take n (furthest copies) }) n
@@ -270,14 +269,6 @@ take-front xs x = (let same : length (xs ++ x ∷ []) - 1 ≡ length xs = omega 
 unsent_is : (set : List ℕ) (wire : List Sent) (s : Sealed) → unsent set (wire ++ to_primary set (Request s ∷ [])) ≡ wire
 unsent_is [] wire s = append-nil wire
 unsent_is (d ∷ ds) wire s = take-front wire (to_daemon d (Request s))
-
-pub opens_is : (before : Group) (s : Sealed) → refusal_of before (Submit s) ≡ None → group_step before (Submit s) ≡ take_request before s
-opens_is before s free = go (is_submitted before.requests s.id) (has_all_requests before) free
-  where
-    go : (b q : Bool) → (if b then Some Doubled else (if q then Some Full else None)) ≡ None → (if b then before else (if q then before else take_request before s)) ≡ take_request before s
-    go true q e = absurd (cc)
-    go false true e = absurd (cc)
-    go false false e = refl
 
 -- a group without its last request and that request's message
 abbrev pub without_last : Group → Group

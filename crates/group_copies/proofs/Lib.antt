@@ -3,7 +3,6 @@ pub mod Daemons
 pub mod Calls
 pub mod Moving
 pub mod Lowering
-pub mod Refusals
 pub mod Settles
 pub mod Settling
 pub mod Sends

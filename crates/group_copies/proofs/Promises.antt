@@ -7,23 +7,14 @@ use Rattle.group_core.specs.Each.{Each}
 use Rattle.group_core.specs.Asked.{IsReplied}
 use Rattle.group_core.specs.Sane.{RoleIsSane as WholeRoleIsSane, IsSane as IsWholeSane}
 use Rattle.group_core.proofs.Reached.{reached_sane as whole_reached_sane}
-use Rattle.suffix_core.specs.Laws.{GroupHolds}
 use Rattle.suffix_core.specs.Standing.{Both, SameRole, SameCopy}
-use Rattle.suffix_core.proofs.Holding.{decided_held}
+use Rattle.suffix_core.proofs.Twins.{twin_of, lock_stands, reached_holds}
 use Rattle.suffix_core.specs.Fits.{FitsAnswerTrue}
 use Rattle.suffix_core.proofs.Fitting.{fit_answers}
 use Rattle.suffix_core.specs.Types.{Role, Idle, Peering, Installing, Active, Copy}
 use Rattle.suffix_core.specs.Group.{Group, Answer, is_distinct}
-use Rattle.suffix_core.specs.Replicated.{IsReplicated}
 use Rattle.suffix_core.specs.Sane.{RoleIsSane, IsSane, AllSane}
 use Rattle.suffix_core.specs.Reached.{IsReached}
-use Rattle.group_copies.proofs.Reached.{Twin, twin_of, stands}
-
-reached_holds : (g : Group) → IsReached g → GroupHolds g
-reached_holds g r = subst GroupHolds r.is (decided_held r.group r.min_size r.daemons r.acting r.up r.events)
-
-pub reached_replicated : (g : Group) → IsReached g → IsReplicated g
-reached_replicated g r = (reached_holds g r).replicated
 
 pub reached_answers : (g : Group) → IsReached g → Each (λ (a : Answer). IsReplied g.audit a.id a.reply) g.answers
 reached_answers g r = (reached_holds g r).answers
@@ -32,13 +23,13 @@ pub reached_fitting : (g : Group) → IsReached g → FitsAnswerTrue g
 reached_fitting g r = subst FitsAnswerTrue r.is (fit_answers r.group r.min_size r.daemons r.acting r.up r.events)
 
 pub reached_room : (g : Group) → IsReached g → length g.requests ≤ 16384
-reached_room g r = (let t = twin_of g r in subst (λ l. length l ≤ 16384) (stands t).requests t.lock.kept.room)
+reached_room g r = (let t = twin_of g r in subst (λ l. length l ≤ 16384) (lock_stands g t.whole t.lock).requests t.lock.kept.room)
 
 pub reached_intervals : (g : Group) → IsReached g → length g.sets ≤ 1024
-reached_intervals g r = (let t = twin_of g r in subst (λ l. length l ≤ 1024) (stands t).sets t.lock.kept.intervals)
+reached_intervals g r = (let t = twin_of g r in subst (λ l. length l ≤ 1024) (lock_stands g t.whole t.lock).sets t.lock.kept.intervals)
 
 pub reached_once : (g : Group) → IsReached g → is_distinct (map (λ (s : Sealed). s.id) g.requests) ≡ true
-reached_once g r = (let t = twin_of g r in subst (λ l. is_distinct (map (λ (s : Sealed). s.id) l) ≡ true) (stands t).requests t.lock.kept.once)
+reached_once g r = (let t = twin_of g r in subst (λ l. is_distinct (map (λ (s : Sealed). s.id) l) ≡ true) (lock_stands g t.whole t.lock).requests t.lock.kept.once)
 
 -- a copy is as sane as that for which it stands
 
@@ -61,4 +52,4 @@ copies_sane (c ∷ cs) [] both sane = absurd both
 copies_sane (c ∷ cs) (w ∷ ws) both sane = (copy_sane c w both.0 sane.0, copies_sane cs ws both.1 sane.1)
 
 pub reached_sane : (g : Group) → IsReached g → AllSane g
-reached_sane g r = (let t = twin_of g r in copies_sane g.copies t.whole.copies (stands t).copies (whole_reached_sane t.whole t.reached).copies)
+reached_sane g r = (let t = twin_of g r in copies_sane g.copies t.whole.copies (lock_stands g t.whole t.lock).copies (whole_reached_sane t.whole t.reached).copies)

@@ -1,86 +1,27 @@
 -- What holds of each group that there can be: by the group that sends whole logs, for which it stands.
-use Rattle.std.proofs.Common.{ℕ, ◌≡◌, ◌≤◌, List, [], ◌∷◌, ◌++◌, map, length, take, max, refl, sym, ◌∙◌, ap, subst}
+use Rattle.std.proofs.Common.{ℕ, ◌≡◌, ◌≤◌, List, [], ◌∷◌, map, length, take, max, refl, sym, ◌∙◌, ap, subst}
 use Rattle.std.specs.Prelude.{Option, Some, slice_get}
 use Rattle.entry_core.specs.Log.{Legal}
 use Rattle.entry_core.specs.declared.entry.Entry.{Entry}
-use Rattle.entry_core.specs.declared.sealed.GroupId.{GroupId}
 use Rattle.peer_core.specs.declared.role.PeerInfo.{PeerInfo}
 use Rattle.peer_core.specs.Choice.{own_offer, best}
 use Rattle.peer_core.specs.Decided.{decided_by as whole_decided_by}
 use Rattle.copy_core.specs.Decided.{decided_by}
 use Rattle.group_core.specs.Types.{Daemon}
-use Rattle.group_core.specs.Group.{Group as WholeGroup, run as whole_run, start as whole_start, group_step as whole_group_step}
 use Rattle.group_core.specs.Furthest.{furthest as whole_furthest}
-use Rattle.group_core.specs.Reached.{IsReached as IsWholeReached}
 use Rattle.group_core.specs.History.{Begins}
-use Rattle.group_core.proofs.Eaches.{Each-append}
 use Rattle.group_core.proofs.Audits.{audit_length}
-use Rattle.group_core.proofs.Groups.{audit_legal}
 use Rattle.group_core.proofs.AskedOnce.{decided_few as whole_decided_few}
 use Rattle.group_core.proofs.Reached.{reached_audit as whole_reached_audit, reached_fits as whole_reached_fits}
-use Rattle.suffix_core.specs.Standing.{Both, SameCopy, StandsFor}
+use Rattle.suffix_core.specs.Standing.{Both, SameCopy}
 use Rattle.suffix_core.proofs.Agreeing.{CopyAgrees}
 use Rattle.suffix_core.proofs.Lists.{Beside, beside}
 use Rattle.suffix_core.proofs.Hearing.{shown_same}
-use Rattle.suffix_core.proofs.Standing.{stands_for}
-use Rattle.suffix_core.proofs.Events.{Lock, step_locked, reached_locked}
+use Rattle.suffix_core.proofs.Twins.{twin_of, lock_stands, run_legal}
 use Rattle.suffix_core.specs.Types.{Copy}
-use Rattle.suffix_core.specs.Group.{Group, Event, group_step, run, start, audit_after, IsSet, EventFits}
+use Rattle.suffix_core.specs.Group.{Group, audit_after}
 use Rattle.group_copies.specs.Furthest.{whole_offer, furthest}
 use Rattle.suffix_core.specs.Reached.{IsReached}
-
--- a group that sends whole logs, to which the same happened
-pub record Twin (g : Group) : Type 0 where
-  pub whole : WholeGroup
-  pub reached : IsWholeReached whole
-  pub lock : Lock g whole
-
-pub twin_of : (g : Group) → IsReached g → Twin g
-twin_of g r = subst Twin r.is (record {
-  whole = whole_run r.events (whole_start r.group r.min_size r.daemons r.acting r.up);
-  reached = record { group = r.group; min_size = r.min_size; daemons = r.daemons; acting = r.acting; up = r.up; events = r.events; least = r.least; begins = r.begins; fit = r.fit; is = refl };
-  lock = reached_locked r.group r.min_size r.daemons r.acting r.up r.events;
-})
-
-pub stands : {g : Group} (t : Twin g) → StandsFor g t.whole
-stands {g} t = stands_for g t.whole t.lock.agree
-
--- and so does the next one for the next one
-pub next_stands : (g : Group) (e : Event) (t : Twin g) → StandsFor (group_step g e) (whole_group_step t.whole e)
-next_stands g e t = stands_for (group_step g e) (whole_group_step t.whole e) (step_locked g t.whole e t.lock).agree
-
-run-append : (es fs : List Event) (g : Group) → run (es ++ fs) g ≡ run fs (run es g)
-run-append [] fs g = refl
-run-append (e ∷ es) fs g = run-append es fs (group_step g e)
-
--- the next group is one too
-pub reached_step : (g : Group) (e : Event) → IsReached g → EventFits e → IsReached (group_step g e)
-reached_step g e r fits = record {
-  group = r.group;
-  min_size = r.min_size;
-  daemons = r.daemons;
-  acting = r.acting;
-  up = r.up;
-  events = r.events ++ e ∷ [];
-  least = r.least;
-  begins = r.begins;
-  fit = Each-append EventFits r.events (e ∷ []) r.fit (fits, tt);
-  is = run-append r.events (e ∷ []) (start r.group r.min_size r.daemons r.acting r.up) ∙ ap (λ v. group_step v e) r.is;
-}
-
-pub reached_start : (group : GroupId) (z count : ℕ) (acting up : List ℕ) → 1 ≤ z → IsSet acting → IsReached (start group z count acting up)
-reached_start group z count acting up least fits = record {
-  group = group;
-  min_size = z;
-  daemons = count;
-  acting = acting;
-  up = up;
-  events = [];
-  least = least;
-  begins = fits;
-  fit = tt;
-  is = refl;
-}
 
 -- the copy that is furthest on is the same of both
 
@@ -103,20 +44,18 @@ furthest_same (c ∷ cs) (w ∷ ws) both = ap (λ v. (best v (map own_offer ws))
 pub reached_audit : (g : Group) → IsReached g → g.audit ≡ take (length g.audit) (furthest g.copies)
 reached_audit g r =
     let t = twin_of g r in
-    let s = stands t in
+    let s = lock_stands g t.whole t.lock in
     let far : whole_furthest t.whole.copies ≡ furthest g.copies = furthest_same g.copies t.whole.copies s.copies in
     sym s.audit ∙ whole_reached_audit t.whole t.reached ∙ ap (λ l. take (length l) (whole_furthest t.whole.copies)) s.audit ∙ ap (λ l. take (length g.audit) l) far
 
 pub reached_fits : (g : Group) → IsReached g → length g.audit ≤ length (furthest g.copies)
 reached_fits g r =
     let t = twin_of g r in
-    let s = stands t in
+    let s = lock_stands g t.whole t.lock in
     subst (λ l. length g.audit ≤ length l) (furthest_same g.copies t.whole.copies s.copies) (subst (λ l. length l ≤ length (whole_furthest t.whole.copies)) s.audit (whole_reached_fits t.whole t.reached))
 
 pub reached_legal : (g : Group) → IsReached g → Legal g.audit
-reached_legal g r =
-    let t = twin_of g r in
-    subst Legal (stands t).audit (audit_legal t.whole t.lock.good)
+reached_legal g r = subst (λ (v : Group). Legal v.audit) r.is (run_legal r.group r.min_size r.daemons r.acting r.up r.events)
 
 -- what a copy shows to be decided begins what was decided
 pub reached_covers : (g : Group) → IsReached g → (d : ℕ) (c : Copy) → slice_get g.copies d ≡ Some c → Begins (decided_by c.role c.log) g.audit
@@ -125,7 +64,7 @@ reached_covers g r d c here =
     let f = t.lock.agree.facts in
     let b : Beside (CopyAgrees f.promise f.h) c t.whole.copies d = beside (CopyAgrees f.promise f.h) g.copies t.whole.copies d c f.copies here in
     let shown : decided_by c.role c.log ≡ whole_decided_by b.item.role b.item.log = shown_same f.promise f.h c b.item b.agrees in
-    subst (λ l. Begins (decided_by c.role c.log) l) (stands t).audit (subst (λ l. Begins l t.whole.audit) (sym shown) (t.lock.good.covers d b.item b.is))
+    subst (λ l. Begins (decided_by c.role c.log) l) (lock_stands g t.whole t.lock).audit (subst (λ l. Begins l t.whole.audit) (sym shown) (t.lock.good.covers d b.item b.is))
 
 -- how long the audit is after a copy's step
 pub audit_count : (g : Group) (audit : List Entry) (c : Copy) (d : ℕ) → g.audit ≡ audit_after audit c → IsReached g → slice_get g.copies d ≡ Some c →
@@ -138,4 +77,4 @@ audit_count g audit c d is r here =
 pub decided_few : (g : Group) → IsReached g → length g.audit ≤ length g.requests
 decided_few g r =
     let t = twin_of g r in
-    subst (λ l. length g.audit ≤ length l) (stands t).requests (subst (λ l. length l ≤ length t.whole.requests) (stands t).audit (whole_decided_few t.whole t.reached))
+    subst (λ l. length g.audit ≤ length l) (lock_stands g t.whole t.lock).requests (subst (λ l. length l ≤ length t.whole.requests) (lock_stands g t.whole t.lock).audit (whole_decided_few t.whole t.reached))

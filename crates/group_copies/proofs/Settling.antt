@@ -4,12 +4,12 @@ use Rattle.std.specs.Prelude.{Option, Some, None, slice_get}
 use Rattle.entry_core.specs.Log.{is_in}
 use Rattle.suffix_core.specs.Types.{Party, Osd, Client, Sent}
 use Rattle.suffix_core.specs.Group.{Group, Deliver, Fault, NoMessage, Unreachable, Full, OutOfMemory, Doubled, group_step, refusal_of, refusal_at, refusal_to, left_by, settle, delivered, delivered_now, delivered_to}
-use Rattle.group_core.specs.Printed.{is_drop}
 use Rattle.suffix_core.specs.Budget.{budget, settled_group, settle_count}
-use Rattle.group_copies.proofs.Settles.{settle-add, settle_idle, settle_done}
 use Rattle.group_core.proofs.Calls.{At}
 use Rattle.suffix_core.specs.Reached.{IsReached, Refuses}
-use Rattle.group_copies.proofs.Refusals.{refused_leaves}
+use Rattle.suffix_core.proofs.Runs.{settle-add, settle_idle, delivered_idle}
+use Rattle.suffix_core.proofs.Refusals.{refused_leaves}
+use Rattle.suffix_core.proofs.Lowering.{settle_done}
 
 -- after some deliveries, of which so many reached their party
 pub record SoFar (old now : Group) (count : ℕ) : Type 0 where
@@ -24,14 +24,6 @@ delivered-add : (a b n : ℕ) (g : Group) → n ≡ a + b → delivered n g ≡ 
 delivered-add zero b n g is = (let same : n ≡ b = omega arith in ap (λ v. delivered v g) same ∙ omega arith)
 delivered-add (suc a) b zero g is = absurd (omega arith)
 delivered-add (suc a) b (suc n) g is = (let rest = delivered-add a b n (group_step g (Deliver 0)) (omega arith) in omega arith)
-
-pub delivered_idle : (n : ℕ) (g : Group) → slice_get g.wire 0 ≡ None → delivered n g ≡ 0
-delivered_idle zero g none = refl
-delivered_idle (suc n) g none =
-    let now : delivered_now (slice_get g.wire 0) g ≡ 0 = ap (λ o. delivered_now o g) none in
-    let stays : group_step g (Deliver 0) ≡ g = settle_idle 1 g none in
-    let rest : delivered n (group_step g (Deliver 0)) ≡ 0 = ap (λ v. delivered n v) stays ∙ delivered_idle n g none in
-    omega arith
 
 next_settled : (old now : Group) (n : ℕ) → now ≡ settle n old → group_step now (Deliver 0) ≡ settle (n + 1) old
 next_settled old now n is = ap (λ v. group_step v (Deliver 0)) is ∙ sym (settle-add n 1 (n + 1) old refl)
@@ -89,7 +81,7 @@ pub so_far_done : (old now : Group) (count : ℕ) → IsReached old → SoFar ol
 so_far_done old now count ok s empty =
     let b : ℕ = budget old in
     let idle : slice_get (settle s.n old).wire 0 ≡ None = ap (λ v. slice_get v.wire 0) (sym s.is) ∙ ap (λ l. slice_get l 0) empty in
-    let done : slice_get (settle b old).wire 0 ≡ None = ap (λ l. slice_get l 0) (settle_done b old ok (omega arith)) in
+    let done : slice_get (settle b old).wire 0 ≡ None = ap (λ l. slice_get l 0) (settle_done old ok b (omega arith)) in
     let same : settle s.n old ≡ settle b old =
     sym (settle_idle b (settle s.n old) idle) ∙ sym (settle-add s.n b (s.n + b) old refl) ∙ settle-add b s.n (s.n + b) old (omega arith) ∙ settle_idle s.n (settle b old) done in
     let one = delivered-add s.n b (s.n + b) old refl in
@@ -103,13 +95,6 @@ so_far_done old now count ok s empty =
 pub wire_none : (ms : List Sent) → length ms ≡ 0 → ms ≡ []
 wire_none [] is = refl
 wire_none (m ∷ ms) is = absurd (omega arith)
-
-pub first_there : (g : Group) → (g.wire ≡ [] → ⊥) → slice_get g.wire 0 ≡ None → ⊥
-first_there g some none = go g.wire some none
-  where
-    go : (ms : List Sent) → (ms ≡ [] → ⊥) → slice_get ms 0 ≡ None → ⊥
-    go [] s n = s refl
-    go (m ∷ ms) s n = (cc)
 
 -- no more than its addressee or memory can stand in a delivery's way
 
@@ -145,13 +130,3 @@ so_far_ended old now new count (NoMessage k) s some said other = absurd (other (
 so_far_ended old now new count Unreachable s some said other = absurd (other refl)
 so_far_ended old now new count Full s some said other = absurd (other (refused_only now Full some said.0))
 so_far_ended old now new count Doubled s some said other = absurd (other (refused_only now Doubled some said.0))
-
-pub dropped : (fault : Fault) → is_drop fault ≡ true → fault ≡ Unreachable
-dropped Unreachable is = refl
-dropped (NoMessage k) is = absurd (cc)
-dropped Full is = absurd (cc)
-dropped OutOfMemory is = absurd (cc)
-dropped Doubled is = absurd (cc)
-
-pub not_dropped : (fault : Fault) → is_drop fault ≡ false → fault ≡ Unreachable → ⊥
-not_dropped fault is same = (let yes : is_drop fault ≡ true = ap is_drop same in cc)

@@ -2,7 +2,8 @@ use Rattle.std.proofs.Common.{subst}
 use Rattle.suffix_core.specs.Reached.{IsReached}
 use Rattle.group_copies.proofs.Reached.{reached_legal}
 use Rattle.group_copies.proofs.Asked.{reached_asked}
-use Rattle.group_copies.proofs.Promises.{reached_replicated, reached_answers, reached_sane, reached_fitting, reached_room, reached_intervals, reached_once}
+use Rattle.suffix_core.proofs.Twins.{reached_replicated}
+use Rattle.group_copies.proofs.Promises.{reached_answers, reached_sane, reached_fitting, reached_room, reached_intervals, reached_once}
 use Rattle.group_copies.proofs.group.Group.keeps_promises.Goals as goal
 
 pub returns-clause-legal : goal.returns-clause-legal

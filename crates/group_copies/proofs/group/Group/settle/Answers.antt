@@ -5,7 +5,8 @@ use Rattle.std.specs.Prelude.{Ok, Err}
 use Rattle.suffix_core.specs.Budget.{budget}
 use Rattle.suffix_core.specs.Reached.{IsReached, Refuses, Settles}
 use Rattle.group_copies.proofs.Settles.{settle_grows, settle_stands}
-use Rattle.group_copies.proofs.Settling.{so_far_more, so_far_less, so_far_ended, so_far_done, wire_none, dropped, not_dropped}
+use Rattle.group_core.proofs.Settling.{dropped, not_dropped}
+use Rattle.group_copies.proofs.Settling.{so_far_more, so_far_less, so_far_ended, so_far_done, wire_none}
 use Rattle.group_copies.proofs.group.Group.settle.Goals as goal
 
 pub loop-self-smaller-in-Ok : goal.loop-self-smaller-in-Ok
@@ -21,8 +22,8 @@ returns c =
     let all : Settles c.args.self.now (Ok c.loop-self.delivered) c.loop-self.self = so_far_done c.args.self.now c.loop-self.self c.loop-self.delivered (subst IsReached c.self.view_is c.self.invariant.reached) c.loop-self.invariant (wire_none c.loop-self.self.wire none) in
     record {
       settles = all;
-      grows = settle_grows c.args.self.now c.loop-self.self (budget c.args.self.now) (subst IsReached c.self.view_is c.self.invariant.reached) all.0;
-      stands = settle_stands c.args.self.now c.loop-self.self (budget c.args.self.now) (subst IsReached c.self.view_is c.self.invariant.reached) all.0;
+      grows = settle_grows c.args.self.now c.loop-self.self (budget c.args.self.now) all.0;
+      stands = settle_stands c.args.self.now c.loop-self.self (budget c.args.self.now) all.0;
     }
 
 pub loop-self-preserved : goal.loop-self-preserved
@@ -41,6 +42,6 @@ returns-in-Err-2 c =
     (not_dropped c.in-Err.fault (sym c.is_drop.ensures ∙ c.if-is_drop.false)) in
     record {
       settles = some_of;
-      grows = settle_grows c.args.self.now c.deliver.new.self some_of.1.0 (subst IsReached c.self.view_is c.self.invariant.reached) some_of.1.1;
-      stands = settle_stands c.args.self.now c.deliver.new.self some_of.1.0 (subst IsReached c.self.view_is c.self.invariant.reached) some_of.1.1;
+      grows = settle_grows c.args.self.now c.deliver.new.self some_of.1.0 some_of.1.1;
+      stands = settle_stands c.args.self.now c.deliver.new.self some_of.1.0 some_of.1.1;
     }
