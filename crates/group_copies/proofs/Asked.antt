@@ -1,7 +1,7 @@
 -- Each request that a group holds was submitted under its number.
-use Rattle.std.proofs.Common.{ℕ, ◌≡◌, Bool, true, false, ◌==◌, ◌&&◌, not, List, [], ◌∷◌, ◌++◌, map, length, take, refl, sym, ◌∙◌, ap, subst, if◌then◌else◌}
+use Rattle.std.proofs.Common.{ℕ, ◌≡◌, Bool, true, false, ◌==◌, ◌&&◌, not, List, [], ◌∷◌, ◌++◌, map, take, refl, subst, if◌then◌else◌}
 use Rattle.std.specs.Prelude.{Option, Some, None, slice_get}
-use Rattle.std.specs.List.{filter, remove}
+use Rattle.std.specs.List.{filter}
 use Rattle.entry_core.specs.Log.{is_in}
 use Rattle.entry_core.specs.Request.{Sealed}
 use Rattle.entry_core.specs.declared.entry.Entry.{Entry}
@@ -11,7 +11,7 @@ use Rattle.copy_core.specs.Steps.{blank, restarted}
 use Rattle.copy_core.specs.Copy.{copy_step}
 use Rattle.group_core.specs.Each.{Each}
 use Rattle.group_core.specs.Asked.{IsAsked, InLog}
-use Rattle.group_core.proofs.Eaches.{Each-append, Each-push, Each-map, Each-map_all, Each-weaker, Each-get, Each-set, Each-remove}
+use Rattle.group_core.proofs.Eaches.{Each-append, Each-map, Each-map_all, Each-weaker, Each-get, Each-set, Each-remove}
 use Rattle.group_core.specs.Group.{Group as WholeGroup, start as whole_start, group_step as whole_group_step}
 use Rattle.suffix_core.proofs.Locked.{asked_push}
 use Rattle.suffix_core.proofs.Lists.{Each-rest}
@@ -19,7 +19,7 @@ use Rattle.suffix_core.proofs.Twins.{twin_of, lock_stands, run_asked}
 use Rattle.suffix_core.proofs.Events.{Lock, step_locked, start_locked}
 use Rattle.suffix_core.specs.Types.{Role, Idle, Peering, Installing, Active, Offer, Copy, Body, Interval, Query, Info, Install, Installed, Append, Appended, Request, Reply, NotHere, Party, Osd, Client, Sent}
 use Rattle.suffix_core.specs.Asked.{InRole, InCopy, InBody, AllAsked}
-use Rattle.suffix_core.specs.Group.{Group, Event, Submit, Deliver, Lose, Repeat, NewInterval, Restart, Kick, Answer, last_set, is_answered, is_submitted, same_set, to_daemon, to_primary, steps, answered, copy_hears, arrives, without, deliver, lose, again, has_all_requests, has_all_intervals, take_request, submit, resent, announced, begin, with_up, retransmit_from, retransmit_primary, group_step, run, start}
+use Rattle.suffix_core.specs.Group.{Group, Event, Submit, Deliver, Lose, Repeat, NewInterval, Restart, Kick, Answer, last_set, is_answered, is_submitted, same_set, to_daemon, to_primary, answered, copy_hears, arrives, without, deliver, lose, again, has_all_requests, has_all_intervals, take_request, submit, resent, announced, begin, with_up, retransmit_from, retransmit_primary, group_step, run, start}
 use Rattle.suffix_core.specs.Reached.{IsReached}
 use Rattle.group_copies.proofs.Asks.{comes_in, kicked_in}
 

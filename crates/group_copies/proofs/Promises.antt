@@ -1,5 +1,5 @@
 -- What each group that there can be keeps.
-use Rattle.std.proofs.Common.{ℕ, ◌≡◌, ◌≤◌, true, List, [], ◌∷◌, map, length, refl, sym, ◌∙◌, ap, subst}
+use Rattle.std.proofs.Common.{ℕ, ◌≡◌, ◌≤◌, true, List, [], ◌∷◌, map, length, subst}
 use Rattle.entry_core.specs.Log.{Legal}
 use Rattle.entry_core.specs.Request.{Sealed}
 use Rattle.group_core.specs.Types.{Daemon, Role as WholeRole}

@@ -1,9 +1,8 @@
 -- What holds of each group that there can be: by the group that sends whole logs, for which it stands.
 use Rattle.std.proofs.Common.{ℕ, ◌≡◌, ◌≤◌, List, [], ◌∷◌, map, length, take, max, refl, sym, ◌∙◌, ap, subst}
-use Rattle.std.specs.Prelude.{Option, Some, slice_get}
+use Rattle.std.specs.Prelude.{Some, slice_get}
 use Rattle.entry_core.specs.Log.{Legal}
 use Rattle.entry_core.specs.declared.entry.Entry.{Entry}
-use Rattle.peer_core.specs.declared.role.PeerInfo.{PeerInfo}
 use Rattle.peer_core.specs.Choice.{own_offer, best}
 use Rattle.peer_core.specs.Decided.{decided_by as whole_decided_by}
 use Rattle.copy_core.specs.Decided.{decided_by}

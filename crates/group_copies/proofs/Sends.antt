@@ -1,6 +1,6 @@
 -- How many messages one step of a copy sends: as many as that of the copy for which it stands.
 use Rattle.std.proofs.Common.{ℕ, ◌≡◌, ◌≤◌, ◌+◌, true, List, ◌++◌, length, ◌∙◌, ap, arith, length-append, if◌then◌else◌}
-use Rattle.std.specs.Prelude.{Option, Some, None, slice_get}
+use Rattle.std.specs.Prelude.{Option, Some, slice_get}
 use Rattle.std.specs.List.{remove}
 use Rattle.std.proofs.lemmas.List.Edits.{length-remove}
 use Rattle.entry_core.specs.Log.{is_in}

@@ -92,10 +92,6 @@ so_far_done old now count ok s empty =
     let as_many : delivered s.n old ≡ delivered b old = omega arith in
     (s.is ∙ same, was ∙ ap (λ v. min v 4294967295) as_many)
 
-pub wire_none : (ms : List Sent) → length ms ≡ 0 → ms ≡ []
-wire_none [] is = refl
-wire_none (m ∷ ms) is = absurd (omega arith)
-
 -- no more than its addressee or memory can stand in a delivery's way
 
 there : (ms : List Sent) → (length ms == 0) ≡ false → slice_get ms 0 ≡ None → ⊥

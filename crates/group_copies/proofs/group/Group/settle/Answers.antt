@@ -1,4 +1,5 @@
 use Rattle.std.proofs.lemmas.Bool.{eqb-true}
+use Rattle.std.proofs.lemmas.List.{nil_from_length}
 use Rattle.std.proofs.Common.{◌≡◌, ◌==◌, ap, sym, ◌∙◌, subst, length, false}
 use Rattle.suffix_core.specs.Group.{Group, Deliver, Unreachable}
 use Rattle.std.specs.Prelude.{Ok, Err}
@@ -6,7 +7,7 @@ use Rattle.suffix_core.specs.Budget.{budget}
 use Rattle.suffix_core.specs.Reached.{IsReached, Refuses, Settles}
 use Rattle.group_copies.proofs.Settles.{settle_grows, settle_stands}
 use Rattle.group_core.proofs.Settling.{dropped, not_dropped}
-use Rattle.group_copies.proofs.Settling.{so_far_more, so_far_less, so_far_ended, so_far_done, wire_none}
+use Rattle.group_copies.proofs.Settling.{so_far_more, so_far_less, so_far_ended, so_far_done}
 use Rattle.group_copies.proofs.group.Group.settle.Goals as goal
 
 pub loop-self-smaller-in-Ok : goal.loop-self-smaller-in-Ok
@@ -19,7 +20,7 @@ loop-self-preserved-in-Ok c =
 pub returns : goal.returns
 returns c =
     let none : length c.loop-self.self.wire ≡ 0 = ap (λ (v : Group). length v.wire) (sym c.self-in-loop-self.view_is) ∙ ap (λ l. length l) (sym c.as_slice.ensures) ∙ eqb-true (length c.as_slice.result.now) 0 (sym c.is_empty.ensures ∙ c.loop-self-test.false) in
-    let all : Settles c.args.self.now (Ok c.loop-self.delivered) c.loop-self.self = so_far_done c.args.self.now c.loop-self.self c.loop-self.delivered (subst IsReached c.self.view_is c.self.invariant.reached) c.loop-self.invariant (wire_none c.loop-self.self.wire none) in
+    let all : Settles c.args.self.now (Ok c.loop-self.delivered) c.loop-self.self = so_far_done c.args.self.now c.loop-self.self c.loop-self.delivered (subst IsReached c.self.view_is c.self.invariant.reached) c.loop-self.invariant (nil_from_length c.loop-self.self.wire none) in
     record {
       settles = all;
       grows = settle_grows c.args.self.now c.loop-self.self (budget c.args.self.now) all.0;
