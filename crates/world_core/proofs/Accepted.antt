@@ -24,7 +24,7 @@ use Rattle.group_core.specs.Each.{Each}
 use Rattle.suffix_core.specs.Group.{Group, EventFits, group_step, run, start, last_set, is_submitted}
 use Rattle.suffix_core.specs.Group as group
 use Rattle.suffix_core.specs.Reached.{IsReached}
-use Rattle.suffix_core.specs.Within.{ActsWithin}
+use Rattle.group_core.specs.Within.{ActsWithin}
 use Rattle.group_core.specs.declared.fault.GroupFault.{GroupFault}
 use Rattle.group_core.specs.declared.fault.GroupFault.TheVariants as group_fault
 use Rattle.suffix_core.proofs.Runs.{run-append}

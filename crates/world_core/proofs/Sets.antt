@@ -19,7 +19,7 @@ use Rattle.entry_core.specs.Log.{is_in}
 use Rattle.entry_core.specs.declared.sealed.GroupId.{GroupId}
 use Rattle.peer_core.specs.ActingSets.{daemons}
 use Rattle.suffix_core.specs.Group.{IsSet}
-use Rattle.suffix_core.specs.Within.{LiesWithin}
+use Rattle.group_core.specs.Within.{LiesWithin}
 use Rattle.group_core.proofs.Sets.{set_is}
 use Rattle.world_core.specs.World.{members_of}
 use Rattle.world_core.proofs.Bytes.{number_same}
