@@ -4,9 +4,9 @@ ghost use Rattle.std.specs.Prelude.{◌<◌};
 ghost use Rattle.cluster.specs.Passes.{AreSeatsOf, group_count};
 
 use cluster::{Cluster, LockedGroup, Seats};
+use copy_core::{Body, Sent};
 use entry_core::{Id, reply_number};
 use group_copies::Group;
-use copy_core::{Body, Sent};
 use peer_core::Party;
 use std::sync::Wait;
 use turn_lock::Step;

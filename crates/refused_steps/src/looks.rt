@@ -1,7 +1,7 @@
 //! What can be seen of messages and replies, as one number that takes no memory.
 
-use entry_core::{Id, Reply, reply_number};
 use copy_core::{Body, Sent};
+use entry_core::{Id, Reply, reply_number};
 use peer_core::Party;
 
 /// Where each look begins.

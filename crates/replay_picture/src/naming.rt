@@ -1,8 +1,8 @@
 //! The names of groups and of messages.
 
 use common_types::OutOfMemory;
-use entry_core::{GroupId, Id};
 use copy_core::Body;
+use entry_core::{GroupId, Id};
 use peer_core::Party;
 use picture_text::Topic;
 use std::alloc::Global;
