@@ -8,7 +8,15 @@ use std::process::Abort;
 use std::test::Fail;
 use world_script::run_script;
 
-const SCRIPT: &[u8] = b"osds 3
+/// A script, and what it writes.
+#[derive(Clone, Copy)]
+struct Case {
+    script: &'static [u8],
+    written: &'static str,
+}
+
+const ANSWERED: Case = Case {
+    script: b"osds 3
 osd pool create data 1 3 2
 auth get-or-create client.a osd 'allow rw pool=data'
 open client.a
@@ -20,9 +28,8 @@ settle
 answer 1.1
 answer 1.2
 answer 1.3
-";
-
-const WRITTEN: &str = "epoch 1
+",
+    written: "epoch 1
 epoch 2
 made
 session 1
@@ -37,9 +44,26 @@ settled 29
 - \"hello\"
 1.3 denied
 - 1 call 1
-";
+",
+};
 
-/// How many bytes of it each number of lines has written.
+/// It is read in two pieces, and each of its lines is written by itself.
+const SHORT: Case = Case {
+    script: b"osds 1
+auth get-or-create client.a osd 'allow rw pool=data'
+osd pool create data 1 1 1
+settle
+tick 7
+",
+    written: "epoch 1
+made
+epoch 2
+settled 1
+tick 7
+",
+};
+
+/// How many bytes of what the first script writes each number of lines has written.
 const BEGINNINGS: [usize; 13] = [0, 8, 16, 21, 31, 52, 64, 76, 88, 99, 111, 128, 150];
 
 /// Gives up to 64 bytes at a time, and fails at this read.
@@ -86,11 +110,21 @@ impl Sink {
     }
 
     // Whether this much of the whole output was written.
-    fn has(&self, length: usize) -> bool {
-        length <= WRITTEN.len()
+    fn has(&self, case: Case, length: usize) -> bool {
+        length <= case.written.len()
             && length <= self.taken.len()
             && self.length == length
-            && &self.taken[..length] == &WRITTEN.as_bytes()[..length]
+            && &self.taken[..length] == &case.written.as_bytes()[..length]
+    }
+
+    // Whether a beginning of the output was written.
+    fn has_a_beginning(&self, case: Case) -> bool {
+        self.has(case, self.length)
+    }
+
+    // Whether the whole output was written.
+    fn has_all(&self, case: Case) -> bool {
+        self.has(case, case.written.len())
     }
 }
 
@@ -119,9 +153,9 @@ impl Write for Sink {
     }
 }
 
-fn run(alloc: Global, sink: &mut Sink, reads: usize) -> Result<(), ScriptFault> {
+fn run(alloc: Global, case: Case, sink: &mut Sink, reads: usize) -> Result<(), ScriptFault> {
     let mut source = Source {
-        rest: SCRIPT,
+        rest: case.script,
         reads: 0,
         fails_at: reads,
     };
@@ -131,15 +165,15 @@ fn run(alloc: Global, sink: &mut Sink, reads: usize) -> Result<(), ScriptFault> 
 // Whether the whole output was written, or what stands before the line at which memory was refused.
 fn is_written(alloc: Global) -> bool {
     let mut sink = Sink::new(usize::MAX, false);
-    match run(alloc, &mut sink, usize::MAX) {
-        Ok(()) => sink.has(WRITTEN.len()),
+    match run(alloc, ANSWERED, &mut sink, usize::MAX) {
+        Ok(()) => sink.has_all(ANSWERED),
         Err(ScriptFault::OutOfMemory(line)) => {
             let before = BEGINNINGS.get(line.saturating_sub(1)).copied();
             let mut again = Sink::new(usize::MAX, false);
             before == Some(sink.length)
-                && sink.has(sink.length)
-                && run(alloc, &mut again, usize::MAX).is_ok()
-                && again.has(WRITTEN.len())
+                && sink.has_a_beginning(ANSWERED)
+                && run(alloc, ANSWERED, &mut again, usize::MAX).is_ok()
+                && again.has_all(ANSWERED)
         }
         Err(_) => false,
     }
@@ -151,7 +185,7 @@ fn first_script(rt: HostRuntime) -> Result<(), Fail> {
     Ok(())
 }
 
-// How a script ends where this read fails, or this write fails or takes no byte, and what it wrote. Where memory is refused
+// How the short script ends where this read fails, or this write fails or takes no byte, and what it wrote. Where memory is refused
 // it is run once more, to another sink.
 fn ended(
     alloc: Global,
@@ -160,10 +194,10 @@ fn ended(
     takes_none: bool,
 ) -> (Result<(), ScriptFault>, Sink) {
     let mut sink = Sink::new(writes, takes_none);
-    match run(alloc, &mut sink, reads) {
+    match run(alloc, SHORT, &mut sink, reads) {
         Err(ScriptFault::OutOfMemory(_)) => {
             let mut again = Sink::new(writes, takes_none);
-            (run(alloc, &mut again, reads), again)
+            (run(alloc, SHORT, &mut again, reads), again)
         }
         end => (end, sink),
     }
@@ -174,8 +208,8 @@ fn reads(alloc: Global) -> Option<usize> {
     for place in 0..100usize {
         let (end, sink) = ended(alloc, place, usize::MAX, false);
         match end {
-            Err(ScriptFault::Read) if sink.has(0) => {}
-            Ok(()) if sink.has(WRITTEN.len()) => return Some(place),
+            Err(ScriptFault::Read) if sink.has(SHORT, 0) => {}
+            Ok(()) if sink.has_all(SHORT) => return Some(place),
             _ => return None,
         }
     }
@@ -187,8 +221,8 @@ fn writes(alloc: Global, takes_none: bool) -> Option<usize> {
     for place in 0..100usize {
         let (end, sink) = ended(alloc, usize::MAX, place, takes_none);
         match end {
-            Err(ScriptFault::Write) if sink.has(sink.length) => {}
-            Ok(()) if sink.has(WRITTEN.len()) => return Some(place),
+            Err(ScriptFault::Write) if sink.has_a_beginning(SHORT) => {}
+            Ok(()) if sink.has_all(SHORT) => return Some(place),
             _ => return None,
         }
     }
@@ -199,7 +233,7 @@ fn writes(alloc: Global, takes_none: bool) -> Option<usize> {
 fn readers_and_writers_that_fail(rt: HostRuntime) -> Result<(), Fail> {
     let alloc = rt.alloc();
     assert!(&rt; reads(alloc) > Some(1));
-    assert!(&rt; writes(alloc, false) > Some(11));
-    assert!(&rt; writes(alloc, true) > Some(11));
+    assert!(&rt; writes(alloc, false) > Some(4));
+    assert!(&rt; writes(alloc, true) > Some(4));
     Ok(())
 }
