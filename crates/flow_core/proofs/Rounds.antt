@@ -14,12 +14,12 @@ abbrev pub IsPending : List ℕ → ℕ → ℕ → Type 0
 IsPending queue next place = (i : ℕ) × (next ≤ i) × (i < length queue) × (get_or queue i 0 ≡ place)
 
 -- each step from the place leads to one that is found, at most one further
-abbrev pub IsClosed : List (List ℕ) → List (List ℕ) → ℕ → Type 0
+abbrev pub IsClosed : List (List ℕ) → (ℕ → List ℕ) → ℕ → Type 0
 IsClosed steps chains place = (c : ℕ) → IsStep steps place c → (0 < chain_length chains c) × (chain_length chains c ≤ chain_length chains place + 1)
 
 -- What is so while the steps from one place are followed, to which a walk leads: those to the rest are still to come, and the
 -- queue is to be gone through from `next` on.
-pub record IsUnderway (steps : List (List ℕ)) (start : ℕ) (walk : List ℕ) (rest : List ℕ) (chains : List (List ℕ)) (queue : List ℕ) (next : ℕ) : Type 0 where
+pub record IsUnderway (steps : List (List ℕ)) (start : ℕ) (walk : List ℕ) (rest : List ℕ) (chains : ℕ → List ℕ) (queue : List ℕ) (next : ℕ) : Type 0 where
   pub size : length chains ≡ length steps
   pub past : next ≤ length queue
   pub walked : AreSteps (IsStep steps) start walk
@@ -27,7 +27,7 @@ pub record IsUnderway (steps : List (List ℕ)) (start : ℕ) (walk : List ℕ) 
   pub queued : (i : ℕ) → i < length queue → get_or queue i 0 < length steps
   pub known : (i : ℕ) → i < length queue → 0 < chain_length chains (get_or queue i 0)
   pub counted : found_count chains ≡ length queue
-  pub sound : (b : ℕ) → 0 < chain_length chains b → IsChain (IsStep steps) start b (get_or chains b [])
+  pub sound : (b : ℕ) → 0 < chain_length chains b → IsChain (IsStep steps) start b (chains b)
   pub in_order : (i j : ℕ) → next ≤ i → i ≤ j → j < length queue → chain_length chains (get_or queue i 0) ≤ chain_length chains (get_or queue j 0)
   pub near : (i b : ℕ) → next ≤ i → i < length queue → chain_length chains b ≤ chain_length chains (get_or queue i 0) + 1
   pub behind : (i : ℕ) → next ≤ i → i < length queue → length walk ≤ chain_length chains (get_or queue i 0)
@@ -36,20 +36,20 @@ pub record IsUnderway (steps : List (List ℕ)) (start : ℕ) (walk : List ℕ) 
   pub closed : (b : ℕ) → 0 < chain_length chains b → IsPending queue next b ⊎ (IsClosed steps chains b ⊎ ((b ≡ last_of start walk) × (chain_length chains b ≡ length walk)))
 
 -- What is so between: each step from the start is followed, and each place that is found is pending or closed.
-pub record IsSearched (steps : List (List ℕ)) (start : ℕ) (chains : List (List ℕ)) (queue : List ℕ) (next : ℕ) : Type 0 where
+pub record IsSearched (steps : List (List ℕ)) (start : ℕ) (chains : ℕ → List ℕ) (queue : List ℕ) (next : ℕ) : Type 0 where
   pub size : length chains ≡ length steps
   pub past : next ≤ length queue
   pub queued : (i : ℕ) → i < length queue → get_or queue i 0 < length steps
   pub known : (i : ℕ) → i < length queue → 0 < chain_length chains (get_or queue i 0)
   pub counted : found_count chains ≡ length queue
-  pub sound : (b : ℕ) → 0 < chain_length chains b → IsChain (IsStep steps) start b (get_or chains b [])
+  pub sound : (b : ℕ) → 0 < chain_length chains b → IsChain (IsStep steps) start b (chains b)
   pub in_order : (i j : ℕ) → next ≤ i → i ≤ j → j < length queue → chain_length chains (get_or queue i 0) ≤ chain_length chains (get_or queue j 0)
   pub near : (i b : ℕ) → next ≤ i → i < length queue → chain_length chains b ≤ chain_length chains (get_or queue i 0) + 1
   pub first : (c : ℕ) → IsStep steps start c → (0 < chain_length chains c) × (chain_length chains c ≤ 1)
   pub closed : (b : ℕ) → 0 < chain_length chains b → IsPending queue next b ⊎ IsClosed steps chains b
 
 -- one place of the rest was known
-here_known : (steps : List (List ℕ)) (from place : ℕ) (rest : List ℕ) (chains : List (List ℕ)) (c : ℕ) → length chains ≡ length steps → (length chains ≤ place) ⊎ (0 < chain_length chains place)
+here_known : (steps : List (List ℕ)) (from place : ℕ) (rest : List ℕ) (chains : ℕ → List ℕ) (c : ℕ) → length chains ≡ length steps → (length steps ≤ place) ⊎ (0 < chain_length chains place)
     → IsStep steps from c → (0 < chain_length chains c) ⊎ ((place ≡ c) ⊎ Contains rest c) → (0 < chain_length chains c) ⊎ Contains rest c
 here_known steps from place rest chains c size known step (inl found) = inl found
 here_known steps from place rest chains c size known step (inr (inr later)) = inr later
@@ -60,8 +60,8 @@ split_rest : (place : ℕ) (rest : List ℕ) (c : ℕ) (P : Type 0) → P ⊎ Co
 split_rest place rest c P (inl found) = inl found
 split_rest place rest c P (inr inside) = inr (in_cases place rest c inside)
 
-still_underway : (steps : List (List ℕ)) (start : ℕ) (walk : List ℕ) (place : ℕ) (rest : List ℕ) (chains : List (List ℕ)) (queue : List ℕ) (next : ℕ)
-    → (length chains ≤ place) ⊎ (0 < chain_length chains place) → IsUnderway steps start walk (place ∷ rest) chains queue next → IsUnderway steps start walk rest chains queue next
+still_underway : (steps : List (List ℕ)) (start : ℕ) (walk : List ℕ) (place : ℕ) (rest : List ℕ) (chains : ℕ → List ℕ) (queue : List ℕ) (next : ℕ)
+    → (length steps ≤ place) ⊎ (0 < chain_length chains place) → IsUnderway steps start walk (place ∷ rest) chains queue next → IsUnderway steps start walk rest chains queue next
 still_underway steps start walk place rest chains queue next known is = record {
   size = is.size;
   past = is.past;
@@ -80,47 +80,47 @@ still_underway steps start walk place rest chains queue next known is = record {
 }
 
 -- One place more is found, by a chain of this length, and is queued.
-record IsGrown (chains chains' : List (List ℕ)) (queue queue' : List ℕ) (place far : ℕ) : Type 0 where
+record IsGrown (chains chains' : ℕ → List ℕ) (queue queue' : List ℕ) (place far : ℕ) : Type 0 where
   pub before : chain_length chains place ≡ 0
   pub there : chain_length chains' place ≡ far
-  pub others : (b : ℕ) → (b ≡ place → ⊥) → get_or chains' b [] ≡ get_or chains b []
+  pub others : (b : ℕ) → (b ≡ place → ⊥) → chains' b ≡ chains b
   pub longer : length queue' ≡ length queue + 1
   pub kept : (i : ℕ) → i < length queue → get_or queue' i 0 ≡ get_or queue i 0
   pub last : get_or queue' (length queue) 0 ≡ place
 
-old_chain : {chains chains' : List (List ℕ)} {queue queue' : List ℕ} {place far : ℕ} → IsGrown chains chains' queue queue' place far → (b : ℕ) → 0 < chain_length chains b
-    → get_or chains' b [] ≡ get_or chains b []
+old_chain : {chains chains' : ℕ → List ℕ} {queue queue' : List ℕ} {place far : ℕ} → IsGrown chains chains' queue queue' place far → (b : ℕ) → 0 < chain_length chains b
+    → chains' b ≡ chains b
 old_chain {chains} g b found = g.others b (λ same. let empty : chain_length chains b ≡ 0 = ap (chain_length chains) same ∙ g.before in omega arith)
 
-far_at : {chains chains' : List (List ℕ)} {queue queue' : List ℕ} {place far : ℕ} → IsGrown chains chains' queue queue' place far → (i : ℕ) → i < length queue
+far_at : {chains chains' : ℕ → List ℕ} {queue queue' : List ℕ} {place far : ℕ} → IsGrown chains chains' queue queue' place far → (i : ℕ) → i < length queue
     → 0 < chain_length chains (get_or queue i 0) → chain_length chains' (get_or queue' i 0) ≡ chain_length chains (get_or queue i 0)
 far_at {chains} {chains'} {queue} g i inside found = ap (chain_length chains') (g.kept i inside) ∙ ap length (old_chain g (get_or queue i 0) found)
 
-far_last : {chains chains' : List (List ℕ)} {queue queue' : List ℕ} {place far : ℕ} → IsGrown chains chains' queue queue' place far → (i : ℕ) → i ≡ length queue
+far_last : {chains chains' : ℕ → List ℕ} {queue queue' : List ℕ} {place far : ℕ} → IsGrown chains chains' queue queue' place far → (i : ℕ) → i ≡ length queue
     → chain_length chains' (get_or queue' i 0) ≡ far
 far_last {chains} {chains'} {queue} {queue'} g i at = ap (λ j. chain_length chains' (get_or queue' j 0)) at ∙ (ap (chain_length chains') g.last ∙ g.there)
 
-far_any : {chains chains' : List (List ℕ)} {queue queue' : List ℕ} {place far : ℕ} → IsGrown chains chains' queue queue' place far → (b most : ℕ)
+far_any : {chains chains' : ℕ → List ℕ} {queue queue' : List ℕ} {place far : ℕ} → IsGrown chains chains' queue queue' place far → (b most : ℕ)
     → (b ≡ place) ⊎ (b ≡ place → ⊥) → chain_length chains b ≤ most → far ≤ most → chain_length chains' b ≤ most
 far_any {chains} {chains'} {queue} {queue'} {place} {far} g b most (inl same) old new = let there : chain_length chains' b ≡ far = ap (chain_length chains') same ∙ g.there in omega arith
 far_any {chains} {chains'} g b most (inr other) old new = let there : chain_length chains' b ≡ chain_length chains b = ap length (g.others b other) in omega arith
 
-queue_cases : {chains chains' : List (List ℕ)} {queue queue' : List ℕ} {place far : ℕ} → IsGrown chains chains' queue queue' place far → (i : ℕ) → i < length queue'
+queue_cases : {chains chains' : ℕ → List ℕ} {queue queue' : List ℕ} {place far : ℕ} → IsGrown chains chains' queue queue' place far → (i : ℕ) → i < length queue'
     → (i < length queue) ⊎ (length queue ≤ i) → (i < length queue) ⊎ (i ≡ length queue)
 queue_cases g i inside (inl before) = inl before
 queue_cases {chains} {chains'} {queue} {queue'} g i inside (inr past) = let longer : length queue' ≡ length queue + 1 = g.longer in inr (omega arith)
 
-in_queue : {chains chains' : List (List ℕ)} {queue queue' : List ℕ} {place far : ℕ} → IsGrown chains chains' queue queue' place far → (i : ℕ) → i < length queue'
+in_queue : {chains chains' : ℕ → List ℕ} {queue queue' : List ℕ} {place far : ℕ} → IsGrown chains chains' queue queue' place far → (i : ℕ) → i < length queue'
     → (i < length queue) ⊎ (i ≡ length queue)
 in_queue {chains} {chains'} {queue} g i inside = queue_cases g i inside (cases_lt i (length queue))
 
 -- What holds of each place of the queue and of the new one holds of each place of the new queue.
-each_queued : {chains chains' : List (List ℕ)} {queue queue' : List ℕ} {place far : ℕ} → IsGrown chains chains' queue queue' place far → (P : ℕ → Type 0) (i : ℕ)
+each_queued : {chains chains' : ℕ → List ℕ} {queue queue' : List ℕ} {place far : ℕ} → IsGrown chains chains' queue queue' place far → (P : ℕ → Type 0) (i : ℕ)
     → ((i : ℕ) → i < length queue → P (get_or queue i 0)) → P place → (i < length queue) ⊎ (i ≡ length queue) → P (get_or queue' i 0)
 each_queued g P i old new (inl before) = subst P (sym (g.kept i before)) (old i before)
 each_queued {chains} {chains'} {queue} {queue'} g P i old new (inr last) = subst (λ j. P (get_or queue' j 0)) (sym last) (subst P (sym g.last) new)
 
-grown_in_order : {steps : List (List ℕ)} {start next : ℕ} {walk rest : List ℕ} {chains chains' : List (List ℕ)} {queue queue' : List ℕ} {place : ℕ}
+grown_in_order : {steps : List (List ℕ)} {start next : ℕ} {walk rest : List ℕ} {chains chains' : ℕ → List ℕ} {queue queue' : List ℕ} {place : ℕ}
     → IsGrown chains chains' queue queue' place (length walk + 1) → IsUnderway steps start walk rest chains queue next → (i j : ℕ) → next ≤ i → i ≤ j
     → (i < length queue) ⊎ (i ≡ length queue) → (j < length queue) ⊎ (j ≡ length queue) → chain_length chains' (get_or queue' i 0) ≤ chain_length chains' (get_or queue' j 0)
 grown_in_order g is i j from upto (inl one) (inl other) = omega (arith, far_at g i one (is.known i one), far_at g j other (is.known j other), is.in_order i j from upto other)
@@ -129,28 +129,28 @@ grown_in_order {steps} {start} {next} {walk} {rest} {chains} {chains'} {queue} g
 grown_in_order g is i j from upto (inr last) (inl other) = absurd (omega arith)
 grown_in_order g is i j from upto (inr last) (inr also) = omega (arith, far_last g i last, far_last g j also)
 
-grown_near : {steps : List (List ℕ)} {start next : ℕ} {walk rest : List ℕ} {chains chains' : List (List ℕ)} {queue queue' : List ℕ} {place : ℕ}
+grown_near : {steps : List (List ℕ)} {start next : ℕ} {walk rest : List ℕ} {chains chains' : ℕ → List ℕ} {queue queue' : List ℕ} {place : ℕ}
     → IsGrown chains chains' queue queue' place (length walk + 1) → IsUnderway steps start walk rest chains queue next → (i b : ℕ) → next ≤ i
     → (i < length queue) ⊎ (i ≡ length queue) → chain_length chains' b ≤ chain_length chains' (get_or queue' i 0) + 1
 grown_near {place = place} g is i b from (inl one) =
     far_any g b _ (cases_eq b place) (omega (arith, far_at g i one (is.known i one), is.near i b from one)) (omega (arith, far_at g i one (is.known i one), is.behind i from one))
 grown_near {place = place} g is i b from (inr last) = far_any g b _ (cases_eq b place) (omega (arith, far_last g i last, is.within b)) (omega (arith, far_last g i last))
 
-grown_behind : {steps : List (List ℕ)} {start next : ℕ} {walk rest : List ℕ} {chains chains' : List (List ℕ)} {queue queue' : List ℕ} {place : ℕ}
+grown_behind : {steps : List (List ℕ)} {start next : ℕ} {walk rest : List ℕ} {chains chains' : ℕ → List ℕ} {queue queue' : List ℕ} {place : ℕ}
     → IsGrown chains chains' queue queue' place (length walk + 1) → IsUnderway steps start walk rest chains queue next → (i : ℕ) → next ≤ i
     → (i < length queue) ⊎ (i ≡ length queue) → length walk ≤ chain_length chains' (get_or queue' i 0)
 grown_behind g is i from (inl one) = omega (arith, far_at g i one (is.known i one), is.behind i from one)
 grown_behind g is i from (inr last) = omega (arith, far_last g i last)
 
-grown_here : {chains chains' : List (List ℕ)} {queue queue' : List ℕ} {place far : ℕ} → IsGrown chains chains' queue queue' place far → 0 < far → (rest : List ℕ) (c : ℕ)
+grown_here : {chains chains' : ℕ → List ℕ} {queue queue' : List ℕ} {place far : ℕ} → IsGrown chains chains' queue queue' place far → 0 < far → (rest : List ℕ) (c : ℕ)
     → (0 < chain_length chains c) ⊎ ((place ≡ c) ⊎ Contains rest c)
     → (0 < chain_length chains' c) ⊎ Contains rest c
 grown_here {chains} {chains'} g some rest c (inl found) = inl (subst (λ chain. 0 < length chain) (sym (old_chain g c found)) found)
 grown_here {chains} {chains'} g some rest c (inr (inl same)) = inl (subst (λ p. 0 < chain_length chains' p) same (omega (arith, g.there)))
 grown_here g some rest c (inr (inr later)) = inr later
 
-old_closed : {chains chains' : List (List ℕ)} {queue queue' : List ℕ} {place far : ℕ} → IsGrown chains chains' queue queue' place far
-    → (steps : List (List ℕ)) (start next : ℕ) (walk : List ℕ) (b : ℕ) → get_or chains' b [] ≡ get_or chains b []
+old_closed : {chains chains' : ℕ → List ℕ} {queue queue' : List ℕ} {place far : ℕ} → IsGrown chains chains' queue queue' place far
+    → (steps : List (List ℕ)) (start next : ℕ) (walk : List ℕ) (b : ℕ) → chains' b ≡ chains b
     → IsPending queue next b ⊎ (IsClosed steps chains b ⊎ ((b ≡ last_of start walk) × (chain_length chains b ≡ length walk)))
     → IsPending queue' next b ⊎ (IsClosed steps chains' b ⊎ ((b ≡ last_of start walk) × (chain_length chains' b ≡ length walk)))
 old_closed g steps start next walk b same (inl (i, from, inside, at)) = inl (i, from, omega (arith, g.longer), g.kept i inside ∙ at)
@@ -161,27 +161,27 @@ old_closed {chains} {chains'} g steps start next walk b same (inr (inl closed)) 
     let other : chain_length chains' b ≡ chain_length chains b = ap length same in (omega arith, omega arith)))
 old_closed g steps start next walk b same (inr (inr (here, far))) = inr (inr (here, ap length same ∙ far))
 
-grown_closed : {steps : List (List ℕ)} {start next : ℕ} {walk rest : List ℕ} {chains chains' : List (List ℕ)} {queue queue' : List ℕ} {place : ℕ}
+grown_closed : {steps : List (List ℕ)} {start next : ℕ} {walk rest : List ℕ} {chains chains' : ℕ → List ℕ} {queue queue' : List ℕ} {place : ℕ}
     → IsGrown chains chains' queue queue' place (length walk + 1) → IsUnderway steps start walk rest chains queue next → (b : ℕ) → (b ≡ place) ⊎ (b ≡ place → ⊥)
     → 0 < chain_length chains' b
     → IsPending queue' next b ⊎ (IsClosed steps chains' b ⊎ ((b ≡ last_of start walk) × (chain_length chains' b ≡ length walk)))
 grown_closed {queue = queue} g is b (inl same) found = inl (length queue, is.past, omega (arith, g.longer), g.last ∙ sym same)
 grown_closed {steps} {start} {next} {walk} {rest} {chains} {chains'} g is b (inr other) found =
-    let same : get_or chains' b [] ≡ get_or chains b [] = g.others b other in
+    let same : chains' b ≡ chains b = g.others b other in
     old_closed g steps start next walk b same (is.closed b (subst (λ chain. 0 < length chain) same found))
 
-grown_sound : {steps : List (List ℕ)} {start next : ℕ} {walk rest : List ℕ} {chains chains' : List (List ℕ)} {queue queue' : List ℕ} {place : ℕ}
+grown_sound : {steps : List (List ℕ)} {start next : ℕ} {walk rest : List ℕ} {chains chains' : ℕ → List ℕ} {queue queue' : List ℕ} {place : ℕ}
     → IsGrown chains chains' queue queue' place (length walk + 1) → IsUnderway steps start walk rest chains queue next
-    → IsChain (IsStep steps) start place (get_or chains' place []) → (b : ℕ) → (b ≡ place) ⊎ (b ≡ place → ⊥) → 0 < chain_length chains' b
-    → IsChain (IsStep steps) start b (get_or chains' b [])
-grown_sound {steps = steps} {start = start} {chains' = chains'} g is chain b (inl same) found = subst (λ p. IsChain (IsStep steps) start p (get_or chains' p [])) (sym same) chain
+    → IsChain (IsStep steps) start place (chains' place) → (b : ℕ) → (b ≡ place) ⊎ (b ≡ place → ⊥) → 0 < chain_length chains' b
+    → IsChain (IsStep steps) start b (chains' b)
+grown_sound {steps = steps} {start = start} {chains' = chains'} g is chain b (inl same) found = subst (λ p. IsChain (IsStep steps) start p (chains' p)) (sym same) chain
 grown_sound {steps = steps} {start = start} g is chain b (inr other) found =
     subst (IsChain (IsStep steps) start b) (sym (g.others b other)) (is.sound b (subst (λ chain. 0 < length chain) (g.others b other) found))
 
 -- one place of the rest was found
-grown_underway : {steps : List (List ℕ)} {start next : ℕ} {walk rest : List ℕ} {chains chains' : List (List ℕ)} {queue queue' : List ℕ} {place : ℕ}
+grown_underway : {steps : List (List ℕ)} {start next : ℕ} {walk rest : List ℕ} {chains chains' : ℕ → List ℕ} {queue queue' : List ℕ} {place : ℕ}
     → IsGrown chains chains' queue queue' place (length walk + 1) → IsUnderway steps start walk (place ∷ rest) chains queue next → length chains' ≡ length chains
-    → place < length chains → found_count chains' ≡ found_count chains + 1 → IsChain (IsStep steps) start place (get_or chains' place [])
+    → place < length chains → found_count chains' ≡ found_count chains + 1 → IsChain (IsStep steps) start place (chains' place)
     → IsUnderway steps start walk rest chains' queue' next
 grown_underway {steps} {start} {next} {walk} {rest} {chains} {chains'} {queue} {queue'} {place} g is size inside counted chain = record {
   size = size ∙ is.size;
@@ -207,23 +207,23 @@ is_grown : {walk : List ℕ} {place : ℕ} {chains : List (List ℕ)} {queue : L
 is_grown {walk} {place} {chains} {queue} {chains'} {queue'} new = record {
   before = new.unknown;
   there = ap (λ cs. chain_length cs place) new.set ∙ (ap length (get_or-set_same chains place (walk ++ place ∷ []) [] new.exists) ∙ length-append walk (place ∷ []));
-  others = λ b other. ap (λ cs. get_or cs b []) new.set ∙ get_or-set_other chains place b (walk ++ place ∷ []) [] other;
+  others = λ b other. ap (λ cs. cs b) new.set ∙ get_or-set_other chains place b (walk ++ place ∷ []) [] other;
   longer = ap length new.queued ∙ length-append queue (place ∷ []);
   kept = λ i inside. ap (λ q. get_or q i 0) new.queued ∙ get_or_append_left queue (place ∷ []) 0 i inside;
   last = ap (λ q. get_or q (length queue) 0) new.queued ∙ get_or-append_seam queue place [] 0;
 }
 
-new_underway : (steps : List (List ℕ)) (start : ℕ) (walk : List ℕ) (place : ℕ) (rest : List ℕ) (chains : List (List ℕ)) (queue : List ℕ) (next : ℕ)
-    (chains' : List (List ℕ)) (queue' : List ℕ) → IsNew walk place chains queue chains' queue' → IsUnderway steps start walk (place ∷ rest) chains queue next
+new_underway : (steps : List (List ℕ)) (start : ℕ) (walk : List ℕ) (place : ℕ) (rest : List ℕ) (chains : ℕ → List ℕ) (queue : List ℕ) (next : ℕ)
+    (chains' : ℕ → List ℕ) (queue' : List ℕ) → IsNew walk place chains queue chains' queue' → IsUnderway steps start walk (place ∷ rest) chains queue next
     → IsUnderway steps start walk rest chains' queue' next
 new_underway steps start walk place rest chains queue next chains' queue' new is =
     grown_underway (is_grown new) is (ap length new.set ∙ length-set chains place (walk ++ place ∷ [])) new.exists
     (ap found_count new.set ∙ found_count-set chains place walk new.exists new.unknown)
-    (subst (IsChain (IsStep steps) start place) (sym (ap (λ cs. get_or cs place []) new.set ∙ get_or-set_same chains place (walk ++ place ∷ []) [] new.exists))
+    (subst (IsChain (IsStep steps) start place) (sym (ap (λ cs. cs place) new.set ∙ get_or-set_same chains place (walk ++ place ∷ []) [] new.exists))
     (chain_longer (IsStep steps) start place walk is.walked (omega (arith, new.exists, is.size), is.listed place (in_first place rest))))
 
-finds_underway : (steps : List (List ℕ)) (start : ℕ) (walk : List ℕ) (place : ℕ) (rest : List ℕ) (chains : List (List ℕ)) (queue : List ℕ) (next : ℕ)
-    (chains' : List (List ℕ)) (queue' : List ℕ) → Finds walk place chains queue chains' queue' → IsUnderway steps start walk (place ∷ rest) chains queue next
+finds_underway : (steps : List (List ℕ)) (start : ℕ) (walk : List ℕ) (place : ℕ) (rest : List ℕ) (chains : ℕ → List ℕ) (queue : List ℕ) (next : ℕ)
+    (chains' : ℕ → List ℕ) (queue' : List ℕ) → Finds walk place chains queue chains' queue' → IsUnderway steps start walk (place ∷ rest) chains queue next
     → IsUnderway steps start walk rest chains' queue' next
 finds_underway steps start walk place rest chains queue next chains' queue' (inl old) is =
     subst (λ cs. IsUnderway steps start walk rest cs queue' next) (sym old.same_chains)
@@ -231,22 +231,22 @@ finds_underway steps start walk place rest chains queue next chains' queue' (inl
 finds_underway steps start walk place rest chains queue next chains' queue' (inr new) is = new_underway steps start walk place rest chains queue next chains' queue' new is
 
 -- all of the rest were looked at
-pub each_underway : (steps : List (List ℕ)) (start : ℕ) (walk rest : List ℕ) (chains : List (List ℕ)) (queue : List ℕ) (next : ℕ) (chains' : List (List ℕ)) (queue' : List ℕ)
+pub each_underway : (steps : List (List ℕ)) (start : ℕ) (walk rest : List ℕ) (chains : ℕ → List ℕ) (queue : List ℕ) (next : ℕ) (chains' : ℕ → List ℕ) (queue' : List ℕ)
     → FindsEach walk rest chains queue chains' queue' → IsUnderway steps start walk rest chains queue next → IsUnderway steps start walk [] chains' queue' next
 each_underway steps start walk [] chains queue next chains' queue' (same, also) is =
     subst (λ cs. IsUnderway steps start walk [] cs queue' next) (sym same) (subst (λ q. IsUnderway steps start walk [] chains q next) (sym also) is)
 each_underway steps start walk (place ∷ rest) chains queue next chains' queue' (between, queued, one, more) is =
     each_underway steps start walk rest between queued next chains' queue' more (finds_underway steps start walk place rest chains queue next between queued one is)
 
-kept_by_one : (walk : List ℕ) (place : ℕ) (chains : List (List ℕ)) (queue : List ℕ) (chains' : List (List ℕ)) (queue' : List ℕ) (b : ℕ)
-    → Finds walk place chains queue chains' queue' → 0 < chain_length chains b → get_or chains' b [] ≡ get_or chains b []
-kept_by_one walk place chains queue chains' queue' b (inl old) found = ap (λ cs. get_or cs b []) old.same_chains
+kept_by_one : (walk : List ℕ) (place : ℕ) (chains : ℕ → List ℕ) (queue : List ℕ) (chains' : ℕ → List ℕ) (queue' : List ℕ) (b : ℕ)
+    → Finds walk place chains queue chains' queue' → 0 < chain_length chains b → chains' b ≡ chains b
+kept_by_one walk place chains queue chains' queue' b (inl old) found = ap (λ cs. cs b) old.same_chains
 kept_by_one walk place chains queue chains' queue' b (inr new) found = old_chain (is_grown new) b found
 
 -- a chain that is found stays
-pub kept_by_each : (walk rest : List ℕ) (chains : List (List ℕ)) (queue : List ℕ) (chains' : List (List ℕ)) (queue' : List ℕ) (b : ℕ)
-    → FindsEach walk rest chains queue chains' queue' → 0 < chain_length chains b → get_or chains' b [] ≡ get_or chains b []
-kept_by_each walk [] chains queue chains' queue' b (same, also) found = ap (λ cs. get_or cs b []) same
+pub kept_by_each : (walk rest : List ℕ) (chains : ℕ → List ℕ) (queue : List ℕ) (chains' : ℕ → List ℕ) (queue' : List ℕ) (b : ℕ)
+    → FindsEach walk rest chains queue chains' queue' → 0 < chain_length chains b → chains' b ≡ chains b
+kept_by_each walk [] chains queue chains' queue' b (same, also) found = ap (λ cs. cs b) same
 kept_by_each walk (place ∷ rest) chains queue chains' queue' b (between, queued, one, more) found =
-    let here : get_or between b [] ≡ get_or chains b [] = kept_by_one walk place chains queue between queued b one found in
+    let here : get_or between b [] ≡ chains b = kept_by_one walk place chains queue between queued b one found in
     kept_by_each walk rest between queued chains' queue' b more (subst (λ chain. 0 < length chain) (sym here) found) ∙ here

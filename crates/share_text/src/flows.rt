@@ -13,7 +13,7 @@ ghost use Rattle.share_text.specs.FlowLines.{AreChainsTold, IsChainTold, IsWrite
 use crate::kind::Kind;
 use crate::tenants::{Tenant, index_of, nothing, push_told, share_within, tenants_of};
 use common_types::OutOfMemory;
-use flow_core::chains_from;
+use flow_core::{Found, chains_from};
 use gate_text::{Entity, Printed, push_shown_text};
 use share_core::Pool;
 use std::alloc::Global;
@@ -125,15 +125,15 @@ fn told_chains(
     alloc: Global,
     tenants: &[Tenant],
     writer: usize,
-    chains: &[Vec<usize>],
+    chains: &[Found],
     check: bool,
 ) -> Result<Printed, OutOfMemory>
-    ensures { IfOk result (λ printed. AreChainsTold check tenants.now writer (map (λ chain. chain.items) chains.now) (string_bytes printed.text) printed.fails) }
+    ensures { IfOk result (λ printed. AreChainsTold check tenants.now writer chains.now (string_bytes printed.text) printed.fails) }
 {
     let mut printed = nothing(alloc);
-    for reader in 0..chains.len() {
-        let chain = chains[reader].as_slice();
-        let told = told_chain(alloc, tenants, writer, reader, chain, check)?;
+    for found in chains {
+        let chain = found.chain.as_slice();
+        let told = told_chain(alloc, tenants, writer, found.end, chain, check)?;
         push_told(&mut printed, &told)?;
     }
     Ok(printed)
