@@ -96,7 +96,7 @@ pub fn chains_from(
     let mut next = 0;
     while let Some((place, chain)) = found.get_index(next) {
         let place = *place;
-        let chain = chain.clone()?;
+        let chain = Vec::from_slice(alloc, chain.as_slice())?;
         find_each(alloc, &mut found, steps.len(), chain.as_slice(), steps[place].as_slice())?;
         next += 1;
     }
