@@ -1,15 +1,14 @@
 -- What the entries of a search hold.
-use Rattle.std.proofs.Common.{◌≡◌, ℕ, ◌+◌, ◌<◌, ◌≤◌, List, [], ◌∷◌, ◌++◌, Bool, true, false, cond, Option, None, Some, is_some, length, get_or, refl, sym, ap, ◌∙◌, arith, length-append, nat_eq, IsSome}
-use Rattle.std.specs.Cmp.{nat_eq_equiv}
-use Rattle.std.specs.List.{IsDistinct, list_any}
+use Rattle.std.proofs.Common.{◌≡◌, ℕ, ◌+◌, ◌<◌, ◌≤◌, List, [], ◌∷◌, ◌++◌, Bool, true, false, cond, slice_get, zero, suc, eq-eqb, eqb-true, Contains, get_or, subst, Option, None, Some, is_some, length, refl, sym, ap, ◌∙◌, arith, length-append, nat_eq, IsSome}
+use Rattle.std.specs.List.{list_any}
 use Rattle.std.specs.Map.{keys_of, lookup}
 use Rattle.std.specs.Prelude.{Vec}
 use Rattle.std.specs.declared.alloc.Global.{Global}
-use Rattle.std.proofs.lemmas.Bool.{eqb-false, false≢true}
-use Rattle.std.proofs.lemmas.Bool.Decides.{eqb_tells}
-use Rattle.std.proofs.lemmas.Map.Keys.{IsDistinct-push}
-use Rattle.std.proofs.lemmas.Map.Made.{is_some-lookup}
-use Rattle.flow_core.specs.Searching.{Entries}
+use Rattle.std.proofs.lemmas.Bool.{false≢true}
+use Rattle.std.proofs.lemmas.Map.Views.{Contains-keys_from_lookup, exact_unsigned_eq}
+use Rattle.std.proofs.lemmas.Option.{none-some}
+use Rattle.std.proofs.lemmas.Grind.{get_or_default_zero}
+use Rattle.flow_core.specs.Searching.{Entries, IsNew}
 
 abbrev pub items_or_none : Option (Vec ℕ Global) → List ℕ
 items_or_none None = []
@@ -53,8 +52,13 @@ chain_other (e ∷ es) place chain b other = go (nat_eq b e.0) (chain_other es p
     go true later = refl
     go false later = later
 
-pub unlisted : (found : Entries) (place : ℕ) → lookup (nat_eq place) found ≡ None → list_any (nat_eq place) (places_of found) ≡ false
-unlisted found place none = sym (is_some-lookup (nat_eq place) found) ∙ ap is_some none
+-- a place that is listed has a chain, where each place of the queue has one
+pub known_at : (found : Entries) (place : ℕ) → ((i : ℕ) → i < length (places_of found) → 0 < length (chain_at found (get_or (places_of found) i 0)))
+    → IsSome (lookup (nat_eq place) found) → 0 < length (chain_at found place)
+known_at found place known there = here (Contains-keys_from_lookup exact_unsigned_eq place found there)
+  where
+    here : Contains (places_of found) place → 0 < length (chain_at found place)
+    here (i, inside, is) = subst (λ p. 0 < length (chain_at found p)) (sym (get_or_default_zero (places_of found) i place inside) ∙ is) (known i inside)
 
 some_chain : (o : Option (Vec ℕ Global)) → 0 < length (items_or_none o) → IsSome o
 some_chain None found = absurd (omega arith)
@@ -64,6 +68,17 @@ some_chain (Some chain) found = refl
 pub found_listed : (found : Entries) (place : ℕ) → 0 < length (chain_at found place) → Contains (places_of found) place
 found_listed found place is = Contains-keys_from_lookup exact_unsigned_eq place found (some_chain (lookup (nat_eq place) found) is)
 
--- the chain of an entry is that of its place
-pub chain_of_entry : (found : Entries) (i : ℕ) (place : ℕ) (chain : Vec ℕ Global) → IsDistinct nat_eq (places_of found) → slice_get found i ≡ Some (place, chain) → chain_at found place ≡ chain.items
-chain_of_entry found i place chain apart at = ap items_or_none (lookup_from_place nat_eq_equiv found i place chain apart at)
+-- a place that is not listed is found by the chain with it behind
+pub is_new : (places : ℕ) (walk : List ℕ) (place : ℕ) (found found' : Entries) (chain : Vec ℕ Global) → place < places → lookup (nat_eq place) found ≡ None
+    → chain.items ≡ walk ++ place ∷ [] → found' ≡ found ++ (place, chain) ∷ [] → IsNew places walk place found found'
+is_new places walk place found found' chain exists unknown longer added = record { exists = exists; unknown = unknown; longer = chain; is_longer = longer; added = added }
+
+pub nothing_there : (o : Option (Vec ℕ Global)) → is_some o ≡ false → o ≡ None
+nothing_there None known = refl
+nothing_there (Some chain) known = absurd (false≢true (sym known))
+
+-- the place of an entry
+pub entry_place : (found : Entries) (i place : ℕ) (chain : Vec ℕ Global) → slice_get found i ≡ Some (place, chain) → (i < length (places_of found)) × (get_or (places_of found) i 0 ≡ place)
+entry_place [] i place chain at = absurd (none-some (place, chain) at)
+entry_place (e ∷ es) zero place chain at = (omega arith, cc)
+entry_place (e ∷ es) (suc i) place chain at = let later = entry_place es i place chain at in (omega arith, later.1)
