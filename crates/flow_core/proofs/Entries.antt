@@ -1,6 +1,5 @@
 -- What the entries of a search hold.
-use Rattle.std.proofs.Common.{◌≡◌, ℕ, ◌+◌, ◌<◌, ◌≤◌, List, [], ◌∷◌, ◌++◌, Bool, true, false, cond, slice_get, zero, suc, eq-eqb, eqb-true, Contains, get_or, subst, Option, None, Some, is_some, length, refl, sym, ap, ◌∙◌, arith, length-append, nat_eq, IsSome}
-use Rattle.std.specs.List.{list_any}
+use Rattle.std.proofs.Common.{◌≡◌, ℕ, ◌<◌, List, [], ◌∷◌, ◌++◌, Bool, true, false, cond, slice_get, zero, suc, eq-eqb, eqb-true, Contains, get_or, subst, Option, None, Some, is_some, length, refl, sym, ap, ◌∙◌, arith, nat_eq, IsSome}
 use Rattle.std.specs.Map.{keys_of, lookup}
 use Rattle.std.specs.Prelude.{Vec}
 use Rattle.std.specs.declared.alloc.Global.{Global}

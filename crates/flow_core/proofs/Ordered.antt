@@ -1,10 +1,12 @@
 -- What was found, once it is put in order.
-use Rattle.std.proofs.Common.{append-nil, ◌≡◌, ℕ, ◌+◌, ◌<◌, ◌≤◌, List, [], ◌∷◌, ◌++◌, Bool, true, false, length, get_or, map, refl, sym, ap, subst, ◌∙◌, arith, nat_eq, Option, Some, is_some}
-use Rattle.std.specs.List.{All, Contains, IsDistinct}
+use Rattle.std.proofs.Common.{Result, Ok, Err, append-nil, ◌≡◌, ℕ, ◌<◌, ◌≤◌, List, [], ◌∷◌, ◌++◌, length, get_or, map, refl, sym, ap, subst, ◌∙◌, arith, nat_eq, Some, is_some}
+use Rattle.std.specs.List.{Contains, IsDistinct}
 use Rattle.std.specs.List.Sorted.{IsPermutation, IsSorted, IsStrictlyIncreasing}
 use Rattle.std.specs.Map.{keys_of, lookup}
+use Rattle.std.specs.Result.{IfOk}
+use Rattle.std.specs.Prelude.{Vec}
+use Rattle.std.specs.declared.alloc.Global.{Global}
 use Rattle.std.specs.Ordering.{nat_cmp}
-use Rattle.std.proofs.lemmas.List.Elements.{Contains-get_or}
 use Rattle.std.proofs.lemmas.List.Sorted.{Contains-permutation, IsNonDecreasingBy-from_sort, IsPermutation-map, IsPermutation-sym}
 use Rattle.std.proofs.lemmas.Bool.{ne_eqb}
 use Rattle.std.proofs.lemmas.Cmp.{nat_eq_equiv}
@@ -12,10 +14,9 @@ use Rattle.std.proofs.lemmas.List.{get_or-map, length-map}
 use Rattle.std.proofs.lemmas.Map.Views.{lookup-from_Contains}
 use Rattle.std.proofs.lemmas.Map.Keys.{IsDistinct-IsPermutation, IsDistinct-from_apart, IsStrictlyIncreasing-from_distinct, below_from_sorted, sorted_from_strictly_increasing}
 use Rattle.flow_core.specs.declared.chains.Found.{Found}
-use Rattle.flow_core.specs.Chains.{AreFound, IsChain, IsShortest, IsStep, end_of}
+use Rattle.flow_core.specs.Chains.{AreFound, IsShortest, IsStep, end_of}
 use Rattle.flow_core.specs.Searching.{Entries, entry_of}
 use Rattle.flow_core.proofs.Entries.{chain_at, found_listed, items_or_none, known_at, places_of}
-use Rattle.flow_core.proofs.Rounds.{chain_length}
 use Rattle.flow_core.proofs.Searches.{IsSearchedWith, reached, shortest_at}
 
 ends_of_entries : (listed : List Found) → places_of (map entry_of listed) ≡ map end_of listed
@@ -71,3 +72,9 @@ all_found steps start found next listed past is rising same = record {
       absent (Contains-permutation (places_of found) (map end_of listed) end (ends_of_places found listed same)
       (found_listed found end (reached steps start (chain_at found) (places_of found) next end chain past is chains_to).0));
 }
+
+pub answer_found : {E : Type 0} (steps : List (List ℕ)) (start : ℕ) (found : Entries) (next : ℕ) (result : Result (Vec Found Global) E) → length (places_of found) ≤ next
+    → IsSearchedWith steps start found next → IfOk result (λ listed. IsStrictlyIncreasing (map end_of listed.items)) → IfOk result (λ listed. IsPermutation found (map entry_of listed.items))
+    → IfOk result (λ listed. AreFound steps start listed.items)
+answer_found steps start found next (Ok listed) past is rising same = all_found steps start found next listed.items past is rising same
+answer_found steps start found next (Err error) past is rising same = tt

@@ -6,7 +6,7 @@ use Rattle.std.proofs.lemmas.Bool.{cases_eq, cases_lt}
 use Rattle.std.proofs.lemmas.List.{get_or_append_left}
 use Rattle.std.proofs.Math.Seq.{get_or-append_seam}
 use Rattle.flow_core.specs.Chains.{AreSteps, IsChain, IsStep}
-use Rattle.flow_core.specs.Searching.{Entries, Finds, FindsEach, IsKnown, IsNew}
+use Rattle.flow_core.specs.Searching.{Entries, Finds, FindsEach, IsNew}
 use Rattle.flow_core.proofs.Entries.{chain_at, items_or_none, chain_here, chain_other, known_at, places_of, places_push}
 use Rattle.flow_core.proofs.Listing.{in_cases, in_first, in_later}
 use Rattle.flow_core.proofs.Walks.{chain_longer, last_of}

@@ -1,12 +1,12 @@
 -- A search from its beginning to its end.
-use Rattle.std.proofs.Common.{◌≡◌, ℕ, ◌+◌, ◌<◌, ◌≤◌, ◌⊎◌, List, [], ◌∷◌, ◌++◌, length, get_or, map, refl, sym, ap, subst, Option, Some, nat_eq, slice_get, ◌∙◌, inl, inr, arith}
+use Rattle.std.proofs.Common.{◌≡◌, ℕ, ◌+◌, ◌<◌, ◌≤◌, ◌⊎◌, List, [], length, get_or, map, refl, sym, ap, subst, Some, nat_eq, slice_get, ◌∙◌, inl, inr, arith}
 use Rattle.std.specs.List.{Contains}
 use Rattle.std.specs.Map.{lookup}
 use Rattle.std.specs.Prelude.{Vec}
 use Rattle.std.specs.declared.alloc.Global.{Global}
 use Rattle.std.proofs.lemmas.Bool.{cases_eq}
 use Rattle.std.proofs.lemmas.List.{get_or-map, get_or_past, length-map}
-use Rattle.flow_core.specs.Chains.{AreFound, IsChain, IsShortest, IsStep}
+use Rattle.flow_core.specs.Chains.{IsChain, IsShortest, IsStep}
 use Rattle.flow_core.specs.Searching.{Entries, FindsEach}
 use Rattle.flow_core.proofs.Entries.{chain_at, entry_place, items_or_none, places_of}
 use Rattle.flow_core.proofs.Listing.{in_none}

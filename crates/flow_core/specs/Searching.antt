@@ -1,6 +1,6 @@
 -- Refinement: only contracts inside the crate use it.
 -- What a search does: it finds places that were not found before, each with the chain that found it.
-use Rattle.std.specs.Prelude.{ℕ, ◌≡◌, ◌<◌, ◌≤◌, ◌⊎◌, List, [], ◌∷◌, ◌++◌, Option, None, Some, Vec, IsSome, nat_eq}
+use Rattle.std.specs.Prelude.{ℕ, ◌≡◌, ◌<◌, ◌≤◌, ◌⊎◌, List, [], ◌∷◌, ◌++◌, None, Vec, IsSome, nat_eq}
 use Rattle.std.specs.Map.{lookup}
 use Rattle.std.specs.declared.alloc.Global.{Global}
 use Rattle.flow_core.specs.declared.chains.Found.{Found}

@@ -94,10 +94,12 @@ pub fn chains_from(
         find_each(alloc, &mut found, steps.len(), &[], steps[start].as_slice())?;
     }
     let mut next = 0;
-    while let Some((place, chain)) = found.get_index(next) {
-        let place = *place;
-        let chain = Vec::from_slice(alloc, chain.as_slice())?;
-        find_each(alloc, &mut found, steps.len(), chain.as_slice(), steps[place].as_slice())?;
+    while next < found.len() {
+        if let Some((place, chain)) = found.get_index(next) {
+            let place = *place;
+            let chain = Vec::from_slice(alloc, chain.as_slice())?;
+            find_each(alloc, &mut found, steps.len(), chain.as_slice(), steps[place].as_slice())?;
+        }
         next += 1;
     }
     in_order(alloc, found)

@@ -1,4 +1,4 @@
-use Rattle.std.proofs.Common.{◌≡◌, ◌∙◌, inr, sym, None, nat_eq}
+use Rattle.std.proofs.Common.{rules, ◌≡◌, ◌∙◌, inr, sym, None, nat_eq}
 use Rattle.std.specs.Map.{lookup}
 use Rattle.indexmap.proofs.CallerLemmas.{insert_entry-new}
 use Rattle.flow_core.proofs.Entries.{is_new, nothing_there}
