@@ -98,7 +98,13 @@ pub fn chains_from(
         if let Some((place, chain)) = found.get_index(next) {
             let place = *place;
             let chain = Vec::from_slice(alloc, chain.as_slice())?;
-            find_each(alloc, &mut found, steps.len(), chain.as_slice(), steps[place].as_slice())?;
+            find_each(
+                alloc,
+                &mut found,
+                steps.len(),
+                chain.as_slice(),
+                steps[place].as_slice(),
+            )?;
         }
         next += 1;
     }
