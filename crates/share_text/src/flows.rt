@@ -120,7 +120,7 @@ fn told_chain(
     Ok(Printed { text, fails: check })
 }
 
-/// What is told of a tenant with each that it reaches by a chain.
+/// What is told of a tenant with each to which a chain was found.
 fn told_chains(
     alloc: Global,
     tenants: &[Tenant],
@@ -167,8 +167,9 @@ fn told_writers(
 ///
 /// An entity whose text has no grants is left out. A name's bytes outside 32 to 126 are shown as `\x` and two hexadecimal
 /// digits. The only error is want of memory, which leaves nothing. Time goes by the pairs of entities that name a common pool,
-/// or of which one has a grant without a pool, and for each by the pairs of their grants, and then for each entity by the pairs
-/// of which one writes what the other reads. The lines are this project's profile.
+/// or of which one has a grant without a pool, and for each by the pairs of their grants, and then for each entity by those whom
+/// it reaches, by the pairs of these of which one writes what the other reads, and by what is printed. The lines are this
+/// project's profile.
 pub fn flow_entities(
     alloc: Global,
     entities: &[Entity],
