@@ -1,6 +1,5 @@
 -- What is told of all readers, where it is told of those alone that were found.
-use Rattle.std.proofs.Common.{◌≡◌, ℕ, zero, suc, ◌+◌, ◌-◌, ◌<◌, ◌≤◌, ◌⊎◌, List, [], ◌∷◌, ◌++◌, Bool, true, false, ◌||◌, Option, Some, append-nil, get_or, slice_get, take, length, map, refl, sym, ap, subst, ◌∙◌, inl, inr, arith, length-append}
-use Rattle.std.specs.List.{Contains}
+use Rattle.std.proofs.Common.{◌≡◌, ℕ, zero, suc, ◌-◌, ◌<◌, ◌≤◌, ◌⊎◌, List, [], ◌∷◌, ◌++◌, Bool, true, false, ◌||◌, Option, Some, append-nil, get_or, slice_get, take, length, map, refl, sym, ap, subst, ◌∙◌, inl, inr, arith, length-append}
 use Rattle.std.proofs.Math.Seq.{take-append_seam}
 use Rattle.std.proofs.lemmas.Bool.{cases_eq, cases_lt}
 use Rattle.std.proofs.lemmas.Grind.{get_or_default_zero}
@@ -103,6 +102,25 @@ record AreSpread (IsTold FoundTold : ℕ → List ℕ → Bool → Type 0) (plac
   pub told : (k : ℕ) (text : List ℕ) (fails : Bool) → k < count → FoundTold k text fails → IsTold (place_of k) text fails
   pub silent : (place : ℕ) → ((k : ℕ) → k < count → place_of k ≡ place → ⊥) → IsTold place [] false
 
+-- what is told of the places below is that of those before the last one, and that of the last one
+told_to_last : (IsTold FoundTold : ℕ → List ℕ → Bool → Type 0) (place_of : ℕ → ℕ) (count n m : ℕ) (text : List ℕ) (fails : Bool) → AreSpread IsTold FoundTold place_of count
+    → ((k : ℕ) (text : List ℕ) (fails : Bool) → AreBelow place_of count k n → OfEach FoundTold k text fails → OfEach IsTold n text fails)
+    → AreBelow place_of count (suc m) (suc n) → (place_of m < n) ⊎ (n ≤ place_of m) → OfEach FoundTold (suc m) text fails → OfEach IsTold (suc n) text fails
+told_to_last IsTold FoundTold place_of count n m text fails spread before are (inl below) all =
+    let low : AreBelow place_of count (suc m) n = none_at place_of count m n spread.rise below are in
+    one_silent IsTold n text fails (spread.silent n (λ k inside. elsewhere place_of count (suc m) n k low are inside (cases_lt k (suc m)))) (before (suc m) text fails low all)
+told_to_last IsTold FoundTold place_of count n m text fails spread before are (inr at) (front, rest, first, later, earlier, here, is, ends) =
+    let same : place_of m ≡ n = omega (arith, are.below m (omega arith)) in (
+      front,
+      rest,
+      first,
+      later,
+      before m front first (last_off place_of count m n spread.rise at are) earlier,
+      subst (λ place. IsTold place rest later) same (spread.told m rest later (omega (arith, are.within)) here),
+      is,
+      ends,
+    )
+
 all_told : (IsTold FoundTold : ℕ → List ℕ → Bool → Type 0) (place_of : ℕ → ℕ) (count n m : ℕ) (text : List ℕ) (fails : Bool) → AreSpread IsTold FoundTold place_of count
     → AreBelow place_of count m n → OfEach FoundTold m text fails → OfEach IsTold n text fails
 all_told IsTold FoundTold place_of count zero zero text fails spread are told = told
@@ -111,25 +129,8 @@ all_told IsTold FoundTold place_of count (suc n) zero text fails spread are told
     let before : AreBelow place_of count 0 n = none_below place_of count n are in
     one_silent IsTold n text fails (spread.silent n (λ k inside. elsewhere place_of count 0 n k before are inside (inr (omega arith))))
     (all_told IsTold FoundTold place_of count n zero text fails spread before told)
-all_told IsTold FoundTold place_of count (suc n) (suc m) text fails spread are told = last_or_before (cases_lt (place_of m) n) told
-  where
-    last_or_before : (place_of m < n) ⊎ (n ≤ place_of m) → OfEach FoundTold (suc m) text fails → OfEach IsTold (suc n) text fails
-    last_or_before (inl below) all =
-        let before : AreBelow place_of count (suc m) n = none_at place_of count m n spread.rise below are in
-        one_silent IsTold n text fails (spread.silent n (λ k inside. elsewhere place_of count (suc m) n k before are inside (cases_lt k (suc m))))
-        (all_told IsTold FoundTold place_of count n (suc m) text fails spread before all)
-    last_or_before (inr at) (front, rest, first, later, before, here, is, ends) =
-        let same : place_of m ≡ n = omega (arith, are.below m (omega arith)) in
-        (
-          front,
-          rest,
-          first,
-          later,
-          all_told IsTold FoundTold place_of count n m front first spread (last_off place_of count m n spread.rise at are) before,
-          subst (λ place. IsTold place rest later) same (spread.told m rest later (omega (arith, are.within)) here),
-          is,
-          ends,
-        )
+all_told IsTold FoundTold place_of count (suc n) (suc m) text fails spread are told =
+    told_to_last IsTold FoundTold place_of count n m text fails spread (λ k t f below. all_told IsTold FoundTold place_of count n k t f spread below) are (cases_lt (place_of m) n) told
 
 -- a chain ends at a place to which there is a step
 last_step : (Step : ℕ → ℕ → Type 0) (start : ℕ) (walk : List ℕ) (end : ℕ) → AreSteps Step start (walk ++ end ∷ []) → (before : ℕ) × Step before end
@@ -215,4 +216,3 @@ slices_told f pools check tenants one two steps three text fails same also are r
     (subst (λ s. OfEach (IsWriterTold check two (map f s)) (length s) text fails) are told) in
     writers_told pools check tenants (map f steps) text fails (subst (λ t. AreReaders pools t (map f steps)) same readers)
     (subst (λ n. OfEach (IsWriterTold check tenants (map f steps)) n text fails) (sym (length-map steps f)) all)
-

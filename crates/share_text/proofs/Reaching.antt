@@ -1,8 +1,8 @@
 -- Where what a tenant writes may come to, and what is told of it.
-use Rattle.std.proofs.Common.{◌≡◌, ℕ, zero, suc, ◌+◌, ◌-◌, ◌<◌, ◌≤◌, ◌⊎◌, ◌↔◌, List, [], ◌∷◌, ◌++◌, Bool, false, ◌||◌, Option, Some, append_assoc, codes, drop, get_or, slice_get, slice_index, take, length, map, refl, sym, ap, subst, ◌∙◌, inl, inr, add-one, arith, length-append}
+use Rattle.std.proofs.Common.{◌≡◌, ℕ, zero, suc, ◌+◌, ◌<◌, ◌≤◌, ◌⊎◌, ◌↔◌, List, [], ◌∷◌, ◌++◌, Bool, ◌||◌, Option, Some, append_assoc, codes, drop, get_or, slice_get, slice_index, length, map, refl, sym, ap, subst, ◌∙◌, inl, inr, add-one, arith, length-append}
 use Rattle.std.specs.List.{Contains}
-use Rattle.std.proofs.Math.Seq.{get_or-append_seam, take-append_seam}
-use Rattle.std.proofs.lemmas.Bool.{cases_eq, cases_lt}
+use Rattle.std.proofs.Math.Seq.{get_or-append_seam}
+use Rattle.std.proofs.lemmas.Bool.{cases_lt}
 use Rattle.std.proofs.lemmas.List.{drop_more, get_or-map, get_or_append_left, get_or_past, length-map}
 use Rattle.std.proofs.lemmas.List.Elements.{Contains-append_left, Contains-push, Contains-push_cases}
 use Rattle.std.proofs.lemmas.Option.{slice_get-get_or}
@@ -13,7 +13,7 @@ use Rattle.grant_core.specs.Flat.{Flat}
 use Rattle.share_core.specs.Near.{AreApart, AreNear}
 use Rattle.share_core.specs.declared.pools.Pool.{Pool}
 use Rattle.share_text.specs.Behind.{grants_of}
-use Rattle.share_text.specs.Flows.{AreReaders, AreReachesTold, IsFlowTold, IsPlaceTold, OfEach, WritesTo, flow_line, grants_at, name_at, through_words}
+use Rattle.share_text.specs.Flows.{OfEach, grants_at, name_at, through_words}
 use Rattle.share_text.specs.Kinds.{ShareWithin}
 use Rattle.share_text.specs.declared.kind.Kind.TheVariants.{WritesReads}
 use Rattle.share_text.specs.declared.tenants.Tenant.{Tenant}

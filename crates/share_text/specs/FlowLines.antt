@@ -1,6 +1,6 @@
 -- Refinement: only contracts inside the crate use it.
 -- What is printed of chains that were found.
-use Rattle.std.specs.Prelude.{ℕ, ◌≡◌, ◌≢◌, ◌⊎◌, List, [], Bool, false, Option, Some, length, slice_get, take, ◌-◌}
+use Rattle.std.specs.Prelude.{ℕ, ◌≡◌, ◌≢◌, ◌⊎◌, List, [], Bool, false, Some, length, slice_get, take, ◌-◌}
 use Rattle.flow_core.specs.Chains.{AreFound}
 use Rattle.flow_core.specs.declared.chains.Found.{Found}
 use Rattle.share_text.specs.Flows.{OfEach, flow_line}
