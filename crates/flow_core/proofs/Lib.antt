@@ -1,4 +1,6 @@
 pub mod Walks
-pub mod Rounds
 pub mod Listing
+pub mod Entries
+pub mod Rounds
 pub mod Searches
+pub mod Ordered

@@ -1,6 +1,6 @@
 -- Walks along steps, and how far they lead.
 use Rattle.std.proofs.Common.{◌≡◌, ℕ, ◌+◌, ◌<◌, ◌≤◌, List, [], ◌∷◌, ◌++◌, length, refl, ap, subst, ◌∙◌, arith, length-append}
-use Rattle.flow_core.specs.Chains.{AreSteps, IsChain, IsFound}
+use Rattle.flow_core.specs.Chains.{AreSteps, IsChain, IsShortest}
 
 -- the last place of a walk, or where it begins if it has none
 abbrev pub last_of : ℕ → List ℕ → ℕ
@@ -49,13 +49,12 @@ steps_for : (Step Also : ℕ → ℕ → Type 0) → ((one other : ℕ) → Step
 steps_for Step Also also place [] steps = tt
 steps_for Step Also also place (next ∷ rest) steps = (also place next steps.0, steps_for Step Also also next rest steps.1)
 
-chain_for : (Step Also : ℕ → ℕ → Type 0) → ((one other : ℕ) → Step one other → Also one other) → (start end : ℕ) (chain : List ℕ) → IsChain Step start end chain → IsChain Also start end chain
+pub chain_for : (Step Also : ℕ → ℕ → Type 0) → ((one other : ℕ) → Step one other → Also one other) → (start end : ℕ) (chain : List ℕ) → IsChain Step start end chain → IsChain Also start end chain
 chain_for Step Also also start end chain is = record { ends = is.ends; steps = steps_for Step Also also start chain is.steps }
 
-pub found_for : (Step Also : ℕ → ℕ → Type 0) → ((one other : ℕ) → Step one other → Also one other) → ((one other : ℕ) → Also one other → Step one other) → (start end : ℕ) (chain : List ℕ)
-    → IsFound Step start end chain → IsFound Also start end chain
-found_for Step Also also back start end [] found = λ chain is. found chain (chain_for Also Step back start end chain is)
-found_for Step Also also back start end (place ∷ rest) found = record {
-  is = chain_for Step Also also start end (place ∷ rest) found.is;
+pub shortest_for : (Step Also : ℕ → ℕ → Type 0) → ((one other : ℕ) → Step one other → Also one other) → ((one other : ℕ) → Also one other → Step one other) → (start end : ℕ) (chain : List ℕ)
+    → IsShortest Step start end chain → IsShortest Also start end chain
+shortest_for Step Also also back start end chain found = record {
+  is = chain_for Step Also also start end chain found.is;
   shortest = λ other is. found.shortest other (chain_for Also Step back start end other is);
 }

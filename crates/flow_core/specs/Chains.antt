@@ -1,7 +1,9 @@
 -- Statement: contracts of public calls use it.
 -- Chains of steps between places, and the shortest ones (this project's profile). A place is a number.
-use Rattle.std.specs.Prelude.{ℕ, ◌≡◌, ◌<◌, ◌≤◌, List, [], ◌∷◌, ◌++◌, length}
-use Rattle.std.specs.List.{Contains, slice_index_or}
+use Rattle.std.specs.Prelude.{ℕ, ◌≡◌, ◌<◌, ◌≤◌, List, [], ◌∷◌, ◌++◌, length, map}
+use Rattle.std.specs.List.{All, Contains, slice_index_or}
+use Rattle.std.specs.List.Sorted.{IsStrictlyIncreasing}
+use Rattle.flow_core.specs.declared.chains.Found.{Found}
 
 -- each of the places has a step to the next one, the place before them to the first
 abbrev pub AreSteps : (ℕ → ℕ → Type 0) → ℕ → List ℕ → Type 0
@@ -17,17 +19,16 @@ pub record IsShortest (Step : ℕ → ℕ → Type 0) (start end : ℕ) (chain :
   pub is : IsChain Step start end chain
   pub shortest : (other : List ℕ) → IsChain Step start end other → length chain ≤ length other
 
--- a shortest chain from the start to the end, and no places exactly where there is no chain
-abbrev pub IsFound : (ℕ → ℕ → Type 0) → ℕ → ℕ → List ℕ → Type 0
-IsFound Step start end [] = (chain : List ℕ) → ¬ IsChain Step start end chain
-IsFound Step start end (place ∷ rest) = IsShortest Step start end (place ∷ rest)
-
 -- A place is listed among the steps of another, and it exists: as many places exist as there are lists of steps. A place that
 -- does not exist has no steps.
 abbrev pub IsStep : List (List ℕ) → ℕ → ℕ → Type 0
 IsStep steps place next = (next < length steps) × Contains (slice_index_or steps place []) next
 
--- what is found for each place that exists, one after another
-pub record AreFound (steps : List (List ℕ)) (start : ℕ) (chains : List (List ℕ)) : Type 0 where
-  pub size : length chains ≡ length steps
-  pub each : (end : ℕ) → end < length steps → IsFound (IsStep steps) start end (slice_index_or chains end [])
+abbrev pub end_of : Found → ℕ
+end_of found = found.end
+
+-- what is found: each place that a chain from the start leads to, in ascending order, with a shortest chain to it
+pub record AreFound (steps : List (List ℕ)) (start : ℕ) (found : List Found) : Type 0 where
+  pub rising : IsStrictlyIncreasing (map end_of found)
+  pub shortest : All (λ (one : Found). IsShortest (IsStep steps) start one.end one.chain.items) found
+  pub others : (end : ℕ) → ¬ Contains (map end_of found) end → (chain : List ℕ) → ¬ IsChain (IsStep steps) start end chain

@@ -1,30 +1,21 @@
 //! The shortest chains from a place.
 
-ghost use Rattle.std.specs.Prelude.{◌≡◌, ◌++◌, [], ◌∷◌, map, replicate, IfOk, OnOk};
-ghost use Rattle.flow_core.specs.Chains.{AreFound};
-ghost use Rattle.flow_core.specs.Searching.{Finds, FindsEach};
+ghost use Rattle.std.specs.Prelude.{◌≡◌, ◌++◌, [], ◌∷◌, map, length, IfOk, OnOk};
+ghost use Rattle.std.specs.List.Sorted.{IsPermutation, IsStrictlyIncreasing};
+ghost use Rattle.flow_core.specs.Chains.{AreFound, end_of};
+ghost use Rattle.flow_core.specs.Searching.{Finds, FindsEach, entry_of};
 
 use crate::OutOfMemory;
+use indexmap::IndexMap;
 use std::alloc::Global;
 
-/// What a search has found so far.
+/// A place that a chain leads to.
 #[derive(Drop)]
-struct Search {
-    /// For each place the chain that found it, and no places where it is not found.
-    chains: Vec<Vec<usize>>,
-    /// The places that are found, in the order in which they were.
-    queue: Vec<usize>,
-}
-
-/// As many empty chains as there are places.
-fn no_chains(alloc: Global, places: usize) -> Result<Vec<Vec<usize>>, OutOfMemory>
-    ensures { IfOk result (λ chains. map (λ chain. chain.items) chains.items ≡ replicate places []) }
-{
-    let mut chains = Vec::new(alloc);
-    for _ in 0..places {
-        chains.push(Vec::new(alloc))?;
-    }
-    Ok(chains)
+pub struct Found {
+    /// The place.
+    pub end: usize,
+    /// The places of a shortest chain to it, behind the start. The last one is the end.
+    pub chain: Vec<usize>,
 }
 
 /// The chain with a place behind it.
@@ -36,59 +27,86 @@ fn longer(alloc: Global, chain: &[usize], place: usize) -> Result<Vec<usize>, Ou
     Ok(longer)
 }
 
-impl Search {
-    /// Finds a place by a step from the end of a chain, if it exists and was not found before.
-    fn find(&mut self, alloc: Global, chain: &[usize], place: usize) -> Result<(), OutOfMemory>
-        ensures { OnOk result (Finds chain.now place (map (λ c. c.items) self.old.chains.items) self.old.queue.items (map (λ c. c.items) self.new.chains.items) self.new.queue.items) }
-    {
-        if place < self.chains.len() && self.chains[place].is_empty() {
-            self.chains[place] = longer(alloc, chain, place)?;
-            self.queue.push(place)?;
-        }
-        Ok(())
+/// Finds a place by a step from the end of a chain, if it is one of so many places and was not found before.
+fn find(
+    alloc: Global,
+    found: &mut IndexMap<usize, Vec<usize>>,
+    places: usize,
+    chain: &[usize],
+    place: usize,
+) -> Result<(), OutOfMemory>
+    ensures { OnOk result (Finds places chain.now place found.old.entries found.new.entries) }
+{
+    if place < places && !found.contains_key(&place) {
+        found.insert(place, longer(alloc, chain, place)?)?;
     }
-
-    /// Finds each of some places by a step from the end of a chain.
-    fn find_each(
-        &mut self,
-        alloc: Global,
-        chain: &[usize],
-        places: &[usize],
-    ) -> Result<(), OutOfMemory>
-        ensures { OnOk result (FindsEach chain.now places.now (map (λ c. c.items) self.old.chains.items) self.old.queue.items (map (λ c. c.items) self.new.chains.items) self.new.queue.items) }
-    {
-        for place in places {
-            self.find(alloc, chain, *place)?;
-        }
-        Ok(())
-    }
+    Ok(())
 }
 
-/// For each place the places of a shortest chain from the start to it, behind the start, and no places exactly where there is no
-/// chain. `steps` lists for each place the places that it has a step to; a place that does not exist is no step, and a start
-/// that does not exist reaches nothing. A chain has at least one step, so that the start is found where a chain leads back to it.
+/// Finds each place that a step leads to from the end of a chain.
+fn find_each(
+    alloc: Global,
+    found: &mut IndexMap<usize, Vec<usize>>,
+    places: usize,
+    chain: &[usize],
+    next: &[usize],
+) -> Result<(), OutOfMemory>
+    ensures { OnOk result (FindsEach places chain.now next.now found.old.entries found.new.entries) }
+{
+    for place in next {
+        find(alloc, found, places, chain, *place)?;
+    }
+    Ok(())
+}
+
+/// What was found, by the places in ascending order.
+fn in_order(
+    alloc: Global,
+    mut found: IndexMap<usize, Vec<usize>>,
+) -> Result<Vec<Found>, OutOfMemory>
+    ensures rising { IfOk result (λ listed. IsStrictlyIncreasing (map end_of listed.items)) }
+    ensures same { IfOk result (λ listed. IsPermutation found.entries (map entry_of listed.items)) }
+{
+    found.sort_unstable_keys()?;
+    let mut listed = Vec::new(alloc);
+    for (end, chain) in found {
+        listed.push(Found { end, chain })?;
+    }
+    Ok(listed)
+}
+
+/// Each place that a chain from the start leads to, with the places of a shortest one, in ascending order of the places.
+/// `steps` lists for each place the places that it has a step to; a place that does not exist is no step, and a start that does
+/// not exist reaches nothing. A chain has at least one step, so that the start is found where a chain leads back to it.
 ///
-/// It is a breadth-first search: each step is looked at once. The only error is want of memory, which leaves nothing.
+/// It is a breadth-first search: each step from a place that is found is looked at once. Time goes by these steps and by the
+/// chains that are found, and by putting them in order; a place that is not found takes none. The only error is want of memory,
+/// which leaves nothing.
 pub fn chains_from(
     alloc: Global,
     steps: &[Vec<usize>],
     start: usize,
-) -> Result<Vec<Vec<usize>>, OutOfMemory>
-    ensures { IfOk result (λ chains. AreFound (map (λ row. row.items) steps.now) start (map (λ chain. chain.items) chains.items)) }
+) -> Result<Vec<Found>, OutOfMemory>
+    ensures { IfOk result (λ found. AreFound (map (λ row. row.items) steps.now) start found.items) }
 {
-    let mut search = Search {
-        chains: no_chains(alloc, steps.len())?,
-        queue: Vec::new(alloc),
-    };
+    let mut found = IndexMap::new(alloc);
     if start < steps.len() {
-        search.find_each(alloc, &[], steps[start].as_slice())?;
+        find_each(alloc, &mut found, steps.len(), &[], steps[start].as_slice())?;
     }
     let mut next = 0;
-    while next < search.queue.len() {
-        let place = search.queue[next];
-        let chain = Vec::from_slice(alloc, search.chains[place].as_slice())?;
-        search.find_each(alloc, chain.as_slice(), steps[place].as_slice())?;
+    while next < found.len() {
+        if let Some((place, chain)) = found.get_index(next) {
+            let place = *place;
+            let chain = Vec::from_slice(alloc, chain.as_slice())?;
+            find_each(
+                alloc,
+                &mut found,
+                steps.len(),
+                chain.as_slice(),
+                steps[place].as_slice(),
+            )?;
+        }
         next += 1;
     }
-    Ok(search.chains)
+    in_order(alloc, found)
 }

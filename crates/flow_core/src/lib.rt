@@ -5,5 +5,5 @@
 
 mod chains;
 
-pub use chains::chains_from;
+pub use chains::{Found, chains_from};
 pub use std::alloc::AllocError as OutOfMemory;

@@ -1,4 +1,5 @@
 pub mod Reaching
+pub mod FoundTold
 pub mod Results
 pub mod Telling
 pub mod NearTold

@@ -1,21 +1,19 @@
 -- Where what a tenant writes may come to, and what is told of it.
-use Rattle.std.proofs.Common.{◌≡◌, ℕ, zero, suc, ◌+◌, ◌-◌, ◌<◌, ◌≤◌, ◌⊎◌, ◌↔◌, List, [], ◌∷◌, ◌++◌, Bool, false, ◌||◌, Option, Some, append_assoc, codes, drop, get_or, slice_get, slice_index, take, length, map, refl, sym, ap, subst, ◌∙◌, inl, inr, add-one, arith, length-append}
+use Rattle.std.proofs.Common.{◌≡◌, ℕ, zero, suc, ◌+◌, ◌<◌, ◌≤◌, ◌⊎◌, ◌↔◌, List, [], ◌∷◌, ◌++◌, Bool, ◌||◌, Option, Some, append_assoc, codes, drop, get_or, slice_get, slice_index, length, map, refl, sym, ap, subst, ◌∙◌, inl, inr, add-one, arith, length-append}
 use Rattle.std.specs.List.{Contains}
-use Rattle.std.proofs.Math.Seq.{get_or-append_seam, take-append_seam}
-use Rattle.std.proofs.lemmas.Bool.{cases_eq, cases_lt}
+use Rattle.std.proofs.Math.Seq.{get_or-append_seam}
+use Rattle.std.proofs.lemmas.Bool.{cases_lt}
 use Rattle.std.proofs.lemmas.List.{drop_more, get_or-map, get_or_append_left, get_or_past, length-map}
 use Rattle.std.proofs.lemmas.List.Elements.{Contains-append_left, Contains-push, Contains-push_cases}
 use Rattle.std.proofs.lemmas.Option.{slice_get-get_or}
-use Rattle.flow_core.specs.Chains.{IsChain, IsFound, IsShortest, IsStep}
+use Rattle.flow_core.specs.Chains.{IsStep}
 use Rattle.flow_core.proofs.Listing.{in_none}
-use Rattle.flow_core.proofs.Walks.{found_for}
 use Rattle.gate_text.specs.Caret.{shown}
 use Rattle.grant_core.specs.Flat.{Flat}
 use Rattle.share_core.specs.Near.{AreApart, AreNear}
 use Rattle.share_core.specs.declared.pools.Pool.{Pool}
 use Rattle.share_text.specs.Behind.{grants_of}
-use Rattle.share_text.specs.FlowLines.{IsChainTold, IsWriterTold}
-use Rattle.share_text.specs.Flows.{AreReaders, AreReachesTold, IsFlowTold, IsPlaceTold, OfEach, WritesTo, flow_line, grants_at, name_at, through_words}
+use Rattle.share_text.specs.Flows.{OfEach, grants_at, name_at, through_words}
 use Rattle.share_text.specs.Kinds.{ShareWithin}
 use Rattle.share_text.specs.declared.kind.Kind.TheVariants.{WritesReads}
 use Rattle.share_text.specs.declared.tenants.Tenant.{Tenant}
@@ -135,74 +133,17 @@ pub steps_are : (Holds : ℕ → ℕ → Type 0) (n : ℕ) (lists : List (List �
 steps_are Holds n lists are one other =
     (step_in Holds n lists one other are (cases_lt one n), λ h. (let below : other < n = h.1 in omega (arith, are.size), (are.each one h.0 other).1 (h.1, h.2)))
 
--- all but the last place of a chain
-front_of : (chain front : List ℕ) (end : ℕ) → chain ≡ front ++ end ∷ [] → take (length chain - 1) chain ≡ front
-front_of chain front end is =
-    let long : length chain - 1 ≡ length front = omega (arith, ap length is, length-append front (end ∷ [])) in
-    ap (λ n. take n chain) long ∙ (ap (take (length front)) is ∙ take-append_seam front (end ∷ []))
-
-nothing_told : (pools : Option (List Pool)) (check : Bool) (tenants : List Tenant) (writer reader : ℕ) (text : List ℕ) (fails : Bool) → (writer ≡ reader) ⊎ (writer ≡ reader → ⊥)
-    → ((chain : List ℕ) → ¬ IsChain (WritesTo pools tenants) writer reader chain) → text ≡ [] → fails ≡ false → IsPlaceTold pools check tenants writer reader text fails
-nothing_told pools check tenants writer reader text fails (inl same) apart empty ends = inr (same, empty, ends)
-nothing_told pools check tenants writer reader text fails (inr other) apart empty ends = inl (other, inr (apart, empty, ends))
-
-line_told : (pools : Option (List Pool)) (check : Bool) (tenants : List Tenant) (writer reader : ℕ) (chain : List ℕ) (text : List ℕ) (fails : Bool) → (chain ≡ [] → ⊥)
-    → IsFound (WritesTo pools tenants) writer reader chain → text ≡ flow_line tenants writer reader (take (length chain - 1) chain) → fails ≡ check
-    → IsFlowTold pools check tenants writer reader text fails
-line_told pools check tenants writer reader [] text fails some found is ends = absurd (some refl)
-line_told pools check tenants writer reader (place ∷ rest) text fails some found is ends =
-    let front = found.is.ends.0 in
-    let whole : place ∷ rest ≡ front ++ reader ∷ [] = found.is.ends.1 in
-    inl (front, subst (IsShortest (WritesTo pools tenants) writer reader) whole found, is ∙ ap (flow_line tenants writer reader) (front_of (place ∷ rest) front reader whole), ends)
-
-place_told : (pools : Option (List Pool)) (check : Bool) (tenants : List Tenant) (writer reader : ℕ) (chain : List ℕ) (text : List ℕ) (fails : Bool)
-    → IsFound (WritesTo pools tenants) writer reader chain → IsChainTold check tenants writer reader chain text fails → IsPlaceTold pools check tenants writer reader text fails
-place_told pools check tenants writer reader chain text fails found (inl (other, some, is, ends)) =
-    inl (other, line_told pools check tenants writer reader chain text fails some found is ends)
-place_told pools check tenants writer reader chain text fails found (inr (inl same, empty, ends)) = inr (same, empty, ends)
-place_told pools check tenants writer reader chain text fails found (inr (inr none, empty, ends)) =
-    nothing_told pools check tenants writer reader text fails (cases_eq writer reader) (subst (IsFound (WritesTo pools tenants) writer reader) none found) empty ends
-
 -- one place more
 pub one_place_more : (IsTold : ℕ → List ℕ → Bool → Type 0) (n : ℕ) (old new front : List ℕ) (fails ends first : Bool) → IsTold n front first → new ≡ old ++ front
     → ends ≡ (fails || first) → OfEach IsTold n old fails → OfEach IsTold (n + 1) new ends
 one_place_more IsTold n old new front fails ends first is text same before =
     subst (λ m. OfEach IsTold m new ends) (sym (add-one n)) (old, front, fails, first, before, is, text, same)
 
-each_for : (IsTold AlsoTold : ℕ → List ℕ → Bool → Type 0) (n : ℕ) → ((place : ℕ) (text : List ℕ) (fails : Bool) → place < n → IsTold place text fails → AlsoTold place text fails)
+pub each_for : (IsTold AlsoTold : ℕ → List ℕ → Bool → Type 0) (n : ℕ) → ((place : ℕ) (text : List ℕ) (fails : Bool) → place < n → IsTold place text fails → AlsoTold place text fails)
     → (text : List ℕ) (fails : Bool) → OfEach IsTold n text fails → OfEach AlsoTold n text fails
 each_for IsTold AlsoTold zero also text fails told = told
 each_for IsTold AlsoTold (suc n) also text fails (front, rest, first, later, before, here, is, ends) =
     (front, rest, first, later, each_for IsTold AlsoTold n (λ place t f below told. also place t f (omega arith) told) front first before, also n rest later (omega arith) here, is, ends)
-
-writer_told : (pools : Option (List Pool)) (check : Bool) (tenants : List Tenant) (steps : List (List ℕ)) (writer : ℕ) (text : List ℕ) (fails : Bool)
-    → AreReaders pools tenants steps → IsWriterTold check tenants steps writer text fails → OfEach (IsPlaceTold pools check tenants writer) (length tenants) text fails
-writer_told pools check tenants steps writer text fails readers (chains, found, told) =
-    subst (λ n. OfEach (IsPlaceTold pools check tenants writer) n text fails) (found.size ∙ readers.size)
-    (each_for (λ reader. IsChainTold check tenants writer reader (get_or chains reader [])) (IsPlaceTold pools check tenants writer) (length chains)
-    (λ reader t f below here.
-    place_told pools check tenants writer reader (get_or chains reader []) t f
-    (found_for (IsStep steps) (WritesTo pools tenants) (λ one other. (readers.each one other).0) (λ one other. (readers.each one other).1) writer reader (get_or chains reader [])
-    (found.each reader (omega (arith, found.size))))
-    here)
-    text fails told)
-
-pub writers_told : (pools : Option (List Pool)) (check : Bool) (tenants : List Tenant) (steps : List (List ℕ)) (text : List ℕ) (fails : Bool)
-    → AreReaders pools tenants steps → OfEach (IsWriterTold check tenants steps) (length steps) text fails → AreReachesTold pools check tenants text fails
-writers_told pools check tenants steps text fails readers told =
-    subst (λ n. OfEach (λ writer. OfEach (IsPlaceTold pools check tenants writer) (length tenants)) n text fails) readers.size
-    (each_for (IsWriterTold check tenants steps) (λ writer. OfEach (IsPlaceTold pools check tenants writer) (length tenants)) (length steps)
-    (λ writer t f below here. writer_told pools check tenants steps writer t f readers here) text fails told)
-
-pub slices_told : {X : Type 0} (f : X → List ℕ) (pools : Option (List Pool)) (check : Bool) (tenants one two : List Tenant) (steps three : List X) (text : List ℕ) (fails : Bool)
-    → one ≡ tenants → two ≡ tenants → three ≡ steps → AreReaders pools one (map f steps) → OfEach (IsWriterTold check two (map f three)) (length three) text fails
-    → AreReachesTold pools check tenants text fails
-slices_told f pools check tenants one two steps three text fails same also are readers told =
-    let all : OfEach (IsWriterTold check tenants (map f steps)) (length steps) text fails =
-    subst (λ t. OfEach (IsWriterTold check t (map f steps)) (length steps) text fails) also
-    (subst (λ s. OfEach (IsWriterTold check two (map f s)) (length s) text fails) are told) in
-    writers_told pools check tenants (map f steps) text fails (subst (λ t. AreReaders pools t (map f steps)) same readers)
-    (subst (λ n. OfEach (IsWriterTold check tenants (map f steps)) n text fails) (sym (length-map steps f)) all)
 
 -- one name more of those between
 pub between_more : (tenants : List Tenant) (words places text middle after : List ℕ) (i : ℕ) → i < length places → middle ≡ text ++ words

@@ -13,7 +13,7 @@ ghost use Rattle.share_text.specs.FlowLines.{AreChainsTold, IsChainTold, IsWrite
 use crate::kind::Kind;
 use crate::tenants::{Tenant, index_of, nothing, push_told, share_within, tenants_of};
 use common_types::OutOfMemory;
-use flow_core::chains_from;
+use flow_core::{Found, chains_from};
 use gate_text::{Entity, Printed, push_shown_text};
 use share_core::Pool;
 use std::alloc::Global;
@@ -120,20 +120,20 @@ fn told_chain(
     Ok(Printed { text, fails: check })
 }
 
-/// What is told of a tenant with each that it reaches by a chain.
+/// What is told of a tenant with each to which a chain was found.
 fn told_chains(
     alloc: Global,
     tenants: &[Tenant],
     writer: usize,
-    chains: &[Vec<usize>],
+    chains: &[Found],
     check: bool,
 ) -> Result<Printed, OutOfMemory>
-    ensures { IfOk result (λ printed. AreChainsTold check tenants.now writer (map (λ chain. chain.items) chains.now) (string_bytes printed.text) printed.fails) }
+    ensures { IfOk result (λ printed. AreChainsTold check tenants.now writer chains.now (string_bytes printed.text) printed.fails) }
 {
     let mut printed = nothing(alloc);
-    for reader in 0..chains.len() {
-        let chain = chains[reader].as_slice();
-        let told = told_chain(alloc, tenants, writer, reader, chain, check)?;
+    for found in chains {
+        let chain = found.chain.as_slice();
+        let told = told_chain(alloc, tenants, writer, found.end, chain, check)?;
         push_told(&mut printed, &told)?;
     }
     Ok(printed)
@@ -167,8 +167,9 @@ fn told_writers(
 ///
 /// An entity whose text has no grants is left out. A name's bytes outside 32 to 126 are shown as `\x` and two hexadecimal
 /// digits. The only error is want of memory, which leaves nothing. Time goes by the pairs of entities that name a common pool,
-/// or of which one has a grant without a pool, and for each by the pairs of their grants, and then for each entity by the pairs
-/// of which one writes what the other reads. The lines are this project's profile.
+/// or of which one has a grant without a pool, and for each by the pairs of their grants, and then for each entity by those whom
+/// it reaches, by the pairs of these of which one writes what the other reads, and by what is printed. The lines are this
+/// project's profile.
 pub fn flow_entities(
     alloc: Global,
     entities: &[Entity],

@@ -1,7 +1,7 @@
 //! Flows of small clusters, compared with the distances that stepping through each place in turn comes to.
 
 use common_types::{Name, OutOfMemory, Tags};
-use flow_core::chains_from;
+use flow_core::{Found, chains_from};
 use gate_text::{Entity, Printed, ticket_of_text};
 use share_core::{Pool, Touch, share, share_in};
 use share_text::flow_entities;
@@ -264,20 +264,29 @@ fn draw_steps(
     Ok(steps)
 }
 
-/// Whether each chain is one of steps, as long as the distance, and there is none where no chain leads.
-fn are_chains_right(chains: &[Vec<usize>], start: usize, steps: &Distances) -> bool {
+/// Whether it is a chain of steps to the end, as long as the distance.
+fn is_chain_right(found: &Found, start: usize, steps: &Distances, far: u8) -> bool {
+    let chain = found.chain.as_slice();
+    found.chain.last().copied() == Some(found.end) && walked(steps, start, chain) == far
+}
+
+/// Whether the chains found are those to the places to which a chain leads, in order, each as long as the distance.
+fn are_chains_right(chains: &[Found], start: usize, steps: &Distances) -> bool {
     let far = all_through(*steps);
-    for (place, chain) in chains.iter().enumerate() {
+    let mut rest = chains.iter();
+    for place in 0..COUNT {
         let expected = far_from(&far, start, place);
-        let is_right = match chain.last() {
-            None => expected == FAR,
-            Some(last) => *last == place && walked(steps, start, chain) == expected,
-        };
-        if !is_right {
-            return false;
+        if expected < FAR {
+            let is_right = match rest.next() {
+                None => false,
+                Some(found) => found.end == place && is_chain_right(found, start, steps, expected),
+            };
+            if !is_right {
+                return false;
+            }
         }
     }
-    chains.len() == COUNT
+    rest.next().is_none()
 }
 
 #[test]

@@ -1,6 +1,6 @@
 use Rattle.std.proofs.Common.{option_copied, string_bytes}
 use Rattle.gate_text.proofs.Comparisons.{ok_also}
-use Rattle.share_text.proofs.Reaching.{slices_told}
+use Rattle.share_text.proofs.FoundTold.{slices_told}
 use Rattle.share_text.proofs.flows.flow_entities.Goals as goal
 
 pub returns : goal.returns

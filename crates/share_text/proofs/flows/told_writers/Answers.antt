@@ -8,9 +8,9 @@ pub loop-writer-preserved : goal.loop-writer-preserved
 loop-writer-preserved c =
     let steps = map (λ readers. readers.items) c.args.steps.now in
     one_place_more (IsWriterTold c.args.check c.args.tenants.now steps) c.loop-writer.writer _ _ _ _ _ _ (
-      map (λ chain. chain.items) c.in_ok-chains.chains.items,
+      c.in_ok-chains.chains.items,
       c.in_ok-chains.ensures,
-      subst (λ chains. AreChainsTold c.args.check c.args.tenants.now c.loop-writer.writer (map (λ chain. chain.items) chains) (string_bytes c.in_ok-told.told.text) c.in_ok-told.told.fails)
+      subst (λ chains. AreChainsTold c.args.check c.args.tenants.now c.loop-writer.writer chains (string_bytes c.in_ok-told.told.text) c.in_ok-told.told.fails)
           c.as_slice.ensures.value c.in_ok-told.ensures,
     )
     c.in_ok-push_told.ensures.text c.in_ok-push_told.ensures.fails c.loop-writer.invariant
