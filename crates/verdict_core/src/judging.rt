@@ -3,7 +3,8 @@
 ghost use Rattle.std.specs.Prelude.{◌≡◌, []};
 ghost use Rattle.std.specs.List.{list_any, list_all};
 ghost use Rattle.std.specs.Option.{ForSome};
-ghost use Rattle.verdict_core.specs.Chains.{AreChained, chains_of};
+ghost use Rattle.verdict_core.specs.Chains.{AreChained};
+ghost use Rattle.verdict_core.specs.Kinds.{chains_of};
 ghost use Rattle.verdict_core.specs.Verdict.{is_allowed};
 ghost use Rattle.verdict_core.specs.Verdict as spec;
 
@@ -88,7 +89,7 @@ fn allow_without_calls(
     target: &Target<'_>,
     needs: &Needs,
 ) -> bool
-    requires chained { ForSome chains.now (λ p. AreChained 0 (chains_of grants.now) p.first.items p.next.items) }
+    requires chained { ForSome chains.now (λ p. AreChained 0 (chains_of p.kinds.items grants.now) p.first.items p.next.items) }
     requires no_calls { needs.now.calls ≡ [] }
     ensures { result ≡ spec.grants_allow grants.now target.now needs.now }
 {
@@ -112,7 +113,7 @@ pub(crate) fn allow_by(
     target: &Target<'_>,
     needs: &Needs,
 ) -> bool
-    requires { ForSome chains.now (λ p. AreChained 0 (chains_of grants.now) p.first.items p.next.items) }
+    requires { ForSome chains.now (λ p. AreChained 0 (chains_of p.kinds.items grants.now) p.first.items p.next.items) }
     ensures { result ≡ spec.grants_allow grants.now target.now needs.now }
 {
     if needs.calls.as_slice().is_empty() {
