@@ -10,8 +10,8 @@ ghost use Rattle.verdict_core.specs.Verdict.{grants_allow, is_covered, is_usable
 
 use crate::hashing::{folded, hash};
 use crate::judging;
-use crate::kinds::{Kind, Named, OTHERS, chain_of, front_hash, kinds_of, pair_hash};
-use crate::matching::{allows, is_usable_at_once, is_usable_in_turn};
+use crate::kinds::{Kind, NO_KIND, Named, chain_of, front_hash, kinds_of, pair_hash};
+use crate::matching::{CHAINED, allows, is_usable_at_once, is_usable_in_turn};
 use crate::request::{ClassCall, Needs, Target};
 use cap_text::AllowGrant;
 use common_types::{AppTags, OutOfMemory};
@@ -19,7 +19,7 @@ use grant_core::Path;
 use std::alloc::Global;
 
 /// How many chains there are.
-const CHAINS: usize = OTHERS + 1;
+const CHAINS: usize = NO_KIND + 1;
 
 /// The grants of a ticket in chains, each in the ticket's order. Those of a kind whose parts are hashed alike share a chain, and
 /// those that are of no kind.
@@ -45,7 +45,7 @@ fn share_a_chain(next: &[u16]) -> bool {
 fn is_usable_mostly_at_once(grant: &AllowGrant, target: &Target<'_>, needs: &Needs) -> bool
     ensures { result ≡ is_usable grant.now target.now needs.now }
 {
-    match is_usable_at_once(grant, target, needs) {
+    match is_usable_at_once::<CHAINED>(grant, target, needs) {
         Some(usable) => usable,
         None => is_usable_in_turn(grant, target, needs),
     }
@@ -240,7 +240,7 @@ impl Chains {
         requires chained { AreChained 0 (chains_of self.now.kinds.items grants.now) self.now.first.items self.now.next.items }
         ensures { result ≡ list_any (λ entry. spec.gives entry.1 target.now needs.now (option_copied call.entry)) grants.now }
     {
-        if self.chain_gives(grants, OTHERS, target, needs, call) {
+        if self.chain_gives(grants, NO_KIND, target, needs, call) {
             return true;
         }
         for kind in self.kinds.as_slice() {

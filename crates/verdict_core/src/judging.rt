@@ -9,7 +9,7 @@ ghost use Rattle.verdict_core.specs.Verdict.{is_allowed};
 ghost use Rattle.verdict_core.specs.Verdict as spec;
 
 use crate::chains::Chains;
-use crate::matching::{FIRST, allows, is_usable, is_usable_at_once, is_usable_by_names};
+use crate::matching::{FIRST, OTHERS, allows, is_usable, is_usable_at_once, is_usable_by_names};
 use crate::request::{ClassCall, Needs, Target};
 use crate::ticket::Ticket;
 use cap_text::AllowGrant;
@@ -47,7 +47,7 @@ fn has_usable_at_once(grants: &[(Path, AllowGrant)], target: &Target<'_>, needs:
 {
     let mut rest = grants;
     while let Some((entry, others)) = rest.split_first() {
-        match is_usable_at_once(&entry.1, target, needs) {
+        match is_usable_at_once::<OTHERS>(&entry.1, target, needs) {
             Some(true) => return true,
             Some(false) => rest = others,
             None => return has_usable_at_length(rest, target, needs),

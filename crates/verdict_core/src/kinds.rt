@@ -15,7 +15,7 @@ use std::alloc::Global;
 const MANY: usize = 8;
 
 /// The chain of the grants that are of no kind.
-pub(crate) const OTHERS: usize = 256;
+pub(crate) const NO_KIND: usize = 256;
 
 /// What a grant of a kind names.
 #[derive(Clone, Copy, Debug, PartialEq, Eq)]
@@ -138,7 +138,7 @@ pub(crate) fn chain_of(kinds: &[Kind], grant: &AllowGrant) -> usize
             return chain;
         }
     }
-    OTHERS
+    NO_KIND
 }
 
 /// The kind of a grant by all of its parts, if it is to be found by some.
