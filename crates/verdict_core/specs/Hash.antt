@@ -32,4 +32,4 @@ hash text =
 
 -- a number below 256
 unfoldable pub folded : ℕ → ℕ → ℕ
-folded first second = mix first second * 11400714819323198485 % 2 ^ 64 / 72057594037927936
+folded first second = mix first second * 16088033396387240377 % 2 ^ 64 / 72057594037927936

@@ -1,6 +1,6 @@
 -- Refinement: only contracts inside the crate use it.
 -- By which of its parts a grant is found. Only inner contracts use this.
-use Rattle.std.specs.Prelude.{ℕ, List, [], ◌∷◌, Option, None, Some, if◌then◌else◌, nat_le, length, map, take}
+use Rattle.std.specs.Prelude.{ℕ, ◌+◌, ◌%◌, ◌^◌, List, [], ◌∷◌, Option, None, Some, if◌then◌else◌, nat_le, length, map, take}
 use Rattle.std.specs.Option.{unwrap_or, option_map}
 use Rattle.cap_text.specs.declared.grant.AllowGrant.{AllowGrant}
 use Rattle.cap_text.specs.declared.grant.Access.{Access}
@@ -15,7 +15,7 @@ use Rattle.verdict_core.specs.Hash.{mix, hash, folded}
 
 -- of an application with a pair
 unfoldable pub pair_hash : List ℕ → List ℕ → List ℕ → ℕ
-pair_hash application key value = mix (mix (hash application) (hash key)) (hash value)
+pair_hash application key value = mix ((hash application + hash key) % 2 ^ 64) (hash value)
 
 abbrev pub parts_hash : List ℕ → Part → Part → Option ℕ
 parts_hash application (Is key) (Is value) = Some (pair_hash application key value)

@@ -1,17 +1,17 @@
 //! Where the grants of a ticket stand that may speak of a request.
 
-ghost use Rattle.std.specs.Prelude.{◌≡◌, ◌+◌, ◌<◌, ◌≤◌, ◌⊎◌, ◌||◌, ◌==◌, true, false, length, option_copied, slice_index, IsSome, IfOk};
+ghost use Rattle.std.specs.Prelude.{◌≡◌, ◌+◌, ◌<◌, ◌≤◌, ◌⊎◌, ◌||◌, ◌==◌, true, false, length, option_copied, slice_index, IsSome, IfOk, None};
 ghost use Rattle.std.specs.List.{list_any, list_all};
 ghost use Rattle.std.specs.Option.{ForSome};
 ghost use Rattle.verdict_core.specs.Chains.{AreChained, NoneBefore, NoneOfKind, NoneOfPairs, NoneOfTags};
 ghost use Rattle.verdict_core.specs.Kinds.{chains_of};
 ghost use Rattle.verdict_core.specs.Chains as spec;
-ghost use Rattle.verdict_core.specs.Verdict.{grants_allow, is_covered, is_usable};
+ghost use Rattle.verdict_core.specs.Verdict.{grants_allow, is_covered};
 
 use crate::hashing::{folded, hash};
 use crate::judging;
 use crate::kinds::{Kind, NO_KIND, Named, chain_of, front_hash, kinds_of, pair_hash};
-use crate::matching::{CHAINED, allows, is_usable_at_once, is_usable_in_turn};
+use crate::matching::{CHAINED, allows, is_usable, is_usable_at_once};
 use crate::request::{ClassCall, Needs, Target};
 use cap_text::AllowGrant;
 use common_types::{AppTags, OutOfMemory};
@@ -40,24 +40,13 @@ fn share_a_chain(next: &[u16]) -> bool {
         .all(|(place, next)| usize::from(*next) == place + 1)
 }
 
-/// Whether a grant is usable, mostly by a few comparisons of words.
-#[inline(always)]
-fn is_usable_mostly_at_once(grant: &AllowGrant, target: &Target<'_>, needs: &Needs) -> bool
-    ensures { result ≡ is_usable grant.now target.now needs.now }
-{
-    match is_usable_at_once::<CHAINED>(grant, target, needs) {
-        Some(usable) => usable,
-        None => is_usable_in_turn(grant, target, needs),
-    }
-}
-
 /// Whether a grant is usable, and covers the call where one is asked for.
 #[inline(always)]
 fn gives(grant: &AllowGrant, target: &Target<'_>, needs: &Needs, call: Option<&ClassCall>) -> bool
     ensures { result ≡ spec.gives grant.now target.now needs.now (option_copied call.entry) }
 {
     match call {
-        None => is_usable_mostly_at_once(grant, target, needs),
+        None => is_usable(grant, target, needs),
         Some(call) => allows(grant, target, needs, call),
     }
 }
@@ -128,6 +117,34 @@ impl Chains {
         false
     }
 
+    /// Whether some grant of a chain from a place of it on is usable, by a few comparisons of words. Where they do not tell of a
+    /// grant, another walk goes on from it, so that this one calls nothing and saves no registers.
+    #[inline(never)]
+    fn usable_from(
+        &self,
+        place: usize,
+        grants: &[(Path, AllowGrant)],
+        target: &Target<'_>,
+        needs: &Needs,
+    ) -> bool
+        requires inside { place < length grants.now }
+        requires chained { AreChained 0 (chains_of self.now.kinds.items grants.now) self.now.first.items self.now.next.items }
+        ensures some { result ≡ true → list_any (λ entry. spec.gives entry.1 target.now needs.now None) grants.now ≡ true }
+        ensures none { result ≡ false
+            → NoneBefore self.now.kinds.items place grants.now (slice_index (chains_of self.now.kinds.items grants.now) place) target.now needs.now None
+            → NoneBefore self.now.kinds.items (length grants.now) grants.now (slice_index (chains_of self.now.kinds.items grants.now) place) target.now needs.now None }
+    {
+        let mut at = place;
+        while at < grants.len() {
+            match is_usable_at_once::<CHAINED>(&grants[at].1, target, needs) {
+                Some(true) => return true,
+                Some(false) => at = usize::from(self.next[at]),
+                None => return self.gives_from(at, grants, target, needs, None),
+            }
+        }
+        false
+    }
+
     /// Whether some grant of a chain gives what is asked. Most chains are empty, which is seen without a call.
     #[inline(always)]
     fn chain_gives(
@@ -146,10 +163,17 @@ impl Chains {
             → NoneBefore self.now.kinds.items (length grants.now) grants.now chain target.now needs.now (option_copied call.entry) }
     {
         let place = usize::from(self.first[chain]);
-        place < grants.len() && self.gives_from(place, grants, target, needs, call)
+        if place >= grants.len() {
+            return false;
+        }
+        match call {
+            None => self.usable_from(place, grants, target, needs),
+            Some(_) => self.gives_from(place, grants, target, needs, call),
+        }
     }
 
     /// Whether some grant gives what is asked, of those that are found by a pair of an application.
+    #[inline(always)]
     fn pairs_give(
         &self,
         grants: &[(Path, AllowGrant)],
@@ -175,6 +199,7 @@ impl Chains {
     }
 
     /// Whether some grant gives what is asked, of those that are found by the tags of the request's pool.
+    #[inline(always)]
     fn tags_give(
         &self,
         grants: &[(Path, AllowGrant)],

@@ -7,6 +7,9 @@ ghost use Rattle.verdict_core.specs.Hash as spec;
 /// An odd number with many bits, by which words are multiplied.
 const FACTOR: u64 = 11400714819323198485;
 
+/// Its square: of names that are much alike, more chains are of one grant by it.
+const SQUARE: u64 = 16088033396387240377;
+
 /// A number made of two.
 #[tactic(auto, unfolding(crate::specs::Hash::mix))]
 #[inline(always)]
@@ -23,7 +26,7 @@ pub(crate) fn folded(first: u64, second: u64) -> usize
     ensures value { result ≡ spec.folded first second }
     ensures small { result < 256 }
 {
-    (mix(first, second).wrapping_mul(FACTOR) / 72057594037927936) as usize
+    (mix(first, second).wrapping_mul(SQUARE) / 72057594037927936) as usize
 }
 
 /// The number of these bytes, by one after another.

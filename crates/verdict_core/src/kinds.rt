@@ -43,7 +43,7 @@ pub(crate) fn pair_hash(application: &Name, key: &Name, value: &Name) -> u64
     let application = hash(application.as_str().as_bytes());
     let key = hash(key.as_str().as_bytes());
     let value = hash(value.as_str().as_bytes());
-    mix(mix(application, key), value)
+    mix(application.wrapping_add(key), value)
 }
 
 /// The number of a tag that names its key and its value.
