@@ -4,7 +4,7 @@ use Rattle.std.specs.Prelude.{Option, Some, IsNone}
 use Rattle.std.proofs.lemmas.List.Sums.{fold-append}
 use Rattle.grant_core.specs.Flat.{Table}
 use Rattle.map_core.specs.State.{History, GoesOn}
-use Rattle.group_core.specs.Each.{Each}
+use Rattle.whole_logs.specs.Each.{Each}
 use Rattle.suffix_core.specs.Group.{Event, is_submitted}
 use Rattle.world_core.specs.declared.event.Event.{Event as WorldEvent}
 use Rattle.world_core.specs.World.{World}

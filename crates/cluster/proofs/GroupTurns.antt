@@ -11,7 +11,7 @@ use Rattle.map_core.specs.declared.command.MapCommand.TheVariants.{PoolCreate, A
 use Rattle.entry_core.specs.Locality.{group_for}
 use Rattle.entry_core.specs.Request.{Sealed}
 use Rattle.entry_core.specs.declared.sealed.GroupId.{GroupId}
-use Rattle.group_core.specs.Each.{Each}
+use Rattle.whole_logs.specs.Each.{Each}
 use Rattle.suffix_core.specs.Group.{Group, Event, Submit, Deliver, Lose, Repeat, NewInterval, Restart, Kick, group_step, refusal_of}
 use Rattle.world_core.specs.Moves.{moves_groups, move_of}
 use Rattle.world_core.specs.Sound.{IsSealedFor}

@@ -6,7 +6,7 @@ use Rattle.turn_lock.specs.Turns.{with_leaver}
 use Rattle.turn_lock.specs.Seats.{Seated, mine_of, seat_lock, IsSeatOf, HasItsOwn}
 use Rattle.map_core.specs.State.{History}
 use Rattle.entry_core.specs.declared.sealed.GroupId.{GroupId}
-use Rattle.group_core.specs.Each.{Each}
+use Rattle.whole_logs.specs.Each.{Each}
 use Rattle.suffix_core.specs.Group.{Event, Submit, Deliver, Lose, Repeat, NewInterval, Restart, Kick, is_submitted}
 use Rattle.world_core.specs.Front.{id_of}
 use Rattle.cluster.specs.declared.cluster.Cluster.{Cluster}

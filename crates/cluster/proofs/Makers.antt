@@ -10,7 +10,7 @@ use Rattle.turn_lock.specs.Turns.{StartsWith, made_by, state_after, last_word, l
 use Rattle.turn_lock.specs.Seats.{Locked, Seated, lock_of, first_of, seat_lock, seat_number, mine_of, HasItsOwn}
 use Rattle.turn_lock.specs.Turned.{Closes}
 use Rattle.turn_lock.proofs.Lists.{starts_through, starts_whole, made_by_starts}
-use Rattle.group_core.specs.Each.{Each}
+use Rattle.whole_logs.specs.Each.{Each}
 use Rattle.suffix_core.specs.Group.{Group}
 use Rattle.cluster.specs.declared.groups.GroupEntry.{GroupEntry}
 use Rattle.cluster.specs.declared.groups.LockedGroup.{LockedGroup}

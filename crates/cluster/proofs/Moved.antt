@@ -15,9 +15,9 @@ use Rattle.map_core.specs.State.{History}
 use Rattle.map_core.specs.declared.command.MapCommand.{MapCommand}
 use Rattle.entry_core.specs.declared.sealed.GroupId.{GroupId}
 use Rattle.suffix_core.specs.Group.{Group, Event, has_all_intervals}
-use Rattle.group_copies.specs.Moves.{event_of}
-use Rattle.group_core.specs.declared.opening.GroupMove.{GroupMove}
-use Rattle.group_core.specs.declared.fault.GroupFault.{GroupFault}
+use Rattle.group_core.specs.Moves.{event_of}
+use Rattle.group_types.specs.declared.group_move.GroupMove.{GroupMove}
+use Rattle.group_types.specs.declared.fault.GroupFault.{GroupFault}
 use Rattle.cluster.specs.declared.groups.GroupEntry.{GroupEntry}
 use Rattle.cluster.specs.declared.groups.GroupEntry.TheVariants.{Happened, Looked, Idle}
 use Rattle.cluster.specs.declared.cluster.Cluster.{Cluster}

@@ -4,8 +4,8 @@ use Rattle.std.specs.Prelude.{Option, Some, None, if◌then◌else◌, slice_get
 use Rattle.entry_core.specs.Log.{is_in}
 use Rattle.suffix_core.specs.Types.{Party, Client, Osd, Sent}
 use Rattle.suffix_core.specs.Group.{Group, refusal_to, refusal_at}
-use Rattle.group_core.specs.declared.fault.GroupFault.{GroupFault}
-use Rattle.group_core.specs.declared.fault.GroupFault.TheVariants.{NoMessage, Unreachable}
+use Rattle.group_types.specs.declared.fault.GroupFault.{GroupFault}
+use Rattle.group_types.specs.declared.fault.GroupFault.TheVariants.{NoMessage, Unreachable}
 
 not_if : (b : Bool) (k : ℕ) → (let r : Option GroupFault = if b then None else Some Unreachable in r ≡ Some (NoMessage k)) → ⊥
 not_if true k e = cc

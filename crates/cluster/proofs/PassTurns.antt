@@ -6,7 +6,7 @@ use mathlib.Core.Logic.{dite}
 use native.Mathlib.Decide.{ℕ_discrete}
 use Rattle.map_core.specs.State.{History, GoesOn}
 use Rattle.entry_core.specs.Request.{Sealed}
-use Rattle.group_core.specs.Each.{Each}
+use Rattle.whole_logs.specs.Each.{Each}
 use Rattle.suffix_core.specs.Group.{Group, Event, Submit, Deliver, Lose, Repeat, NewInterval, Restart, Kick, is_submitted}
 use Rattle.world_core.specs.Front.{id_of}
 use Rattle.world_core.proofs.Acting.{each_join, each_weaker}

@@ -6,7 +6,7 @@ use Rattle.map_core.specs.State.{History, GoesOn}
 use Rattle.entry_core.specs.Locality.{group_for}
 use Rattle.entry_core.specs.Request.{Sealed}
 use Rattle.entry_core.specs.declared.sealed.GroupId.{GroupId}
-use Rattle.group_core.specs.Each.{Each}
+use Rattle.whole_logs.specs.Each.{Each}
 use Rattle.suffix_core.specs.Group.{Group, Event, Submit, Deliver, Lose, Repeat, NewInterval, Restart, Kick, is_submitted}
 use Rattle.world_core.specs.Front.{id_of}
 use Rattle.world_core.specs.World.{World}

@@ -4,8 +4,8 @@ use Rattle.std.specs.Prelude.{◌≡◌, ℕ, Option, Result, Ok, Err}
 use Rattle.entry_core.specs.declared.reply.Reply.{Reply}
 use Rattle.entry_core.specs.declared.sealed.GroupId.{GroupId}
 use Rattle.suffix_core.specs.Group.{Group}
-use Rattle.group_core.specs.declared.fault.GroupFault.{GroupFault}
-use Rattle.group_core.specs.declared.fault.GroupFault.TheVariants as group_fault
+use Rattle.group_types.specs.declared.fault.GroupFault.{GroupFault}
+use Rattle.group_types.specs.declared.fault.GroupFault.TheVariants as group_fault
 use Rattle.world_core.specs.declared.fault.WorldFault.TheVariants.{NoRequest, Group as OfGroup}
 use Rattle.world_core.specs.Moves.{IsAt}
 use Rattle.cluster.specs.declared.groups.GroupEntry.{GroupEntry}

@@ -4,8 +4,8 @@ use Rattle.std.specs.Prelude.{◌≡◌, true, false, [], Option, Some, None, Re
 use Rattle.entry_core.specs.Request.{Sealed}
 use Rattle.entry_core.specs.declared.reply.Reply.{Reply}
 use Rattle.suffix_core.specs.Group.{Group, Event, Submit, Deliver, Lose, Repeat, NewInterval, Restart, Kick, group_step, refusal_of, answer_of, is_submitted}
-use Rattle.group_core.specs.declared.fault.GroupFault.{GroupFault}
-use Rattle.group_core.specs.declared.fault.GroupFault.TheVariants.{NoMessage, Unreachable, Full, OutOfMemory, Doubled}
+use Rattle.group_types.specs.declared.fault.GroupFault.{GroupFault}
+use Rattle.group_types.specs.declared.fault.GroupFault.TheVariants.{NoMessage, Unreachable, Full, OutOfMemory, Doubled}
 use Rattle.cluster.specs.declared.groups.GroupEntry.{GroupEntry}
 use Rattle.cluster.specs.declared.groups.GroupEntry.TheVariants.{Happened, Looked, Idle}
 use Rattle.cluster.specs.declared.groups.Submission.{Submission}

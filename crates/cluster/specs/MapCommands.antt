@@ -8,8 +8,8 @@ use Rattle.map_core.specs.declared.command.MapCommand.{MapCommand}
 use Rattle.map_core.specs.declared.command.MapCommand.TheVariants.{PoolCreate, AppEnable, AppSet, AppRm, OsdUp, OsdDown, OsdRestart}
 use Rattle.entry_core.specs.declared.sealed.GroupId.{GroupId}
 use Rattle.suffix_core.specs.Group.{Group, Event, NewInterval, Restart, has_all_intervals}
-use Rattle.group_copies.specs.Moves.{event_of}
-use Rattle.group_core.specs.declared.fault.GroupFault.{GroupFault}
+use Rattle.group_core.specs.Moves.{event_of}
+use Rattle.group_types.specs.declared.fault.GroupFault.{GroupFault}
 use Rattle.world_core.specs.World.{members_of}
 use Rattle.world_core.specs.Moves.{moves_groups, move_of}
 use Rattle.cluster.specs.declared.groups.GroupEntry.{GroupEntry}

@@ -11,7 +11,7 @@ use Rattle.map_core.specs.declared.fault.MapFault.{MapFault}
 use Rattle.map_core.specs.declared.fault.MapFault.TheVariants as map_fault
 use Rattle.entry_core.specs.declared.sealed.GroupId.{GroupId}
 use Rattle.suffix_core.specs.Group.{Event}
-use Rattle.group_core.specs.declared.fault.GroupFault.TheVariants as group_fault
+use Rattle.group_types.specs.declared.fault.GroupFault.TheVariants as group_fault
 use Rattle.cluster.specs.declared.cluster.Cluster.{Cluster}
 use Rattle.cluster.specs.declared.cluster.Seats.{Seats}
 use Rattle.cluster.specs.declared.monitor.Monitor.{Monitor}

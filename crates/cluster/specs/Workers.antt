@@ -3,7 +3,7 @@
 use Rattle.std.specs.Prelude.{◌≡◌, ◌⊎◌, ℕ, zero, suc, ◌≤◌, List, [], ◌∷◌, ◌++◌, Option, Some, None, Result, Ok, Err, All}
 use Rattle.std.specs.Option.{option_or}
 use Rattle.suffix_core.specs.Group.{Event, Deliver}
-use Rattle.group_core.specs.declared.fault.GroupFault.TheVariants.{Unreachable}
+use Rattle.group_types.specs.declared.fault.GroupFault.TheVariants.{Unreachable}
 use Rattle.world_core.specs.declared.fault.WorldFault.TheVariants.{Group as OfGroup}
 use Rattle.cluster.specs.declared.cluster.Cluster.{Cluster}
 use Rattle.cluster.specs.declared.fault.ClusterFault.{ClusterFault}

@@ -15,7 +15,7 @@ use crate::monitor::Monitor;
 use crate::numbering::{greatest_number, sessions_by_number};
 use crate::pass::Pass;
 use crate::users::UserTable;
-use group_copies::Group;
+use group_core::Group;
 use std::alloc::{AllocError, Global};
 use std::sync::Wait;
 use world_core::{Session, WorldParts};

@@ -15,7 +15,7 @@ use crate::fault::ClusterFault;
 use crate::groups::{AnswerFault, AnswerOf, Work, Worked};
 use crate::pass::Pass;
 use entry_core::{GroupId, Id, Reply};
-use group_core::GroupFault;
+use group_types::GroupFault;
 use std::sync::Wait;
 use world_core::{WorldFault, place_of};
 

@@ -6,7 +6,7 @@ ghost use Rattle.std.specs.Option.{option_map};
 ghost use Rattle.map_core.specs.Map.{map_of, epoch_of};
 ghost use Rattle.map_core.specs.Refusal.{refusal};
 ghost use Rattle.suffix_core.specs.Group.{has_all_intervals};
-ghost use Rattle.group_copies.specs.Moves.{event_of};
+ghost use Rattle.group_core.specs.Moves.{event_of};
 ghost use Rattle.cluster.specs.Passes.{AreMonitorOf, group_count};
 ghost use Rattle.cluster.specs.MapCommands.{move_in, begins_interval};
 ghost use Rattle.cluster.specs.GroupMoves.{OneMoved, HaveMoved, HaveLooked, Found, FullAt, SomeFull, NoneFull, event_at};
@@ -14,7 +14,7 @@ ghost use Rattle.cluster.specs.GroupMoves.{OneMoved, HaveMoved, HaveLooked, Foun
 use crate::cluster::{Cluster, Seats};
 use crate::map_commands::{IsFull, Move, begins, move_for};
 use entry_core::GroupId;
-use group_core::GroupMove;
+use group_types::GroupMove;
 use map_core::{ClusterMap, MapCommand};
 use std::sync::Wait;
 

@@ -5,8 +5,8 @@ ghost use Rattle.suffix_core.specs.Group.{Deliver};
 ghost use Rattle.cluster.specs.Groups.{group_after, entry_fits, submission_entry, SubmissionTells, work_entry, WorkTells, answer_entry, AnswerTells};
 
 use entry_core::{Id, Reply, Sealed, TryCopy};
-use group_copies::Group;
-use group_core::GroupFault;
+use group_core::Group;
+use group_types::GroupFault;
 use std::marker::Model;
 use turn_lock::{Recorded, Step};
 

@@ -4,13 +4,13 @@ ghost use Rattle.std.specs.Prelude.{◌≡◌, None};
 ghost use Rattle.std.specs.Option.{option_map};
 ghost use Rattle.map_core.specs.Map.{map_of, epoch_of};
 ghost use Rattle.map_core.specs.Refusal.{refusal};
-ghost use Rattle.group_copies.specs.Moves.{event_of};
+ghost use Rattle.group_core.specs.Moves.{event_of};
 ghost use Rattle.world_core.specs.World.{members_of};
 ghost use Rattle.cluster.specs.MapCommands.{move_entry, MoveTells, full_entry, FullTells, move_in, begins_interval, is_creation};
 
 use crate::groups::LockedGroup;
 use entry_core::GroupId;
-use group_core::{GroupFault, GroupMove};
+use group_types::{GroupFault, GroupMove};
 use map_core::{ClusterMap, MapCommand};
 use place_core::ActingSet;
 use turn_lock::Step;

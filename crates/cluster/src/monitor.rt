@@ -14,7 +14,7 @@ use crate::cluster::{Cluster, Seats};
 use crate::group_moves::{any_full, move_groups};
 use crate::map_commands::creates;
 use entry_core::GroupId;
-use group_core::GroupFault;
+use group_types::GroupFault;
 use map_core::{ClusterMap, Epoch, MapCommand, MapFault};
 use published_map::{MapWriter, News, publish, tell};
 use std::alloc::AllocError;

@@ -18,7 +18,7 @@ use auth_db::Caps;
 use common_types::{Name, OutOfMemory};
 use entry_core::{GroupId, TryCopy};
 use grant_core::ProfileTable;
-use group_copies::Group;
+use group_core::Group;
 use map_core::{ClusterMap, MapCommand};
 use published_map::publish_first;
 use std::alloc::{AllocError, Global};

@@ -13,7 +13,7 @@ use crate::cluster::Cluster;
 use crate::fault::ClusterFault;
 use crate::groups::Worked;
 use crate::pass::Pass;
-use group_core::GroupFault;
+use group_types::GroupFault;
 use std::alloc::Global;
 use std::sync::Wait;
 use std::thread;

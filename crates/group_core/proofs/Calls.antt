@@ -1,24 +1,26 @@
 -- What each call makes of a group.
-use Rattle.std.proofs.Common.{ℕ, zero, suc, ◌≡◌, ◌≤◌, ◌<◌, ◌-◌, Bool, true, false, not, ◌==◌, ◌&&◌, List, [], ◌∷◌, ◌++◌, map, length, take, max, get_or, refl, sym, ◌∙◌, ap, subst, arith, append_assoc, length-append, if◌then◌else◌}
+use Rattle.std.proofs.Common.{ℕ, ◌≡◌, ◌≤◌, ◌<◌, ◌-◌, Bool, true, false, not, ◌==◌, ◌&&◌, List, [], ◌∷◌, ◌++◌, map, length, take, max, refl, sym, ◌∙◌, ap, subst, arith, append_assoc, length-append, if◌then◌else◌}
 use Rattle.std.specs.Prelude.{Option, Some, None, slice_get, slice_set}
 use Rattle.std.specs.List.{remove}
 use Rattle.std.proofs.Math.Seq.{take-append_seam}
 use Rattle.std.proofs.lemmas.List.{append-nil}
 use Rattle.entry_core.specs.Log.{is_in}
 use Rattle.entry_core.specs.Request.{Sealed}
-use Rattle.peer_core.specs.ActingSets.{daemons}
+use Rattle.whole_logs.specs.ActingSets.{daemons}
 use Rattle.peer_core.specs.Steps.{Stepped, blank, restarted}
 use Rattle.peer_core.specs.Copy.{copy_step}
 use Rattle.peer_core.specs.Decided.{decided_by}
 use Rattle.entry_core.specs.declared.sealed.GroupId.{GroupId}
-use Rattle.group_core.specs.Types.{Daemon, Body, Interval, Query, Info, Install, Installed, Append, Appended, Request, Reply, NotHere, Osd, Client, Sent}
-use Rattle.group_core.specs.Group.{Group, Answer, Event, Submit, Deliver, Lose, Repeat, NewInterval, Restart, Kick, Unreachable, Full, Doubled, last_set, is_answered, answers_after, answered, to_daemon, to_primary, steps, copy_hears, arrives, without, deliver, lose, again, is_submitted, has_all_requests, has_all_intervals, take_request, begin, with_up, same_set, announced, resent, retransmit_primary, group_step, refusal_of, refusal_at, refusal_to, missing_at, IsSet, EventFits, start}
+use Rattle.suffix_core.specs.Types.{Daemon, Body, Interval, Query, Info, Install, Installed, Append, Appended, Request, Reply, NotHere, Osd, Client, Sent}
+use Rattle.suffix_core.specs.Group.{Group, Answer, Event, Submit, Deliver, Lose, Repeat, NewInterval, Restart, Kick, Unreachable, Full, Doubled, last_set, is_answered, answers_after, answered, to_daemon, to_primary, steps, copy_hears, arrives, without, deliver, lose, again, is_submitted, has_all_requests, has_all_intervals, take_request, begin, with_up, same_set, announced, resent, retransmit_primary, group_step, refusal_of, refusal_at, refusal_to, missing_at, IsSet, EventFits, start}
 use Rattle.group_core.specs.Furthest.{furthest}
-use Rattle.group_core.specs.Reached.{IsReached, HasJustTaken, unsent}
+use Rattle.suffix_core.specs.Reached.{IsReached, HasJustTaken, unsent}
 use Rattle.group_core.specs.Sound.{IsSound}
-use Rattle.group_core.proofs.Reached.{reached_step, reached_start, reached_good, reached_audit}
-use Rattle.group_core.proofs.FarCopies.{audit_count}
-use Rattle.group_core.proofs.Groups.{get-set_same}
+use Rattle.suffix_core.proofs.Twins.{reached_step, reached_start}
+use Rattle.suffix_core.proofs.Refusals.{opens_is}
+use Rattle.group_core.proofs.Reached.{reached_audit, audit_count}
+use Rattle.whole_logs.proofs.Groups.{get-set_same}
+pub use Rattle.whole_logs.proofs.Calls.{get_below, get_past, get_in, get_or_some}
 use Rattle.group_core.proofs.Daemons.{furthest-map, restarted_if}
 
 -- the event was not refused, and the group is the next one
@@ -33,27 +35,6 @@ next {g} w e fits new m free is long = record {
   free = free;
   is = is;
 }
-
--- places
-
-pub record At {X : Type 0} (xs : List X) (k : ℕ) : Type 0 where
-  pub item : X
-  pub is : slice_get xs k ≡ Some item
-
-pub get_below : {X : Type 0} (xs : List X) (k : ℕ) → k < length xs → At xs k
-get_below [] k lt = absurd (omega arith)
-get_below (x ∷ xs) zero lt = record { item = x; is = refl }
-get_below (x ∷ xs) (suc k) lt = (let r = get_below xs k (omega arith) in record { item = r.item; is = r.is })
-
-pub get_past : {X : Type 0} (xs : List X) (k : ℕ) → length xs ≤ k → slice_get xs k ≡ None
-get_past [] k le = refl
-get_past (x ∷ xs) zero le = absurd (omega arith)
-get_past (x ∷ xs) (suc k) le = get_past xs k (omega arith)
-
-pub get_in : {X : Type 0} (xs : List X) (k : ℕ) (x : X) → slice_get xs k ≡ Some x → k < length xs
-get_in [] k x is = absurd (cc)
-get_in (y ∷ xs) zero x is = omega arith
-get_in (y ∷ xs) (suc k) x is = (let rest = get_in xs k x is in omega arith)
 
 -- a message is lost, or repeated
 
@@ -114,9 +95,9 @@ answered_is g (Reply id reply) = go (is_answered g.answers id)
     go true = refl
     go false = refl
 answered_is g (Interval sets) = refl
-answered_is g (Query n) = refl
-answered_is g (Info n base log) = refl
-answered_is g (Install n log) = refl
+answered_is g (Query n len end) = refl
+answered_is g (Info n base start part) = refl
+answered_is g (Install n start part) = refl
 answered_is g (Installed n) = refl
 answered_is g (Append n place s) = refl
 answered_is g (Appended n place) = refl
@@ -146,7 +127,7 @@ dropped_is g k d m here to down = ap (λ o. deliver g k o) here ∙ ap (λ p. ar
 free_up : (g : Group) (k d : ℕ) (m : Sent) → slice_get g.wire k ≡ Some m → m.to ≡ Osd d → is_in g.up d ≡ true → refusal_of g (Deliver k) ≡ None
 free_up g k d m here to up = ap (λ o. refusal_at g k o) here ∙ ap (λ p. refusal_to g p) to ∙ ap (λ b. if b then None else Some Unreachable) up
 
-arrived_is : (g : Group) (k d : ℕ) (m : Sent) (found : Option Daemon) → slice_get g.wire k ≡ Some m → m.to ≡ Osd d → is_in g.up d ≡ true → slice_get g.copies d ≡ found → group_step g (Deliver k) ≡ copy_hears (without g k) m d found
+pub arrived_is : (g : Group) (k d : ℕ) (m : Sent) (found : Option Daemon) → slice_get g.wire k ≡ Some m → m.to ≡ Osd d → is_in g.up d ≡ true → slice_get g.copies d ≡ found → group_step g (Deliver k) ≡ copy_hears (without g k) m d found
 arrived_is g k d m found here to up is = ap (λ o. deliver g k o) here ∙ ap (λ p. arrives (without g k) m p) to ∙ ap (λ b. if b then copy_hears (without g k) m d (slice_get g.copies d) else without g k) up
     ∙ ap (λ o. copy_hears (without g k) m d o) is
 
@@ -166,7 +147,7 @@ next_heard {g} {n} w k d m c c' wire copies decided here to up found is_copy is_
     let step : group_step g (Deliver k) ≡ h = arrived_is g k d m (Some c) here to up found in
     let reached : IsReached h = subst IsReached step (reached_step g (Deliver k) w.reached tt) in
     let stands : slice_get h.copies d ≡ Some s.copy = get-set_same g.copies d c s.copy found in
-    let long : length h.audit ≡ max (length g.audit) (length (decided_by s.copy.role s.copy.log)) = audit_count h g.audit s.copy d refl (reached_good h reached) stands in
+    let long : length h.audit ≡ max (length g.audit) (length (decided_by s.copy.role s.copy.log)) = audit_count h g.audit s.copy d refl reached stands in
     let of_copy : length (decided_by c'.role c'.log) ≡ length (decided_by s.copy.role s.copy.log) = ap (λ (v : Daemon). length (decided_by v.role v.log)) is_copy in
     let was = w.count in
     let count : length h.audit ≡ decided = long ∙ ap (λ v. max v (length (decided_by s.copy.role s.copy.log))) was ∙ ap (λ v. max n v) (sym of_copy) ∙ sym is_decided in
@@ -179,9 +160,6 @@ next_heard {g} {n} w k d m c c' wire copies decided here to up found is_copy is_
     next w (Deliver k) tt (record g { wire = wire; copies = copies; audit = take decided (furthest copies) }) decided (free_up g k d m here to up) (same ∙ sym step) (ap (λ (v : Group). length v.audit) same ∙ count)
 
 -- intervals
-
-downed : List ℕ → List ℕ → Daemon → Bool
-downed was up c = is_in was c.number && not (is_in up c.number)
 
 pub next_same : {g : Group} {n : ℕ} → IsSound g n → (acting up : List ℕ) (copies : List Daemon) → IsSet acting → same_set acting (last_set g.sets) ≡ true →
     copies ≡ map (λ c. if is_in g.up c.number && not (is_in up c.number) then restarted c else c) g.copies → take n (furthest g.copies) ≡ g.audit →
@@ -255,11 +233,6 @@ whole_dropped {g} {n} w k d m wire here to down is = record {
   count = w.count;
 }
 
-pub get_or_some : {X : Type 0} (xs : List X) (d : ℕ) (e : X) → d < length xs → slice_get xs d ≡ Some (get_or xs d e)
-get_or_some [] d e lt = absurd (omega arith)
-get_or_some (x ∷ xs) zero e lt = refl
-get_or_some (x ∷ xs) (suc d) e lt = get_or_some xs d e (omega arith)
-
 pub whole_start : (group : GroupId) (z count : ℕ) (acting up : List ℕ) (g : Group) → 1 ≤ z → IsSet acting → g ≡ start group z count acting up → IsSound g 0
 whole_start group z count acting up g least fits is = record { reached = subst IsReached (sym is) (reached_start group z count acting up least fits); count = ap (λ (v : Group). length v.audit) is }
 
@@ -296,14 +269,6 @@ take-front xs x = (let same : length (xs ++ x ∷ []) - 1 ≡ length xs = omega 
 unsent_is : (set : List ℕ) (wire : List Sent) (s : Sealed) → unsent set (wire ++ to_primary set (Request s ∷ [])) ≡ wire
 unsent_is [] wire s = append-nil wire
 unsent_is (d ∷ ds) wire s = take-front wire (to_daemon d (Request s))
-
-pub opens_is : (before : Group) (s : Sealed) → refusal_of before (Submit s) ≡ None → group_step before (Submit s) ≡ take_request before s
-opens_is before s free = go (is_submitted before.requests s.id) (has_all_requests before) free
-  where
-    go : (b q : Bool) → (if b then Some Doubled else (if q then Some Full else None)) ≡ None → (if b then before else (if q then before else take_request before s)) ≡ take_request before s
-    go true q e = absurd (cc)
-    go false true e = absurd (cc)
-    go false false e = refl
 
 -- a group without its last request and that request's message
 abbrev pub without_last : Group → Group

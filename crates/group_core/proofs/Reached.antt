@@ -1,125 +1,79 @@
--- What holds of each group that there can be.
-use Rattle.std.proofs.Common.{ℕ, ◌≡◌, ◌≤◌, Bool, true, false, ◌==◌, List, [], ◌∷◌, ◌++◌, map, length, take, refl, ◌∙◌, ap, subst, if◌then◌else◌}
-use Rattle.std.specs.Prelude.{Option, Some, None, slice_get}
-use Rattle.entry_core.specs.Log.{is_in}
-use Rattle.entry_core.specs.declared.sealed.GroupId.{GroupId}
-use Rattle.peer_core.specs.Steps.{restarted}
-use Rattle.group_core.specs.Types.{Daemon, Body, Interval, Query, Info, Install, Installed, Append, Appended, Request, Reply, NotHere, Party, Osd, Client, Sent}
-use Rattle.group_core.specs.Group.{Group, Event, Submit, Deliver, Lose, Repeat, NewInterval, Restart, Kick, last_set, is_answered, answered, copy_hears, arrives, without, deliver, lose, again, is_submitted, has_all_requests, has_all_intervals, take_request, begin, with_up, same_set, group_step, run, start, IsSet, EventFits}
-use Rattle.group_core.specs.Furthest.{furthest}
-use Rattle.group_core.specs.Reached.{IsReached}
-use Rattle.group_core.proofs.Eaches.{Each-append}
-use Rattle.group_core.proofs.Groups.{Good, run_good, start_good, run-append}
-use Rattle.group_core.proofs.Kept.{Kept, run_kept, start_kept}
-use Rattle.group_core.specs.Sane.{AllSane}
-use Rattle.group_core.proofs.SaneGroups.{run_sane, start_sane}
-use Rattle.group_core.proofs.Settles.{Bounded, run_bounded}
-use Rattle.group_core.proofs.FarCopies.{audit_furthest, audit_fits}
+-- What holds of each group that there can be: by the group that sends whole logs, for which it stands.
+use Rattle.std.proofs.Common.{ℕ, ◌≡◌, ◌≤◌, List, [], ◌∷◌, map, length, take, max, refl, sym, ◌∙◌, ap, subst}
+use Rattle.std.specs.Prelude.{Some, slice_get}
+use Rattle.entry_core.specs.Log.{Legal}
+use Rattle.entry_core.specs.declared.entry.Entry.{Entry}
+use Rattle.whole_logs.specs.Choice.{own_offer, best}
+use Rattle.whole_logs.specs.Decided.{decided_by as whole_decided_by}
+use Rattle.peer_core.specs.Decided.{decided_by}
+use Rattle.whole_logs.specs.Types.{Daemon}
+use Rattle.whole_logs.specs.Furthest.{furthest as whole_furthest}
+use Rattle.whole_logs.specs.History.{Begins}
+use Rattle.whole_logs.proofs.Audits.{audit_length}
+use Rattle.whole_logs.proofs.AskedOnce.{decided_few as whole_decided_few}
+use Rattle.whole_logs.proofs.Reached.{reached_audit as whole_reached_audit, reached_fits as whole_reached_fits}
+use Rattle.suffix_core.specs.Standing.{Both, SameCopy}
+use Rattle.suffix_core.proofs.Agreeing.{CopyAgrees}
+use Rattle.suffix_core.proofs.Lists.{Beside, beside}
+use Rattle.suffix_core.proofs.Hearing.{shown_same}
+use Rattle.suffix_core.proofs.Twins.{twin_of, lock_stands, run_legal}
+use Rattle.suffix_core.specs.Types.{Copy}
+use Rattle.suffix_core.specs.Group.{Group, audit_after}
+use Rattle.group_core.specs.Furthest.{whole_offer, furthest}
+use Rattle.suffix_core.specs.Reached.{IsReached}
 
--- no event changes which group it is, nor its least size
+-- the copy that is furthest on is the same of both
 
-module _ (Q : GroupId → ℕ → Type 0) where
-  abbrev Named : Group → Type 0
-  Named g = Q g.group g.min_size
+offer_same : (c : Copy) (w : Daemon) → SameCopy c w → own_offer w ≡ whole_offer c
+offer_same c w s =
+    ap (λ v. record { number = v; base = w.base; log = w.log }) s.number ∙ ap (λ v. record { number = c.number; base = v; log = w.log }) s.base ∙ ap (λ v. record { number = c.number; base = c.base; log = v }) s.log
 
-  named_if : (b : Bool) (x y : Group) → Named x → Named y → Named (if b then x else y)
-  named_if true x y p q = p
-  named_if false x y p q = q
+offers_same : (cs : List Copy) (ws : List Daemon) → Both SameCopy cs ws → map own_offer ws ≡ map whole_offer cs
+offers_same [] [] both = refl
+offers_same [] (w ∷ ws) both = absurd both
+offers_same (c ∷ cs) [] both = absurd both
+offers_same (c ∷ cs) (w ∷ ws) both = ap (λ v. v ∷ map own_offer ws) (offer_same c w both.0) ∙ ap (λ l. whole_offer c ∷ l) (offers_same cs ws both.1)
 
-  answered_named : (g : Group) (b : Body) → Named g → Named (answered g b)
-  answered_named g (Reply id reply) is = named_if (is_answered g.answers id) g (record g { answers = g.answers ++ record { id = id; reply = reply } ∷ [] }) is is
-  answered_named g (Interval sets) is = is
-  answered_named g (Query i) is = is
-  answered_named g (Info i base log) is = is
-  answered_named g (Install i log) is = is
-  answered_named g (Installed i) is = is
-  answered_named g (Append i place s) is = is
-  answered_named g (Appended i place) is = is
-  answered_named g (Request s) is = is
-  answered_named g (NotHere id) is = is
-
-  hears_named : (g : Group) (m : Sent) (d : ℕ) (found : Option Daemon) → Named g → Named (copy_hears g m d found)
-  hears_named g m d None is = is
-  hears_named g m d (Some c) is = is
-
-  arrives_named : (g : Group) (m : Sent) (to : Party) → Named g → Named (arrives g m to)
-  arrives_named g m Client is = answered_named g m.body is
-  arrives_named g m (Osd d) is = named_if (is_in g.up d) (copy_hears g m d (slice_get g.copies d)) g (hears_named g m d (slice_get g.copies d) is) is
-
-  pub step_named : (e : Event) (g : Group) → Named g → Named (group_step g e)
-  step_named (Submit s) g is = named_if (is_submitted g.requests s.id) g (if has_all_requests g then g else take_request g s) is (named_if (has_all_requests g) g (take_request g s) is is)
-  step_named (Deliver k) g is = go (slice_get g.wire k)
-    where
-      go : (found : Option Sent) → Named (deliver g k found)
-      go None = is
-      go (Some m) = arrives_named (without g k) m m.to is
-  step_named (Lose k) g is = go (slice_get g.wire k)
-    where
-      go : (found : Option Sent) → Named (lose g k found)
-      go None = is
-      go (Some m) = is
-  step_named (Repeat k) g is = go (slice_get g.wire k)
-    where
-      go : (found : Option Sent) → Named (again g found)
-      go None = is
-      go (Some m) = is
-  step_named (NewInterval acting up) g is = named_if (same_set acting (last_set g.sets)) (with_up g up) (if has_all_intervals g then g else begin (with_up g up) acting) is
-      (named_if (has_all_intervals g) g (begin (with_up g up) acting) is is)
-  step_named (Restart d) g is =
-      named_if (is_in (last_set g.sets) d) (if has_all_intervals g then g else begin (record g { copies = map (λ c. if c.number == d then restarted c else c) g.copies }) (last_set g.sets)) (record g { copies = map (λ c. if c.number == d then restarted c else c) g.copies })
-      (named_if (has_all_intervals g) g (begin (record g { copies = map (λ c. if c.number == d then restarted c else c) g.copies }) (last_set g.sets)) is is) is
-  step_named Kick g is = is
-
-  pub run_named : (es : List Event) (g : Group) → Named g → Named (run es g)
-  run_named [] g is = is
-  run_named (e ∷ es) g is = run_named es (group_step g e) (step_named e g is)
-
-pub reached_least : (g : Group) → IsReached g → 1 ≤ g.min_size
-reached_least g r = subst (λ v. 1 ≤ v.min_size) r.is (run_named (λ group z. 1 ≤ z) r.events (start r.group r.min_size r.daemons r.acting r.up) r.least)
-
-pub reached_good : (g : Group) → IsReached g → Good g
-reached_good g r = subst Good r.is (run_good r.events (start r.group r.min_size r.daemons r.acting r.up) (start_good r.group r.min_size r.daemons r.acting r.up))
-
-pub reached_kept : (g : Group) → IsReached g → Kept g
-reached_kept g r = subst Kept r.is (run_kept r.events (start r.group r.min_size r.daemons r.acting r.up) (start_good r.group r.min_size r.daemons r.acting r.up) (start_kept r.group r.min_size r.daemons r.acting r.up))
-
-pub reached_sane : (g : Group) → IsReached g → AllSane g
-reached_sane g r = subst AllSane r.is (run_sane r.events (start r.group r.min_size r.daemons r.acting r.up) (start_sane r.group r.min_size r.daemons r.acting r.up))
-
-pub reached_bounded : (g : Group) → IsReached g → Bounded g
-reached_bounded g r = subst Bounded r.is (run_bounded r.group r.min_size r.daemons r.acting r.up r.events r.begins r.fit)
+pub furthest_same : (cs : List Copy) (ws : List Daemon) → Both SameCopy cs ws → whole_furthest ws ≡ furthest cs
+furthest_same [] [] both = refl
+furthest_same [] (w ∷ ws) both = absurd both
+furthest_same (c ∷ cs) [] both = absurd both
+furthest_same (c ∷ cs) (w ∷ ws) both = ap (λ v. (best v (map own_offer ws)).log) (offer_same c w both.0) ∙ ap (λ l. (best (whole_offer c) l).log) (offers_same cs ws both.1)
 
 pub reached_audit : (g : Group) → IsReached g → g.audit ≡ take (length g.audit) (furthest g.copies)
-reached_audit g r = audit_furthest g (reached_good g r) (reached_least g r)
+reached_audit g r =
+    let t = twin_of g r in
+    let s = lock_stands g t.whole t.lock in
+    let far : whole_furthest t.whole.copies ≡ furthest g.copies = furthest_same g.copies t.whole.copies s.copies in
+    sym s.audit ∙ whole_reached_audit t.whole t.reached ∙ ap (λ l. take (length l) (whole_furthest t.whole.copies)) s.audit ∙ ap (λ l. take (length g.audit) l) far
 
 pub reached_fits : (g : Group) → IsReached g → length g.audit ≤ length (furthest g.copies)
-reached_fits g r = audit_fits g (reached_good g r) (reached_least g r)
+reached_fits g r =
+    let t = twin_of g r in
+    let s = lock_stands g t.whole t.lock in
+    subst (λ l. length g.audit ≤ length l) (furthest_same g.copies t.whole.copies s.copies) (subst (λ l. length l ≤ length (whole_furthest t.whole.copies)) s.audit (whole_reached_fits t.whole t.reached))
 
--- the next group is one too
-pub reached_step : (g : Group) (e : Event) → IsReached g → EventFits e → IsReached (group_step g e)
-reached_step g e r fits = record {
-  group = r.group;
-  min_size = r.min_size;
-  daemons = r.daemons;
-  acting = r.acting;
-  up = r.up;
-  events = r.events ++ e ∷ [];
-  least = r.least;
-  begins = r.begins;
-  fit = Each-append EventFits r.events (e ∷ []) r.fit (fits, tt);
-  is = run-append r.events (e ∷ []) (start r.group r.min_size r.daemons r.acting r.up) ∙ ap (λ v. group_step v e) r.is;
-}
+pub reached_legal : (g : Group) → IsReached g → Legal g.audit
+reached_legal g r = subst (λ (v : Group). Legal v.audit) r.is (run_legal r.group r.min_size r.daemons r.acting r.up r.events)
 
-pub reached_start : (group : GroupId) (z count : ℕ) (acting up : List ℕ) → 1 ≤ z → IsSet acting → IsReached (start group z count acting up)
-reached_start group z count acting up least fits = record {
-  group = group;
-  min_size = z;
-  daemons = count;
-  acting = acting;
-  up = up;
-  events = [];
-  least = least;
-  begins = fits;
-  fit = tt;
-  is = refl;
-}
+-- what a copy shows to be decided begins what was decided
+pub reached_covers : (g : Group) → IsReached g → (d : ℕ) (c : Copy) → slice_get g.copies d ≡ Some c → Begins (decided_by c.role c.log) g.audit
+reached_covers g r d c here =
+    let t = twin_of g r in
+    let f = t.lock.agree.facts in
+    let b : Beside (CopyAgrees f.promise f.h) c t.whole.copies d = beside (CopyAgrees f.promise f.h) g.copies t.whole.copies d c f.copies here in
+    let shown : decided_by c.role c.log ≡ whole_decided_by b.item.role b.item.log = shown_same f.promise f.h c b.item b.agrees in
+    subst (λ l. Begins (decided_by c.role c.log) l) (lock_stands g t.whole t.lock).audit (subst (λ l. Begins l t.whole.audit) (sym shown) (t.lock.good.covers d b.item b.is))
+
+-- how long the audit is after a copy's step
+pub audit_count : (g : Group) (audit : List Entry) (c : Copy) (d : ℕ) → g.audit ≡ audit_after audit c → IsReached g → slice_get g.copies d ≡ Some c →
+    length (audit_after audit c) ≡ max (length audit) (length (decided_by c.role c.log))
+audit_count g audit c d is r here =
+    let covers : Begins (decided_by c.role c.log) (audit_after audit c) = subst (λ l. Begins (decided_by c.role c.log) l) is (reached_covers g r d c here) in
+    let legal : Legal (audit_after audit c) = subst (λ l. Legal l) is (reached_legal g r) in
+    audit_length audit (decided_by c.role c.log) legal covers
+
+pub decided_few : (g : Group) → IsReached g → length g.audit ≤ length g.requests
+decided_few g r =
+    let t = twin_of g r in
+    subst (λ l. length g.audit ≤ length l) (lock_stands g t.whole t.lock).requests (subst (λ l. length l ≤ length t.whole.requests) (lock_stands g t.whole t.lock).audit (whole_decided_few t.whole t.reached))

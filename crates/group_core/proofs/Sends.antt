@@ -1,139 +1,50 @@
--- How many messages one step of a copy sends.
-use Rattle.std.proofs.Common.{ℕ, ◌≡◌, ◌+◌, ◌≤◌, Bool, true, false, not, ◌==◌, ◌&&◌, nat_lt, List, [], ◌∷◌, ◌++◌, length, arith, length-append, refl, if◌then◌else◌}
-use Rattle.std.specs.Prelude.{Option, Some, None, slice_get}
-use Rattle.std.specs.List.{list_any}
-use Rattle.std.proofs.Math.ListN.{length-map}
-use Rattle.entry_core.specs.Log.{find, is_in, ids}
-use Rattle.entry_core.specs.Request.{Sealed}
-use Rattle.entry_core.specs.declared.entry.Entry.{Entry}
-use Rattle.peer_core.specs.Steps.{Stepped, still, send}
-use Rattle.peer_core.specs.Copy.{promise_interval, on_request_as, busy_request, waits, on_append, acknowledged, complete, on_appended, learn_sets, leads, lead, on_interval, queries, on_installed, on_body, copy_step, install_chosen, try_choice, on_info}
-use Rattle.peer_core.specs.ActingSets.{others, all_count, set_of, asked, is_asked, daemons, counted}
-use Rattle.peer_core.specs.Serve.{serve, serve_one, push_new}
-use Rattle.peer_core.specs.Choice.{can_choose, best, own_offer, is_informed}
-use Rattle.peer_core.specs.Decided.{with_entry, not_in_flight, last}
-use Rattle.group_core.specs.Group.{Group}
-use Rattle.group_core.specs.Types.{PeerInfo, Role, Idle, Peering, Installing, Active, Daemon, Body, Interval, Query, Info, Install, Installed, Append, Appended, Request, Reply, NotHere, Party, Osd, Client, Sent}
-use Rattle.group_core.proofs.Eaches.{Each-get}
-use Rattle.group_core.proofs.Groups.{Good}
-use Rattle.group_core.proofs.Invariant.{SentOk}
-use Rattle.group_core.proofs.Settles.{Bounded, Few, SetFits, few_as, body_fits, filter-short, leads_few}
+-- How many messages one step of a copy sends: as many as that of the copy for which it stands.
+use Rattle.std.proofs.Common.{ℕ, ◌≡◌, ◌≤◌, ◌+◌, true, List, ◌++◌, length, ◌∙◌, ap, arith, length-append, if◌then◌else◌}
+use Rattle.std.specs.Prelude.{Option, Some, slice_get}
+use Rattle.std.specs.List.{remove}
+use Rattle.std.proofs.lemmas.List.Edits.{length-remove}
+use Rattle.entry_core.specs.Log.{is_in}
+use Rattle.peer_core.specs.Copy.{copy_step}
+use Rattle.whole_logs.specs.Copy.{copy_step as whole_copy_step}
+use Rattle.whole_logs.specs.Types.{Daemon, Sent as WholeSent}
+use Rattle.whole_logs.specs.Group.{Group as WholeGroup, group_step as whole_group_step, deliver as whole_deliver, arrives as whole_arrives, without as whole_without, copy_hears as whole_copy_hears}
+use Rattle.whole_logs.proofs.Reached.{reached_bounded as whole_reached_bounded}
+use Rattle.whole_logs.proofs.Sends.{sent_few as whole_sent_few}
+use Rattle.suffix_core.specs.Standing.{SameSent, SameCopy}
+use Rattle.suffix_core.proofs.Lists.{Beside, beside}
+use Rattle.suffix_core.proofs.Events.{step_locked}
+use Rattle.suffix_core.proofs.Twins.{twin_of, lock_stands}
+use Rattle.suffix_core.proofs.Counts.{sent_many}
+use Rattle.suffix_core.specs.Types.{Copy, Sent, Osd}
+use Rattle.suffix_core.specs.Group.{Group, Deliver, group_step}
+use Rattle.suffix_core.specs.Reached.{IsReached}
+use Rattle.group_core.proofs.Calls.{arrived_is, get_in}
 
-abbrev Sends : ℕ → Stepped → Type 0
-Sends most s = length s.sent ≤ most
-
-either : (most : ℕ) (b : Bool) (x y : Stepped) → Sends most x → Sends most y → Sends most (if b then x else y)
-either most true x y p q = p
-either most false x y p q = q
-
--- one for each request that waits, until one is in flight and goes to the others
-serve_sends : (waiting : List Sealed) (c : Daemon) → length (others c) ≤ 4 → Sends (length waiting + 4) (serve waiting c)
-serve_sends [] c few = omega arith
-serve_sends (s ∷ rest) c few = one (find c.log s.id) (serve rest c) (serve rest (with_entry c s)) (serve_sends rest c few) (serve_sends rest (with_entry c s) few)
-  where
-    new : (ms : List ℕ) (after : Stepped) → Sends (length rest + 4) after → Sends (length (s ∷ rest) + 4) (push_new ms c s rest after)
-    new [] after a = omega (arith, a)
-    new (m ∷ ms) after a = omega (arith, length-map (others c) (λ d. send c (Osd d) (Append c.promise (length c.log + 1) s)), few)
-
-    one : (found : Option Entry) (after pushed : Stepped) → Sends (length rest + 4) after → Sends (length rest + 4) pushed → Sends (length (s ∷ rest) + 4) (serve_one found c s rest after pushed)
-    one (Some e) after pushed a p = omega (arith, a)
-    one None after pushed a p = new (others c) pushed p
-
-complete_sends : (c : Daemon) (e : Option Entry) → length (others c) ≤ 4 → Sends (length c.waiting + 5) (complete c e)
-complete_sends c None few = omega (arith, serve_sends c.waiting c few)
-complete_sends c (Some e) few = omega (arith, serve_sends c.waiting c few)
-
-busy_sends : (c : Daemon) (s : Sealed) (found : Option Entry) → Sends 1 (busy_request c s found)
-busy_sends c s (Some e) = omega arith
-busy_sends c s None = either 1 (is_in (ids c.log) s.id) (still c) (waits c s) (omega arith) (omega arith)
-
-request_sends : (r : Role) (c : Daemon) (s : Sealed) → Few r c → Sends (length c.waiting + 5) (on_request_as r c s)
-request_sends Idle c s few = omega arith
-request_sends (Peering informed) c s few = omega arith
-request_sends (Installing done) c s few = omega arith
-request_sends (Active None) c s few = (let n = serve_sends (s ∷ c.waiting) c few in omega arith)
-request_sends (Active (Some holders)) c s few = (let n = busy_sends c s (find (not_in_flight c.log (Some holders)) s.id) in omega arith)
-
-install_sends : (c : Daemon) (log : List Entry) (ms : List ℕ) → length ms ≤ 4 → length (others c) ≤ 4 → Sends (length c.waiting + 4) (install_chosen c log ms)
-install_sends c log [] fits few = serve_sends c.waiting (record c { base = c.promise; log = log; role = Active None }) few
-install_sends c log (m ∷ ms) fits few = (let n = length-map (m ∷ ms) (λ d. send c (Osd d) (Install c.promise log)) in omega arith)
-
-try_choice_sends : (c : Daemon) (informed : List PeerInfo) → length (others c) ≤ 4 → Sends (length c.waiting + 4) (try_choice c informed)
-try_choice_sends c informed few =
-    either (length c.waiting + 4) (can_choose c informed) (install_chosen c (best (own_offer c) informed).log (others c)) (still (record c { role = Peering informed })) (install_sends c (best (own_offer c) informed).log (others c) few few) (omega arith)
-
--- a query to each daemon
-lead_sends : (c : Daemon) → length (others c) ≤ 4 → Sends (length c.waiting + 20) (lead c)
-lead_sends c few =
-    let chosen = try_choice_sends c [] few in
-    let asks : length (asked c) ≤ 16 = filter-short (λ d. is_asked c d) daemons in
-    let query = length-map (asked c) (λ d. send c (Osd d) (Query c.promise)) in
-    let joined = length-append (queries c) (try_choice c []).sent in
-    omega arith
-
-interval_sends : (c : Daemon) (sets : List (List ℕ)) → length (set_of sets (length sets)) ≤ 5 → Sends 20 (on_interval c sets)
-interval_sends c sets fits = either 20 (nat_lt (length c.known) (length sets)) (if leads c sets then lead (record (learn_sets c sets) { promise = length sets }) else still (learn_sets c sets)) (still c)
-    (go (leads c sets) refl) (omega arith)
-  where
-    go : (b : Bool) → leads c sets ≡ b → Sends 20 (if b then lead (record (learn_sets c sets) { promise = length sets }) else still (learn_sets c sets))
-    go true e = (let few = leads_few c sets fits e in let n = lead_sends (record (learn_sets c sets) { promise = length sets }) few in omega arith)
-    go false e = omega arith
-
-info_sends : (r : Role) (c : Daemon) (n : ℕ) (offer : PeerInfo) → Few r c → Sends (length c.waiting + 4) (on_info r c n offer)
-info_sends (Peering informed) c n offer few = either (length c.waiting + 4) ((c.promise == n) && not (is_informed c informed offer.number)) (try_choice c (informed ++ offer ∷ [])) (still c) (try_choice_sends c (informed ++ offer ∷ []) few) (omega arith)
-info_sends Idle c n offer few = omega arith
-info_sends (Installing done) c n offer few = omega arith
-info_sends (Active flight) c n offer few = omega arith
-
-installed_sends : (r : Role) (c : Daemon) (n m : ℕ) → Few r c → Sends (length c.waiting + 4) (on_installed r c n m)
-installed_sends (Installing done) c n m few =
-    either (length c.waiting + 4) (c.promise == n) (if all_count c (counted c done m) then serve c.waiting c else still (record c { role = Installing (counted c done m) })) (still c)
-    (either (length c.waiting + 4) (all_count c (counted c done m)) (serve c.waiting c) (still (record c { role = Installing (counted c done m) })) (serve_sends c.waiting c few) (omega arith)) (omega arith)
-installed_sends Idle c n m few = omega arith
-installed_sends (Peering informed) c n m few = omega arith
-installed_sends (Active flight) c n m few = omega arith
-
-acknowledged_sends : (c : Daemon) (from : Party) (n place : ℕ) → Sends 1 (acknowledged c from n place)
-acknowledged_sends c from n place = either 1 (nat_lt (length c.log) place) (still c) (record { copy = c; sent = send c from (Appended n place) ∷ [] }) (omega arith) (omega arith)
-
-append_sends : (c : Daemon) (from : Party) (n place : ℕ) (s : Sealed) → Sends 1 (on_append c from n place s)
-append_sends c from n place s = either 1 ((c.promise == n) && (c.base == n))
-    (if (length c.log + 1 == place) && not (is_in (ids c.log) s.id) then acknowledged (with_entry c s) from n place else acknowledged c from n place) (still c)
-    (either 1 ((length c.log + 1 == place) && not (is_in (ids c.log) s.id)) (acknowledged (with_entry c s) from n place) (acknowledged c from n place) (acknowledged_sends (with_entry c s) from n place) (acknowledged_sends c from n place))
-    (omega arith)
-
-appended_sends : (r : Role) (c : Daemon) (n place m : ℕ) → Few r c → Sends (length c.waiting + 5) (on_appended r c n place m)
-appended_sends (Active (Some holders)) c n place m few =
-    either (length c.waiting + 5) ((c.promise == n) && (place == length c.log))
-    (if all_count c (counted c holders m) then complete c (last c.log) else still (record c { role = Active (Some (counted c holders m)) })) (still c)
-    (either (length c.waiting + 5) (all_count c (counted c holders m)) (complete c (last c.log)) (still (record c { role = Active (Some (counted c holders m)) })) (complete_sends c (last c.log) few) (omega arith))
-    (omega arith)
-appended_sends (Active None) c n place m few = omega arith
-appended_sends Idle c n place m few = omega arith
-appended_sends (Peering informed) c n place m few = omega arith
-appended_sends (Installing done) c n place m few = omega arith
-
-comes_sends : (b : Body) (c : Daemon) (from : Party) → Few c.role c → SetFits b → Sends (length c.waiting + 20) (on_body b c from)
-comes_sends (Interval sets) c from few fits = (let n = interval_sends c sets fits in omega arith)
-comes_sends (Query n) c from few fits = either (length c.waiting + 20) (nat_lt n c.promise) (still c) (record { copy = promise_interval c n; sent = send c from (Info n c.base c.log) ∷ [] }) (omega arith) (omega arith)
-comes_sends (Info n base log) c (Osd m) few fits = (let k = info_sends c.role c n (record { number = m; base = base; log = log }) few in omega arith)
-comes_sends (Info n base log) c Client few fits = omega arith
-comes_sends (Install n log) c from few fits = either (length c.waiting + 20) (nat_lt n c.promise) (still c)
-    (record { copy = if nat_lt c.base n then record (promise_interval c n) { base = n; log = log } else promise_interval c n; sent = send c from (Installed n) ∷ [] }) (omega arith) (omega arith)
-comes_sends (Installed n) c (Osd m) few fits = (let k = installed_sends c.role c n m few in omega arith)
-comes_sends (Installed n) c Client few fits = omega arith
-comes_sends (Append n place s) c from few fits = (let k = append_sends c from n place s in omega arith)
-comes_sends (Appended n place) c (Osd m) few fits = (let k = appended_sends c.role c n place m few in omega arith)
-comes_sends (Appended n place) c Client few fits = omega arith
-comes_sends (Request s) c from few fits = either (length c.waiting + 20) (list_any (λ w. w.id == s.id) c.waiting) (still c) (on_request_as c.role c s) (omega arith) (let k = request_sends c.role c s few in omega arith)
-comes_sends (Reply id reply) c from few fits = omega arith
-comes_sends (NotHere id) c from few fits = omega arith
+whole_arrived : (g : WholeGroup) (k d : ℕ) (m : WholeSent) (found : Option Daemon) → slice_get g.wire k ≡ Some m → m.to ≡ Osd d → is_in g.up d ≡ true → slice_get g.copies d ≡ found → whole_group_step g (Deliver k) ≡ whole_copy_hears (whole_without g k) m d found
+whole_arrived g k d m found here to up is = ap (λ o. whole_deliver g k o) here ∙ ap (λ p. whole_arrives (whole_without g k) m p) to ∙ ap (λ b. if b then whole_copy_hears (whole_without g k) m d (slice_get g.copies d) else whole_without g k) up
+    ∙ ap (λ o. whole_copy_hears (whole_without g k) m d o) is
 
 -- a step sends at most 20 messages more than requests wait
-pub sent_few : (g : Group) → Bounded g → (k d : ℕ) (m : Sent) (c : Daemon) → slice_get g.wire k ≡ Some m → slice_get g.copies d ≡ Some c →
+pub sent_few : (g : Group) → IsReached g → (k d : ℕ) (m : Sent) (c : Copy) → slice_get g.wire k ≡ Some m → m.to ≡ Osd d → is_in g.up d ≡ true → slice_get g.copies d ≡ Some c →
     length (copy_step c (record { from = m.from; body = m.body })).sent ≤ length c.waiting + 20
-sent_few g ok k d m c here found =
-    let good : Good g = ok.good in
-    let copy = good.copies d c found in
-    let of_sent = Each-get (SentOk g.sets good.promise good.h) g.wire k m good.wire here in
-    comes_sends m.body c m.from (few_as g.min_size g.sets good.promise good.h d c c.role copy.state copy.role ok.sets) (body_fits g.sets good.promise good.h m.from m.body of_sent ok.sets)
+sent_few g r k d m c here to up found =
+    let t = twin_of g r in
+    let w = t.whole in
+    let s = lock_stands g w t.lock in
+    let next = lock_stands (group_step g (Deliver k)) (whole_group_step w (Deliver k)) (step_locked g w (Deliver k) t.lock) in
+    let m' : Beside SameSent m w.wire k = beside SameSent g.wire w.wire k m s.wire here in
+    let c' : Beside SameCopy c w.copies d = beside SameCopy g.copies w.copies d c s.copies found in
+    let up' : is_in w.up d ≡ true = ap (λ l. is_in l d) s.up ∙ up in
+    let sent : List Sent = (copy_step c (record { from = m.from; body = m.body })).sent in
+    let sent' : List WholeSent = (whole_copy_step c'.item (record { from = m'.item.from; body = m'.item.body })).sent in
+    let step : (group_step g (Deliver k)).wire ≡ remove g.wire k ++ sent = ap (λ (v : Group). v.wire) (arrived_is g k d m (Some c) here to up found) in
+    let step' : (whole_group_step w (Deliver k)).wire ≡ remove w.wire k ++ sent' = ap (λ (v : WholeGroup). v.wire) (whole_arrived w k d m'.item (Some c'.item) m'.is (m'.agrees.to ∙ to) up' c'.is) in
+    let before = sent_many g w s in
+    let after = sent_many (group_step g (Deliver k)) (whole_group_step w (Deliver k)) next in
+    let rest = length-remove g.wire k (get_in g.wire k m here) in
+    let rest' = length-remove w.wire k (get_in w.wire k m'.item m'.is) in
+    let one : length (group_step g (Deliver k)).wire ≡ length (remove g.wire k) + length sent = ap (λ l. length l) step ∙ length-append (remove g.wire k) sent in
+    let two : length (whole_group_step w (Deliver k)).wire ≡ length (remove w.wire k) + length sent' = ap (λ l. length l) step' ∙ length-append (remove w.wire k) sent' in
+    let few : length sent' ≤ length c'.item.waiting + 20 = whole_sent_few w (whole_reached_bounded w t.reached) k d m'.item c'.item m'.is c'.is in
+    let waits : length c'.item.waiting ≡ length c.waiting = ap (λ l. length l) c'.agrees.waiting in
+    omega arith

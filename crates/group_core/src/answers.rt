@@ -1,7 +1,7 @@
 //! The answers that reached the client.
 
 ghost use Rattle.std.specs.Prelude.{◌≡◌, ◌+◌, ◌<◌, ◌++◌, [], ◌∷◌, false, OnOk, OnErr, option_copied};
-ghost use Rattle.group_core.specs.Group.{is_answered, answer_of};
+ghost use Rattle.suffix_core.specs.Group.{is_answered, answer_of};
 
 use crate::element_at::at;
 use entry_core::{Id, IdHash, Items, OutOfMemory, Reply, TryCopy};
@@ -14,6 +14,14 @@ use std::marker::Model;
 pub(crate) struct Answer {
     pub id: Id,
     pub reply: Reply,
+}
+
+impl Model for Answer {
+    ghost use Rattle.group_types.specs.Answers as answer;
+
+    ghost Value = { answer.Answer };
+
+    ghost view = { λ a. record { id = a.id; reply = a.reply } };
 }
 
 impl TryCopy for Answer {
@@ -34,7 +42,7 @@ pub(crate) struct Answers {
 
 impl Model for Answers {
     ghost use Rattle.std.specs.Prelude.{List, ◌≡◌, map};
-    ghost use Rattle.group_core.specs.declared.answers.Answer as answer;
+    ghost use Rattle.group_types.specs.Answers as answer;
 
     ghost Value = { List answer.Answer };
 

@@ -3,9 +3,9 @@
 ghost use Rattle.std.specs.Prelude.{◌≡◌};
 ghost use Rattle.entry_core.specs.Log.{is_in};
 ghost use Rattle.place_core.specs.Placement.{numbers_of};
-ghost use Rattle.group_core.specs.Group.{last_set, same_set};
+ghost use Rattle.suffix_core.specs.Group.{last_set, same_set};
 
-use peer_core::IntervalSets;
+use group_types::IntervalSets;
 use place_core::{ActingSet, DaemonSet};
 
 /// Whether a daemon is one of those that are up.
@@ -23,7 +23,7 @@ pub(crate) fn has_member(set: &ActingSet, daemon: u8) -> bool
 }
 
 /// Whether two sets have the same members in the same order.
-#[tactic(auto, using(crate::proofs::Sets::equals_is))]
+#[tactic(auto, using(whole_logs::proofs::Sets::equals_is))]
 pub(crate) fn same_set(one: &ActingSet, other: &ActingSet) -> bool
     ensures { result ≡ same_set one.now other.now }
 {

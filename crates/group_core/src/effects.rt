@@ -2,13 +2,13 @@
 
 ghost use Rattle.std.specs.Prelude.{◌≡◌, ◌≤◌, ◌<◌, ◌+◌, ◌*◌, ◌∷◌, [], ◌++◌, ◌==◌, ◌&&◌, not, false, length, map, take, remove, IfOk, OnOk, OnErr, slice_get, Some, if◌then◌else◌};
 ghost use Rattle.peer_core.specs.Steps.{blank, restarted};
-ghost use Rattle.peer_core.specs.ActingSets.{daemons};
+ghost use Rattle.whole_logs.specs.ActingSets.{daemons};
 ghost use Rattle.peer_core.specs.Copy.{copy_step};
 ghost use Rattle.entry_core.specs.Log.{is_in};
 ghost use Rattle.place_core.specs.Placement.{numbers_of};
-ghost use Rattle.group_core.specs.Types as types;
-ghost use Rattle.group_core.specs.Group.{is_submitted, answers_after, announced, resent};
-ghost use Rattle.group_core.specs.Reached.{unsent};
+ghost use Rattle.suffix_core.specs.Types as types;
+ghost use Rattle.suffix_core.specs.Group.{is_submitted, answers_after, announced, resent};
+ghost use Rattle.suffix_core.specs.Reached.{unsent};
 
 use crate::answers::{Answer, Answers};
 use crate::daemon_sets::is_up;
@@ -16,8 +16,9 @@ use crate::element_at::at;
 use crate::opening::{open, prepare};
 use crate::requests::Requests;
 use crate::wire::Wire;
+use peer_core::{Body, Daemon, Message, Sent};
 use entry_core::{Items, OutOfMemory, Sealed, TryCopy};
-use peer_core::{Body, Daemon, IntervalSets, Message, Sent};
+use group_types::IntervalSets;
 use place_core::{ActingSet, DaemonSet};
 use std::alloc::Global;
 

@@ -1,15 +1,16 @@
 //! The copy that is furthest on.
 
 ghost use Rattle.std.specs.Prelude.{◌≡◌};
-ghost use Rattle.peer_core.specs.Choice.{is_better, own_offer};
+ghost use Rattle.whole_logs.specs.Choice.{is_better};
+ghost use Rattle.group_core.specs.Furthest.{whole_offer};
 ghost use Rattle.group_core.specs.Furthest.{furthest as furthest_log};
 
-use entry_core::Entry;
 use peer_core::Daemon;
+use entry_core::Entry;
 
 /// Whether the first copy is further on.
 fn is_further(one: &Daemon, other: &Daemon) -> bool
-    ensures { result ≡ is_better (own_offer one.now) (own_offer other.now) }
+    ensures { result ≡ is_better (whole_offer one.now) (whole_offer other.now) }
 {
     let length = one.log().len();
     let other_length = other.log().len();

@@ -1,11 +1,10 @@
-//! The copies of one group, and the messages among them.
+//! The copies of one group, where peering sends suffixes of logs, and the messages among them.
 #![tactic(auto)]
 
 mod answers;
 mod daemon_sets;
 mod effects;
 mod element_at;
-mod fault;
 mod furthest;
 mod group;
 mod moves;
@@ -16,7 +15,5 @@ mod sending;
 mod state;
 mod wire;
 
-pub use fault::GroupFault;
 pub use group::Group;
 pub use moves::PreparedGroup;
-pub use opening::GroupMove;

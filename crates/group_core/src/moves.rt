@@ -2,19 +2,19 @@
 
 ghost use Rattle.std.specs.Prelude.{◌≡◌, true, is_some, IfOk, IfErr, IsOk, OnOk, Some, None, if◌then◌else◌};
 ghost use Rattle.entry_core.specs.Log.{is_in};
-ghost use Rattle.group_core.specs.Group.{refusal_of, same_set, last_set, IsSet, EventFits};
+ghost use Rattle.suffix_core.specs.Group.{refusal_of, same_set, last_set, IsSet, EventFits};
 ghost use Rattle.group_core.specs.Inside.{group_of};
 ghost use Rattle.group_core.specs.Moves as moves;
-ghost use Rattle.group_core.specs.Reached.{Refuses};
+ghost use Rattle.suffix_core.specs.Reached.{Refuses};
 
 use crate::daemon_sets::{has_member, last_set, same_set};
 use crate::effects::{change_up, restart_one};
-use crate::fault::GroupFault;
 use crate::group::{Group, INTERVALS};
-use crate::opening::{GroupMove, Opening, open, prepare};
+use crate::opening::{Opening, open, prepare};
 use crate::state::GroupState;
 use crate::wire::Wire;
-use peer_core::IntervalSets;
+use group_types::{GroupFault, GroupMove};
+use group_types::IntervalSets;
 use place_core::ActingSet;
 use std::marker::Model;
 
@@ -133,7 +133,7 @@ impl Group {
 }
 
 impl PreparedGroup {
-    ghost use Rattle.group_core.specs.Group.{group_step};
+    ghost use Rattle.suffix_core.specs.Group.{group_step};
 
     /// Moves the group. It takes no memory.
     pub fn commit(self) -> Group

@@ -1,25 +1,17 @@
 //! What an interval begins with, made before it begins.
 
 ghost use Rattle.std.specs.Prelude.{◌≡◌, ◌≤◌, ◌++◌, ◌∷◌, [], IfOk, OnOk, vec_len};
-ghost use Rattle.group_core.specs.Group.{announced, resent};
+ghost use Rattle.suffix_core.specs.Group.{announced, resent};
 
 use crate::answers::Answers;
 use crate::requests::Requests;
 use crate::sending::{announced, resent};
 use crate::wire::Wire;
+use peer_core::Sent;
 use entry_core::OutOfMemory;
-use peer_core::{IntervalSets, Sent};
-use place_core::{ActingSet, DaemonSet};
+use group_types::IntervalSets;
+use place_core::ActingSet;
 use std::alloc::Global;
-
-/// What moves a group: what a map's command makes of it.
-#[derive(Drop)]
-pub enum GroupMove {
-    /// The acting set is this one, and these daemons are up. Where the set is the last one, no interval begins.
-    NewInterval { acting: ActingSet, up: DaemonSet },
-    /// A daemon restarted. Where it is one of the last set, an interval of the same set begins.
-    Restart(u8),
-}
 
 /// The sets with the new one, and the messages that tell of it.
 #[derive(Drop)]

@@ -1,7 +1,7 @@
 //! The requests that were submitted to a group.
 
 ghost use Rattle.std.specs.Prelude.{◌≡◌, ◌-◌, ◌++◌, [], ◌∷◌, false, length, take, OnOk, OnErr};
-ghost use Rattle.group_core.specs.Group.{is_submitted};
+ghost use Rattle.suffix_core.specs.Group.{is_submitted};
 
 use entry_core::{Id, IdHash, Items, OutOfMemory, Sealed, TryCopy};
 use indexmap::IndexSet;

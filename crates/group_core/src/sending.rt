@@ -1,15 +1,16 @@
 //! What a group itself sends: news of intervals, and requests.
 
 ghost use Rattle.std.specs.Prelude.{◌≡◌, ◌∷◌, [], IfOk};
-ghost use Rattle.group_core.specs.Types.{Request};
-ghost use Rattle.group_core.specs.Group.{to_daemon, to_primary, last_set, announced, resent, retransmit_primary};
+ghost use Rattle.suffix_core.specs.Types.{Request};
+ghost use Rattle.suffix_core.specs.Group.{to_daemon, to_primary, last_set, announced, resent, retransmit_primary};
 
 use crate::answers::Answers;
 use crate::daemon_sets::last_set;
 use crate::element_at::at;
 use crate::requests::Requests;
+use peer_core::{Body, Daemon, Sent};
 use entry_core::{OutOfMemory, Sealed, TryCopy};
-use peer_core::{Body, Daemon, IntervalSets, Party, Sent};
+use group_types::{IntervalSets, Party};
 use place_core::ActingSet;
 use std::alloc::Global;
 

@@ -1,27 +1,27 @@
--- The laws of groups, from what holds of every list of events.
-use Rattle.std.proofs.Common.{ℕ, List, [], slice_get, length, subst, ap, arith}
-use Rattle.group_core.specs.Each.{Each}
-use Rattle.group_core.specs.Group.{Group, Event, IsSet, start}
-use Rattle.group_core.specs.Reached.{IsReached}
-use Rattle.group_core.specs.Asked.{HasSubmit}
-use Rattle.group_core.specs.Budget.{budget}
-use Rattle.group_laws.specs.Quiet.{IsQuiet, request_cost}
-use Rattle.group_laws.specs.Calm.{IsCalm, IsSmall, IsCalmGroup, unserved_cost}
-use Rattle.group_laws.specs.Recovery.{IsReady, Recovers}
-use Rattle.group_laws.specs.Laws.{OnlyAdds, AnswersAreDecided, SettlingEnds, OneEntryIsOpen, made_so_far, ServesInTime, DecidesInOrder, AnswersNothing, KeepsCount}
-use Rattle.group_core.specs.Within.{IsReachedWithin}
-use Rattle.group_core.proofs.Groups.{Good, audit_grows}
-use Rattle.group_core.proofs.Kept.{answer_stands, answer_replied}
-use Rattle.group_core.proofs.Reached.{reached_step, reached_good, reached_kept, reached_bounded}
-use Rattle.group_core.proofs.Refusals.{run_sets, start_sets}
-use Rattle.group_core.proofs.Submits.{all_submitted, settle_is_run}
-use Rattle.group_core.proofs.Settles.{Bounded, deliver_lowers, lose_lowers, settle_done, settle_idle, settle_more, delivered_few}
-use Rattle.group_core.proofs.Settling.{delivered_idle}
-use Rattle.group_laws.proofs.Opens.{has_history, step_keeps, open_shown}
-use Rattle.group_laws.proofs.QuietLaws.{Counted, calm_counts, calm_at_most, calm_order}
-use Rattle.group_laws.proofs.SmallRuns.{Unserved, small_counts}
-use Rattle.group_laws.proofs.CalmGroups.{calm_each, small_each}
-use Rattle.group_laws.proofs.RecoveryLaws.{recovery}
+-- The laws of groups that send suffixes, by those of the groups for which they stand.
+use Rattle.std.proofs.Common.{ℕ, ◌≡◌, List, [], length, refl, sym, ◌∙◌, subst}
+use Rattle.entry_core.specs.declared.sealed.GroupId.{GroupId}
+use Rattle.whole_logs.specs.Each.{Each}
+use Rattle.whole_logs.specs.Asked.{HasSubmit}
+use Rattle.whole_logs.specs.Group.{Group as WholeGroup, Event, run as whole_run, start as whole_start}
+use Rattle.whole_logs.proofs.Kept.{answer_replied}
+use Rattle.whole_laws.specs.Quiet.{IsQuiet, opening_cost, request_cost}
+use Rattle.whole_laws.specs.Calm.{IsCalm, IsSmall, IsCalmGroup as IsWholeCalmGroup, unserved_cost}
+use Rattle.whole_laws.specs.Laws.{made_so_far as whole_made_so_far, ServesInTime as WholeServesInTime, AnswersNothing as WholeAnswersNothing}
+use Rattle.whole_laws.proofs.QuietLaws.{quiet_opening as whole_quiet_opening}
+use Rattle.whole_laws.proofs.SmallRuns.{small_opening as whole_small_opening}
+use Rattle.whole_laws.proofs.Statements.{serves_in_time as whole_serves_in_time, decides_in_order as whole_decides_in_order, answers_nothing as whole_answers_nothing, serving_keeps_count as whole_serving_keeps_count, waiting_keeps_count as whole_waiting_keeps_count}
+use Rattle.suffix_core.specs.Group.{Group, run, start}
+use Rattle.suffix_core.specs.Budget.{settle_count}
+use Rattle.suffix_core.specs.Reached.{IsReached}
+use Rattle.suffix_core.proofs.Events.{Lock, start_locked, reached_locked}
+use Rattle.group_laws.specs.Calm.{IsCalmGroup}
+use Rattle.group_laws.specs.Laws.{OnlyAdds, AnswersAreDecided, made_so_far, ServesInTime, DecidesInOrder, AnswersNothing, KeepsCount}
+use Rattle.suffix_core.proofs.Additions.{audit_grows, answer_stands}
+use Rattle.suffix_core.proofs.Twins.{reached_step, reached_holds, all_submitted}
+use Rattle.suffix_core.proofs.Counts.{count_same}
+use Rattle.group_laws.proofs.Made.{all_made_same}
+use Rattle.group_laws.proofs.Serving.{serves_same, order_same, nothing_same, keeps_same}
 
 pub only_adds : (g : Group) → IsReached g → OnlyAdds g
 only_adds g r = record {
@@ -31,72 +31,75 @@ only_adds g r = record {
 }
 
 pub answers_decided : (g : Group) → IsReached g → AnswersAreDecided g
-answers_decided g r id reply is = answer_replied g.audit g.answers id reply (reached_kept g r).answers is
+answers_decided g r id reply is = answer_replied g.audit g.answers id reply (reached_holds g r).answers is
 
 pub were_submitted : (g : Group) (r : IsReached g) → Each (HasSubmit r.events) g.requests
 were_submitted g r =
     let P : Group → Type 0 = λ v. Each (HasSubmit r.events) v.requests in
     subst P r.is (all_submitted r.group r.min_size r.daemons r.acting r.up r.events)
 
-pub sets_fit : (g : Group) → IsReached g → Each IsSet g.sets
-sets_fit g r =
-    let P : Group → Type 0 = λ v. Each IsSet v.sets in
-    subst P r.is (run_sets r.events (start r.group r.min_size r.daemons r.acting r.up) r.fit (start_sets r.group r.min_size r.daemons r.acting r.up r.begins))
+-- one set
 
-pub settling : (g : Group) → IsReached g → SettlingEnds g
-settling g r =
-    let ok : Bounded g = reached_bounded g r in
-    record {
-      delivers = λ k m is. deliver_lowers g k m is ok;
-      loses = λ k m is. lose_lowers g k m is;
-      empties = settle_done (budget g) g ok (omega arith);
-      counts = delivered_few (budget g) g ok;
-      runs = λ n. settle_is_run n [] g;
-      stops = λ n enough. settle_more n g ok enough;
-      rests = λ empty. (settle_idle (budget g) g (ap (λ w. slice_get w 0) empty), delivered_idle (budget g) g (ap (λ w. slice_get w 0) empty));
-    }
+pub quiet_opening : (group : GroupId) (z count : ℕ) (acting up : List ℕ) → IsQuiet z count acting up → settle_count (start group z count acting up) ≡ opening_cost (length acting)
+quiet_opening group z count acting up quiet = sym (count_same (start group z count acting up) (whole_start group z count acting up) (start_locked group z count acting up)) ∙ whole_quiet_opening group z count acting up quiet
 
-pub one_open : (g : Group) → IsReached g → OneEntryIsOpen g
-one_open g r =
-    let good : Good g = reached_good g r in
-    record {
-      history = has_history g good;
-      decided = λ d copy is. open_shown g good d copy is;
-      keeps = λ e d before after is is'. step_keeps e g good d before is after is';
-    }
+pub small_opening : (group : GroupId) (z count : ℕ) (acting up : List ℕ) → IsSmall z count acting up → settle_count (start group z count acting up) ≡ length acting
+small_opening group z count acting up small = sym (count_same (start group z count acting up) (whole_start group z count acting up) (start_locked group z count acting up)) ∙ whole_small_opening group z count acting up small
+
+module _ (z count : ℕ) (acting up : List ℕ) (g : Group) (calm : IsCalmGroup z count acting up g) where
+  -- what calm events made, and what they make of a group that sends whole logs
+
+  abbrev made : Group
+  made = run calm.events (start calm.group z count acting up)
+
+  abbrev twin : WholeGroup
+  twin = whole_run calm.events (whole_start calm.group z count acting up)
+
+  lock : Lock made twin
+  lock = reached_locked calm.group z count acting up calm.events
+
+  abbrev twin_calm : IsWholeCalmGroup z count acting up twin
+  twin_calm = record { group = calm.group; events = calm.events; calm = calm.calm; is = refl }
+
+  made_alike : whole_made_so_far twin_calm ≡ made_so_far calm
+  made_alike = all_made_same calm.events (start calm.group z count acting up) (whole_start calm.group z count acting up) (start_locked calm.group z count acting up)
+
+  serves : IsQuiet z count acting up → ServesInTime (length acting) (made_so_far calm) g
+  serves quiet =
+      let P : Group → Type 0 = λ v. ServesInTime (length acting) (made_so_far calm) v in
+      let there : WholeServesInTime (length acting) (made_so_far calm) twin = subst (λ n. WholeServesInTime (length acting) n twin) made_alike (whole_serves_in_time z count acting up twin quiet twin_calm) in
+      subst P calm.is (serves_same made twin lock (length acting) (made_so_far calm) there)
+
+  decides : IsQuiet z count acting up → DecidesInOrder g
+  decides quiet = subst DecidesInOrder calm.is (order_same made twin lock (whole_decides_in_order z count acting up twin quiet twin_calm))
+
+  waits : IsSmall z count acting up → AnswersNothing (length acting) (made_so_far calm) g
+  waits small =
+      let P : Group → Type 0 = λ v. AnswersNothing (length acting) (made_so_far calm) v in
+      let there : WholeAnswersNothing (length acting) (made_so_far calm) twin = subst (λ n. WholeAnswersNothing (length acting) n twin) made_alike (whole_answers_nothing z count acting up twin small twin_calm) in
+      subst P calm.is (nothing_same made twin lock (length acting) (made_so_far calm) there)
+
+  counts : (e : Event) → IsQuiet z count acting up → IsCalm acting e → KeepsCount (request_cost (length acting)) g e
+  counts e quiet fits =
+      let P : Group → Type 0 = λ v. KeepsCount (request_cost (length acting)) v e in
+      subst P calm.is (keeps_same made twin lock (request_cost (length acting)) e (whole_serving_keeps_count z count acting up twin e quiet twin_calm fits))
+
+  counts_waiting : (e : Event) → IsSmall z count acting up → IsCalm acting e → KeepsCount (unserved_cost (length acting)) g e
+  counts_waiting e small fits =
+      let P : Group → Type 0 = λ v. KeepsCount (unserved_cost (length acting)) v e in
+      subst P calm.is (keeps_same made twin lock (unserved_cost (length acting)) e (whole_waiting_keeps_count z count acting up twin e small twin_calm fits))
 
 pub serves_in_time : (min_size count : ℕ) (acting up : List ℕ) (g : Group) → IsQuiet min_size count acting up → (calm : IsCalmGroup min_size count acting up g) → ServesInTime (length acting) (made_so_far calm) g
-serves_in_time z count acting up g quiet calm =
-    let P : Group → Type 0 = λ v. ServesInTime (length acting) (made_so_far calm) v in
-    let counts : Counted calm.group z count acting up calm.events = calm_counts calm.group z count acting up calm.events quiet calm.calm in
-    subst P calm.is (record {
-      served = counts.served;
-      counted = counts.sum;
-      one_more = counts.more;
-      at_most = calm_at_most calm.group z count acting up calm.events quiet calm.calm;
-    })
+serves_in_time z count acting up g quiet calm = serves z count acting up g calm quiet
 
 pub decides_in_order : (min_size count : ℕ) (acting up : List ℕ) (g : Group) → IsQuiet min_size count acting up → IsCalmGroup min_size count acting up g → DecidesInOrder g
-decides_in_order z count acting up g quiet calm = subst DecidesInOrder calm.is (calm_order calm.group z count acting up calm.events quiet calm.calm)
+decides_in_order z count acting up g quiet calm = decides z count acting up g calm quiet
 
 pub answers_nothing : (min_size count : ℕ) (acting up : List ℕ) (g : Group) → IsSmall min_size count acting up → (calm : IsCalmGroup min_size count acting up g) → AnswersNothing (length acting) (made_so_far calm) g
-answers_nothing z count acting up g small calm =
-    let P : Group → Type 0 = λ v. AnswersNothing (length acting) (made_so_far calm) v in
-    let counts : Unserved calm.group z count acting up calm.events = small_counts calm.group z count acting up calm.events small calm.calm in
-    subst P calm.is (record { unserved = counts.unserved; counted = counts.sum; one_more = counts.more })
+answers_nothing z count acting up g small calm = waits z count acting up g calm small
 
 pub serving_keeps_count : (min_size count : ℕ) (acting up : List ℕ) (g : Group) (e : Event) → IsQuiet min_size count acting up → IsCalmGroup min_size count acting up g → IsCalm acting e → KeepsCount (request_cost (length acting)) g e
-serving_keeps_count z count acting up g e quiet calm fits =
-    let P : Group → Type 0 = λ v. KeepsCount (request_cost (length acting)) v e in
-    subst P calm.is (calm_each calm.group z count acting up calm.events e quiet calm.calm fits)
+serving_keeps_count z count acting up g e quiet calm fits = counts z count acting up g calm e quiet fits
 
 pub waiting_keeps_count : (min_size count : ℕ) (acting up : List ℕ) (g : Group) (e : Event) → IsSmall min_size count acting up → IsCalmGroup min_size count acting up g → IsCalm acting e → KeepsCount (unserved_cost (length acting)) g e
-waiting_keeps_count z count acting up g e small calm fits =
-    let P : Group → Type 0 = λ v. KeepsCount (unserved_cost (length acting)) v e in
-    subst P calm.is (small_each calm.group z count acting up calm.events e small calm.calm fits)
-
-pub recovers : (g : Group) → IsReachedWithin g → IsReady g → Recovers g
-recovers g within ready =
-    let r : IsReached g = within.reached in
-    let P : Group → Type 0 = λ v. IsReady v → Recovers v in
-    subst P r.is (recovery r.group r.min_size r.daemons r.acting r.up r.events r.least r.begins r.fit within.first within.later) ready
+waiting_keeps_count z count acting up g e small calm fits = counts_waiting z count acting up g calm e small fits

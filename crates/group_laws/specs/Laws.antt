@@ -1,18 +1,20 @@
 -- Statement: contracts of public calls use it.
--- The laws of groups, each over any group that there can be. What `Group::keeps_promises` ensures is not said again.
-use Rattle.std.specs.Prelude.{ℕ, ◌≡◌, ◌≤◌, ◌+◌, ◌*◌, true, false, List, [], map, length, replicate, slice_get, Some, None}
-use Rattle.entry_core.specs.Log.{is_in, reply_in}
+-- The laws of groups that send suffixes, each over any group that there can be, in the words of those of groups that send whole logs.
+use Rattle.std.specs.Prelude.{ℕ, ◌≡◌, ◌≤◌, ◌+◌, ◌*◌, List, [], map, length, replicate, slice_get, Some, None}
+use Rattle.entry_core.specs.Log.{reply_in}
 use Rattle.entry_core.specs.Request.{Sealed}
-use Rattle.peer_core.specs.ActingSets.{set_of, is_primary}
-use Rattle.group_core.specs.Types.{Idle, Append, Daemon, Party, Osd, Sent, EntryReply}
-use Rattle.group_core.specs.Group.{Group, Event, Submit, Deliver, Lose, EventFits, run, start, group_step, refusal_of, answer_of, settle}
-use Rattle.group_core.specs.History.{Begins, but_last}
+use Rattle.whole_logs.specs.History.{Begins, but_last}
+use Rattle.whole_logs.specs.Asked.{IsReplied}
+use Rattle.whole_laws.specs.Quiet.{opening_cost, request_cost}
+use Rattle.whole_laws.specs.Calm.{unserved_cost, log_of, answer_with}
+use Rattle.whole_laws.specs.Laws.{GoesToOther}
+use Rattle.suffix_core.specs.Types.{Idle, Append, Copy, Osd, Sent, EntryReply}
+use Rattle.suffix_core.specs.Group.{Group, Event, Submit, Deliver, Lose, EventFits, run, start, group_step, refusal_of, answer_of, settle}
+use Rattle.suffix_core.specs.Reached.{IsReached}
+use Rattle.suffix_core.specs.Budget.{budget, settled_group, settle_count}
 use Rattle.group_laws.specs.Open.{HasHistory}
-use Rattle.group_core.specs.Reached.{IsReached}
-use Rattle.group_core.specs.Asked.{IsReplied}
-use Rattle.group_core.specs.Budget.{budget, settled_group, settle_count}
-use Rattle.group_laws.specs.Quiet.{IsServed, made_by, deliveries_made, opening_cost, request_cost}
-use Rattle.group_laws.specs.Calm.{IsUnserved, IsCalmGroup, unserved_cost, log_of, answer_with}
+use Rattle.group_laws.specs.Quiet.{IsServed, made_by, deliveries_made}
+use Rattle.group_laws.specs.Calm.{IsUnserved, IsCalmGroup}
 
 -- whatever happens to the group only adds: what was decided begins what is decided later, each answer stands, and it stays a group that there can be
 pub record OnlyAdds (g : Group) : Type 0 where
@@ -44,25 +46,14 @@ pub record SettlingEnds (g : Group) : Type 0 where
 -- all but the last entry of a copy's log was decided, and no event takes more than the last entry from a copy
 pub record OneEntryIsOpen (g : Group) : Type 0 where
   pub history : HasHistory g
-  pub decided : (d : ℕ) (copy : Daemon) → slice_get g.copies d ≡ Some copy → Begins (but_last copy.log) g.audit
-  pub keeps : (e : Event) (d : ℕ) (before after : Daemon) → slice_get g.copies d ≡ Some before → slice_get (group_step g e).copies d ≡ Some after → Begins (but_last before.log) after.log
-
--- the first of interval n's set sends it to another member
-pub record GoesToOther (sets : List (List ℕ)) (n : ℕ) (from to : Party) : Type 0 where
-  pub later : 1 ≤ n
-  pub primary : ℕ
-  pub member : ℕ
-  pub is_from : from ≡ Osd primary
-  pub is_to : to ≡ Osd member
-  pub first : is_primary (set_of sets n) primary ≡ true
-  pub is_member : is_in (set_of sets n) member ≡ true
-  pub other : is_primary (set_of sets n) member ≡ false
+  pub decided : (d : ℕ) (copy : Copy) → slice_get g.copies d ≡ Some copy → Begins (but_last copy.log) g.audit
+  pub keeps : (e : Event) (d : ℕ) (before after : Copy) → slice_get g.copies d ≡ Some before → slice_get (group_step g e).copies d ≡ Some after → Begins (but_last before.log) after.log
 
 -- Each `Append` on its way goes from the primary of its interval to another member. So a copy that it comes to, and that promised its interval, has no
 -- role: nothing is in flight there
 pub record AppendsGoToOthers (g : Group) : Type 0 where
   pub goes : (k n place : ℕ) (s : Sealed) (m : Sent) → slice_get g.wire k ≡ Some m → m.body ≡ Append n place s → GoesToOther g.sets n m.from m.to
-  pub idle : (k place : ℕ) (s : Sealed) (m : Sent) (d : ℕ) (c : Daemon) → slice_get g.wire k ≡ Some m → m.to ≡ Osd d → slice_get g.copies d ≡ Some c → m.body ≡ Append c.promise place s → c.role ≡ Idle
+  pub idle : (k place : ℕ) (s : Sealed) (m : Sent) (d : ℕ) (c : Copy) → slice_get g.wire k ≡ Some m → m.to ≡ Osd d → slice_get g.copies d ≡ Some c → m.body ≡ Append c.promise place s → c.role ≡ Idle
 
 -- so many deliveries calm events made from the beginning on
 abbrev pub made_so_far : {min_size count : ℕ} {acting up : List ℕ} {g : Group} → IsCalmGroup min_size count acting up g → ℕ

@@ -1,13 +1,12 @@
 -- Statement: contracts of public calls use it.
 -- Of any log all but the last entry is decided.
-use Rattle.std.specs.Prelude.{ℕ, ◌≡◌, ◌⊎◌, List, length, Some, slice_get}
-use Rattle.entry_core.specs.declared.entry.Entry.{Entry}
-use Rattle.group_core.specs.Types.{Daemon}
-use Rattle.group_core.specs.Group.{Group}
-use Rattle.group_core.specs.History.{Begins, History, IsSound, but_last, IsSettled}
+use Rattle.std.specs.Prelude.{ℕ, ◌≡◌, length, Some, slice_get}
+use Rattle.whole_logs.specs.History.{Begins, History, IsSound, but_last, IsSettled}
+use Rattle.suffix_core.specs.Types.{Copy}
+use Rattle.suffix_core.specs.Group.{Group}
 
 -- the copy is where the history says that it is, and all of its log but the last entry was held by each member of an interval
-pub record Fits (g : Group) (promise : ℕ → ℕ) (h : History) (d : ℕ) (c : Daemon) : Type 0 where
+pub record Fits (g : Group) (promise : ℕ → ℕ) (h : History) (d : ℕ) (c : Copy) : Type 0 where
   pub promised : promise d ≡ c.promise
   pub held : h.held d c.base ≡ Some (length c.log)
   pub within : Begins c.log (h.grown c.base)
@@ -17,8 +16,4 @@ pub record HasHistory (g : Group) : Type 0 where
   pub promise : ℕ → ℕ
   pub history : History
   pub sound : IsSound promise g.min_size g.sets history
-  pub fits : (d : ℕ) (c : Daemon) → slice_get g.copies d ≡ Some c → Fits g promise history d c
-
--- one of them is the beginning of the other
-abbrev pub IsOneList : List Entry → List Entry → Type 0
-IsOneList xs ys = Begins xs ys ⊎ Begins ys xs
+  pub fits : (d : ℕ) (c : Copy) → slice_get g.copies d ≡ Some c → Fits g promise history d c

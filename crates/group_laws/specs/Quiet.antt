@@ -1,19 +1,10 @@
 -- Statement: contracts of public calls use it.
--- A set that can serve, what its interval costs in deliveries, and what is left once it settled.
-use Rattle.std.specs.Prelude.{ℕ, ◌≡◌, ◌≤◌, ◌<◌, ◌+◌, ◌*◌, ◌-◌, true, List, [], ◌∷◌, length, take, Option, Some, None, slice_get}
-use Rattle.entry_core.specs.Log.{is_in}
-use Rattle.peer_core.specs.ActingSets.{daemons}
-use Rattle.group_core.specs.Types.{Sent}
-use Rattle.group_core.specs.Group.{Group, Event, Submit, Deliver, Lose, Repeat, NewInterval, Restart, Kick, IsSet, group_step, open_requests}
-use Rattle.group_core.specs.Budget.{settled_group}
-
--- the one acting set has a member and is large enough, and its members are among the first count daemons and are up
-pub record IsQuiet (min_size count : ℕ) (acting up : List ℕ) : Type 0 where
-  pub some : 1 ≤ length acting
-  pub enough : min_size ≤ length acting
-  pub set : IsSet acting
-  pub exist : (d : ℕ) → is_in acting d ≡ true → d < length (take count daemons)
-  pub live : (d : ℕ) → is_in acting d ≡ true → is_in up d ≡ true
+-- What events cost in deliveries, and what is left once a group settled.
+use Rattle.std.specs.Prelude.{ℕ, ◌≡◌, ◌+◌, not, List, [], ◌∷◌, filter, Option, Some, None, slice_get}
+use Rattle.entry_core.specs.Request.{Sealed}
+use Rattle.suffix_core.specs.Types.{Sent}
+use Rattle.suffix_core.specs.Group.{Group, Event, Submit, Deliver, Lose, Repeat, NewInterval, Restart, Kick, group_step, is_answered}
+use Rattle.suffix_core.specs.Budget.{settled_group}
 
 -- how many messages these events delivered
 
@@ -34,12 +25,9 @@ abbrev pub deliveries_made : List Event → Group → ℕ
 deliveries_made [] g = 0
 deliveries_made (e ∷ es) g = made_by g e + deliveries_made es (group_step g e)
 
--- deliveries that open an interval of m members, and those that m members take for one request
-abbrev pub opening_cost : ℕ → ℕ
-opening_cost m = 5 * m - 4
-
-abbrev pub request_cost : ℕ → ℕ
-request_cost m = 2 * m
+-- the requests that have no answer
+abbrev pub open_requests : Group → List Sealed
+open_requests g = filter (λ s. not (is_answered g.answers s.id)) g.requests
 
 -- what is left once it settled
 

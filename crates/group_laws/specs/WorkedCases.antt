@@ -1,20 +1,16 @@
 -- Statement: contracts of public calls use it.
--- Worked cases.
-use Rattle.std.specs.Prelude.{ℕ, ◌≡◌, true, false, List, [], ◌∷◌, map, length, Some, None}
+-- Worked cases of groups that send suffixes: those of groups that send whole logs.
+use Rattle.std.specs.Prelude.{◌≡◌, true, false, [], ◌∷◌, length, Some, None}
 use Rattle.entry_core.specs.Request.{Sealed}
 use Rattle.entry_core.specs.declared.sealed.GroupId.{GroupId}
 use Rattle.entry_core.specs.Log.{ids}
-use Rattle.group_core.specs.declared.answers.Answer.{Answer}
-use Rattle.group_core.specs.declared.fault.GroupFault.TheVariants.{NoMessage, Unreachable, Doubled}
-use Rattle.group_core.specs.Group.{Group, Event, Submit, Deliver, Lose, NewInterval, Restart, run, start, settle, kick, refusal_of}
-use Rattle.group_core.specs.Budget.{settled_group, settle_count}
-use Rattle.group_laws.specs.Calm.{OnlyCalm}
+use Rattle.group_types.specs.declared.fault.GroupFault.TheVariants.{NoMessage, Unreachable, Doubled}
+use Rattle.suffix_core.specs.Group.{Group, Submit, Deliver, Lose, NewInterval, Restart, run, start, settle, kick, refusal_of}
+use Rattle.suffix_core.specs.Budget.{settled_group, settle_count}
+use Rattle.whole_laws.specs.Calm.{OnlyCalm}
+use Rattle.whole_laws.specs.WorkedCases.{ask, answer_ids, calmly}
 use Rattle.group_laws.specs.Recovery.{lost_all}
-use Rattle.group_core.specs.Recovery.{is_ready}
-
--- a request of that number, whatever it asks for
-abbrev pub ask : Sealed → ℕ → Sealed
-ask s n = record s { id = n }
+use Rattle.suffix_core.specs.Recovery.{is_ready}
 
 abbrev pub three : GroupId → Group
 three group = start group 2 3 (0 ∷ 1 ∷ 2 ∷ []) (0 ∷ 1 ∷ 2 ∷ [])
@@ -25,9 +21,6 @@ opened group = settle 11 (three group)
 -- a request whose reply is lost as its primary goes away: decided once
 abbrev pub lost_reply : GroupId → Sealed → Group
 lost_reply group s = settle 40 (run (Lose 0 ∷ NewInterval (1 ∷ 2 ∷ []) (1 ∷ 2 ∷ []) ∷ []) (settle 5 (run (Submit (ask s 7) ∷ []) (opened group))))
-
-abbrev pub answer_ids : List Answer → List ℕ
-answer_ids answers = map (λ a. a.id) answers
 
 abbrev pub IsLostReply : GroupId → Sealed → Type 0
 IsLostReply group s = (length (opened group).wire ≡ 0) × (ids (lost_reply group s).audit ≡ 7 ∷ []) × (answer_ids (lost_reply group s).answers ≡ 7 ∷ []) × (length (lost_reply group s).wire ≡ 0)
@@ -92,9 +85,6 @@ IsRecovered group s = (is_ready (moved_away group) ≡ false) × (is_ready (move
     (settle_count (kicked_restart group s) ≡ 17) × (answer_ids (settled_group (kicked_restart group s)).answers ≡ 1 ∷ [])
 
 -- one interval of 0 and 1, while daemon 2 goes away and restarts; and the same in a set that is too small
-abbrev pub calmly : Sealed → List ℕ → List Event
-calmly s set = Submit (ask s 8) ∷ Deliver 0 ∷ NewInterval set (0 ∷ 1 ∷ []) ∷ Restart 2 ∷ Submit (ask s 7) ∷ Deliver 0 ∷ []
-
 abbrev pub calm_pair : GroupId → Sealed → Group
 calm_pair group s = run (calmly s (0 ∷ 1 ∷ [])) (start group 2 3 (0 ∷ 1 ∷ []) (0 ∷ 1 ∷ 2 ∷ []))
 

@@ -1,22 +1,24 @@
-//! The laws of groups: functions that do nothing, whose clauses are the laws. `specs/Laws.antt` says each in words.
+//! The laws of groups that send suffixes: functions that do nothing, whose clauses are the laws. `specs/Laws.antt` says each in
+//! words. They are those of groups that send whole logs.
 
-ghost use Rattle.std.specs.Prelude.{ℕ, ◌≡◌, ◌<◌, Some, None, take, List, length, true, [], ◌∷◌, ◌++◌, replicate};
-ghost use Rattle.entry_core.specs.declared.entry.Entry.{Entry};
+ghost use Rattle.std.specs.Prelude.{ℕ, ◌≡◌, Some, None, List, length, true, [], ◌∷◌, ◌++◌, replicate};
 ghost use Rattle.entry_core.specs.declared.sealed.GroupId.{GroupId};
 ghost use Rattle.entry_core.specs.Request.{Sealed};
-ghost use Rattle.group_core.specs.History.{History, IsSound, IsDecided, Begins};
-ghost use Rattle.group_core.specs.declared.fault.GroupFault.{GroupFault as Fault};
-ghost use Rattle.group_core.specs.Group.{Group, Event, run, start, group_step, IsSet, refusal_of, left_by, settle, Submit, Lose};
-ghost use Rattle.group_core.specs.Asked.{HasSubmit};
-ghost use Rattle.group_core.specs.Each.{Each};
-ghost use Rattle.group_core.specs.Reached.{IsReached};
-ghost use Rattle.group_laws.specs.Quiet.{IsQuiet, opening_cost, request_cost};
-ghost use Rattle.group_laws.specs.Calm.{IsSmall, IsCalm, IsCalmGroup, unserved_cost, taken, all_taken};
-ghost use Rattle.group_core.specs.Budget.{settled_group, settle_count};
-ghost use Rattle.group_laws.specs.Recovery.{IsReady, lost_all, IsLoss, Recovers};
-ghost use Rattle.group_core.specs.Recovery.{is_ready};
+ghost use Rattle.whole_logs.specs.Asked.{HasSubmit};
+ghost use Rattle.whole_logs.specs.Each.{Each};
+ghost use Rattle.group_types.specs.declared.fault.GroupFault.{GroupFault as Fault};
+ghost use Rattle.whole_logs.specs.Group.{Event, IsSet, Submit, Lose};
+ghost use Rattle.whole_laws.specs.Calm.{IsSmall, IsCalm, unserved_cost, taken, all_taken};
+ghost use Rattle.whole_laws.specs.Quiet.{IsQuiet, opening_cost, request_cost};
+ghost use Rattle.whole_laws.specs.Recovery.{IsLoss};
+ghost use Rattle.suffix_core.specs.Group.{Group, run, start, group_step, refusal_of, left_by, settle};
+ghost use Rattle.suffix_core.specs.Reached.{IsReached};
+ghost use Rattle.suffix_core.specs.Budget.{settled_group, settle_count};
+ghost use Rattle.suffix_core.specs.Recovery.{is_ready};
+ghost use Rattle.group_laws.specs.Calm.{IsCalmGroup};
+ghost use Rattle.group_laws.specs.Recovery.{IsReady, lost_all, Recovers};
+ghost use Rattle.suffix_core.specs.Within.{IsReachedWithin};
 ghost use Rattle.group_laws.specs.Laws.{OnlyAdds, IsSameGroup, AnswersAreDecided, SettlingEnds, OneEntryIsOpen, AppendsGoToOthers, ServesInTime, made_so_far, DecidesInOrder, AnswersNothing, KeepsCount};
-ghost use Rattle.group_core.specs.Within.{IsReachedWithin};
 ghost use Rattle.group_laws.specs.WorkedCases.{IsLostReply, IsLate, IsHalfDone, IsCounted, IsRecovered, IsServedCalmly};
 
 /// Whatever is submitted, delivered, lost, repeated, moved, restarted or kicked, in whatever order, only adds: what was
@@ -65,13 +67,6 @@ pub fn one_entry_is_open()
 /// no other entry of its interval, and its entry in flight stays the last of its log.
 pub fn appends_go_to_others()
     ensures { (g : Group) → IsReached g → AppendsGoToOthers g }
-{}
-
-/// Whatever was decided stands at the beginning of every log that is chosen later.
-pub fn decided_entries_stay()
-    ensures stay { (promise : ℕ → ℕ) (min_size : ℕ) (sets : List (List ℕ)) (h : History) (j n k : ℕ) (log : List Entry) →
-        IsSound promise min_size sets h → IsDecided sets h j k → j < n → h.chosen n ≡ Some log →
-        Begins (take k (h.grown j)) log }
 {}
 
 /// A group that stays in one interval, with enough members and all of them up, serves: the client submits, the oldest message

@@ -12,7 +12,7 @@ use Rattle.map_core.specs.Map.{map_of, after}
 use Rattle.map_core.specs.declared.command.MapCommand.{MapCommand}
 use Rattle.map_core.specs.declared.command.MapCommand.TheVariants.{PoolCreate, AppEnable, AppSet, AppRm, OsdUp, OsdDown, OsdRestart}
 use Rattle.suffix_core.specs.Types.{Sent}
-use Rattle.group_core.specs.Each.{Each}
+use Rattle.whole_logs.specs.Each.{Each}
 use Rattle.suffix_core.specs.Group.{Group, group_step, run}
 use Rattle.suffix_core.specs.Group as group
 use Rattle.wire_steps.specs.Wire.{kept, place_of, TellsStep}

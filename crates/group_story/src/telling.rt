@@ -6,7 +6,7 @@ ghost use Rattle.group_story.specs.Story.{wire_in, place_in, TellsEvent};
 ghost use Rattle.world_core.specs.World.{counts, world_step};
 
 use common_types::OutOfMemory;
-use copy_core::Sent;
+use peer_core::Sent;
 use entry_core::GroupId;
 use std::alloc::Global;
 use wire_steps::{WireStep, hold_wire, tell_step};

@@ -6,7 +6,7 @@ use crate::fault::Fault;
 use crate::grants::ticket_of;
 use common_types::{Name, OutOfMemory, Tags};
 use entry_core::{GroupId, Id, Sealed, TryCopy};
-use group_copies::Group;
+use group_core::Group;
 use map_core::PoolView;
 use object_core::{Bytes, Op};
 use place_core::{ActingSet, DaemonSet};

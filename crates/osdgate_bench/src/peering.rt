@@ -4,7 +4,7 @@ use crate::fault::Fault;
 use crate::group::{all, request, three_daemons};
 use common_types::{Name, OutOfMemory};
 use entry_core::{Sealed, TryCopy};
-use group_copies::Group;
+use group_core::Group;
 use place_core::{ActingSet, DaemonSet};
 use std::alloc::Global;
 use std::time::Clock;

@@ -4,7 +4,7 @@ use Rattle.std.specs.Prelude.{Option, Some, None, if◌then◌else◌}
 use Rattle.std.specs.Option.{option_map}
 use Rattle.std.proofs.lemmas.Bool.{eqb-true}
 use Rattle.entry_core.specs.Log.{Decision, decision, decide-sealed, find, reply_in, ids, is_in}
-use Rattle.peer_core.specs.Types.{Sealed, Entry, Daemon, EntryReply, Client, Osd, Reply, Sent}
+use Rattle.peer_core.specs.Types.{Sealed, Entry, Copy, EntryReply, Client, Osd, Reply, Sent}
 use Rattle.peer_core.specs.Stages.{log_with, entry_of, reply_of}
 use Rattle.peer_core.specs.Copy.{busy_request}
 
@@ -88,11 +88,11 @@ pub absent_in : (log : List Entry) (s : Sealed) (d : Decision) → d ≡ decisio
 absent_in log s d is none = rw (own_request log s d is) none
 
 -- a request while an entry is in flight
-pub busy_known : (c : Daemon) (s : Sealed) (reply : EntryReply) → reply_in (take (length c.log - 1) c.log) s.id ≡ Some reply →
+pub busy_known : (c : Copy) (s : Sealed) (reply : EntryReply) → reply_in (take (length c.log - 1) c.log) s.id ≡ Some reply →
     busy_request c s (find (take (length c.log - 1) c.log) s.id) ≡ record { copy = c; sent = record { from = Osd c.number; to = Client; body = Reply s.id reply } ∷ [] }
 busy_known c s reply is =
     let f : Found (take (length c.log - 1) c.log) s.id reply = found (take (length c.log - 1) c.log) s.id reply is in
     rw (f.is, f.id_is, f.reply_is) refl
 
-pub busy_new : (c : Daemon) (s : Sealed) → reply_in (take (length c.log - 1) c.log) s.id ≡ None → busy_request c s (find (take (length c.log - 1) c.log) s.id) ≡ busy_request c s None
+pub busy_new : (c : Copy) (s : Sealed) → reply_in (take (length c.log - 1) c.log) s.id ≡ None → busy_request c s (find (take (length c.log - 1) c.log) s.id) ≡ busy_request c s None
 busy_new c s none = rw (unfound (take (length c.log - 1) c.log) s.id none) refl

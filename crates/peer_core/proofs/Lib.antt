@@ -7,3 +7,6 @@ pub mod Whole
 pub mod Messages
 mod Passing
 mod Known
+mod Alike
+mod Told
+mod Installs

@@ -1,9 +1,10 @@
 //! What a message makes of a copy.
 
-use crate::message::{Body, Message, Party, Sent};
+use crate::message::{Body, Message, Sent};
 use crate::role::PeerInfo;
 use crate::state::State;
-use entry_core::{BoxedLog, Items, OutOfMemory};
+use entry_core::{Items, OutOfMemory, Sealed};
+use group_types::Party;
 
 impl State {
     ghost use Rattle.std.specs.Prelude.{◌≡◌, IfOk, OnErr};
@@ -16,13 +17,22 @@ impl State {
         from: Party,
         interval: u64,
         base: u64,
-        log: BoxedLog,
+        start: usize,
+        part: Items<Sealed>,
     ) -> Result<Items<Sent>, OutOfMemory>
-        ensures ok { IfOk result (λ sent. rules.of_daemon from (λ member. rules.on_info self.old.role self.old interval (record { number = member; base = base; log = log })) (still self.old) ≡ record { copy = self.new; sent = sent }) }
+        ensures ok { IfOk result (λ sent. rules.of_daemon from (λ member. rules.on_info self.old interval (record { number = member; base = base; start = start; part = part })) (still self.old) ≡ record { copy = self.new; sent = sent }) }
         ensures err { OnErr result (self.new ≡ self.old) }
     {
         match from {
-            Party::Osd(number) => self.on_info(interval, PeerInfo { number, base, log }),
+            Party::Osd(number) => {
+                let offer = PeerInfo {
+                    number,
+                    base,
+                    start,
+                    part,
+                };
+                self.on_info(interval, offer)
+            }
             Party::Client => Ok(Items::new(self.log.allocator())),
         }
     }
@@ -62,13 +72,22 @@ impl State {
         let from = message.from;
         match message.body {
             Body::Interval(sets) => self.on_interval(sets),
-            Body::Query { interval } => self.on_query(from, interval),
+            Body::Query {
+                interval,
+                len,
+                last,
+            } => self.on_query(from, interval, len, last),
             Body::Info {
                 interval,
                 base,
-                log,
-            } => self.on_info_from(from, interval, base, log),
-            Body::Install { interval, log } => self.on_install(from, interval, log),
+                start,
+                part,
+            } => self.on_info_from(from, interval, base, start, part),
+            Body::Install {
+                interval,
+                start,
+                part,
+            } => self.on_install(from, interval, start, part),
             Body::Installed { interval } => self.on_installed_from(from, interval),
             Body::Append {
                 interval,

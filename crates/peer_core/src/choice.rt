@@ -1,47 +1,80 @@
 //! Which copy's log begins an interval.
 
-ghost use Rattle.std.specs.Prelude.{◌≡◌};
+ghost use Rattle.std.specs.Prelude.{◌≡◌, ◌+◌, length, IfOk};
 ghost use Rattle.peer_core.specs.Choice.{is_better};
 
 use crate::role::PeerInfo;
 use crate::state::State;
-use entry_core::Log;
+use entry_core::{Items, OutOfMemory, Sealed, TryCopy};
 use place_core::ActingSet;
+use std::alloc::Global;
+
+/// The length of the log that was told, which may be any sum of two lengths.
+fn size_of(start: usize, part: &[Sealed]) -> u128
+    ensures { result ≡ start + length part.now }
+{
+    start as u128 + part.len() as u128
+}
+
+/// Equal requests, which share their parts.
+fn copy_requests(alloc: Global, part: &[Sealed]) -> Result<Items<Sealed>, OutOfMemory>
+    ensures { IfOk result (λ copy. copy ≡ part.now) }
+{
+    let mut copy = Items::new(alloc);
+    for request in part {
+        copy.push(request.copy()?)?;
+    }
+    Ok(copy)
+}
 
 /// Whether an offer is better than the other, which is given by its parts.
-fn is_better(offer: &PeerInfo, number: u8, base: u64, log: &Log) -> bool
-    ensures { result ≡ is_better offer.now (record { number = number; base = base; log = log.now }) }
+fn is_better(offer: &PeerInfo, number: u8, base: u64, start: usize, part: &[Sealed]) -> bool
+    ensures { result ≡ is_better offer.now (record { number = number; base = base; start = start; part = part.now }) }
 {
     if offer.base != base {
         return base < offer.base;
     }
-    if offer.log.as_log().len() != log.len() {
-        return log.len() < offer.log.as_log().len();
+    let size = size_of(start, part);
+    let offered = size_of(offer.start, offer.part.as_slice());
+    if offered != size {
+        return size < offered;
     }
     offer.number < number
 }
 
 impl State {
-    ghost use Rattle.std.specs.Prelude.{◌≡◌, ◌-◌, ◌||◌, nat_lt, length, take};
+    ghost use Rattle.std.specs.Prelude.{◌≡◌, ◌-◌, ◌||◌, nat_lt, length, take, IfOk};
     ghost use Rattle.std.specs.List.{list_any, list_all};
-    ghost use Rattle.peer_core.specs.Choice.{best, own_offer, is_informed, covers, can_choose};
+    ghost use Rattle.group_types.specs.ActingSets.{covers};
+    ghost use Rattle.peer_core.specs.Choice.{best, own_offer, is_informed, can_choose};
 
-    /// The base and the log of the best offer, this copy's own among them.
-    pub fn chosen<'a>(&'a self, informed: &'a [PeerInfo]) -> (u64, &'a Log)
+    /// The base of the best offer, this copy's own among them, and its start and its part.
+    fn chosen<'a>(&'a self, informed: &'a [PeerInfo]) -> (u64, usize, &'a [Sealed])
         ensures base { result.0 ≡ (best (own_offer self.now) informed.now).base }
-        ensures log { result.1.now ≡ (best (own_offer self.now) informed.now).log }
+        ensures start { result.1 ≡ (best (own_offer self.now) informed.now).start }
+        ensures part { result.2.now ≡ (best (own_offer self.now) informed.now).part }
     {
         let mut number = self.number;
         let mut base = self.base;
-        let mut log = &self.log;
+        let mut start = self.log.len();
+        let mut part: &[Sealed] = &[];
         for offer in informed {
-            if is_better(offer, number, base, log) {
+            if is_better(offer, number, base, start, part) {
                 number = offer.number;
                 base = offer.base;
-                log = offer.log.as_log();
+                start = offer.start;
+                part = offer.part.as_slice();
             }
         }
-        (base, log)
+        (base, start, part)
+    }
+    /// The start and the part of the best offer. It takes memory for the part alone.
+    pub fn chosen_part(&self, informed: &[PeerInfo]) -> Result<(usize, Items<Sealed>), OutOfMemory>
+        ensures start { IfOk result (λ chosen. chosen.0 ≡ (best (own_offer self.now) informed.now).start) }
+        ensures part { IfOk result (λ chosen. chosen.1 ≡ (best (own_offer self.now) informed.now).part) }
+    {
+        let (_, start, part) = self.chosen(informed);
+        Ok((start, copy_requests(self.log.allocator(), part)?))
     }
 
     fn any_informed(&self, members: &[u8], informed: &[PeerInfo]) -> bool

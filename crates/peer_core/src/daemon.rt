@@ -12,7 +12,8 @@ use entry_core::{Entry, Items, Log, OutOfMemory, TryCopy};
 use std::alloc::Global;
 use std::marker::Model;
 
-/// One daemon's copy of one placement group (Ceph Peering and the RADOS paper, by this project's profile).
+/// One daemon's copy of one placement group (Ceph Peering and the RADOS paper, by this project's profile), whose peering
+/// sends of a log what the other lacks.
 ///
 /// It takes one message at a time, and says what is sent. Where memory is refused, a call leaves it as it was.
 #[derive(Drop)]
@@ -23,7 +24,7 @@ pub struct Daemon {
 impl Model for Daemon {
     ghost use Rattle.peer_core.specs.Types as types;
 
-    ghost Value = { types.Daemon };
+    ghost Value = { types.Copy };
 
     ghost view = { λ daemon. daemon.state };
 }
@@ -40,7 +41,9 @@ impl Daemon {
 
     /// Takes a message, and says what is sent. A message that fits no rule changes nothing.
     ///
-    /// A request, an append and its answer take no longer as the log grows; a query, an info and an install copy logs.
+    /// A request, an append and its answer take no longer as the log grows, nor do a query, an info, an install and the
+    /// choice of a log where nobody lacks anything. Where this copy lacks something of the chosen log, the choice and the
+    /// install copy its log.
     pub fn on(&mut self, message: Message) -> Result<Items<Sent>, OutOfMemory>
         ensures ok { IfOk result (λ sent. copy_step self.old message ≡ record { copy = self.new; sent = sent }) }
         ensures err { OnErr result (self.new ≡ self.old) }

@@ -1,10 +1,12 @@
-//! One daemon's copy of one placement group: a machine that takes one message at a time, and says what is sent.
+//! One daemon's copy of one placement group, where peering sends suffixes of logs: a machine that takes one message at a
+//! time, and says what is sent.
 #![tactic(auto)]
 
 mod arrival;
+mod beginnings;
 mod choice;
 mod daemon;
-mod interval_sets;
+mod installing;
 mod message;
 mod peering;
 mod peers;
@@ -15,6 +17,5 @@ mod serve;
 mod state;
 
 pub use daemon::Daemon;
-pub use interval_sets::IntervalSets;
-pub use message::{Body, Message, Party, Sent};
-pub use role::{PeerInfo, Role};
+pub use message::{Body, Message, Sent};
+pub use role::{Common, PeerInfo, Role};

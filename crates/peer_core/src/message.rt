@@ -1,36 +1,31 @@
 //! What daemons and the client send to one another.
 
-use crate::interval_sets::IntervalSets;
-use entry_core::{BoxedLog, Id, OutOfMemory, Reply, Sealed, TryCopy};
-
-/// Who sends or receives.
-#[derive(Clone, Copy, Debug, PartialEq, Eq)]
-pub enum Party {
-    /// The client, which also tells daemons of intervals.
-    Client,
-    /// The daemon of a number.
-    Osd(u8),
-}
+use entry_core::{Id, Items, OutOfMemory, Reply, Sealed, TryCopy};
+use group_types::{IntervalSets, Party};
 
 /// What a message says (Ceph Peering, by this project's profile). Intervals count from 1, and so does an entry's index in a log.
 #[derive(Drop)]
 pub enum Body {
     /// The sets of all intervals so far, the first first.
     Interval(IntervalSets),
-    /// Asks for the copy, and for the promise to follow no earlier interval.
+    /// Asks for the copy, and for the promise to follow no earlier interval. It tells the length of the asker's log and the id of its last request.
     Query {
         interval: u64,
+        len: usize,
+        last: Option<Id>,
     },
-    /// The answer: a copy as it is, and the interval that its log began with.
+    /// The answer: the interval that the copy's log began with, a place up to which the asker has the same entries, and the requests after that place.
     Info {
         interval: u64,
         base: u64,
-        log: BoxedLog,
+        start: usize,
+        part: Items<Sealed>,
     },
-    /// The log that an interval begins with.
+    /// What the addressee lacks of the log that an interval begins with: the requests after a place up to which it has the same entries.
     Install {
         interval: u64,
-        log: BoxedLog,
+        start: usize,
+        part: Items<Sealed>,
     },
     /// The answer to `Install`.
     Installed {
@@ -77,21 +72,34 @@ impl TryCopy for Body {
     fn copy(&self) -> Result<Body, OutOfMemory> {
         Ok(match self {
             Body::Interval(sets) => Body::Interval(sets.copy()?),
-            Body::Query { interval } => Body::Query {
+            Body::Query {
+                interval,
+                len,
+                last,
+            } => Body::Query {
                 interval: *interval,
+                len: *len,
+                last: *last,
             },
             Body::Info {
                 interval,
                 base,
-                log,
+                start,
+                part,
             } => Body::Info {
                 interval: *interval,
                 base: *base,
-                log: log.copy()?,
+                start: *start,
+                part: part.copy()?,
             },
-            Body::Install { interval, log } => Body::Install {
+            Body::Install {
+                interval,
+                start,
+                part,
+            } => Body::Install {
                 interval: *interval,
-                log: log.copy()?,
+                start: *start,
+                part: part.copy()?,
             },
             Body::Installed { interval } => Body::Installed {
                 interval: *interval,

@@ -4,12 +4,14 @@ ghost use Rattle.std.specs.Prelude.{◌≡◌, ◌≤◌, ◌==◌, ◌&&◌, �
 ghost use Rattle.std.specs.List.{list_any};
 ghost use Rattle.entry_core.specs.Log.{is_in};
 ghost use Rattle.place_core.specs.Distinct.{is_distinct};
-ghost use Rattle.peer_core.specs.ActingSets.{set_of, is_primary};
+ghost use Rattle.group_types.specs.ActingSets.{set_of, is_primary};
 
-use crate::message::{Body, Party, Sent};
-use crate::role::PeerInfo;
+use crate::beginnings::{count_at, part_from};
+use crate::message::{Body, Sent};
+use crate::role::{Common, PeerInfo};
 use crate::state::State;
-use entry_core::{BoxedLog, Items, Log, OutOfMemory, Sealed, TryCopy};
+use entry_core::{Items, Log, OutOfMemory, Sealed, TryCopy};
+use group_types::Party;
 use place_core::ActingSet;
 
 /// The numbers that daemons have.
@@ -62,10 +64,12 @@ impl State {
     ghost use Rattle.entry_core.specs.Log.{is_in};
     ghost use Rattle.place_core.specs.Distinct.{is_distinct};
     ghost use Rattle.peer_core.specs.Types as types;
-    ghost use Rattle.peer_core.specs.ActingSets.{set_of, others, counted, all_count, missing, is_asked};
+    ghost use Rattle.group_types.specs.ActingSets.{set_of};
+    ghost use Rattle.peer_core.specs.ActingSets.{others, counted, all_count, missing, is_asked};
+    ghost use Rattle.peer_core.specs.Beginnings.{count_at};
     ghost use Rattle.peer_core.specs.Choice.{is_informed};
     ghost use Rattle.peer_core.specs.Steps.{send};
-    ghost use Rattle.peer_core.specs.Copy.{uninformed};
+    ghost use Rattle.peer_core.specs.Copy.{uninformed, query, install_from};
 
     /// The set of the interval that was promised.
     pub fn set(&self) -> &[u8]
@@ -153,6 +157,18 @@ impl State {
         }
     }
 
+    /// A query on its way to a daemon.
+    fn query_for(&self, daemon: u8) -> Sent
+        ensures { result ≡ send self.now (types.Osd daemon) (query self.now) }
+    {
+        let body = Body::Query {
+            interval: self.promise,
+            len: self.log.len(),
+            last: self.log.last(),
+        };
+        self.send(Party::Osd(daemon), body)
+    }
+
     /// Asks those of these daemons that it asks and has not heard for their copies.
     fn query(
         &self,
@@ -160,14 +176,11 @@ impl State {
         informed: &[PeerInfo],
         sent: &mut Items<Sent>,
     ) -> Result<(), OutOfMemory>
-        ensures { OnOk result (sent.new ≡ sent.old ++ map (λ daemon. send self.now (types.Osd daemon) (types.Query self.now.promise)) (filter (λ daemon. not (is_informed self.now informed.now daemon)) (filter (λ daemon. is_asked self.now daemon) daemons.now))) }
+        ensures { OnOk result (sent.new ≡ sent.old ++ map (λ daemon. send self.now (types.Osd daemon) (query self.now)) (filter (λ daemon. not (is_informed self.now informed.now daemon)) (filter (λ daemon. is_asked self.now daemon) daemons.now))) }
     {
         for daemon in daemons {
             if self.asks(*daemon) && !self.is_informed(informed, *daemon) {
-                let body = Body::Query {
-                    interval: self.promise,
-                };
-                sent.push(self.send(Party::Osd(*daemon), body))?;
+                sent.push(self.query_for(*daemon))?;
             }
         }
         Ok(())
@@ -179,34 +192,37 @@ impl State {
         informed: &[PeerInfo],
         sent: &mut Items<Sent>,
     ) -> Result<(), OutOfMemory>
-        ensures { OnOk result (sent.new ≡ sent.old ++ map (λ daemon. send self.now (types.Osd daemon) (types.Query self.now.promise)) (uninformed self.now informed.now)) }
+        ensures { OnOk result (sent.new ≡ sent.old ++ map (λ daemon. send self.now (types.Osd daemon) (query self.now)) (uninformed self.now informed.now)) }
     {
         self.query(&DAEMONS, informed, sent)
     }
 
-    /// A log on its way to a daemon.
-    fn install_for(&self, daemon: u8, log: &Log) -> Result<Sent, OutOfMemory>
-        ensures { IfOk result (λ message. message ≡ send self.now (types.Osd daemon) (types.Install self.now.promise log.now)) }
+    /// What a daemon lacks of a log, which it has up to a place, on its way to it.
+    fn install_for(&self, daemon: u8, log: &Log, start: usize) -> Result<Sent, OutOfMemory>
+        ensures { IfOk result (λ message. message ≡ install_from self.now log.now daemon start) }
     {
         let body = Body::Install {
             interval: self.promise,
-            log: BoxedLog::new(log.copy()?)?,
+            start,
+            part: part_from(log, start)?,
         };
         Ok(self.send(Party::Osd(daemon), body))
     }
 
-    /// Sends a log to each other member that does not count yet.
+    /// Sends to each other member that does not count yet what it lacks of a log.
     pub fn send_install(
         &self,
         log: &Log,
+        common: &[Common],
         done: &ActingSet,
         sent: &mut Items<Sent>,
     ) -> Result<(), OutOfMemory>
-        ensures { OnOk result (sent.new ≡ sent.old ++ map (λ member. send self.now (types.Osd member) (types.Install self.now.promise log.now)) (missing self.now done.now)) }
+        ensures { OnOk result (sent.new ≡ sent.old ++ map (λ m. install_from self.now log.now m (count_at common.now m)) (missing self.now done.now)) }
     {
         for member in self.set() {
             if *member != self.number && !has_member(done, *member) {
-                sent.push(self.install_for(*member, log)?)?;
+                let start = count_at(common, *member);
+                sent.push(self.install_for(*member, log, start)?)?;
             }
         }
         Ok(())

@@ -1,10 +1,11 @@
 //! How the entries of an interval are decided.
 
-use crate::message::{Body, Party, Sent};
+use crate::message::{Body, Sent};
 use crate::role::Role;
 use crate::serve::reply_to;
 use crate::state::State;
 use entry_core::{Items, OutOfMemory, Sealed};
+use group_types::Party;
 use place_core::ActingSet;
 
 impl State {
@@ -12,7 +13,7 @@ impl State {
     ghost use Rattle.entry_core.specs.Log.{find};
     ghost use Rattle.peer_core.specs.Types as types;
     ghost use Rattle.peer_core.specs.ActingSets.{missing};
-    ghost use Rattle.peer_core.specs.Decided.{last};
+    ghost use Rattle.group_types.specs.Decided.{last};
     ghost use Rattle.peer_core.specs.Stages.{replies};
     ghost use Rattle.peer_core.specs.Serve.{serve};
     ghost use Rattle.peer_core.specs.Copy as rules;
@@ -137,7 +138,7 @@ impl State {
                 sent.push(self.send(Party::Client, body))?;
                 Ok(sent)
             }
-            Role::Peering(_) | Role::Installing(_) => {
+            Role::Peering(_) | Role::Installing { .. } => {
                 self.waiting.push_back(request)?;
                 Ok(sent)
             }
@@ -163,7 +164,9 @@ impl State {
         match &self.role {
             Role::Idle | Role::Active(None) => Ok(()),
             Role::Peering(informed) => self.send_queries(informed.as_slice(), sent),
-            Role::Installing(done) => self.send_install(&self.log, done, sent),
+            Role::Installing { done, common } => {
+                self.send_install(&self.log, common.as_slice(), done, sent)
+            }
             Role::Active(Some(holders)) => self.append_again(holders, sent),
         }
     }

@@ -1,14 +1,25 @@
 //! What a daemon does for its group.
 
-use entry_core::{BoxedLog, Items, OutOfMemory, TryCopy};
+use entry_core::{Items, OutOfMemory, Sealed, TryCopy};
 use place_core::ActingSet;
 
-/// What another daemon told of its copy.
+/// What another daemon told of its copy: its log is this copy's up to a place, and then this part.
 #[derive(Drop)]
 pub struct PeerInfo {
     pub number: u8,
+    /// The interval that its log began with.
     pub base: u64,
-    pub log: BoxedLog,
+    /// How many entries of this copy's log its log begins with, at least.
+    pub start: usize,
+    /// The requests of its log after these.
+    pub part: Items<Sealed>,
+}
+
+/// With how many entries a member's log begins like the chosen one.
+#[derive(Clone, Copy)]
+pub struct Common {
+    pub member: u8,
+    pub count: usize,
 }
 
 /// What a daemon does for its group in the interval that it promised (Ceph Peering, by this project's profile).
@@ -17,8 +28,11 @@ pub enum Role {
     Idle,
     /// It asks for copies: the others that told of theirs.
     Peering(Items<PeerInfo>),
-    /// It sends out the chosen log: the other members that have it.
-    Installing(ActingSet),
+    /// It sends out what the other members lack of the chosen log: those that have it, and how much each had of it.
+    Installing {
+        done: ActingSet,
+        common: Items<Common>,
+    },
     /// It takes requests. Where its last entry is in flight: the other members that have that entry.
     Active(Option<ActingSet>),
 }
@@ -28,8 +42,15 @@ impl TryCopy for PeerInfo {
         Ok(PeerInfo {
             number: self.number,
             base: self.base,
-            log: self.log.copy()?,
+            start: self.start,
+            part: self.part.copy()?,
         })
+    }
+}
+
+impl TryCopy for Common {
+    fn copy(&self) -> Result<Common, OutOfMemory> {
+        Ok(*self)
     }
 }
 
@@ -38,7 +59,10 @@ impl TryCopy for Role {
         match self {
             Role::Idle => Ok(Role::Idle),
             Role::Peering(informed) => Ok(Role::Peering(informed.copy()?)),
-            Role::Installing(members) => Ok(Role::Installing(*members)),
+            Role::Installing { done, common } => Ok(Role::Installing {
+                done: *done,
+                common: common.copy()?,
+            }),
             Role::Active(flight) => Ok(Role::Active(*flight)),
         }
     }

@@ -8,7 +8,7 @@ use auth_db::{AuthFault, Caps};
 use common_types::{Name, OutOfMemory};
 use entry_core::{GroupId, Id, Reply};
 use grant_core::ProfileTable;
-use group_core::GroupFault;
+use group_types::GroupFault;
 use map_core::{MapCommand, MapFault};
 use object_core::{Bytes, NeedsFault, Op};
 use std::alloc::Global;

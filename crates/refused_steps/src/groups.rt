@@ -5,7 +5,7 @@ use crate::requests::request;
 use Step::{Append, Deliver, Kick, Lose, Move, Read, Settle};
 use common_types::{Name, OutOfMemory};
 use entry_core::{GroupId, Id, Reply, TryCopy};
-use group_copies::Group;
+use group_core::Group;
 use object_core::NeedsFault;
 use place_core::{ActingSet, DaemonSet};
 use std::alloc::Global;

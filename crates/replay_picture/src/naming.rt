@@ -1,9 +1,9 @@
 //! The names of groups and of messages.
 
 use common_types::OutOfMemory;
-use copy_core::Body;
+use peer_core::Body;
 use entry_core::{GroupId, Id};
-use peer_core::Party;
+use group_types::Party;
 use picture_text::Topic;
 use std::alloc::Global;
 use std::fmt::Write;

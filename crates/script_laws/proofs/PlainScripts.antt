@@ -12,11 +12,11 @@ use Rattle.entry_core.specs.Log.{find, is_in}
 use Rattle.entry_core.specs.Request.{Sealed}
 use Rattle.entry_core.specs.declared.entry.Entry.{Entry}
 use Rattle.entry_core.specs.declared.sealed.GroupId.{GroupId}
-use Rattle.peer_core.specs.Choice.{covers}
-use Rattle.group_core.specs.Each.{Each}
-use Rattle.group_core.specs.Asked.{IsAsked}
+use Rattle.whole_logs.specs.Choice.{covers}
+use Rattle.whole_logs.specs.Each.{Each}
+use Rattle.whole_logs.specs.Asked.{IsAsked}
 use Rattle.suffix_core.specs.Group.{Group, answer_of, submitted, last_set}
-use Rattle.group_laws.specs.Calm.{answer_with}
+use Rattle.whole_laws.specs.Calm.{answer_with}
 use Rattle.suffix_core.specs.Recovery.{is_ready, greatest_base}
 use Rattle.entry_core.specs.Locality.{group_for}
 use Rattle.world_core.specs.declared.event.Event.{Event}

@@ -12,14 +12,14 @@ use Rattle.entry_core.specs.Log.{Legal, LegalFrom}
 use Rattle.entry_core.specs.Request.{Sealed}
 use Rattle.entry_core.specs.declared.entry.Entry.{Entry}
 use Rattle.entry_core.specs.declared.sealed.GroupId.{GroupId}
-use Rattle.group_core.specs.Each.{Each}
+use Rattle.whole_logs.specs.Each.{Each}
 use Rattle.suffix_core.specs.Group.{Group, run}
 use Rattle.suffix_core.specs.Group as group
 use Rattle.suffix_core.specs.Budget.{budget, settled_group, settle_count}
-use Rattle.group_laws.specs.Quiet.{request_cost}
-use Rattle.group_laws.specs.Calm.{answer_with, unserved_cost}
-use Rattle.group_core.proofs.Audits.{legal_rest}
-use Rattle.suffix_laws.proofs.SameGroups.{same_settle}
+use Rattle.whole_laws.specs.Quiet.{request_cost}
+use Rattle.whole_laws.specs.Calm.{answer_with, unserved_cost}
+use Rattle.whole_logs.proofs.Audits.{legal_rest}
+use Rattle.group_laws.proofs.SameGroups.{same_settle}
 use Rattle.world_core.specs.declared.event.Event.{Event}
 use Rattle.world_core.specs.declared.event.Event.TheVariants.{Deliver}
 use Rattle.world_core.specs.Groups.{is_same_group, is_for}

@@ -19,12 +19,12 @@ use Rattle.place_core.specs.Placement.{acting_of, numbers_of}
 use Rattle.entry_core.specs.Deciding.{store_of}
 use Rattle.entry_core.specs.Request.{Sealed}
 use Rattle.entry_core.specs.declared.sealed.GroupId.{GroupId}
-use Rattle.group_core.specs.Each.{Each}
+use Rattle.whole_logs.specs.Each.{Each}
 use Rattle.suffix_core.specs.Group.{Group, group_step, last_set}
 use Rattle.suffix_core.specs.Group as group
 use Rattle.suffix_core.specs.Budget.{settle_count}
-use Rattle.group_laws.specs.Calm.{IsCalm, answer_with}
-use Rattle.suffix_laws.proofs.SameGroups.{same_step, takes_last}
+use Rattle.whole_laws.specs.Calm.{IsCalm, answer_with}
+use Rattle.group_laws.proofs.SameGroups.{same_step, takes_last}
 use Rattle.world_core.specs.declared.event.Event.{Event}
 use Rattle.world_core.specs.Groups.{is_same_group, is_for}
 use Rattle.world_core.specs.Front.{Front}

@@ -20,9 +20,9 @@ use Rattle.entry_core.specs.Laws.{changed}
 use Rattle.entry_core.specs.declared.reply.Reply.{Reply}
 use Rattle.entry_core.specs.declared.sealed.GroupId.{GroupId}
 use Rattle.suffix_core.specs.Group.{answer_of}
-use Rattle.group_core.specs.declared.answers.Answer.{Answer}
-use Rattle.group_laws.specs.Quiet.{opening_cost, request_cost}
-use Rattle.group_laws.specs.Calm.{unserved_cost}
+use Rattle.group_types.specs.Answers.{Answer}
+use Rattle.whole_laws.specs.Quiet.{opening_cost, request_cost}
+use Rattle.whole_laws.specs.Calm.{unserved_cost}
 use Rattle.world_core.specs.declared.event.Event.{Event}
 use Rattle.world_core.specs.declared.fault.WorldFault.{WorldFault as Fault}
 use Rattle.world_core.specs.declared.event.Event.TheVariants.{Map, Deliver, Lose, Repeat, Kick}

@@ -2,9 +2,9 @@
 use Rattle.std.proofs.Common.{ℕ, ◌≡◌, Bool, true, false, ◌==◌, List, [], ◌∷◌, ◌++◌, refl, sym, subst, if◌then◌else◌}
 use Rattle.std.specs.Prelude.{Some}
 use Rattle.entry_core.specs.declared.entry.Entry.{Entry}
-use Rattle.group_core.specs.Each.{Each}
-use Rattle.group_core.specs.History.{Begins}
-use Rattle.group_core.proofs.Prefixes.{Begins-refl, Begins-trans}
+use Rattle.whole_logs.specs.Each.{Each}
+use Rattle.whole_logs.specs.History.{Begins}
+use Rattle.whole_logs.proofs.Prefixes.{Begins-refl, Begins-trans}
 use Rattle.suffix_core.specs.Types.{EntryReply}
 use Rattle.suffix_core.specs.Group.{Group, Answer, Event, Submit, Deliver, Lose, Repeat, NewInterval, Restart, Kick, run, answer_of}
 use Rattle.suffix_core.proofs.Runs.{run-append}

@@ -4,15 +4,15 @@ use Rattle.std.specs.Prelude.{Option, Some, None}
 use Rattle.entry_core.specs.Log.{is_in}
 use Rattle.entry_core.specs.Request.{Sealed}
 use Rattle.entry_core.specs.declared.entry.Entry.{Entry}
-use Rattle.peer_core.specs.Steps.{Stepped as WholeStepped}
-use Rattle.group_core.specs.Types.{PeerInfo, Role as WholeRole, Idle as WholeIdle, Peering as WholePeering, Installing as WholeInstalling, Active as WholeActive, Daemon, Body as WholeBody, Interval as WholeInterval, Query as WholeQuery, Info as WholeInfo, Install as WholeInstall, Installed as WholeInstalled, Append as WholeAppend, Appended as WholeAppended, Request as WholeRequest, Reply as WholeReply, NotHere as WholeNotHere, Party, Osd, Client, Sent as WholeSent}
-use Rattle.group_core.specs.History.{Begins, History}
-use Rattle.group_core.proofs.Invariant.{OfOsd}
+use Rattle.whole_logs.specs.Steps.{Stepped as WholeStepped}
+use Rattle.whole_logs.specs.Types.{PeerInfo, Role as WholeRole, Idle as WholeIdle, Peering as WholePeering, Installing as WholeInstalling, Active as WholeActive, Daemon, Body as WholeBody, Interval as WholeInterval, Query as WholeQuery, Info as WholeInfo, Install as WholeInstall, Installed as WholeInstalled, Append as WholeAppend, Appended as WholeAppended, Request as WholeRequest, Reply as WholeReply, NotHere as WholeNotHere, Party, Osd, Client, Sent as WholeSent}
+use Rattle.whole_logs.specs.History.{Begins, History}
+use Rattle.whole_logs.proofs.Invariant.{OfOsd}
 use Rattle.suffix_core.specs.Types.{Body, Interval, Query, Info, Install, Installed, Append, Appended, Request, Reply, NotHere, Sent, Offer, Role, Idle, Peering, Installing, Active, Copy}
 use Rattle.entry_core.specs.Fitting.{part_of, last_id}
-use Rattle.copy_core.specs.Steps.{Stepped}
-use Rattle.copy_core.specs.ActingSets.{others}
-use Rattle.copy_core.specs.Beginnings.{count_at}
+use Rattle.peer_core.specs.Steps.{Stepped}
+use Rattle.peer_core.specs.ActingSets.{others}
+use Rattle.peer_core.specs.Beginnings.{count_at}
 use Rattle.suffix_core.specs.Standing.{Both}
 
 -- the log that daemon m had when it promised interval n, or a later one, first

@@ -7,18 +7,18 @@ use Rattle.entry_core.specs.Request.{Sealed}
 use Rattle.entry_core.specs.Fitting.{requests_of, decided_behind, kept, agreed, can_fit, fitted}
 use Rattle.entry_core.specs.declared.entry.Entry.{Entry}
 use Rattle.entry_core.proofs.Fitting.{fit_gives_the_log}
-use Rattle.peer_core.specs.ActingSets.{set_of}
-use Rattle.peer_core.specs.Choice.{best as whole_best, own_offer as whole_own_offer, can_choose as whole_can_choose}
-use Rattle.group_core.specs.Types.{PeerInfo, Role as WholeRole}
-use Rattle.group_core.specs.Each.{Each}
-use Rattle.group_core.specs.Offer.{IsOffer}
-use Rattle.group_core.specs.Asked.{IsAsked, InLog}
-use Rattle.group_core.specs.History.{Begins, History, IsSound, IsOpened, but_last}
-use Rattle.group_core.proofs.Choices.{best_among, chosen_opened, first_at_most}
-use Rattle.group_core.proofs.Invariant.{Leads, StateOk}
-use Rattle.group_core.proofs.Stable.{is_first_unique}
+use Rattle.whole_logs.specs.ActingSets.{set_of}
+use Rattle.whole_logs.specs.Choice.{best as whole_best, own_offer as whole_own_offer, can_choose as whole_can_choose}
+use Rattle.whole_logs.specs.Types.{PeerInfo, Role as WholeRole}
+use Rattle.whole_logs.specs.Each.{Each}
+use Rattle.whole_logs.specs.Offer.{IsOffer}
+use Rattle.whole_logs.specs.Asked.{IsAsked, InLog}
+use Rattle.whole_logs.specs.History.{Begins, History, IsSound, IsOpened, but_last}
+use Rattle.whole_logs.proofs.Choices.{best_among, chosen_opened, first_at_most}
+use Rattle.whole_logs.proofs.Invariant.{Leads, StateOk}
+use Rattle.whole_logs.proofs.Stable.{is_first_unique}
 use Rattle.suffix_core.specs.Types.{Offer, Copy}
-use Rattle.copy_core.specs.Choice.{best, own_offer, can_choose}
+use Rattle.peer_core.specs.Choice.{best, own_offer, can_choose}
 use Rattle.suffix_core.specs.Standing.{Both}
 use Rattle.suffix_core.specs.Fits.{Fit, choice_fit}
 use Rattle.suffix_core.proofs.Agreeing.{Past, IsPart, OfferAgrees, whole}

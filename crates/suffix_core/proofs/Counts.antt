@@ -3,9 +3,9 @@ use Rattle.std.proofs.Common.{ℕ, zero, suc, ◌≡◌, ◌+◌, not, nat_lt, L
 use Rattle.std.specs.Prelude.{Option, Some, None, slice_get}
 use Rattle.entry_core.specs.Log.{is_in}
 use Rattle.entry_core.specs.Request.{Sealed}
-use Rattle.group_core.specs.Types.{Daemon, Party, Osd, Client, Role as WholeRole, Body as WholeBody, Sent as WholeSent}
-use Rattle.group_core.specs.Budget.{body_budget as whole_body_budget, sent_budget as whole_sent_budget, role_budget as whole_role_budget, copies_budget as whole_copies_budget, budget as whole_budget, settle_count as whole_settle_count, settled_group as whole_settled_group}
-use Rattle.group_core.specs.Group.{Group as WholeGroup, group_step as whole_group_step, settle as whole_settle, delivered_to as whole_delivered_to, delivered_now as whole_delivered_now, delivered as whole_delivered, refusal_of as whole_refusal_of}
+use Rattle.whole_logs.specs.Types.{Daemon, Party, Osd, Client, Role as WholeRole, Body as WholeBody, Sent as WholeSent}
+use Rattle.whole_logs.specs.Budget.{body_budget as whole_body_budget, sent_budget as whole_sent_budget, role_budget as whole_role_budget, copies_budget as whole_copies_budget, budget as whole_budget, settle_count as whole_settle_count, settled_group as whole_settled_group}
+use Rattle.whole_logs.specs.Group.{Group as WholeGroup, group_step as whole_group_step, settle as whole_settle, delivered_to as whole_delivered_to, delivered_now as whole_delivered_now, delivered as whole_delivered, refusal_of as whole_refusal_of}
 use Rattle.suffix_core.specs.Standing.{Both, SameBody, SameSent, SameRole, SameCopy, StandsFor}
 use Rattle.suffix_core.proofs.Lists.{IfBoth, Both-get}
 use Rattle.suffix_core.proofs.Events.{Lock, step_locked}

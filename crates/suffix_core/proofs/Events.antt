@@ -7,22 +7,22 @@ use Rattle.entry_core.specs.Log.{is_in, ids}
 use Rattle.entry_core.specs.Request.{Sealed}
 use Rattle.entry_core.specs.declared.entry.Entry.{Entry}
 use Rattle.entry_core.specs.declared.sealed.GroupId.{GroupId}
-use Rattle.peer_core.specs.ActingSets.{daemons}
-use Rattle.peer_core.specs.Copy.{copy_step as whole_copy_step, retransmit as whole_retransmit}
-use Rattle.peer_core.specs.Steps.{blank as whole_blank, restarted as whole_restarted}
-use Rattle.group_core.specs.Types.{Idle as WholeIdle, Daemon, Body as WholeBody, Interval as WholeInterval, Request as WholeRequest, Sent as WholeSent, Party, Osd, Client}
-use Rattle.group_core.specs.Each.{Each}
-use Rattle.group_core.specs.Group.{Group as WholeGroup, Event, Submit, Deliver, Lose, Repeat, NewInterval, Restart, Kick, last_set, is_answered, is_submitted, same_set, to_daemon as whole_to_daemon, to_primary as whole_to_primary, steps as whole_steps, answered as whole_answered, copy_hears as whole_copy_hears, arrives as whole_arrives, without as whole_without, deliver as whole_deliver, lose as whole_lose, again as whole_again, take_request as whole_take_request, submit as whole_submit, begin as whole_begin, with_up as whole_with_up, new_interval as whole_new_interval, restart as whole_restart, retransmit_from as whole_retransmit_from, retransmit_primary as whole_retransmit_primary, kick as whole_kick, group_step as whole_group_step, run as whole_run, start as whole_start}
-use Rattle.group_core.specs.Asked.{IsAsked, InLog, InCopy, InBody}
-use Rattle.group_core.specs.declared.answers.Answer.{Answer}
-use Rattle.group_core.specs.History.{History, IsSound}
-use Rattle.group_core.proofs.Eaches.{Each-get, Each-map_all}
-use Rattle.group_core.proofs.Invariant.{CopyOk, SentOk}
-use Rattle.group_core.proofs.Groups.{Good, step_good, start_good, empty_good}
-use Rattle.group_core.proofs.Kept.{Kept, run_kept, start_kept}
+use Rattle.whole_logs.specs.ActingSets.{daemons}
+use Rattle.whole_logs.specs.Copy.{copy_step as whole_copy_step, retransmit as whole_retransmit}
+use Rattle.whole_logs.specs.Steps.{blank as whole_blank, restarted as whole_restarted}
+use Rattle.whole_logs.specs.Types.{Idle as WholeIdle, Daemon, Body as WholeBody, Interval as WholeInterval, Request as WholeRequest, Sent as WholeSent, Party, Osd, Client}
+use Rattle.whole_logs.specs.Each.{Each}
+use Rattle.whole_logs.specs.Group.{Group as WholeGroup, Event, Submit, Deliver, Lose, Repeat, NewInterval, Restart, Kick, last_set, is_answered, is_submitted, same_set, to_daemon as whole_to_daemon, to_primary as whole_to_primary, steps as whole_steps, answered as whole_answered, copy_hears as whole_copy_hears, arrives as whole_arrives, without as whole_without, deliver as whole_deliver, lose as whole_lose, again as whole_again, take_request as whole_take_request, submit as whole_submit, begin as whole_begin, with_up as whole_with_up, new_interval as whole_new_interval, restart as whole_restart, retransmit_from as whole_retransmit_from, retransmit_primary as whole_retransmit_primary, kick as whole_kick, group_step as whole_group_step, run as whole_run, start as whole_start}
+use Rattle.whole_logs.specs.Asked.{IsAsked, InLog, InCopy, InBody}
+use Rattle.group_types.specs.Answers.{Answer}
+use Rattle.whole_logs.specs.History.{History, IsSound}
+use Rattle.whole_logs.proofs.Eaches.{Each-get, Each-map_all}
+use Rattle.whole_logs.proofs.Invariant.{CopyOk, SentOk}
+use Rattle.whole_logs.proofs.Groups.{Good, step_good, start_good, empty_good}
+use Rattle.whole_logs.proofs.Kept.{Kept, run_kept, start_kept}
 use Rattle.suffix_core.specs.Types.{Body, Interval, Query, Info, Install, Installed, Append, Appended, Request, Reply, NotHere, Sent, Copy}
-use Rattle.copy_core.specs.Steps.{blank, restarted}
-use Rattle.copy_core.specs.Copy.{copy_step, retransmit}
+use Rattle.peer_core.specs.Steps.{blank, restarted}
+use Rattle.peer_core.specs.Copy.{copy_step, retransmit}
 use Rattle.suffix_core.specs.Group.{Group, to_daemon, to_primary, steps, answered, copy_hears, arrives, without, deliver, lose, again, has_all_requests, has_all_intervals, take_request, submit, announced, begin, with_up, new_interval, restart, retransmit_from, retransmit_primary, kick, group_step, run, start}
 use Rattle.suffix_core.specs.Standing.{Both}
 use Rattle.suffix_core.proofs.Agreeing.{BodyAgrees, SentAgrees, CopyAgrees}

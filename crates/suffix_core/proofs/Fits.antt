@@ -6,8 +6,8 @@ use Rattle.std.proofs.Math.Seq.{take-length}
 use Rattle.entry_core.specs.Log.{Legal}
 use Rattle.entry_core.specs.Request.{Sealed}
 use Rattle.entry_core.specs.declared.entry.Entry.{Entry}
-use Rattle.group_core.specs.History.{Begins, History, IsSound, but_last}
-use Rattle.group_core.proofs.Fronts.{settled_begins}
+use Rattle.whole_logs.specs.History.{Begins, History, IsSound, but_last}
+use Rattle.whole_logs.proofs.Fronts.{settled_begins}
 use Rattle.entry_core.specs.Fitting.{fitted}
 use Rattle.entry_core.specs.FittingLaws.{SameNext, NearlyBegins}
 use Rattle.entry_core.proofs.Fitting.{fit_gives_the_log}

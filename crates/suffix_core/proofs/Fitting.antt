@@ -4,14 +4,14 @@ use Rattle.std.specs.Prelude.{Option, Some, None, slice_get}
 use Rattle.std.proofs.lemmas.Bool.{ltb-true, ltb-false}
 use Rattle.entry_core.specs.Request.{Sealed}
 use Rattle.entry_core.specs.Fitting.{can_fit}
-use Rattle.group_core.specs.Types.{Role as WholeRole, Daemon, Body as WholeBody, Info as WholeInfo, Install as WholeInstall, Sent as WholeSent, Party, Osd, Client}
-use Rattle.group_core.specs.Asked.{IsAsked, InLog}
-use Rattle.group_core.specs.Group.{run as whole_run, start as whole_start}
-use Rattle.group_core.specs.History.{History, IsSound}
-use Rattle.group_core.proofs.Eaches.{Each-get}
-use Rattle.group_core.proofs.Invariant.{CopyOk, BodyOk, SentOk}
+use Rattle.whole_logs.specs.Types.{Role as WholeRole, Daemon, Body as WholeBody, Info as WholeInfo, Install as WholeInstall, Sent as WholeSent, Party, Osd, Client}
+use Rattle.whole_logs.specs.Asked.{IsAsked, InLog}
+use Rattle.whole_logs.specs.Group.{run as whole_run, start as whole_start}
+use Rattle.whole_logs.specs.History.{History, IsSound}
+use Rattle.whole_logs.proofs.Eaches.{Each-get}
+use Rattle.whole_logs.proofs.Invariant.{CopyOk, BodyOk, SentOk}
 use Rattle.suffix_core.specs.Types.{Body, Interval, Query, Info, Install, Installed, Append, Appended, Request, Reply, NotHere, Sent, Copy}
-use Rattle.copy_core.specs.ActingSets.{others}
+use Rattle.peer_core.specs.ActingSets.{others}
 use Rattle.suffix_core.specs.Group.{Group, run, start}
 use Rattle.suffix_core.specs.Fits.{Fit, info_fit_as, info_fit, install_fit, fit_at, FitsAnswerTrue}
 use Rattle.suffix_core.specs.Laws.{FitAnswersTrue}

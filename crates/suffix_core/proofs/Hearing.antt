@@ -4,24 +4,24 @@ use Rattle.std.specs.Prelude.{Some, slice_get, slice_set}
 use Rattle.std.proofs.lemmas.Bool.{cases_eq}
 use Rattle.entry_core.specs.Request.{Sealed}
 use Rattle.entry_core.specs.declared.entry.Entry.{Entry}
-use Rattle.peer_core.specs.Copy.{on_body as whole_on_body}
-use Rattle.peer_core.specs.Decided.{decided_by as whole_decided_by}
-use Rattle.peer_core.specs.Steps.{Stepped as WholeStepped}
-use Rattle.group_core.specs.Types.{Role as WholeRole, Idle as WholeIdle, Peering as WholePeering, Installing as WholeInstalling, Active as WholeActive, Daemon, Body as WholeBody, Sent as WholeSent, Party, Osd}
-use Rattle.group_core.specs.Asked.{IsAsked, InLog, InCopy, InBody}
-use Rattle.group_core.specs.History.{History}
-use Rattle.group_core.proofs.Asks.{comes_in}
-use Rattle.group_core.proofs.Eaches.{Each-append, Each-weaker}
-use Rattle.group_core.proofs.Invariant.{RoleOk, CopyOk, BodyOk, SentOk}
-use Rattle.group_core.proofs.Leading.{IsLeading}
-use Rattle.group_core.proofs.Rules.{After, comes_after}
-use Rattle.group_core.proofs.Stable.{CopyOk-stays, BodyOk-stays}
-use Rattle.group_core.proofs.Groups.{get-set_same, get-set_other}
+use Rattle.whole_logs.specs.Copy.{on_body as whole_on_body}
+use Rattle.whole_logs.specs.Decided.{decided_by as whole_decided_by}
+use Rattle.whole_logs.specs.Steps.{Stepped as WholeStepped}
+use Rattle.whole_logs.specs.Types.{Role as WholeRole, Idle as WholeIdle, Peering as WholePeering, Installing as WholeInstalling, Active as WholeActive, Daemon, Body as WholeBody, Sent as WholeSent, Party, Osd}
+use Rattle.whole_logs.specs.Asked.{IsAsked, InLog, InCopy, InBody}
+use Rattle.whole_logs.specs.History.{History}
+use Rattle.whole_logs.proofs.Asks.{comes_in}
+use Rattle.whole_logs.proofs.Eaches.{Each-append, Each-weaker}
+use Rattle.whole_logs.proofs.Invariant.{RoleOk, CopyOk, BodyOk, SentOk}
+use Rattle.whole_logs.proofs.Leading.{IsLeading}
+use Rattle.whole_logs.proofs.Rules.{After, comes_after}
+use Rattle.whole_logs.proofs.Stable.{CopyOk-stays, BodyOk-stays}
+use Rattle.whole_logs.proofs.Groups.{get-set_same, get-set_other}
 use Rattle.suffix_core.specs.Types.{Body, Sent, Role, Idle, Peering, Installing, Active, Copy}
-use Rattle.copy_core.specs.Steps.{Stepped}
-use Rattle.copy_core.specs.ActingSets.{others}
-use Rattle.copy_core.specs.Decided.{decided_by}
-use Rattle.copy_core.specs.Copy.{on_body}
+use Rattle.peer_core.specs.Steps.{Stepped}
+use Rattle.peer_core.specs.ActingSets.{others}
+use Rattle.peer_core.specs.Decided.{decided_by}
+use Rattle.peer_core.specs.Copy.{on_body}
 use Rattle.suffix_core.proofs.Agreeing.{BodyAgrees, SentAgrees, RoleAgrees, CopyAgrees, StepAgrees}
 use Rattle.suffix_core.proofs.Lists.{Both-append, Both-set, Both-weaker}
 use Rattle.suffix_core.proofs.Pasts.{Past-stays, unchosen_before}

@@ -2,19 +2,19 @@
 use Rattle.std.proofs.Common.{ℕ, ◌≡◌, ◌≤◌, true, List, sym, ◌∙◌, ap, subst}
 use Rattle.std.specs.Prelude.{Option, Some, slice_get}
 use Rattle.entry_core.specs.Log.{is_in}
-use Rattle.peer_core.specs.ActingSets.{set_of}
-use Rattle.group_core.specs.Types.{Active as WholeActive, Daemon}
-use Rattle.group_core.specs.Each.{Each}
-use Rattle.group_core.specs.Group.{Group as WholeGroup, run as whole_run, start as whole_start}
-use Rattle.group_core.specs.Asked.{IsReplied}
-use Rattle.group_core.specs.History.{Begins, History, but_last}
-use Rattle.group_core.specs.Replicated.{IsLatest as IsWholeLatest}
-use Rattle.group_core.specs.declared.answers.Answer.{Answer}
-use Rattle.group_core.proofs.Fronts.{but_last-begins}
-use Rattle.group_core.proofs.Groups.{replicated}
-use Rattle.group_core.proofs.Prefixes.{Begins-trans}
+use Rattle.whole_logs.specs.ActingSets.{set_of}
+use Rattle.whole_logs.specs.Types.{Active as WholeActive, Daemon}
+use Rattle.whole_logs.specs.Each.{Each}
+use Rattle.whole_logs.specs.Group.{Group as WholeGroup, run as whole_run, start as whole_start}
+use Rattle.whole_logs.specs.Asked.{IsReplied}
+use Rattle.whole_logs.specs.History.{Begins, History, but_last}
+use Rattle.whole_logs.specs.Replicated.{IsLatest as IsWholeLatest}
+use Rattle.group_types.specs.Answers.{Answer}
+use Rattle.whole_logs.proofs.Fronts.{but_last-begins}
+use Rattle.whole_logs.proofs.Groups.{replicated}
+use Rattle.whole_logs.proofs.Prefixes.{Begins-trans}
 use Rattle.suffix_core.specs.Types.{Active, Copy}
-use Rattle.copy_core.specs.ActingSets.{others}
+use Rattle.peer_core.specs.ActingSets.{others}
 use Rattle.suffix_core.specs.Group.{Group, run, start}
 use Rattle.suffix_core.specs.Laws.{IsLatest, GroupHolds, DecidedIsHeld}
 use Rattle.suffix_core.proofs.Agreeing.{RoleAgrees, CopyAgrees}

@@ -7,17 +7,17 @@ use Rattle.entry_core.specs.Log.{Legal, ids, is_in}
 use Rattle.entry_core.specs.Request.{Sealed}
 use Rattle.entry_core.specs.Fitting.{part_of}
 use Rattle.entry_core.specs.declared.entry.Entry.{Entry}
-use Rattle.peer_core.specs.ActingSets.{set_of}
-use Rattle.peer_core.specs.Copy.{install_chosen as whole_install_chosen}
-use Rattle.peer_core.specs.Steps.{send as whole_send}
-use Rattle.group_core.specs.Types.{PeerInfo, Role as WholeRole, Installing as WholeInstalling, Active as WholeActive, Install as WholeInstall, Osd}
-use Rattle.group_core.specs.Each.{Each}
-use Rattle.group_core.specs.Asked.{IsAsked, InLog}
-use Rattle.group_core.specs.History.{History}
+use Rattle.whole_logs.specs.ActingSets.{set_of}
+use Rattle.whole_logs.specs.Copy.{install_chosen as whole_install_chosen}
+use Rattle.whole_logs.specs.Steps.{send as whole_send}
+use Rattle.whole_logs.specs.Types.{PeerInfo, Role as WholeRole, Installing as WholeInstalling, Active as WholeActive, Install as WholeInstall, Osd}
+use Rattle.whole_logs.specs.Each.{Each}
+use Rattle.whole_logs.specs.Asked.{IsAsked, InLog}
+use Rattle.whole_logs.specs.History.{History}
 use Rattle.suffix_core.specs.Types.{Offer, Active, Copy}
-use Rattle.copy_core.specs.ActingSets.{others}
-use Rattle.copy_core.specs.Beginnings.{told_ids, common, common_of, count_at}
-use Rattle.copy_core.specs.Copy.{install_from, install_chosen}
+use Rattle.peer_core.specs.ActingSets.{others}
+use Rattle.peer_core.specs.Beginnings.{told_ids, common, common_of, count_at}
+use Rattle.peer_core.specs.Copy.{install_from, install_chosen}
 use Rattle.suffix_core.specs.Standing.{Both}
 use Rattle.suffix_core.proofs.Agreeing.{IsPart, OfferAgrees, InstallAgrees, SentAgrees, StepAgrees, whole}
 use Rattle.suffix_core.proofs.Lists.{Both-map_each, Each-in, in-filter}

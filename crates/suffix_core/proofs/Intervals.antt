@@ -5,21 +5,21 @@ use Rattle.std.proofs.lemmas.Bool.{ltb-true, ltb-false, and_parts, not-true}
 use Rattle.entry_core.specs.Request.{Sealed}
 use Rattle.entry_core.specs.Fitting.{can_fit}
 use Rattle.entry_core.specs.declared.entry.Entry.{Entry}
-use Rattle.peer_core.specs.ActingSets.{set_of, is_primary, others as whole_others}
-use Rattle.peer_core.specs.Choice.{best as whole_best, own_offer as whole_own_offer, can_choose as whole_can_choose}
-use Rattle.peer_core.specs.Copy.{install_chosen as whole_install_chosen, try_choice as whole_try_choice, queries as whole_queries, learn_sets as whole_learn_sets, lead as whole_lead, on_interval as whole_on_interval}
-use Rattle.peer_core.specs.Steps.{still as whole_still, send as whole_send}
-use Rattle.group_core.specs.Types.{Role as WholeRole, Idle as WholeIdle, Peering as WholePeering, Installing as WholeInstalling, Active as WholeActive, Daemon, Query as WholeQuery, Osd}
-use Rattle.group_core.specs.Asked.{IsAsked, InLog}
-use Rattle.group_core.specs.History.{History, IsSound}
-use Rattle.group_core.proofs.Invariant.{IsKnown, Leads, RoleOk, StateOk, CopyOk}
-use Rattle.group_core.proofs.Changes.{put, promise_sound}
-use Rattle.group_core.proofs.Leading.{IsLeading, Leading, serve_leads}
-use Rattle.group_core.proofs.Rules.{StateOk-promise}
+use Rattle.whole_logs.specs.ActingSets.{set_of, is_primary, others as whole_others}
+use Rattle.whole_logs.specs.Choice.{best as whole_best, own_offer as whole_own_offer, can_choose as whole_can_choose}
+use Rattle.whole_logs.specs.Copy.{install_chosen as whole_install_chosen, try_choice as whole_try_choice, queries as whole_queries, learn_sets as whole_learn_sets, lead as whole_lead, on_interval as whole_on_interval}
+use Rattle.whole_logs.specs.Steps.{still as whole_still, send as whole_send}
+use Rattle.whole_logs.specs.Types.{Role as WholeRole, Idle as WholeIdle, Peering as WholePeering, Installing as WholeInstalling, Active as WholeActive, Daemon, Query as WholeQuery, Osd}
+use Rattle.whole_logs.specs.Asked.{IsAsked, InLog}
+use Rattle.whole_logs.specs.History.{History, IsSound}
+use Rattle.whole_logs.proofs.Invariant.{IsKnown, Leads, RoleOk, StateOk, CopyOk}
+use Rattle.whole_logs.proofs.Changes.{put, promise_sound}
+use Rattle.whole_logs.proofs.Leading.{IsLeading, Leading, serve_leads}
+use Rattle.whole_logs.proofs.Rules.{StateOk-promise}
 use Rattle.suffix_core.specs.Types.{Copy}
-use Rattle.copy_core.specs.Steps.{still, send}
-use Rattle.copy_core.specs.ActingSets.{asked}
-use Rattle.copy_core.specs.Copy.{try_choice, query, queries, learn_sets, leads, lead, on_interval}
+use Rattle.peer_core.specs.Steps.{still, send}
+use Rattle.peer_core.specs.ActingSets.{asked}
+use Rattle.peer_core.specs.Copy.{try_choice, query, queries, learn_sets, leads, lead, on_interval}
 use Rattle.suffix_core.specs.Standing.{Both}
 use Rattle.suffix_core.specs.Fits.{Fit, choice_fit, interval_fit}
 use Rattle.suffix_core.proofs.Agreeing.{Past, SentAgrees, CopyAgrees, StepAgrees, whole}

@@ -4,23 +4,23 @@ use Rattle.std.specs.Prelude.{Option, Some, None, slice_get, slice_set}
 use Rattle.std.proofs.lemmas.Bool.{cases_eq}
 use Rattle.entry_core.specs.Log.{is_in}
 use Rattle.entry_core.specs.declared.entry.Entry.{Entry}
-use Rattle.peer_core.specs.Copy.{on_body as whole_on_body}
-use Rattle.peer_core.specs.Decided.{decided_by as whole_decided_by}
-use Rattle.group_core.specs.Types.{Role as WholeRole, Idle as WholeIdle, Peering as WholePeering, Installing as WholeInstalling, Active as WholeActive, Daemon, Sent as WholeSent, Party, Osd, Client}
-use Rattle.group_core.specs.Each.{Each}
-use Rattle.group_core.specs.Group.{Group as WholeGroup, Event, Submit, Deliver, Lose, Repeat, NewInterval, Restart, Kick, last_set, is_answered, is_submitted, same_set, group_step as whole_group_step, run as whole_run, start as whole_start}
-use Rattle.group_core.specs.Asked.{IsAsked, InCopy, InBody}
-use Rattle.group_core.specs.History.{Begins, History, Held, IsSound, but_last, IsSettled}
-use Rattle.group_core.proofs.Eaches.{Each-get}
-use Rattle.group_core.proofs.Fronts.{but_last-begins, IsSettled-shorter, settled_begins}
-use Rattle.group_core.proofs.Groups.{get-set_same, get-set_other, get-map, audit_grows}
-use Rattle.group_core.proofs.Invariant.{RoleOk, StateOk, CopyOk, SentOk, Extends}
-use Rattle.group_core.proofs.Prefixes.{Begins-trans, Begins-refl, Begins-nil, Begins-take, Begins-compare}
-use Rattle.group_core.proofs.Stable.{IsSettled-stays}
+use Rattle.whole_logs.specs.Copy.{on_body as whole_on_body}
+use Rattle.whole_logs.specs.Decided.{decided_by as whole_decided_by}
+use Rattle.whole_logs.specs.Types.{Role as WholeRole, Idle as WholeIdle, Peering as WholePeering, Installing as WholeInstalling, Active as WholeActive, Daemon, Sent as WholeSent, Party, Osd, Client}
+use Rattle.whole_logs.specs.Each.{Each}
+use Rattle.whole_logs.specs.Group.{Group as WholeGroup, Event, Submit, Deliver, Lose, Repeat, NewInterval, Restart, Kick, last_set, is_answered, is_submitted, same_set, group_step as whole_group_step, run as whole_run, start as whole_start}
+use Rattle.whole_logs.specs.Asked.{IsAsked, InCopy, InBody}
+use Rattle.whole_logs.specs.History.{Begins, History, Held, IsSound, but_last, IsSettled}
+use Rattle.whole_logs.proofs.Eaches.{Each-get}
+use Rattle.whole_logs.proofs.Fronts.{but_last-begins, IsSettled-shorter, settled_begins}
+use Rattle.whole_logs.proofs.Groups.{get-set_same, get-set_other, get-map, audit_grows}
+use Rattle.whole_logs.proofs.Invariant.{RoleOk, StateOk, CopyOk, SentOk, Extends}
+use Rattle.whole_logs.proofs.Prefixes.{Begins-trans, Begins-refl, Begins-nil, Begins-take, Begins-compare}
+use Rattle.whole_logs.proofs.Stable.{IsSettled-stays}
 use Rattle.suffix_core.specs.Types.{Role, Idle, Peering, Installing, Active, Body, Interval, Query, Info, Install, Installed, Append, Appended, Request, Reply, NotHere, Sent, Copy}
-use Rattle.copy_core.specs.Steps.{restarted}
-use Rattle.copy_core.specs.Decided.{decided_by}
-use Rattle.copy_core.specs.Copy.{on_body}
+use Rattle.peer_core.specs.Steps.{restarted}
+use Rattle.peer_core.specs.Decided.{decided_by}
+use Rattle.peer_core.specs.Copy.{on_body}
 use Rattle.suffix_core.specs.Group.{Group, answered, copy_hears, arrives, without, deliver, lose, again, has_all_requests, has_all_intervals, take_request, begin, with_up, group_step, run, start}
 use Rattle.suffix_core.specs.Laws.{CopyKeeps, GroupKeeps, PromisesAreKept}
 use Rattle.suffix_core.proofs.Agreeing.{BodyAgrees, SentAgrees, CopyAgrees}

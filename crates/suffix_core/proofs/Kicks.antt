@@ -5,23 +5,23 @@ use Rattle.std.specs.List.{filter}
 use Rattle.entry_core.specs.Log.{is_in}
 use Rattle.entry_core.specs.Fitting.{part_of, last_id}
 use Rattle.entry_core.specs.declared.entry.Entry.{Entry}
-use Rattle.peer_core.specs.ActingSets.{asked as whole_asked, others as whole_others}
-use Rattle.peer_core.specs.Choice.{is_informed as whole_is_informed}
-use Rattle.peer_core.specs.Decided.{last}
-use Rattle.peer_core.specs.Copy.{append_again as whole_append_again, uninformed as whole_uninformed, retransmit_as as whole_retransmit_as}
-use Rattle.peer_core.specs.Steps.{send as whole_send}
-use Rattle.group_core.specs.Types.{Role as WholeRole, Idle as WholeIdle, Peering as WholePeering, Installing as WholeInstalling, Active as WholeActive, Daemon, Query as WholeQuery, Install as WholeInstall, Append as WholeAppend, Osd}
-use Rattle.group_core.specs.Each.{Each}
-use Rattle.group_core.specs.History.{History}
-use Rattle.group_core.proofs.Eaches.{Each-map_all}
-use Rattle.group_core.proofs.Groups.{last_is}
-use Rattle.group_core.proofs.Invariant.{Owns, IsPlaced, RoleOk, StateOk, CopyOk, SentOk}
+use Rattle.whole_logs.specs.ActingSets.{asked as whole_asked, others as whole_others}
+use Rattle.whole_logs.specs.Choice.{is_informed as whole_is_informed}
+use Rattle.whole_logs.specs.Decided.{last}
+use Rattle.whole_logs.specs.Copy.{append_again as whole_append_again, uninformed as whole_uninformed, retransmit_as as whole_retransmit_as}
+use Rattle.whole_logs.specs.Steps.{send as whole_send}
+use Rattle.whole_logs.specs.Types.{Role as WholeRole, Idle as WholeIdle, Peering as WholePeering, Installing as WholeInstalling, Active as WholeActive, Daemon, Query as WholeQuery, Install as WholeInstall, Append as WholeAppend, Osd}
+use Rattle.whole_logs.specs.Each.{Each}
+use Rattle.whole_logs.specs.History.{History}
+use Rattle.whole_logs.proofs.Eaches.{Each-map_all}
+use Rattle.whole_logs.proofs.Groups.{last_is}
+use Rattle.whole_logs.proofs.Invariant.{Owns, IsPlaced, RoleOk, StateOk, CopyOk, SentOk}
 use Rattle.suffix_core.specs.Types.{Append, Offer, Role, Idle, Peering, Installing, Active, Copy}
-use Rattle.copy_core.specs.Steps.{send}
-use Rattle.copy_core.specs.ActingSets.{others, asked, missing}
-use Rattle.copy_core.specs.Choice.{is_informed}
-use Rattle.copy_core.specs.Beginnings.{count_at}
-use Rattle.copy_core.specs.Copy.{query, install_from, append_again, uninformed, retransmit_as}
+use Rattle.peer_core.specs.Steps.{send}
+use Rattle.peer_core.specs.ActingSets.{others, asked, missing}
+use Rattle.peer_core.specs.Choice.{is_informed}
+use Rattle.peer_core.specs.Beginnings.{count_at}
+use Rattle.peer_core.specs.Copy.{query, install_from, append_again, uninformed, retransmit_as}
 use Rattle.suffix_core.specs.Standing.{Both}
 use Rattle.suffix_core.proofs.Agreeing.{Past, InstallAgrees, QueryAgrees, SentAgrees, RoleAgrees, whole}
 use Rattle.suffix_core.proofs.Lists.{Both-map, Both-map_each, Each-in, in-filter}

@@ -8,12 +8,12 @@ use Rattle.entry_core.specs.Request.{Sealed}
 use Rattle.entry_core.specs.Fitting.{requests_of, part_of}
 use Rattle.entry_core.specs.FittingLaws.{SameNext}
 use Rattle.entry_core.specs.declared.entry.Entry.{Entry}
-use Rattle.group_core.specs.Group.{submitted}
-use Rattle.group_core.specs.Asked.{IsAsked, InLog}
-use Rattle.group_core.specs.History.{Begins}
-use Rattle.group_core.proofs.Eaches.{Each-get}
-use Rattle.group_core.proofs.Logs.{LegalFrom-at, LegalFrom-front}
-use Rattle.copy_core.specs.Beginnings.{common}
+use Rattle.whole_logs.specs.Group.{submitted}
+use Rattle.whole_logs.specs.Asked.{IsAsked, InLog}
+use Rattle.whole_logs.specs.History.{Begins}
+use Rattle.whole_logs.proofs.Eaches.{Each-get}
+use Rattle.whole_logs.proofs.Logs.{LegalFrom-at, LegalFrom-front}
+use Rattle.peer_core.specs.Beginnings.{common}
 use Rattle.suffix_core.proofs.Lists.{Each-front, Each-rest, get-split}
 
 pub legal_of : (xs ys : List Entry) → Begins xs ys → Legal ys → Legal xs

@@ -4,8 +4,8 @@ use Rattle.std.specs.Prelude.{Option, Some, None, slice_get, slice_set}
 use Rattle.std.specs.List.{filter, remove}
 use Rattle.std.proofs.lemmas.Bool.{or_cases, eq-eqb, eqb-true, both_ways}
 use Rattle.entry_core.specs.Log.{is_in}
-use Rattle.group_core.specs.Each.{Each}
-use Rattle.group_core.proofs.Leading.{or_true}
+use Rattle.whole_logs.specs.Each.{Each}
+use Rattle.whole_logs.proofs.Leading.{or_true}
 use Rattle.suffix_core.specs.Standing.{Both}
 
 -- the same of two places

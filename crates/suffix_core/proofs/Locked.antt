@@ -4,18 +4,18 @@ use Rattle.std.specs.Prelude.{Some, slice_get}
 use Rattle.std.specs.List.{remove}
 use Rattle.entry_core.specs.Request.{Sealed}
 use Rattle.entry_core.specs.declared.entry.Entry.{Entry}
-use Rattle.peer_core.specs.Steps.{restarted as whole_restarted}
-use Rattle.group_core.specs.Types.{Role as WholeRole, Idle as WholeIdle, Daemon, Request as WholeRequest, Sent as WholeSent}
-use Rattle.group_core.specs.Each.{Each}
-use Rattle.group_core.specs.Group.{Group as WholeGroup, submitted, to_daemon as whole_to_daemon, to_primary as whole_to_primary}
-use Rattle.group_core.specs.Asked.{IsAsked, InLog}
-use Rattle.group_core.specs.History.{History, IsSound}
-use Rattle.group_core.proofs.Eaches.{Each-append, Each-remove, Each-weaker}
-use Rattle.group_core.proofs.Invariant.{CopyOk, SentOk}
-use Rattle.group_core.proofs.Longer.{IsSound-longer, CopyOk-longer, BodyOk-longer}
-use Rattle.group_core.proofs.Groups.{get-map}
+use Rattle.whole_logs.specs.Steps.{restarted as whole_restarted}
+use Rattle.whole_logs.specs.Types.{Role as WholeRole, Idle as WholeIdle, Daemon, Request as WholeRequest, Sent as WholeSent}
+use Rattle.whole_logs.specs.Each.{Each}
+use Rattle.whole_logs.specs.Group.{Group as WholeGroup, submitted, to_daemon as whole_to_daemon, to_primary as whole_to_primary}
+use Rattle.whole_logs.specs.Asked.{IsAsked, InLog}
+use Rattle.whole_logs.specs.History.{History, IsSound}
+use Rattle.whole_logs.proofs.Eaches.{Each-append, Each-remove, Each-weaker}
+use Rattle.whole_logs.proofs.Invariant.{CopyOk, SentOk}
+use Rattle.whole_logs.proofs.Longer.{IsSound-longer, CopyOk-longer, BodyOk-longer}
+use Rattle.whole_logs.proofs.Groups.{get-map}
 use Rattle.suffix_core.specs.Types.{Request, Sent, Copy}
-use Rattle.copy_core.specs.Steps.{restarted}
+use Rattle.peer_core.specs.Steps.{restarted}
 use Rattle.suffix_core.specs.Group.{Group, to_daemon, to_primary}
 use Rattle.suffix_core.specs.Standing.{Both}
 use Rattle.suffix_core.proofs.Agreeing.{SentAgrees, CopyAgrees, whole}

@@ -1,9 +1,9 @@
 -- Each delivery and each loss lowers the budget, as it does in the group for which it stands.
 use Rattle.std.proofs.Common.{ℕ, ◌≡◌, ◌≤◌, ◌+◌, ◌-◌, [], slice_get, ◌∙◌, ap, arith}
 use Rattle.std.specs.Prelude.{Some}
-use Rattle.group_core.specs.Group.{Group as WholeGroup, settle as whole_settle, group_step as whole_group_step}
-use Rattle.group_core.proofs.Reached.{reached_bounded}
-use Rattle.group_core.proofs.Settles.{Bounded, deliver_lowers as whole_deliver_lowers, lose_lowers as whole_lose_lowers, settle_done as whole_settle_done, delivered_few as whole_delivered_few}
+use Rattle.whole_logs.specs.Group.{Group as WholeGroup, settle as whole_settle, group_step as whole_group_step}
+use Rattle.whole_logs.proofs.Reached.{reached_bounded}
+use Rattle.whole_logs.proofs.Settles.{Bounded, deliver_lowers as whole_deliver_lowers, lose_lowers as whole_lose_lowers, settle_done as whole_settle_done, delivered_few as whole_delivered_few}
 use Rattle.suffix_core.specs.Standing.{SameSent, StandsFor}
 use Rattle.suffix_core.specs.Types.{Sent}
 use Rattle.suffix_core.specs.Group.{Group, Event, Deliver, Lose, group_step, settle, delivered}

@@ -6,20 +6,20 @@ use Rattle.entry_core.specs.Log.{decide, is_in, ids}
 use Rattle.entry_core.specs.Request.{Sealed}
 use Rattle.entry_core.specs.Fitting.{fitted}
 use Rattle.entry_core.specs.declared.entry.Entry.{Entry}
-use Rattle.peer_core.specs.Serve.{serve as whole_serve}
-use Rattle.peer_core.specs.Decided.{with_entry as whole_with_entry, last}
-use Rattle.peer_core.specs.Copy.{promise_interval as whole_promise_interval, on_install as whole_on_install, on_installed as whole_on_installed, acknowledged as whole_acknowledged, on_append as whole_on_append, complete as whole_complete, on_appended as whole_on_appended}
-use Rattle.peer_core.specs.Steps.{still as whole_still, send as whole_send}
-use Rattle.group_core.specs.Types.{Role as WholeRole, Idle as WholeIdle, Installing as WholeInstalling, Active as WholeActive, Daemon, Installed as WholeInstalled, Appended as WholeAppended, Party}
-use Rattle.group_core.specs.Asked.{IsAsked, InLog}
-use Rattle.group_core.specs.History.{History, IsSound}
-use Rattle.group_core.proofs.Invariant.{RoleOk, CopyOk}
+use Rattle.whole_logs.specs.Serve.{serve as whole_serve}
+use Rattle.whole_logs.specs.Decided.{with_entry as whole_with_entry, last}
+use Rattle.whole_logs.specs.Copy.{promise_interval as whole_promise_interval, on_install as whole_on_install, on_installed as whole_on_installed, acknowledged as whole_acknowledged, on_append as whole_on_append, complete as whole_complete, on_appended as whole_on_appended}
+use Rattle.whole_logs.specs.Steps.{still as whole_still, send as whole_send}
+use Rattle.whole_logs.specs.Types.{Role as WholeRole, Idle as WholeIdle, Installing as WholeInstalling, Active as WholeActive, Daemon, Installed as WholeInstalled, Appended as WholeAppended, Party}
+use Rattle.whole_logs.specs.Asked.{IsAsked, InLog}
+use Rattle.whole_logs.specs.History.{History, IsSound}
+use Rattle.whole_logs.proofs.Invariant.{RoleOk, CopyOk}
 use Rattle.suffix_core.specs.Types.{Installed, Role, Idle, Peering, Installing, Active, Copy}
-use Rattle.copy_core.specs.Steps.{still, send}
-use Rattle.copy_core.specs.ActingSets.{others, counted, all_count}
-use Rattle.copy_core.specs.Decided.{with_entry}
-use Rattle.copy_core.specs.Serve.{serve}
-use Rattle.copy_core.specs.Copy.{promise_interval, install_fitted, on_install, on_installed, acknowledged, on_append, complete, on_appended}
+use Rattle.peer_core.specs.Steps.{still, send}
+use Rattle.peer_core.specs.ActingSets.{others, counted, all_count}
+use Rattle.peer_core.specs.Decided.{with_entry}
+use Rattle.peer_core.specs.Serve.{serve}
+use Rattle.peer_core.specs.Copy.{promise_interval, install_fitted, on_install, on_installed, acknowledged, on_append, complete, on_appended}
 use Rattle.suffix_core.proofs.Agreeing.{Past, IsPart, InstallAgrees, RoleAgrees, CopyAgrees, StepAgrees, whole}
 use Rattle.suffix_core.proofs.Leading.{legal_of, asked_of}
 use Rattle.suffix_core.proofs.Pasts.{past_unique, past_of_state}

@@ -4,12 +4,12 @@ use Rattle.std.specs.List.{list_any, list_all}
 use Rattle.std.proofs.lemmas.List.{length-drop, length-map}
 use Rattle.entry_core.specs.Request.{Sealed}
 use Rattle.entry_core.specs.declared.entry.Entry.{Entry}
-use Rattle.peer_core.specs.ActingSets.{set_of}
-use Rattle.peer_core.specs.Choice.{covers, is_better as whole_is_better, best as whole_best, own_offer as whole_own_offer, is_informed as whole_is_informed, can_choose as whole_can_choose}
-use Rattle.group_core.specs.Types.{PeerInfo, Role as WholeRole}
-use Rattle.group_core.specs.History.{History}
+use Rattle.whole_logs.specs.ActingSets.{set_of}
+use Rattle.whole_logs.specs.Choice.{covers, is_better as whole_is_better, best as whole_best, own_offer as whole_own_offer, is_informed as whole_is_informed, can_choose as whole_can_choose}
+use Rattle.whole_logs.specs.Types.{PeerInfo, Role as WholeRole}
+use Rattle.whole_logs.specs.History.{History}
 use Rattle.suffix_core.specs.Types.{Offer, Copy}
-use Rattle.copy_core.specs.Choice.{size_of, is_better, best, own_offer, is_informed, can_choose}
+use Rattle.peer_core.specs.Choice.{size_of, is_better, best, own_offer, is_informed, can_choose}
 use Rattle.suffix_core.specs.Standing.{Both}
 use Rattle.suffix_core.proofs.Agreeing.{IsPart, OfferAgrees, whole}
 

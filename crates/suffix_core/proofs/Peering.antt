@@ -6,22 +6,22 @@ use Rattle.std.proofs.lemmas.Bool.{cases_eq, eqb-true, ltb-true, and_parts}
 use Rattle.entry_core.specs.Request.{Sealed}
 use Rattle.entry_core.specs.Fitting.{can_fit, fitted}
 use Rattle.entry_core.specs.declared.entry.Entry.{Entry}
-use Rattle.peer_core.specs.ActingSets.{set_of, others as whole_others}
-use Rattle.peer_core.specs.Choice.{best as whole_best, own_offer as whole_own_offer, is_informed as whole_is_informed, can_choose as whole_can_choose, covers}
-use Rattle.peer_core.specs.Copy.{install_chosen as whole_install_chosen, try_choice as whole_try_choice, on_info as whole_on_info}
-use Rattle.peer_core.specs.Steps.{still as whole_still}
-use Rattle.group_core.specs.Types.{PeerInfo, Role as WholeRole, Peering as WholePeering}
-use Rattle.group_core.specs.Each.{Each}
-use Rattle.group_core.specs.Offer.{IsTold, IsOffer}
-use Rattle.group_core.specs.Asked.{IsAsked, InLog}
-use Rattle.group_core.specs.History.{History, IsSound}
-use Rattle.group_core.proofs.Eaches.{Each-push}
-use Rattle.group_core.proofs.Invariant.{Leads, RoleOk, StateOk, CopyOk}
+use Rattle.whole_logs.specs.ActingSets.{set_of, others as whole_others}
+use Rattle.whole_logs.specs.Choice.{best as whole_best, own_offer as whole_own_offer, is_informed as whole_is_informed, can_choose as whole_can_choose, covers}
+use Rattle.whole_logs.specs.Copy.{install_chosen as whole_install_chosen, try_choice as whole_try_choice, on_info as whole_on_info}
+use Rattle.whole_logs.specs.Steps.{still as whole_still}
+use Rattle.whole_logs.specs.Types.{PeerInfo, Role as WholeRole, Peering as WholePeering}
+use Rattle.whole_logs.specs.Each.{Each}
+use Rattle.whole_logs.specs.Offer.{IsTold, IsOffer}
+use Rattle.whole_logs.specs.Asked.{IsAsked, InLog}
+use Rattle.whole_logs.specs.History.{History, IsSound}
+use Rattle.whole_logs.proofs.Eaches.{Each-push}
+use Rattle.whole_logs.proofs.Invariant.{Leads, RoleOk, StateOk, CopyOk}
 use Rattle.suffix_core.specs.Types.{Offer, Role, Idle, Peering, Installing, Active, Copy}
-use Rattle.copy_core.specs.Steps.{still}
-use Rattle.copy_core.specs.ActingSets.{others}
-use Rattle.copy_core.specs.Choice.{best, own_offer, is_informed, can_choose}
-use Rattle.copy_core.specs.Copy.{fit_chosen, try_choice, on_info_as, on_info}
+use Rattle.peer_core.specs.Steps.{still}
+use Rattle.peer_core.specs.ActingSets.{others}
+use Rattle.peer_core.specs.Choice.{best, own_offer, is_informed, can_choose}
+use Rattle.peer_core.specs.Copy.{fit_chosen, try_choice, on_info_as, on_info}
 use Rattle.suffix_core.specs.Standing.{Both}
 use Rattle.suffix_core.specs.Fits.{Fit, choice_fit, info_fit_as}
 use Rattle.suffix_core.proofs.Agreeing.{Past, InfoAgrees, ToldAgrees, OfferAgrees, RoleAgrees, CopyAgrees, StepAgrees, whole}

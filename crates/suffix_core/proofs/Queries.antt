@@ -8,16 +8,16 @@ use Rattle.entry_core.specs.Log.{Legal}
 use Rattle.entry_core.specs.Request.{Sealed}
 use Rattle.entry_core.specs.Fitting.{part_of, last_id}
 use Rattle.entry_core.specs.declared.entry.Entry.{Entry}
-use Rattle.peer_core.specs.Steps.{still as whole_still, send as whole_send}
-use Rattle.peer_core.specs.Copy.{promise_interval as whole_promise_interval, on_query as whole_on_query}
-use Rattle.group_core.specs.Types.{Role as WholeRole, Idle as WholeIdle, Daemon, Info as WholeInfo, Party, Osd, Client}
-use Rattle.group_core.specs.Asked.{IsAsked, InLog}
-use Rattle.group_core.specs.History.{History, IsSound}
-use Rattle.group_core.proofs.Invariant.{StateOk, CopyOk}
+use Rattle.whole_logs.specs.Steps.{still as whole_still, send as whole_send}
+use Rattle.whole_logs.specs.Copy.{promise_interval as whole_promise_interval, on_query as whole_on_query}
+use Rattle.whole_logs.specs.Types.{Role as WholeRole, Idle as WholeIdle, Daemon, Info as WholeInfo, Party, Osd, Client}
+use Rattle.whole_logs.specs.Asked.{IsAsked, InLog}
+use Rattle.whole_logs.specs.History.{History, IsSound}
+use Rattle.whole_logs.proofs.Invariant.{StateOk, CopyOk}
 use Rattle.suffix_core.specs.Types.{Idle, Copy}
-use Rattle.copy_core.specs.Steps.{still, send}
-use Rattle.copy_core.specs.ActingSets.{others}
-use Rattle.copy_core.specs.Copy.{promise_interval, info, same_id, agrees_at, start_for, on_query}
+use Rattle.peer_core.specs.Steps.{still, send}
+use Rattle.peer_core.specs.ActingSets.{others}
+use Rattle.peer_core.specs.Copy.{promise_interval, info, same_id, agrees_at, start_for, on_query}
 use Rattle.suffix_core.proofs.Agreeing.{Past, IsPart, QueryAgrees, OfBoth, ToldAgrees, InfoStands, RoleAgrees, CopyAgrees, StepAgrees, whole}
 use Rattle.suffix_core.proofs.Lists.{get-take, take-next, At, at_place}
 use Rattle.suffix_core.proofs.Leading.{legal_of, asked_of, same_at}

@@ -5,7 +5,7 @@ use Rattle.entry_core.specs.Log.{is_in}
 use Rattle.entry_core.specs.Request.{Sealed}
 use Rattle.suffix_core.specs.Types.{Party, Osd, Client, Sent}
 use Rattle.suffix_core.specs.Group.{Group, Event, Submit, Deliver, Lose, Repeat, NewInterval, Restart, Kick, Fault, NoMessage, Unreachable, Full, Doubled, last_set, copy_hears, arrives, without, deliver, lose, again, is_submitted, has_all_requests, has_all_intervals, take_request, refusal_to, refusal_at, missing_at, refusal_of, left_by, begin, with_up, same_set, group_step}
-use Rattle.copy_core.specs.Steps.{restarted}
+use Rattle.peer_core.specs.Steps.{restarted}
 
 pub refused_leaves : (g : Group) (e : Event) (fault : Fault) → refusal_of g e ≡ Some fault → group_step g e ≡ left_by g e fault
 refused_leaves g (Submit s) fault is = go (is_submitted g.requests s.id) (has_all_requests g) is

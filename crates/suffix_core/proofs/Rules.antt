@@ -1,14 +1,14 @@
 -- Each rule of a copy agrees with that of whole logs.
 use Rattle.std.proofs.Common.{ℕ, List, refl, sym, subst}
 use Rattle.entry_core.specs.Request.{Sealed}
-use Rattle.peer_core.specs.Copy.{on_body as whole_on_body}
-use Rattle.group_core.specs.Types.{Role as WholeRole, Body as WholeBody, Party, Osd, Client}
-use Rattle.group_core.specs.Asked.{IsAsked, InLog}
-use Rattle.group_core.specs.History.{History, IsSound}
-use Rattle.group_core.proofs.Invariant.{CopyOk, BodyOk, Extends}
+use Rattle.whole_logs.specs.Copy.{on_body as whole_on_body}
+use Rattle.whole_logs.specs.Types.{Role as WholeRole, Body as WholeBody, Party, Osd, Client}
+use Rattle.whole_logs.specs.Asked.{IsAsked, InLog}
+use Rattle.whole_logs.specs.History.{History, IsSound}
+use Rattle.whole_logs.proofs.Invariant.{CopyOk, BodyOk, Extends}
 use Rattle.suffix_core.specs.Types.{Body, Interval, Query, Info, Install, Installed, Append, Appended, Request, Reply, NotHere, Copy}
-use Rattle.copy_core.specs.ActingSets.{others}
-use Rattle.copy_core.specs.Copy.{on_body}
+use Rattle.peer_core.specs.ActingSets.{others}
+use Rattle.peer_core.specs.Copy.{on_body}
 use Rattle.suffix_core.proofs.Agreeing.{BodyAgrees, RoleAgrees, CopyAgrees, StepAgrees, whole}
 use Rattle.suffix_core.proofs.Pasts.{Past-stays, unchosen_before}
 use Rattle.suffix_core.proofs.Stays.{BodyAgrees-stays, RoleAgrees-stays}

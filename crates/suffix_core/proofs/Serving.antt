@@ -5,18 +5,18 @@ use Rattle.std.specs.List.{list_any}
 use Rattle.entry_core.specs.Log.{find, is_in, ids}
 use Rattle.entry_core.specs.Request.{Sealed}
 use Rattle.entry_core.specs.declared.entry.Entry.{Entry}
-use Rattle.peer_core.specs.Decided.{not_in_flight, with_entry as whole_with_entry}
-use Rattle.peer_core.specs.Serve.{push_new as whole_push_new, serve_one as whole_serve_one, serve as whole_serve}
-use Rattle.peer_core.specs.Steps.{Stepped as WholeStepped, still as whole_still, send as whole_send}
-use Rattle.peer_core.specs.Copy.{waits as whole_waits, busy_request as whole_busy_request, on_request_as as whole_on_request_as, on_request as whole_on_request, complete as whole_complete, acknowledged as whole_acknowledged}
-use Rattle.group_core.specs.Types.{Role as WholeRole, Active as WholeActive, Daemon, Append as WholeAppend, Appended as WholeAppended, Party, Osd, Sent as WholeSent}
-use Rattle.group_core.specs.History.{History}
+use Rattle.whole_logs.specs.Decided.{not_in_flight, with_entry as whole_with_entry}
+use Rattle.whole_logs.specs.Serve.{push_new as whole_push_new, serve_one as whole_serve_one, serve as whole_serve}
+use Rattle.whole_logs.specs.Steps.{Stepped as WholeStepped, still as whole_still, send as whole_send}
+use Rattle.whole_logs.specs.Copy.{waits as whole_waits, busy_request as whole_busy_request, on_request_as as whole_on_request_as, on_request as whole_on_request, complete as whole_complete, acknowledged as whole_acknowledged}
+use Rattle.whole_logs.specs.Types.{Role as WholeRole, Active as WholeActive, Daemon, Append as WholeAppend, Appended as WholeAppended, Party, Osd, Sent as WholeSent}
+use Rattle.whole_logs.specs.History.{History}
 use Rattle.suffix_core.specs.Types.{Append, Appended, Sent, Role, Idle, Peering, Installing, Active, Copy}
-use Rattle.copy_core.specs.Steps.{Stepped, still, send}
-use Rattle.copy_core.specs.ActingSets.{others}
-use Rattle.copy_core.specs.Decided.{with_entry}
-use Rattle.copy_core.specs.Serve.{push_new, serve_one, serve}
-use Rattle.copy_core.specs.Copy.{waits, busy_request, on_request_as, on_request, complete, acknowledged}
+use Rattle.peer_core.specs.Steps.{Stepped, still, send}
+use Rattle.peer_core.specs.ActingSets.{others}
+use Rattle.peer_core.specs.Decided.{with_entry}
+use Rattle.peer_core.specs.Serve.{push_new, serve_one, serve}
+use Rattle.peer_core.specs.Copy.{waits, busy_request, on_request_as, on_request, complete, acknowledged}
 use Rattle.suffix_core.proofs.Agreeing.{SentAgrees, RoleAgrees, CopyAgrees, StepAgrees, whole}
 use Rattle.suffix_core.proofs.Lists.{Both-map}
 

@@ -1,9 +1,9 @@
 -- Groups in step refuse the same events, and settle in as many deliveries.
 use Rattle.std.proofs.Common.{ℕ, zero, suc, ◌≡◌, ◌+◌, List, refl, sym, ◌∙◌, ap, subst}
 use Rattle.std.specs.Prelude.{Option, Some, None, slice_get}
-use Rattle.group_core.specs.Types.{Daemon, Party, Osd, Client, Sent as WholeSent}
-use Rattle.group_core.specs.Group.{Group as WholeGroup, Event, Submit, Deliver, Lose, Repeat, NewInterval, Restart, Kick, group_step as whole_group_step, run as whole_run, start as whole_start, refusal_to as whole_refusal_to, refusal_at as whole_refusal_at, missing_at as whole_missing_at, refusal_of as whole_refusal_of, settle as whole_settle, delivered_to as whole_delivered_to, delivered_now as whole_delivered_now, delivered as whole_delivered}
-use Rattle.group_core.specs.History.{History}
+use Rattle.whole_logs.specs.Types.{Daemon, Party, Osd, Client, Sent as WholeSent}
+use Rattle.whole_logs.specs.Group.{Group as WholeGroup, Event, Submit, Deliver, Lose, Repeat, NewInterval, Restart, Kick, group_step as whole_group_step, run as whole_run, start as whole_start, refusal_to as whole_refusal_to, refusal_at as whole_refusal_at, missing_at as whole_missing_at, refusal_of as whole_refusal_of, settle as whole_settle, delivered_to as whole_delivered_to, delivered_now as whole_delivered_now, delivered as whole_delivered}
+use Rattle.whole_logs.specs.History.{History}
 use Rattle.suffix_core.specs.Types.{Sent}
 use Rattle.suffix_core.specs.Group.{Group, group_step, run, start, refusal_to, refusal_at, missing_at, refusal_of, settle, delivered_to, delivered_now, delivered}
 use Rattle.suffix_core.specs.Standing.{StandsFor}

@@ -6,10 +6,10 @@ use Rattle.entry_core.specs.Log.{is_in, ids}
 use Rattle.entry_core.specs.Request.{Sealed}
 use Rattle.entry_core.specs.declared.entry.Entry.{Entry}
 use Rattle.entry_core.specs.declared.sealed.GroupId.{GroupId}
-use Rattle.copy_core.specs.Steps.{Stepped, restarted}
-use Rattle.copy_core.specs.Copy.{copy_step}
-use Rattle.copy_core.specs.Decided.{decided_by}
-use Rattle.group_core.specs.Each.{Each}
+use Rattle.peer_core.specs.Steps.{Stepped, restarted}
+use Rattle.peer_core.specs.Copy.{copy_step}
+use Rattle.peer_core.specs.Decided.{decided_by}
+use Rattle.whole_logs.specs.Each.{Each}
 use Rattle.suffix_core.specs.Types.{Copy, Body, Interval, Query, Info, Install, Installed, Append, Appended, Request, Reply, NotHere, Party, Osd, Client, Sent}
 use Rattle.suffix_core.specs.Group.{Group, Answer, Event, Submit, Deliver, Lose, Repeat, NewInterval, Restart, Kick, last_set, is_answered, answered, copy_hears, arrives, without, deliver, lose, again, is_submitted, has_all_requests, has_all_intervals, take_request, begin, with_up, same_set, group_step, run}
 

@@ -1,11 +1,11 @@
 -- A group in step with one that sends whole logs stands for it.
 use Rattle.std.proofs.Common.{ℕ, ◌≡◌, List, [], ◌∷◌, map, refl, sym, ap, subst}
 use Rattle.entry_core.specs.declared.entry.Entry.{Entry}
-use Rattle.group_core.specs.Types.{PeerInfo, Role as WholeRole, Body as WholeBody, Daemon, Party, Sent as WholeSent}
-use Rattle.group_core.specs.Group.{Group as WholeGroup, run as whole_run, start as whole_start}
-use Rattle.group_core.specs.History.{History}
+use Rattle.whole_logs.specs.Types.{PeerInfo, Role as WholeRole, Body as WholeBody, Daemon, Party, Sent as WholeSent}
+use Rattle.whole_logs.specs.Group.{Group as WholeGroup, run as whole_run, start as whole_start}
+use Rattle.whole_logs.specs.History.{History}
 use Rattle.suffix_core.specs.Types.{Body, Interval, Query, Info, Install, Installed, Append, Appended, Request, Reply, NotHere, Sent, Offer, Role, Idle, Peering, Installing, Active, Copy}
-use Rattle.copy_core.specs.ActingSets.{others}
+use Rattle.peer_core.specs.ActingSets.{others}
 use Rattle.suffix_core.specs.Group.{Group, run, start}
 use Rattle.suffix_core.specs.Standing.{Both, SameBody, SameSent, SameRole, SameCopy, StandsFor}
 use Rattle.suffix_core.specs.Laws.{SuffixesRefineWholeLogs}

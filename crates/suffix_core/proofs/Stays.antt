@@ -4,12 +4,12 @@ use Rattle.std.specs.Prelude.{None}
 use Rattle.entry_core.specs.Request.{Sealed}
 use Rattle.entry_core.specs.Fitting.{part_of}
 use Rattle.entry_core.specs.declared.entry.Entry.{Entry}
-use Rattle.group_core.specs.Types.{PeerInfo, Role as WholeRole, Daemon, Body as WholeBody, Party, Osd, Client, Sent as WholeSent}
-use Rattle.group_core.specs.History.{History}
-use Rattle.group_core.proofs.Invariant.{OfOsd}
+use Rattle.whole_logs.specs.Types.{PeerInfo, Role as WholeRole, Daemon, Body as WholeBody, Party, Osd, Client, Sent as WholeSent}
+use Rattle.whole_logs.specs.History.{History}
+use Rattle.whole_logs.proofs.Invariant.{OfOsd}
 use Rattle.suffix_core.specs.Types.{Body, Interval, Query, Info, Install, Installed, Append, Appended, Request, Reply, NotHere, Sent, Offer, Role, Idle, Peering, Installing, Active, Copy}
-use Rattle.copy_core.specs.ActingSets.{others}
-use Rattle.copy_core.specs.Beginnings.{count_at}
+use Rattle.peer_core.specs.ActingSets.{others}
+use Rattle.peer_core.specs.Beginnings.{count_at}
 use Rattle.suffix_core.specs.Standing.{Both}
 use Rattle.suffix_core.proofs.Agreeing.{Past, QueryAgrees, InfoAgrees, ToldAgrees, OfferAgrees, InstallAgrees, OfBoth, BodyAgrees, SentAgrees, RoleAgrees, CopyAgrees}
 use Rattle.suffix_core.proofs.Lists.{Both-weaker}

@@ -2,14 +2,14 @@
 use Rattle.std.proofs.Common.{ℕ, zero, suc, ◌≤◌, List, [], ◌∷◌, ◌++◌, refl, ◌∙◌, ap, subst}
 use Rattle.entry_core.specs.Log.{Legal}
 use Rattle.entry_core.specs.declared.sealed.GroupId.{GroupId}
-use Rattle.group_core.specs.Each.{Each}
-use Rattle.group_core.specs.Asked.{HasSubmit, IsAsked, InLog, IsReplied}
-use Rattle.group_core.specs.Group.{Group as WholeGroup, run as whole_run, start as whole_start, settle as whole_settle, group_step as whole_group_step}
-use Rattle.group_core.specs.Reached.{IsReached as IsWholeReached}
-use Rattle.group_core.proofs.Eaches.{Each-append}
-use Rattle.group_core.proofs.Groups.{audit_legal}
-use Rattle.group_core.proofs.Refusals.{run_sets, start_sets}
-use Rattle.group_core.proofs.Submits.{all_submitted as whole_all_submitted}
+use Rattle.whole_logs.specs.Each.{Each}
+use Rattle.whole_logs.specs.Asked.{HasSubmit, IsAsked, InLog, IsReplied}
+use Rattle.whole_logs.specs.Group.{Group as WholeGroup, run as whole_run, start as whole_start, settle as whole_settle, group_step as whole_group_step}
+use Rattle.whole_logs.specs.Reached.{IsReached as IsWholeReached}
+use Rattle.whole_logs.proofs.Eaches.{Each-append}
+use Rattle.whole_logs.proofs.Groups.{audit_legal}
+use Rattle.whole_logs.proofs.Refusals.{run_sets, start_sets}
+use Rattle.whole_logs.proofs.Submits.{all_submitted as whole_all_submitted}
 use Rattle.suffix_core.specs.Group.{Group, Answer, Event, Deliver, group_step, run, start, settle, IsSet, EventFits}
 use Rattle.suffix_core.specs.Laws.{GroupHolds}
 use Rattle.suffix_core.specs.Reached.{IsReached}

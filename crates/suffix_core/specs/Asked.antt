@@ -1,8 +1,8 @@
 -- Statement: contracts of public calls use it.
 -- Where a request that a group holds comes from.
 use Rattle.entry_core.specs.Request.{Sealed}
-use Rattle.group_core.specs.Asked.{IsAsked, InLog}
-use Rattle.group_core.specs.Each.{Each}
+use Rattle.whole_logs.specs.Asked.{IsAsked, InLog}
+use Rattle.whole_logs.specs.Each.{Each}
 use Rattle.suffix_core.specs.Group.{Group}
 use Rattle.suffix_core.specs.Types.{Role, Idle, Peering, Installing, Active, Copy, Body, Interval, Query, Info, Install, Installed, Append, Appended, Request, Reply, NotHere}
 

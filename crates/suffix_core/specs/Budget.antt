@@ -1,7 +1,7 @@
 -- Statement: contracts of public calls use it.
 -- How many deliveries a group can still make.
 use Rattle.std.specs.Prelude.{ℕ, ◌+◌, ◌*◌, List, [], ◌∷◌, length}
-use Rattle.group_core.specs.Budget.{flight_budget}
+use Rattle.whole_logs.specs.Budget.{flight_budget}
 use Rattle.suffix_core.specs.Group.{Group, settle, delivered}
 use Rattle.suffix_core.specs.Types.{Role, Idle, Peering, Installing, Active, Copy, Body, Interval, Query, Info, Install, Installed, Append, Appended, Request, Reply, NotHere, Sent}
 

@@ -4,8 +4,8 @@ use Rattle.std.specs.Prelude.{ℕ, ◌≡◌, true, ◌==◌, ◌&&◌, not, nat
 use Rattle.entry_core.specs.Request.{Sealed}
 use Rattle.entry_core.specs.Fitting.{can_fit}
 use Rattle.suffix_core.specs.Types.{Party, Client, Osd, Body, Interval, Query, Info, Install, Installed, Append, Appended, Request, Reply, NotHere, Sent, Offer, Role, Idle, Peering, Installing, Active, Copy}
-use Rattle.copy_core.specs.Choice.{best, own_offer, is_informed, can_choose}
-use Rattle.copy_core.specs.Copy.{learn_sets, leads}
+use Rattle.peer_core.specs.Choice.{best, own_offer, is_informed, can_choose}
+use Rattle.peer_core.specs.Copy.{learn_sets, leads}
 use Rattle.suffix_core.specs.Group.{Group}
 
 -- the copy's log is fitted to that part, from that place on

@@ -3,14 +3,14 @@
 use Rattle.std.specs.Prelude.{ℕ, ◌≡◌, ◌≤◌, true, List, Option, Some, slice_get}
 use Rattle.entry_core.specs.Log.{is_in}
 use Rattle.entry_core.specs.declared.sealed.GroupId.{GroupId}
-use Rattle.peer_core.specs.ActingSets.{set_of}
-use Rattle.group_core.specs.Each.{Each}
-use Rattle.group_core.specs.History.{Begins, but_last}
-use Rattle.group_core.specs.Asked.{IsReplied}
-use Rattle.group_core.specs.Group.{Event, run as whole_run, start as whole_start, refusal_of as whole_refusal_of, settle as whole_settle, delivered as whole_delivered}
-use Rattle.group_core.specs.declared.answers.Answer.{Answer}
+use Rattle.whole_logs.specs.ActingSets.{set_of}
+use Rattle.whole_logs.specs.Each.{Each}
+use Rattle.whole_logs.specs.History.{Begins, but_last}
+use Rattle.whole_logs.specs.Asked.{IsReplied}
+use Rattle.whole_logs.specs.Group.{Event, run as whole_run, start as whole_start, refusal_of as whole_refusal_of, settle as whole_settle, delivered as whole_delivered}
+use Rattle.group_types.specs.Answers.{Answer}
 use Rattle.suffix_core.specs.Types.{Active, Copy}
-use Rattle.copy_core.specs.Decided.{decided_by}
+use Rattle.peer_core.specs.Decided.{decided_by}
 use Rattle.suffix_core.specs.Group.{Group, group_step, run, start, refusal_of, settle, delivered}
 use Rattle.suffix_core.specs.Standing.{StandsFor}
 use Rattle.suffix_core.specs.Fits.{FitsAnswerTrue}

@@ -4,7 +4,7 @@ use Rattle.std.specs.Prelude.{ℕ, ◌≡◌, ◌≤◌, List, Some, None, Resul
 use Rattle.entry_core.specs.declared.sealed.GroupId.{GroupId}
 use Rattle.entry_core.specs.Request.{Sealed}
 use Rattle.suffix_core.specs.Types.{Sent}
-use Rattle.group_core.specs.Each.{Each}
+use Rattle.whole_logs.specs.Each.{Each}
 use Rattle.suffix_core.specs.Group.{Group, Event, Submit, Fault, NoMessage, Unreachable, Full, OutOfMemory, Doubled, IsSet, EventFits, run, start, settle, group_step, refusal_of, left_by}
 use Rattle.suffix_core.specs.Budget.{settled_group, settle_count}
 

@@ -2,7 +2,7 @@
 -- Recovery by hand (this project's profile): whether a kick gets every request answered in a group that lost its messages.
 use Rattle.std.specs.Prelude.{ℕ, ◌-◌, Bool, not, ◌&&◌, nat_lt, List, [], ◌∷◌, length, take, max, if◌then◌else◌}
 use Rattle.entry_core.specs.Log.{is_in}
-use Rattle.peer_core.specs.Choice.{covers}
+use Rattle.whole_logs.specs.Choice.{covers}
 use Rattle.suffix_core.specs.Types.{Daemon}
 use Rattle.suffix_core.specs.Group.{Group, last_set}
 

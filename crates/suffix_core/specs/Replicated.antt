@@ -2,8 +2,8 @@
 -- What every group keeps, whatever happens.
 use Rattle.std.specs.Prelude.{ℕ, ◌≡◌, true, List, Option, Some, slice_get}
 use Rattle.entry_core.specs.Log.{is_in}
-use Rattle.peer_core.specs.ActingSets.{set_of}
-use Rattle.group_core.specs.History.{Begins}
+use Rattle.whole_logs.specs.ActingSets.{set_of}
+use Rattle.whole_logs.specs.History.{Begins}
 use Rattle.suffix_core.specs.Laws.{IsLatest}
 use Rattle.suffix_core.specs.Group.{Group}
 use Rattle.suffix_core.specs.Types.{Active, Copy}

@@ -2,7 +2,7 @@
 -- What holds of each copy by itself, whatever was delivered.
 use Rattle.std.specs.Prelude.{ℕ, ◌≡◌, ◌≤◌, length}
 use Rattle.entry_core.specs.Log.{Legal}
-use Rattle.group_core.specs.Each.{Each}
+use Rattle.whole_logs.specs.Each.{Each}
 use Rattle.suffix_core.specs.Types.{Role, Idle, Peering, Installing, Active, Copy}
 use Rattle.suffix_core.specs.Group.{Group}
 

@@ -2,8 +2,8 @@
 -- When a group whose peering sends suffixes stands for one whose peering sends whole logs.
 use Rattle.std.specs.Prelude.{ℕ, ◌≡◌, List, [], ◌∷◌, map}
 use Rattle.entry_core.specs.declared.entry.Entry.{Entry}
-use Rattle.group_core.specs.Types.{PeerInfo, Body as WholeBody, Interval as WholeInterval, Query as WholeQuery, Info as WholeInfo, Install as WholeInstall, Installed as WholeInstalled, Append as WholeAppend, Appended as WholeAppended, Request as WholeRequest, Reply as WholeReply, NotHere as WholeNotHere, Sent as WholeSent, Role as WholeRole, Idle as WholeIdle, Peering as WholePeering, Installing as WholeInstalling, Active as WholeActive, Daemon}
-use Rattle.group_core.specs.Group.{Group as WholeGroup}
+use Rattle.whole_logs.specs.Types.{PeerInfo, Body as WholeBody, Interval as WholeInterval, Query as WholeQuery, Info as WholeInfo, Install as WholeInstall, Installed as WholeInstalled, Append as WholeAppend, Appended as WholeAppended, Request as WholeRequest, Reply as WholeReply, NotHere as WholeNotHere, Sent as WholeSent, Role as WholeRole, Idle as WholeIdle, Peering as WholePeering, Installing as WholeInstalling, Active as WholeActive, Daemon}
+use Rattle.whole_logs.specs.Group.{Group as WholeGroup}
 use Rattle.suffix_core.specs.Types.{Body, Interval, Query, Info, Install, Installed, Append, Appended, Request, Reply, NotHere, Sent, Offer, Role, Idle, Peering, Installing, Active, Copy}
 use Rattle.suffix_core.specs.Group.{Group}
 

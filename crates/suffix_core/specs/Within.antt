@@ -1,7 +1,7 @@
 -- Statement: contracts of other crates use it.
 -- A group whose acting sets each lay within the daemons that were up, as the map gives them.
-use Rattle.group_core.specs.Each.{Each}
-use Rattle.group_core.specs.Within.{LiesWithin, ActsWithin}
+use Rattle.whole_logs.specs.Each.{Each}
+use Rattle.whole_logs.specs.Within.{LiesWithin, ActsWithin}
 use Rattle.suffix_core.specs.Group.{Group}
 use Rattle.suffix_core.specs.Reached.{IsReached}
 

@@ -5,7 +5,7 @@ use Rattle.std.specs.Option.{option_map}
 use Rattle.entry_core.specs.Request.{Sealed}
 use Rattle.entry_core.specs.Log.{ids}
 use Rattle.entry_core.specs.declared.sealed.GroupId.{GroupId}
-use Rattle.group_core.specs.Group.{Submit, Deliver, Lose, NewInterval, Kick}
+use Rattle.whole_logs.specs.Group.{Submit, Deliver, Lose, NewInterval, Kick}
 use Rattle.suffix_core.specs.Types.{Osd, Query, Info, Install, Sent, Copy}
 use Rattle.suffix_core.specs.Fits.{Fit, fit_at}
 use Rattle.suffix_core.specs.Group.{Group, group_step, run, start, settle}

@@ -4,8 +4,8 @@ use Rattle.std.specs.List.{remove, slice_get}
 use Rattle.std.proofs.lemmas.List.{append-nil, append_assoc}
 use Rattle.entry_core.specs.Log.{is_in}
 use Rattle.entry_core.specs.Request.{Sealed}
-use Rattle.copy_core.specs.Copy.{copy_step}
-use Rattle.copy_core.specs.Steps.{restarted}
+use Rattle.peer_core.specs.Copy.{copy_step}
+use Rattle.peer_core.specs.Steps.{restarted}
 use Rattle.suffix_core.specs.Types.{Party, Client, Osd, Body, Interval, Query, Info, Install, Installed, Append, Appended, Request, Reply, NotHere, Sent, Daemon}
 use Rattle.suffix_core.specs.Group.{Group, Event, Submit, Deliver, Lose, Repeat, NewInterval, Restart, Kick, group_step, answered, is_answered, arrives, copy_hears, deliver, lose, again, without, begin, with_up, submit, take_request, is_submitted, has_all_requests, has_all_intervals, new_interval, same_set, last_set, announced, resent, retransmit_primary, to_primary}
 use Rattle.wire_steps.specs.Wire.{kept, place_of, TakesAndSends}

@@ -5,7 +5,7 @@ ghost use Rattle.suffix_core.specs.Types.{Sent};
 ghost use Rattle.wire_steps.specs.Wire.{taken_from, kept, TellsStep};
 
 use common_types::{Items, OutOfMemory, TryCopy};
-use copy_core::Sent;
+use peer_core::Sent;
 use std::alloc::Global;
 
 /// What is kept of a wire before a step, to tell afterwards what the step did.

@@ -11,7 +11,7 @@ use cluster::{
 use common_types::Name;
 use entry_core::Reply;
 use grant_core::ProfileTable;
-use group_core::GroupFault;
+use group_types::GroupFault;
 use object_core::{Bytes, Op};
 use std::alloc::Global;
 use std::sync::Wait;

@@ -1,29 +1,34 @@
+//! Copies that are fed by hand: what each message makes them send.
+
 use common_types::{Name, Tags};
-use entry_core::{BoxedLog, Id, OutOfMemory, Sealed, TryCopy};
+use entry_core::{Id, Items, OutOfMemory, Sealed, TryCopy};
+use group_types::{IntervalSets, Party};
 use map_core::PoolView;
-use peer_core::{Body, Daemon, IntervalSets, Message, Party, Role, Sent};
+use peer_core::{Body, Daemon, Message, Role, Sent};
 use place_core::ActingSet;
 use std::alloc::Global;
 use std::test::Fail;
 use verdict_core::{SharedTicket, Ticket};
 
-// What a message says, in short: a log is given by the numbers of its requests.
+// What a message says, in short: requests are given by their numbers. A query tells a length and the last number, 0 for none.
 #[derive(Clone, Copy)]
-enum Says {
+pub(crate) enum Says {
     Sets(usize, &'static [u8]),
-    Query(u64),
-    Info(u64, u64, &'static [u32]),
-    Install(u64, &'static [u32]),
+    Query(u64, usize, u32),
+    Info(u64, u64, usize, &'static [u32]),
+    Install(u64, usize, &'static [u32]),
     Installed(u64),
     Append(u64, usize, u32),
     Appended(u64, usize),
     Request(u32),
+    Reply(u32),
+    NotHere(u32),
 }
 
-use Says::{Append, Appended, Info, Install, Installed, Query, Request, Sets};
+use Says::{Append, Appended, Info, Install, Installed, NotHere, Query, Reply, Request, Sets};
 
 // What must be sent, to whom, in order.
-type Sends = &'static [(Party, &'static str)];
+type Sends = &'static [(Party, Says)];
 
 // What happens to a daemon, or what must be seen of it.
 #[derive(Clone, Copy)]
@@ -35,17 +40,17 @@ enum Line {
     Restart,
     // How many entries it has, how many of them are decided, and how many requests wait.
     Counts(usize, usize, usize),
-    Entries(usize),
     // Its number, its promise and its base.
     Is(u8, u64, u64),
-    Base(u64),
+    // The numbers of its log's requests, and its base.
+    Holds(&'static [u32], u64),
     Leads,
     Idles,
     // Its log has this request.
     Has(u32),
 }
 
-use Line::{Base, Counts, Entries, Has, Idles, Is, Kick, Leads, On, Restart};
+use Line::{Counts, Has, Holds, Idles, Is, Kick, Leads, On, Restart};
 
 const CLIENT: Party = Party::Client;
 
@@ -84,40 +89,39 @@ pub(crate) fn sets(
     Ok(sets)
 }
 
-// A daemon alone in its set decides these requests.
-fn decide(alloc: Global, one: &mut Daemon, numbers: &[u32]) -> Result<(), OutOfMemory> {
-    one.on(Message {
-        from: CLIENT,
-        body: Body::Interval(sets(alloc, 1, &[9])?),
-    })?;
-    for n in numbers {
-        one.on(Message {
-            from: CLIENT,
-            body: Body::Request(request(alloc, *n)?),
-        })?;
+fn part(alloc: Global, numbers: &[u32]) -> Result<Items<Sealed>, OutOfMemory> {
+    let mut part = Items::new(alloc);
+    for number in numbers {
+        part.push(request(alloc, *number)?)?;
     }
-    Ok(())
+    Ok(part)
 }
 
-// The log of entries that these requests became.
-fn log(alloc: Global, numbers: &[u32]) -> Result<BoxedLog, OutOfMemory> {
-    let mut one = Daemon::new(alloc, 9, 1);
-    decide(alloc, &mut one, numbers)?;
-    BoxedLog::new(one.log().copy()?)
+fn last(number: u32) -> Option<Id> {
+    match number {
+        0 => None,
+        _ => Some(Id::new(1, number)),
+    }
 }
 
 fn body(alloc: Global, says: Says) -> Result<Body, OutOfMemory> {
     Ok(match says {
         Sets(count, members) => Body::Interval(sets(alloc, count, members)?),
-        Query(interval) => Body::Query { interval },
-        Info(interval, base, numbers) => Body::Info {
+        Query(interval, len, number) => Body::Query {
+            interval,
+            len,
+            last: last(number),
+        },
+        Info(interval, base, start, numbers) => Body::Info {
             interval,
             base,
-            log: log(alloc, numbers)?,
+            start,
+            part: part(alloc, numbers)?,
         },
-        Install(interval, numbers) => Body::Install {
+        Install(interval, start, numbers) => Body::Install {
             interval,
-            log: log(alloc, numbers)?,
+            start,
+            part: part(alloc, numbers)?,
         },
         Installed(interval) => Body::Installed { interval },
         Append(interval, index, number) => Body::Append {
@@ -127,35 +131,82 @@ fn body(alloc: Global, says: Says) -> Result<Body, OutOfMemory> {
         },
         Appended(interval, index) => Body::Appended { interval, index },
         Request(number) => Body::Request(request(alloc, number)?),
+        Reply(number) | NotHere(number) => Body::NotHere(Id::new(1, number)),
     })
 }
 
-fn kind(body: &Body) -> &'static str {
-    match body {
-        Body::Interval(_) => "interval",
-        Body::Query { .. } => "query",
-        Body::Info { .. } => "info",
-        Body::Install { .. } => "install",
-        Body::Installed { .. } => "installed",
-        Body::Append { .. } => "append",
-        Body::Appended { .. } => "appended",
-        Body::Request(_) => "request",
-        Body::Reply { .. } => "reply",
-        Body::NotHere(_) => "not here",
+// Whether a part has the requests of these numbers.
+fn has(part: &Items<Sealed>, numbers: &[u32]) -> bool {
+    part.len() == numbers.len()
+        && part
+            .as_slice()
+            .iter()
+            .zip(numbers)
+            .all(|(request, number)| request.id().number() == *number)
+}
+
+// Whether a message says that.
+pub(crate) fn is_said(body: &Body, says: Says) -> bool {
+    match (body, says) {
+        (
+            Body::Query {
+                interval,
+                len,
+                last: told,
+            },
+            Query(wanted, places, number),
+        ) => *interval == wanted && *len == places && *told == last(number),
+        (
+            Body::Info {
+                interval,
+                base,
+                start,
+                part,
+            },
+            Info(wanted, began, place, numbers),
+        ) => *interval == wanted && *base == began && *start == place && has(part, numbers),
+        (
+            Body::Install {
+                interval,
+                start,
+                part,
+            },
+            Install(wanted, place, numbers),
+        ) => *interval == wanted && *start == place && has(part, numbers),
+        (Body::Installed { interval }, Installed(wanted)) => *interval == wanted,
+        (
+            Body::Append {
+                interval,
+                index,
+                request,
+            },
+            Append(wanted, place, number),
+        ) => *interval == wanted && *index == place && request.id().number() == number,
+        (Body::Appended { interval, index }, Appended(wanted, place)) => {
+            *interval == wanted && *index == place
+        }
+        (Body::Reply { id, .. }, Reply(number)) => id.number() == number,
+        (Body::NotHere(id), NotHere(number)) => id.number() == number,
+        _ => false,
     }
 }
 
 // Whether what was sent is this, in this order.
 fn are_sent(sent: &[Sent], want: Sends) -> bool {
-    if sent.len() != want.len() {
-        return false;
-    }
-    for (sent, (to, what)) in sent.iter().zip(want) {
-        if sent.to != *to || kind(&sent.body) != *what {
-            return false;
-        }
-    }
-    true
+    sent.len() == want.len()
+        && sent.iter().zip(want).all(|(sent, (to, says))| sent.to == *to
+            && is_said(&sent.body, *says))
+}
+
+fn holds(daemon: &Daemon, numbers: &[u32], base: u64) -> bool {
+    daemon.base() == base
+        && daemon.log().len() == numbers.len()
+        && daemon
+            .log()
+            .entries()
+            .iter()
+            .zip(numbers)
+            .all(|(entry, number)| entry.sealed.id().number() == *number)
 }
 
 // Whether a message makes a daemon send this.
@@ -182,8 +233,7 @@ fn sees(daemon: &Daemon, line: Line) -> bool {
         Is(number, promise, base) => {
             daemon.number() == number && daemon.promise() == promise && daemon.base() == base
         }
-        Entries(count) => daemon.log().len() == count,
-        Base(base) => daemon.base() == base,
+        Holds(numbers, base) => holds(daemon, numbers, base),
         Leads => matches!(daemon.role(), Role::Active(None)),
         Idles => matches!(daemon.role(), Role::Idle),
         Has(number) => daemon.log().contains(Id::new(1, number)),
@@ -214,28 +264,28 @@ fn run(alloc: Global, daemon: &mut Daemon, lines: &[Line]) -> Result<usize, OutO
     Ok(lines.len())
 }
 
-const APPENDS: Sends = &[(ONE, "append"), (TWO, "append")];
+const APPENDS: Sends = &[(ONE, Append(1, 1, 7)), (TWO, Append(1, 1, 7))];
 
-const QUERIES: Sends = &[(ONE, "query"), (TWO, "query")];
+const QUERIES: Sends = &[(ONE, Query(1, 0, 0)), (TWO, Query(1, 0, 0))];
 
-const INSTALLS: Sends = &[(ONE, "install"), (TWO, "install")];
+const INSTALLS: Sends = &[(ONE, Install(1, 0, &[])), (TWO, Install(1, 0, &[]))];
 
-const REPLY: Sends = &[(CLIENT, "reply")];
+const REPLY: Sends = &[(CLIENT, Reply(7))];
 
 // A set of one answers at once.
 const ALONE: &[Line] = &[
     On(CLIENT, Sets(1, &[0]), &[]),
     On(CLIENT, Request(7), REPLY),
     On(CLIENT, Request(7), REPLY),
-    On(CLIENT, Request(8), REPLY),
+    On(CLIENT, Request(8), &[(CLIENT, Reply(8))]),
     Counts(2, 2, 0),
 ];
 
 // A request that comes to a leader of three is appended once, and answered when two have it.
 const LED: &[Line] = &[
     On(CLIENT, Sets(1, &[0, 1, 2]), QUERIES),
-    On(ONE, Info(1, 0, &[]), &[]),
-    On(TWO, Info(1, 0, &[]), INSTALLS),
+    On(ONE, Info(1, 0, 0, &[]), &[]),
+    On(TWO, Info(1, 0, 0, &[]), INSTALLS),
     On(ONE, Installed(1), &[]),
     On(TWO, Installed(1), &[]),
     Leads,
@@ -254,24 +304,24 @@ const KICKED: &[Line] = &[
     Kick(&[]),
     On(CLIENT, Sets(1, &[0, 1, 2]), QUERIES),
     Kick(QUERIES),
-    On(ONE, Info(1, 0, &[]), &[]),
-    Kick(&[(TWO, "query")]),
-    On(TWO, Info(1, 0, &[]), INSTALLS),
+    On(ONE, Info(1, 0, 0, &[]), &[]),
+    Kick(&[(TWO, Query(1, 0, 0))]),
+    On(TWO, Info(1, 0, 0, &[]), INSTALLS),
     Kick(INSTALLS),
     On(ONE, Installed(1), &[]),
-    Kick(&[(TWO, "install")]),
+    Kick(&[(TWO, Install(1, 0, &[]))]),
     On(TWO, Installed(1), &[]),
     Kick(&[]),
     On(CLIENT, Request(7), APPENDS),
     On(TWO, Appended(1, 1), &[]),
-    Kick(&[(ONE, "append")]),
+    Kick(&[(ONE, Append(1, 1, 7))]),
 ];
 
 // A second request waits until the first is decided, and is then appended.
 const IN_TURN: &[Line] = &[
     On(CLIENT, Sets(1, &[0, 1, 2]), QUERIES),
-    On(ONE, Info(1, 0, &[]), &[]),
-    On(TWO, Info(1, 0, &[]), INSTALLS),
+    On(ONE, Info(1, 0, 0, &[]), &[]),
+    On(TWO, Info(1, 0, 0, &[]), INSTALLS),
     On(ONE, Installed(1), &[]),
     On(TWO, Installed(1), &[]),
     On(CLIENT, Request(7), APPENDS),
@@ -282,7 +332,11 @@ const IN_TURN: &[Line] = &[
     On(
         ONE,
         Appended(1, 1),
-        &[(CLIENT, "reply"), (ONE, "append"), (TWO, "append")],
+        &[
+            (CLIENT, Reply(7)),
+            (ONE, Append(1, 2, 8)),
+            (TWO, Append(1, 2, 8)),
+        ],
     ),
     Counts(2, 1, 0),
 ];
@@ -290,8 +344,8 @@ const IN_TURN: &[Line] = &[
 // A leader that restarts leads no more, and has what it had.
 const RESTARTED: &[Line] = &[
     On(CLIENT, Sets(1, &[0, 1, 2]), QUERIES),
-    On(ONE, Info(1, 0, &[]), &[]),
-    On(TWO, Info(1, 0, &[]), INSTALLS),
+    On(ONE, Info(1, 0, 0, &[]), &[]),
+    On(TWO, Info(1, 0, 0, &[]), INSTALLS),
     On(ONE, Installed(1), &[]),
     On(TWO, Installed(1), &[]),
     On(CLIENT, Request(7), APPENDS),
@@ -299,33 +353,129 @@ const RESTARTED: &[Line] = &[
     On(CLIENT, Sets(1, &[0, 1, 2]), &[]),
     Idles,
     Is(0, 1, 1),
-    Entries(1),
+    Holds(&[7], 1),
 ];
 
 // The greatest base is chosen.
 const CHOSEN: &[Line] = &[
-    On(CLIENT, Sets(2, &[0, 1, 2]), QUERIES),
-    On(ONE, Info(2, 0, &[1, 2]), &[]),
-    On(TWO, Info(2, 1, &[3]), INSTALLS),
+    On(
+        CLIENT,
+        Sets(2, &[0, 1, 2]),
+        &[(ONE, Query(2, 0, 0)), (TWO, Query(2, 0, 0))],
+    ),
+    On(ONE, Info(2, 0, 0, &[1, 2]), &[]),
+    On(
+        TWO,
+        Info(2, 1, 0, &[3]),
+        &[(ONE, Install(2, 0, &[3])), (TWO, Install(2, 1, &[]))],
+    ),
     Has(3),
-    Entries(1),
-    Base(2),
+    Holds(&[3], 2),
 ];
 
 // A member follows.
 const FOLLOWED: &[Line] = &[
-    On(ZERO, Query(3), &[(ZERO, "info")]),
-    On(ZERO, Query(2), &[]),
-    On(ZERO, Install(3, &[5]), &[(ZERO, "installed")]),
-    On(ZERO, Append(3, 2, 7), &[(ZERO, "appended")]),
-    On(ZERO, Append(3, 2, 7), &[(ZERO, "appended")]),
-    On(CLIENT, Request(9), &[(CLIENT, "not here")]),
+    On(ZERO, Query(3, 0, 0), &[(ZERO, Info(3, 0, 0, &[]))]),
+    On(ZERO, Query(2, 0, 0), &[]),
+    On(ZERO, Install(3, 0, &[5]), &[(ZERO, Installed(3))]),
+    On(ZERO, Append(3, 2, 7), &[(ZERO, Appended(3, 2))]),
+    On(ZERO, Append(3, 2, 7), &[(ZERO, Appended(3, 2))]),
+    On(CLIENT, Request(9), &[(CLIENT, NotHere(9))]),
     Counts(2, 0, 0),
     Is(1, 3, 3),
 ];
 
+// Nobody lacks anything: no request is sent.
+const PRIMARY: &[Line] = &[
+    On(CLIENT, Sets(1, &[0]), &[]),
+    On(CLIENT, Request(1), &[(CLIENT, Reply(1))]),
+    On(CLIENT, Request(2), &[(CLIENT, Reply(2))]),
+    On(CLIENT, Request(3), &[(CLIENT, Reply(3))]),
+    On(CLIENT, Request(4), &[(CLIENT, Reply(4))]),
+    On(CLIENT, Request(5), &[(CLIENT, Reply(5))]),
+    On(
+        CLIENT,
+        Sets(2, &[0, 1, 2]),
+        &[(ONE, Query(2, 5, 5)), (TWO, Query(2, 5, 5))],
+    ),
+    On(ONE, Info(2, 1, 5, &[]), &[]),
+    Kick(&[(TWO, Query(2, 5, 5))]),
+    On(
+        TWO,
+        Info(2, 1, 5, &[]),
+        &[(ONE, Install(2, 5, &[])), (TWO, Install(2, 5, &[]))],
+    ),
+    Holds(&[1, 2, 3, 4, 5], 2),
+    On(ONE, Installed(2), &[]),
+    Kick(&[(TWO, Install(2, 5, &[]))]),
+    On(TWO, Installed(2), &[]),
+    Leads,
+];
+
+// The copy that is asked has all five, too.
+const ASKED: &[Line] = &[
+    On(CLIENT, Sets(1, &[1]), &[]),
+    On(CLIENT, Request(1), &[(CLIENT, Reply(1))]),
+    On(CLIENT, Request(2), &[(CLIENT, Reply(2))]),
+    On(CLIENT, Request(3), &[(CLIENT, Reply(3))]),
+    On(CLIENT, Request(4), &[(CLIENT, Reply(4))]),
+    On(CLIENT, Request(5), &[(CLIENT, Reply(5))]),
+    On(ZERO, Query(2, 5, 5), &[(ZERO, Info(2, 1, 5, &[]))]),
+    On(ZERO, Install(2, 5, &[]), &[(ZERO, Installed(2))]),
+    Holds(&[1, 2, 3, 4, 5], 2),
+    // One that has three of them is told the rest, and one that has more is told nothing.
+    On(ZERO, Query(3, 3, 3), &[(ZERO, Info(3, 2, 3, &[4, 5]))]),
+    On(ZERO, Query(3, 6, 6), &[(ZERO, Info(3, 2, 4, &[5]))]),
+    // What does not fit changes nothing.
+    On(ZERO, Install(3, 3, &[6]), &[]),
+    Holds(&[1, 2, 3, 4, 5], 2),
+    On(ZERO, Install(3, 3, &[4, 6, 7]), &[(ZERO, Installed(3))]),
+    Holds(&[1, 2, 3, 4, 6, 7], 3),
+];
+
+// A peering that was left half done: request 1 is in this log alone, and 2 was decided without it.
+const HALF: &[Line] = &[
+    On(CLIENT, Sets(1, &[0]), &[]),
+    On(CLIENT, Request(1), &[(CLIENT, Reply(1))]),
+    On(CLIENT, Sets(3, &[0, 1]), &[(ONE, Query(3, 1, 1))]),
+    // An offer that begins behind the log's end is not heard.
+    On(ONE, Info(3, 2, 2, &[2]), &[]),
+    On(ONE, Info(3, 2, 0, &[2]), &[(ONE, Install(3, 1, &[]))]),
+    Holds(&[2], 3),
+    Kick(&[(ONE, Install(3, 1, &[]))]),
+];
+
+// The other one has request 2 alone.
+const OTHER: &[Line] = &[
+    On(CLIENT, Sets(1, &[1]), &[]),
+    On(CLIENT, Request(2), &[(CLIENT, Reply(2))]),
+    On(ZERO, Query(3, 1, 1), &[(ZERO, Info(3, 1, 0, &[2]))]),
+    On(ZERO, Install(3, 1, &[]), &[(ZERO, Installed(3))]),
+    Holds(&[2], 3),
+];
+
+// What each of the others lacks is sent to it.
+const LACKING: &[Line] = &[
+    On(CLIENT, Sets(1, &[0]), &[]),
+    On(CLIENT, Request(1), &[(CLIENT, Reply(1))]),
+    On(CLIENT, Request(2), &[(CLIENT, Reply(2))]),
+    On(
+        CLIENT,
+        Sets(2, &[0, 1, 2]),
+        &[(ONE, Query(2, 2, 2)), (TWO, Query(2, 2, 2))],
+    ),
+    On(ONE, Info(2, 0, 0, &[]), &[]),
+    On(
+        TWO,
+        Info(2, 1, 1, &[2, 3]),
+        &[(ONE, Install(2, 0, &[1, 2, 3])), (TWO, Install(2, 3, &[]))],
+    ),
+    Holds(&[1, 2, 3], 2),
+    Kick(&[(ONE, Install(2, 0, &[1, 2, 3])), (TWO, Install(2, 3, &[]))]),
+];
+
 // Daemons by their numbers and their least sizes, and what happens to each.
-const DAEMONS: [(u8, usize, &[Line]); 7] = [
+const DAEMONS: [(u8, usize, &[Line]); 12] = [
     (0, 1, ALONE),
     (0, 2, LED),
     (0, 2, KICKED),
@@ -333,6 +483,11 @@ const DAEMONS: [(u8, usize, &[Line]); 7] = [
     (0, 2, RESTARTED),
     (0, 2, CHOSEN),
     (1, 2, FOLLOWED),
+    (0, 1, PRIMARY),
+    (1, 1, ASKED),
+    (0, 1, HALF),
+    (1, 1, OTHER),
+    (0, 1, LACKING),
 ];
 
 // How many of the lines of a daemon go as they say.
@@ -348,11 +503,11 @@ fn played(
 
 #[test]
 fn daemons_answer_messages(rt: HostRuntime) -> Result<(), Fail> {
-    for (number, min_size, lines) in DAEMONS {
+    for (place, (number, min_size, lines)) in DAEMONS.iter().enumerate() {
         assert_eq!(rt;
-            played(rt.alloc(), number, min_size, lines)?,
+            played(rt.alloc(), *number, *min_size, lines)?,
             lines.len(),
-            "{number}"
+            "{place}"
         );
     }
     Ok(())
@@ -386,8 +541,8 @@ fn is_copied(alloc: Global, leader: &mut Daemon) -> Result<bool, OutOfMemory> {
 // How daemon 0 of a set of three comes to lead interval 1.
 const LEADING: &[Line] = &[
     On(CLIENT, Sets(1, &[0, 1, 2]), QUERIES),
-    On(ONE, Info(1, 0, &[]), &[]),
-    On(TWO, Info(1, 0, &[]), INSTALLS),
+    On(ONE, Info(1, 0, 0, &[]), &[]),
+    On(TWO, Info(1, 0, 0, &[]), INSTALLS),
     On(ONE, Installed(1), &[]),
     On(TWO, Installed(1), &[]),
 ];

@@ -1,4 +1,3 @@
-mod by_suffixes;
 mod limits;
 mod moves;
 mod moving;

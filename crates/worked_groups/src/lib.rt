@@ -14,6 +14,4 @@ mod logs;
 #[cfg(test)]
 mod operations;
 #[cfg(test)]
-mod suffixes;
-#[cfg(test)]
 mod tickets;

@@ -21,7 +21,7 @@ use super::looks::sees;
 use super::telling::is_told;
 use super::words::{is_number, number_of, words_of};
 use grant_core::ProfileTable;
-use group_core::GroupFault;
+use group_types::GroupFault;
 use std::alloc::Global;
 use std::test::Fail;
 use world_core::{Event, Told, World, WorldFault};

@@ -3,7 +3,7 @@
 use super::words::{is_id, is_number};
 use auth_db::AuthFault;
 use entry_core::Id;
-use group_core::GroupFault;
+use group_types::GroupFault;
 use map_core::MapFault;
 use object_core::NeedsFault;
 use world_core::{Told, WorldFault};

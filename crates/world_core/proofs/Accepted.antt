@@ -20,13 +20,13 @@ use Rattle.map_core.proofs.Current.{daemons_stay, after_push}
 use Rattle.map_core.proofs.OnePool.{pool_after_step}
 use Rattle.entry_core.specs.Request.{Sealed}
 use Rattle.entry_core.specs.declared.sealed.GroupId.{GroupId}
-use Rattle.group_core.specs.Each.{Each}
+use Rattle.whole_logs.specs.Each.{Each}
 use Rattle.suffix_core.specs.Group.{Group, EventFits, group_step, run, start, last_set, is_submitted}
 use Rattle.suffix_core.specs.Group as group
 use Rattle.suffix_core.specs.Reached.{IsReached}
-use Rattle.group_core.specs.Within.{ActsWithin}
-use Rattle.group_core.specs.declared.fault.GroupFault.{GroupFault}
-use Rattle.group_core.specs.declared.fault.GroupFault.TheVariants as group_fault
+use Rattle.whole_logs.specs.Within.{ActsWithin}
+use Rattle.group_types.specs.declared.fault.GroupFault.{GroupFault}
+use Rattle.group_types.specs.declared.fault.GroupFault.TheVariants as group_fault
 use Rattle.suffix_core.proofs.Runs.{run-append}
 use Rattle.world_core.specs.Event.{Ask, Event, Auth, Map, Open, Renew, Close, Submit, ListNames, Deliver, Lose, Repeat, Kick, Fault, OfMap, OfGroup}
 use Rattle.entry_core.specs.Locality.{group_for}

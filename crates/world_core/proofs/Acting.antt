@@ -6,9 +6,9 @@ use Rattle.std.proofs.Math.Seq.{drop-append_seam}
 use Rattle.entry_core.specs.Request.{Sealed}
 use Rattle.entry_core.specs.declared.entry.Entry.{Entry}
 use Rattle.entry_core.specs.declared.sealed.GroupId.{GroupId}
-use Rattle.group_core.specs.Each.{Each}
-use Rattle.group_core.specs.Asked.{IsAsked}
-use Rattle.group_core.specs.History.{Begins}
+use Rattle.whole_logs.specs.Each.{Each}
+use Rattle.whole_logs.specs.Asked.{IsAsked}
+use Rattle.whole_logs.specs.History.{Begins}
 use Rattle.suffix_core.specs.Group.{Group, Event, group_step}
 use Rattle.suffix_core.proofs.Additions.{audit_grows}
 use Rattle.entry_core.specs.Locality.{group_for}

@@ -19,7 +19,7 @@ use Rattle.map_core.proofs.Kept.{others_leave_sets}
 use Rattle.map_core.proofs.OnePool.{pool_after_step}
 use Rattle.entry_core.specs.Log.{is_in}
 use Rattle.entry_core.specs.declared.sealed.GroupId.{GroupId}
-use Rattle.group_core.specs.Each.{Each}
+use Rattle.whole_logs.specs.Each.{Each}
 use Rattle.suffix_core.specs.Group.{Group, group_step, refusal_of, last_set, same_set}
 use Rattle.suffix_core.specs.Group as group
 use Rattle.world_core.specs.Event.{Fault, Map, OfGroup}

@@ -4,7 +4,7 @@ use Rattle.std.proofs.lemmas.List.{map-append}
 use Rattle.entry_core.specs.declared.sealed.GroupId.{GroupId}
 use Rattle.suffix_core.specs.Group.{Group, group_step}
 use Rattle.suffix_core.specs.Group as group
-use Rattle.group_copies.specs.Moves.{Prepared}
+use Rattle.group_core.specs.Moves.{Prepared}
 use Rattle.world_core.specs.Moves.{all_moved, all_prepared, given_up, committed}
 
 given : (event : GroupId → group.Event) (groups : List Group) → map given_up (all_prepared event groups) ≡ groups

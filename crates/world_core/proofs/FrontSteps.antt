@@ -5,7 +5,7 @@ use Rattle.auth_db.specs.Users.{Database, after}
 use Rattle.map_core.specs.State.{History}
 use Rattle.map_core.specs.declared.command.MapCommand.{MapCommand}
 use Rattle.entry_core.specs.Request.{Sealed}
-use Rattle.group_core.specs.Each.{Each}
+use Rattle.whole_logs.specs.Each.{Each}
 use Rattle.suffix_core.specs.Group.{submitted}
 use Rattle.world_core.specs.Event.{AuthCommand, Event, Auth, Map, Open, Renew, Close}
 use Rattle.world_core.specs.Front.{Front, Session, Pieced, command_of, front_step, lists_step, sealed_by, opened, ticket_for, session_at, session_of, if_ok, requests_of, requests_in}

@@ -14,8 +14,8 @@ use Rattle.map_core.specs.declared.command.MapCommand.{MapCommand}
 use Rattle.object_core.specs.Needs.{needs_fault}
 use Rattle.object_core.specs.declared.op.Op.{Op}
 use Rattle.entry_core.specs.Request.{Sealed, Listing}
-use Rattle.group_core.specs.Each.{Each}
-use Rattle.group_core.specs.Asked.{IsAsked}
+use Rattle.whole_logs.specs.Each.{Each}
+use Rattle.whole_logs.specs.Asked.{IsAsked}
 use Rattle.world_core.specs.Event.{Ask, Event, Auth, Map, Open, Renew, Close, Submit, ListNames, Deliver, Lose, Repeat, Kick, Fault, NoPool, StaleEpoch, StaleTick, BadObjectName, OfNeeds}
 use Rattle.entry_core.specs.Locality.{IsPlaced}
 use Rattle.world_core.specs.Standing.{group_count}

@@ -13,8 +13,8 @@ use Rattle.entry_core.specs.Log.{is_in}
 use Rattle.entry_core.specs.declared.sealed.GroupId.{GroupId}
 use Rattle.suffix_core.specs.Group.{Group, last_set, same_set, has_all_intervals, refusal_of}
 use Rattle.suffix_core.specs.Group as group
-use Rattle.group_core.specs.declared.fault.GroupFault.{GroupFault}
-use Rattle.group_core.specs.declared.fault.GroupFault.TheVariants as group_fault
+use Rattle.group_types.specs.declared.fault.GroupFault.{GroupFault}
+use Rattle.group_types.specs.declared.fault.GroupFault.TheVariants as group_fault
 use Rattle.world_core.specs.World.{members_of}
 use Rattle.world_core.specs.Moves.{moves_groups, move_of}
 use Rattle.world_core.proofs.Bytes.{bytes_same}

@@ -8,7 +8,7 @@ use Rattle.map_core.specs.Map.{is_named, map_of}
 use Rattle.map_core.specs.Intervals.{set_of}
 use Rattle.map_core.specs.declared.pool.Pool.{Pool}
 use Rattle.entry_core.specs.declared.sealed.GroupId.{GroupId}
-use Rattle.group_core.specs.Each.{Each}
+use Rattle.whole_logs.specs.Each.{Each}
 use Rattle.suffix_core.specs.Group.{Group, last_set}
 use Rattle.world_core.specs.Groups.{is_same_group}
 use Rattle.world_core.specs.World.{World, group_at, groups_of}
@@ -19,7 +19,7 @@ use Rattle.std.proofs.lemmas.Option.{slice_get_read}
 use Rattle.std.specs.Option.{option_map}
 use Rattle.map_core.specs.State.{History}
 use Rattle.map_core.specs.Refusal.{acting_refusal}
-use Rattle.group_core.specs.declared.fault.GroupFault.{GroupFault}
+use Rattle.group_types.specs.declared.fault.GroupFault.{GroupFault}
 use Rattle.world_core.specs.Event.{Fault, OfMap}
 use Rattle.world_core.specs.Front.{Front, group_refusal}
 use Rattle.world_core.specs.declared.audit.Run.{Run}

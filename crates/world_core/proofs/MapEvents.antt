@@ -4,7 +4,7 @@ use Rattle.std.specs.Prelude.{OnOk, OnErr, IfOk}
 use Rattle.std.specs.Option.{option_map, option_or}
 use Rattle.map_core.specs.Map.{map_of}
 use Rattle.map_core.specs.declared.command.MapCommand.{MapCommand}
-use Rattle.group_core.specs.Each.{Each}
+use Rattle.whole_logs.specs.Each.{Each}
 use Rattle.suffix_core.specs.Group.{Group}
 use Rattle.world_core.specs.Event.{Map, Told, Fault, OfGroup}
 use Rattle.world_core.specs.Front.{Front, front_step, front_refusal, told_of}

@@ -17,9 +17,9 @@ use Rattle.entry_core.specs.Laws.{changed}
 use Rattle.entry_core.specs.Log.{LegalFrom, decide, ids, is_in}
 use Rattle.entry_core.specs.declared.entry.Entry.{Entry}
 use Rattle.entry_core.specs.declared.sealed.GroupId.{GroupId}
-use Rattle.group_core.specs.Each.{Each}
+use Rattle.whole_logs.specs.Each.{Each}
 use Rattle.suffix_core.specs.Group.{submitted}
-use Rattle.group_core.specs.Asked.{IsAsked}
+use Rattle.whole_logs.specs.Asked.{IsAsked}
 use Rattle.entry_core.proofs.Lawful.{store_push, others_are_left, decision_tells_the_store}
 use Rattle.entry_core.specs.Locality.{group_for, IsIn, AgreeIn, Hashes, IsPlaced}
 use Rattle.world_core.specs.Groups.{is_same_group, is_of}

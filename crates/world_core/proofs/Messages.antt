@@ -4,13 +4,13 @@ use Rattle.std.specs.Prelude.{slice_get, slice_set}
 use Rattle.std.specs.Option.{option_map, option_or}
 use Rattle.entry_core.specs.Log.{is_in}
 use Rattle.entry_core.specs.declared.sealed.GroupId.{GroupId}
-use Rattle.group_core.specs.Each.{Each}
-use Rattle.group_core.specs.History.{Begins}
+use Rattle.whole_logs.specs.Each.{Each}
+use Rattle.whole_logs.specs.History.{Begins}
 use Rattle.suffix_core.specs.Types.{Party, Client, Osd, Sent}
 use Rattle.suffix_core.specs.Group.{Group, group_step, left_by, refusal_to, refusal_at, arrives, deliver, without, copy_hears}
 use Rattle.suffix_core.specs.Group as group
-use Rattle.group_core.specs.declared.fault.GroupFault.{GroupFault}
-use Rattle.group_core.specs.declared.fault.GroupFault.TheVariants as group_fault
+use Rattle.group_types.specs.declared.fault.GroupFault.{GroupFault}
+use Rattle.group_types.specs.declared.fault.GroupFault.TheVariants as group_fault
 use Rattle.suffix_core.proofs.Additions.{audit_grows}
 use Rattle.world_core.specs.Event.{Event, Auth, Map, Open, Renew, Close, Submit, ListNames, Deliver, Lose, Repeat, Kick, Told, Fault, OutOfMemory, OfMap, OfGroup, Done}
 use Rattle.map_core.specs.Refusal.{acting_refusal}

@@ -9,7 +9,7 @@ use Rattle.std.proofs.lemmas.List.Elements.{filter-append}
 use Rattle.map_core.specs.Map.{is_named}
 use Rattle.map_core.specs.declared.pool.Pool.{Pool}
 use Rattle.entry_core.specs.declared.sealed.GroupId.{GroupId}
-use Rattle.group_core.specs.Each.{Each}
+use Rattle.whole_logs.specs.Each.{Each}
 use Rattle.world_core.specs.Groups.{is_same_group}
 use Rattle.world_core.specs.World.{groups_of}
 use Rattle.world_core.proofs.Merge.{same_group, group_refl, bytes_refl}

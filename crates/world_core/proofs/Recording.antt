@@ -7,9 +7,9 @@ use Rattle.object_core.specs.Needs.{needs_fault}
 use Rattle.object_core.specs.declared.needs.NeedsFault.{NeedsFault}
 use Rattle.object_core.specs.declared.op.Op.{Op}
 use Rattle.entry_core.specs.Request.{Sealed, Listing}
-use Rattle.group_core.specs.Each.{Each}
+use Rattle.whole_logs.specs.Each.{Each}
 use Rattle.suffix_core.specs.Group.{submitted}
-use Rattle.group_core.specs.Asked.{IsAsked}
+use Rattle.whole_logs.specs.Asked.{IsAsked}
 use Rattle.world_core.specs.Event.{Ask, Fault, OutOfMemory, Submit, ListNames, BadObjectName, OfNeeds}
 use Rattle.world_core.specs.Front.{error_of, ◌>>=◌, refuse_if, Front, Session, Pieced, Asker, asker_of, is_object_name, is_namespace, lower, vector_of, pieces_of, sealed_of, requests_of, requests_in, sealed_by, session_of, session_at, asks_more, asked, if_ok, listed, front_step}
 use Rattle.world_core.specs.Stands.{next_at, IsGiven, IsKept}

@@ -5,9 +5,9 @@ use Rattle.entry_core.specs.Laws.{is_denied, StandsIn}
 use Rattle.entry_core.specs.declared.entry.Entry.{Entry}
 use Rattle.entry_core.proofs.Lawful.{verdict_is_sealed}
 use Rattle.entry_core.proofs.FoundEntries.{find_tells}
-use Rattle.group_core.specs.Each.{Each}
+use Rattle.whole_logs.specs.Each.{Each}
 use Rattle.suffix_core.specs.Group.{submitted}
-use Rattle.group_core.specs.Asked.{IsAsked}
+use Rattle.whole_logs.specs.Asked.{IsAsked}
 use Rattle.world_core.specs.World.{World, world_after}
 use Rattle.suffix_core.specs.Types.{EntryReply}
 use Rattle.world_core.specs.Answers.{answer_at, IsAnswered, AnswersAreDecided}

@@ -10,9 +10,9 @@ use Rattle.map_core.specs.Map.{map_of}
 use Rattle.map_core.specs.declared.pool.Pool.{Pool}
 use Rattle.entry_core.specs.Locality.{group_for}
 use Rattle.entry_core.specs.Request.{Sealed}
-use Rattle.group_core.specs.Each.{Each}
+use Rattle.whole_logs.specs.Each.{Each}
 use Rattle.suffix_core.specs.Group.{Group, Submit, group_step, has_all_requests}
-use Rattle.group_core.specs.declared.fault.GroupFault.TheVariants as group_fault
+use Rattle.group_types.specs.declared.fault.GroupFault.TheVariants as group_fault
 use Rattle.world_core.specs.Event.{Ask, Event, ListNames, Told, Fault, OfGroup, OutOfMemory}
 use Rattle.world_core.specs.Event as events
 use Rattle.world_core.specs.Front.{Front, asking_refusal, error_of, front_refusal, front_step, is_full, requests_of, told_of, if_ok}

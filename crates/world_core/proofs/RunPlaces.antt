@@ -8,8 +8,8 @@ use Rattle.std.proofs.lemmas.List.{take-append-le, drop-append-le, drop_all, len
 use Rattle.std.proofs.lemmas.Grind.{flat_map-append}
 use Rattle.std.proofs.lemmas.Bool.{ltb-true, lt-ltb}
 use Rattle.entry_core.specs.declared.entry.Entry.{Entry}
-use Rattle.group_core.specs.Each.{Each}
-use Rattle.group_core.specs.History.{Begins}
+use Rattle.whole_logs.specs.Each.{Each}
+use Rattle.whole_logs.specs.History.{Begins}
 use Rattle.suffix_core.specs.Group.{Group}
 use Rattle.world_core.specs.Standing.{audit_in}
 use Rattle.world_core.specs.declared.audit.Run.{Run}

@@ -7,10 +7,10 @@ use Rattle.entry_core.specs.Request.{Sealed}
 use Rattle.entry_core.specs.Log.{is_in, LegalFrom, reply_in}
 use Rattle.entry_core.specs.declared.reply.Reply.{Reply}
 use Rattle.entry_core.specs.declared.entry.Entry.{Entry}
-use Rattle.group_core.specs.Each.{Each}
+use Rattle.whole_logs.specs.Each.{Each}
 use Rattle.suffix_core.specs.Group.{submitted}
-use Rattle.group_core.specs.Asked.{IsAsked}
-use Rattle.group_core.proofs.Audits.{legal_rest}
+use Rattle.whole_logs.specs.Asked.{IsAsked}
+use Rattle.whole_logs.proofs.Audits.{legal_rest}
 use Rattle.world_core.specs.Event.{Event, Told, Fault}
 use Rattle.world_core.specs.Front.{sealed_by}
 use Rattle.world_core.specs.World.{World, counts, is_accepted, world_step}

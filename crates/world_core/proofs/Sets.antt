@@ -17,10 +17,10 @@ use Rattle.map_core.proofs.Current.{daemons_stay}
 use Rattle.map_core.proofs.Daemons.{sets_are_acting, up_are_there}
 use Rattle.entry_core.specs.Log.{is_in}
 use Rattle.entry_core.specs.declared.sealed.GroupId.{GroupId}
-use Rattle.peer_core.specs.ActingSets.{daemons}
+use Rattle.whole_logs.specs.ActingSets.{daemons}
 use Rattle.suffix_core.specs.Group.{IsSet}
-use Rattle.group_core.specs.Within.{LiesWithin}
-use Rattle.group_core.proofs.Sets.{set_is}
+use Rattle.whole_logs.specs.Within.{LiesWithin}
+use Rattle.whole_logs.proofs.Sets.{set_is}
 use Rattle.world_core.specs.World.{members_of}
 use Rattle.world_core.proofs.Bytes.{number_same}
 

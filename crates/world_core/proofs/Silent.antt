@@ -13,9 +13,9 @@ use Rattle.entry_core.specs.Locality.{group_for}
 use Rattle.entry_core.specs.Request.{Sealed}
 use Rattle.entry_core.specs.declared.entry.Entry.{Entry}
 use Rattle.entry_core.specs.declared.sealed.GroupId.{GroupId}
-use Rattle.copy_core.specs.Steps.{restarted}
-use Rattle.group_core.specs.Each.{Each}
-use Rattle.group_core.specs.History.{Begins}
+use Rattle.peer_core.specs.Steps.{restarted}
+use Rattle.whole_logs.specs.Each.{Each}
+use Rattle.whole_logs.specs.History.{Begins}
 use Rattle.suffix_core.specs.Group.{Group, begin, group_step, has_all_intervals, has_all_requests, is_submitted, last_set, take_request, same_set, with_up}
 use Rattle.suffix_core.specs.Group as group
 use Rattle.world_core.specs.Groups.{is_same_group}

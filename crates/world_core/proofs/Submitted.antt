@@ -6,7 +6,7 @@ use Rattle.std.specs.Map.{lookup}
 use Rattle.std.proofs.lemmas.List.{map-append}
 use Rattle.entry_core.specs.Request.{Sealed}
 use Rattle.suffix_core.specs.Group.{submitted}
-use Rattle.group_core.proofs.ById.{same_turned}
+use Rattle.whole_logs.proofs.ById.{same_turned}
 use Rattle.world_core.specs.Front.{Pieced}
 use Rattle.world_core.specs.Submitting.{requests_in, AreKeyed, lists_in}
 

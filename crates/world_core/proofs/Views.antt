@@ -16,7 +16,7 @@ use Rattle.map_core.specs.declared.fault.MapFault.{MapFault}
 use Rattle.map_core.specs.declared.fault.MapFault.TheVariants as map_fault
 use Rattle.map_core.proofs.Acceptance.{all_fail, not_false}
 use Rattle.map_core.proofs.Kept.{views_are_of_pools}
-use Rattle.group_core.specs.Each.{Each}
+use Rattle.whole_logs.specs.Each.{Each}
 use Rattle.world_core.specs.Event.{NoPool, OutOfMemory}
 use Rattle.world_core.specs.Front.{need, error_of}
 use Rattle.world_core.specs.Refusing.{fault_of_view}

@@ -14,12 +14,12 @@ use Rattle.entry_core.specs.Log.{Legal, find}
 use Rattle.entry_core.specs.declared.entry.Entry.{Entry}
 use Rattle.entry_core.specs.declared.sealed.GroupId.{GroupId}
 use Rattle.suffix_core.specs.Types.{EntryReply}
-use Rattle.group_core.specs.Each.{Each}
-use Rattle.group_core.specs.Asked.{IsAsked, IsReplied}
-use Rattle.group_core.specs.History.{Begins}
+use Rattle.whole_logs.specs.Each.{Each}
+use Rattle.whole_logs.specs.Asked.{IsAsked, IsReplied}
+use Rattle.whole_logs.specs.History.{Begins}
 use Rattle.suffix_core.specs.Group.{Group, group_step, run, start, submitted, answer_of}
 use Rattle.suffix_core.specs.Group as group
-use Rattle.group_core.proofs.Kept.{answer_replied}
+use Rattle.whole_logs.proofs.Kept.{answer_replied}
 use Rattle.suffix_core.proofs.Additions.{answer_stands}
 use Rattle.suffix_core.proofs.Twins.{run_replied}
 use Rattle.world_core.specs.Event.{Event, Auth, Map, Open, Renew, Close, Submit, ListNames, Deliver, Lose, Repeat, Kick}

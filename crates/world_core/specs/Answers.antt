@@ -9,8 +9,8 @@ use Rattle.entry_core.specs.declared.entry.Entry.{Entry}
 use Rattle.entry_core.specs.Request.{Sealed}
 use Rattle.suffix_core.specs.Types.{EntryReply}
 use Rattle.suffix_core.specs.Group.{Group, answer_of, submitted}
-use Rattle.group_core.specs.Asked.{IsReplied}
-use Rattle.group_core.specs.History.{Begins}
+use Rattle.whole_logs.specs.Asked.{IsReplied}
+use Rattle.whole_logs.specs.History.{Begins}
 use Rattle.world_core.specs.Event.{Event}
 use Rattle.entry_core.specs.Locality.{group_for}
 use Rattle.world_core.specs.World.{World, world_after, world_step, group_at}

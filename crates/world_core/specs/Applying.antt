@@ -4,8 +4,8 @@ use Rattle.std.specs.Prelude.{◌≡◌, ◌⊎◌, ℕ, List, [], ◌∷◌, �
 use Rattle.entry_core.specs.declared.sealed.GroupId.{GroupId}
 use Rattle.suffix_core.specs.Group.{Group, group_step, left_by}
 use Rattle.suffix_core.specs.Group as group
-use Rattle.group_core.specs.declared.fault.GroupFault.{GroupFault}
-use Rattle.group_core.specs.declared.fault.GroupFault.TheVariants as group_fault
+use Rattle.group_types.specs.declared.fault.GroupFault.{GroupFault}
+use Rattle.group_types.specs.declared.fault.GroupFault.TheVariants as group_fault
 use Rattle.world_core.specs.Event.{Event, Deliver, Lose, Repeat, Kick, Told, Done, Fault, OutOfMemory, OfGroup}
 use Rattle.world_core.specs.Front.{told_of}
 use Rattle.world_core.specs.World.{World, counts, refusal_of, world_step}

@@ -6,8 +6,8 @@ use Rattle.entry_core.specs.Log.{Legal}
 use Rattle.entry_core.specs.Request.{Sealed}
 use Rattle.entry_core.specs.declared.entry.Entry.{Entry}
 use Rattle.entry_core.specs.declared.sealed.GroupId.{GroupId}
-use Rattle.group_core.specs.Each.{Each}
-use Rattle.group_core.specs.Asked.{IsAsked}
+use Rattle.whole_logs.specs.Each.{Each}
+use Rattle.whole_logs.specs.Asked.{IsAsked}
 use Rattle.entry_core.specs.Locality.{IsPlaced}
 use Rattle.world_core.specs.Groups.{is_of}
 

@@ -4,7 +4,7 @@ use Rattle.std.specs.Prelude.{ℕ, List, codes}
 use Rattle.auth_db.specs.Printed as auth_text
 use Rattle.map_core.specs.Printed as map_text
 use Rattle.object_core.specs.Faults as needs_text
-use Rattle.group_core.specs.Printed as group_text
+use Rattle.group_types.specs.Printed as group_text
 use Rattle.world_core.specs.Event.{Fault, NoSession, NoPool, BadObjectName, StaleEpoch, NoRequest, Limit, OutOfMemory, StaleTick, OfUsers, OfMap, OfNeeds, OfGroup}
 
 -- a fault's number, its name, and what it carries; those of lower layers print themselves

@@ -6,8 +6,8 @@ use Rattle.map_core.specs.Map.{map_of}
 use Rattle.map_core.specs.Refusal.{groups_in}
 use Rattle.entry_core.specs.declared.entry.Entry.{Entry}
 use Rattle.entry_core.specs.declared.sealed.GroupId.{GroupId}
-use Rattle.group_core.specs.Each.{Each}
-use Rattle.group_core.specs.Asked.{IsAsked}
+use Rattle.whole_logs.specs.Each.{Each}
+use Rattle.whole_logs.specs.Asked.{IsAsked}
 use Rattle.suffix_core.specs.Group.{Group}
 use Rattle.entry_core.specs.Locality.{IsPlaced}
 use Rattle.world_core.specs.Merging.{part_of}

@@ -5,9 +5,9 @@ use Rattle.map_core.specs.State.{History}
 use Rattle.map_core.specs.Laws.{HasPool}
 use Rattle.entry_core.specs.Request.{Sealed}
 use Rattle.entry_core.specs.Locality.{Hashes}
-use Rattle.group_core.specs.Each.{Each}
+use Rattle.whole_logs.specs.Each.{Each}
 use Rattle.suffix_core.specs.Group.{submitted}
-use Rattle.group_core.specs.Asked.{IsAsked}
+use Rattle.whole_logs.specs.Asked.{IsAsked}
 use Rattle.world_core.specs.Front.{Session, Front, id_of}
 
 -- ---- numbers

@@ -2,7 +2,7 @@
 -- Requests by their ids.
 use Rattle.std.specs.Prelude.{◌≡◌, ℕ, List, [], ◌∷◌, ◌++◌, None, map}
 use Rattle.entry_core.specs.Request.{Sealed}
-use Rattle.group_core.specs.Each.{Each}
+use Rattle.whole_logs.specs.Each.{Each}
 use Rattle.suffix_core.specs.Group.{submitted}
 use Rattle.world_core.specs.Front.{Pieced}
 

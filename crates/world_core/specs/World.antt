@@ -16,8 +16,8 @@ use Rattle.entry_core.specs.declared.entry.Entry.{Entry}
 use Rattle.entry_core.specs.declared.sealed.GroupId.{GroupId}
 use Rattle.suffix_core.specs.Group.{Group, group_step, start}
 use Rattle.suffix_core.specs.Group as group
-use Rattle.group_core.specs.declared.fault.GroupFault.{GroupFault}
-use Rattle.group_core.specs.declared.fault.GroupFault.TheVariants as group_fault
+use Rattle.group_types.specs.declared.fault.GroupFault.{GroupFault}
+use Rattle.group_types.specs.declared.fault.GroupFault.TheVariants as group_fault
 use Rattle.world_core.specs.Event.{Event, Map, Submit, ListNames, Deliver, Lose, Repeat, Kick, Told, Fault, OfGroup}
 use Rattle.world_core.specs.Front.{Front, first_front, front_step, front_refusal, sealed_by}
 use Rattle.entry_core.specs.Locality.{group_for}

@@ -1,13 +1,13 @@
 //! Where the decided entries stand in the groups' own lists.
 
 ghost use Rattle.std.specs.Prelude.{◌≡◌, ◌<◌, ◌++◌, vec_len, vec_capacity, IfOk, OnOk};
-ghost use Rattle.group_core.specs.Each.{Each};
+ghost use Rattle.whole_logs.specs.Each.{Each};
 ghost use Rattle.world_core.specs.Applying.{runs_from};
 ghost use Rattle.world_core.specs.Inside.{entries_told};
 ghost use Rattle.world_core.specs.Sound.{FitsAt};
 
 use entry_core::{Entry, Items, OutOfMemory, TryCopy};
-use group_copies::Group;
+use group_core::Group;
 use std::alloc::Global;
 
 /// The entries of one group that one event decided.

@@ -7,8 +7,8 @@ ghost use Rattle.world_core.specs.Applying.{CalledAt, LosesFreely, StepsOrMemory
 use crate::audit::{Run, keep};
 use crate::event::Told;
 use crate::fault::WorldFault;
-use group_copies::Group;
-use group_core::GroupFault;
+use group_core::Group;
+use group_types::GroupFault;
 
 /// What happens to one group.
 #[derive(Clone, Copy, Drop)]

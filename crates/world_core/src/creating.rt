@@ -13,7 +13,7 @@ use crate::event::Told;
 use crate::fault::WorldFault;
 use crate::front::Front;
 use entry_core::{GroupId, OutOfMemory};
-use group_copies::Group;
+use group_core::Group;
 use map_core::{ClusterMap, MapCommand};
 use std::alloc::Global;
 

@@ -6,7 +6,7 @@ ghost use Rattle.world_core.specs.Front.{users_fault};
 ghost use Rattle.world_core.specs.Refusing.{fault_of_map, fault_of_needs};
 
 use auth_db::AuthFault;
-use group_core::GroupFault;
+use group_types::GroupFault;
 use map_core::MapFault;
 use object_core::NeedsFault;
 use std::alloc::{AllocError, AllocFailed};

@@ -2,7 +2,7 @@
 
 ghost use Rattle.std.specs.Prelude.{◌≡◌, ◌≤◌, ◌<◌, ℕ, List, [], ◌∷◌, None, Ok, OnOk, OnErr, IfOk, length, option_copied};
 ghost use Rattle.object_core.specs.declared.op.Op as op;
-ghost use Rattle.group_core.specs.Each.{Each};
+ghost use Rattle.whole_logs.specs.Each.{Each};
 ghost use Rattle.suffix_core.specs.Group.{submitted};
 ghost use Rattle.world_core.specs.Event.{Auth, Map, Open, Renew, Close, Submit, ListNames};
 ghost use Rattle.map_core.specs.Limits.{HasLimits};

@@ -12,11 +12,11 @@ use Rattle.map_core.proofs.Current.{after_push}
 use Rattle.entry_core.specs.Locality.{group_for}
 use Rattle.entry_core.specs.Request.{Sealed}
 use Rattle.entry_core.specs.declared.sealed.GroupId.{GroupId}
-use Rattle.group_core.specs.Each.{Each}
-use Rattle.group_core.specs.Asked.{IsAsked}
+use Rattle.whole_logs.specs.Each.{Each}
+use Rattle.whole_logs.specs.Asked.{IsAsked}
 use Rattle.suffix_core.specs.Group.{Group, group_step, submitted, is_submitted, has_all_requests}
 use Rattle.suffix_core.specs.Group as group
-use Rattle.group_core.specs.declared.fault.GroupFault.TheVariants as group_fault
+use Rattle.group_types.specs.declared.fault.GroupFault.TheVariants as group_fault
 use Rattle.world_core.specs.declared.event.Event.TheVariants.{Map}
 use Rattle.world_core.specs.Groups.{is_same_group, is_for}
 use Rattle.world_core.specs.Front.{Front, requests_of, requests_in, front_step}

@@ -10,18 +10,18 @@ use Rattle.entry_core.specs.Log.{is_in}
 use Rattle.entry_core.specs.Request.{Sealed}
 use Rattle.entry_core.specs.declared.sealed.GroupId.{GroupId}
 use Rattle.suffix_core.specs.Types.{Sent, Party, Client, Osd}
-use Rattle.group_core.specs.Each.{Each}
-use Rattle.group_core.specs.declared.answers.Answer.{Answer}
+use Rattle.whole_logs.specs.Each.{Each}
+use Rattle.group_types.specs.Answers.{Answer}
 use Rattle.suffix_core.specs.Group.{Group, group_step, run, settle, kick, deliver, lose, refusal_to, refusal_at, missing_at, submitted, is_answered, answer_of}
 use Rattle.suffix_core.specs.Group as group
-use Rattle.group_core.specs.declared.fault.GroupFault.TheVariants as group_fault
+use Rattle.group_types.specs.declared.fault.GroupFault.TheVariants as group_fault
 use Rattle.suffix_core.specs.Budget.{budget, settled_group}
-use Rattle.suffix_laws.specs.Recovery.{lost_all, Recovers}
-use Rattle.group_laws.specs.Recovery.{IsLoss}
-use Rattle.suffix_laws.proofs.Losses.{all_lost, can_lose}
-use Rattle.suffix_laws.proofs.Recovery.{ready_from}
-use Rattle.suffix_laws.proofs.Recovery.{recovers}
-use Rattle.suffix_laws.proofs.SameGroups.{same_settle}
+use Rattle.group_laws.specs.Recovery.{lost_all, Recovers}
+use Rattle.whole_laws.specs.Recovery.{IsLoss}
+use Rattle.group_laws.proofs.Losses.{all_lost, can_lose}
+use Rattle.group_laws.proofs.Recovery.{ready_from}
+use Rattle.group_laws.proofs.Recovery.{recovers}
+use Rattle.group_laws.proofs.SameGroups.{same_settle}
 use Rattle.world_core.specs.declared.event.Event.{Event}
 use Rattle.world_core.specs.declared.event.Event.TheVariants.{Deliver, Lose, Repeat, Kick}
 use Rattle.world_core.specs.declared.fault.WorldFault.TheVariants.{Group as OfGroup}

@@ -15,10 +15,10 @@ use Rattle.entry_core.specs.Laws.{is_denied}
 use Rattle.entry_core.specs.declared.entry.Entry.{Entry}
 use Rattle.entry_core.specs.declared.reply.Reply.{Reply}
 use Rattle.entry_core.specs.declared.reply.Reply.TheVariants.{Names}
-use Rattle.group_core.specs.Each.{Each}
+use Rattle.whole_logs.specs.Each.{Each}
 use Rattle.suffix_core.specs.Group.{submitted}
-use Rattle.group_core.specs.Asked.{IsAsked}
-use Rattle.group_core.proofs.Audits.{legal_rest}
+use Rattle.whole_logs.specs.Asked.{IsAsked}
+use Rattle.whole_logs.proofs.Audits.{legal_rest}
 use Rattle.world_core.specs.declared.event.Ask.{Ask}
 use Rattle.world_core.specs.declared.event.Event.{Event}
 use Rattle.world_core.specs.declared.event.Event.TheVariants.{Auth, Map, Open, Renew, Close, Submit, List as ListNames, Deliver, Lose, Repeat, Kick}

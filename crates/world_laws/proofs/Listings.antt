@@ -22,7 +22,7 @@ use Rattle.entry_core.specs.declared.entry.Entry.{Entry}
 use Rattle.entry_core.specs.declared.reply.Reply.{Reply}
 use Rattle.entry_core.specs.declared.reply.Reply.TheVariants.{Denied, Names}
 use Rattle.verdict_core.specs.Verdict.{report_of}
-use Rattle.group_core.specs.Each.{Each}
+use Rattle.whole_logs.specs.Each.{Each}
 use Rattle.world_core.specs.Listing.{sorted, joined, names_in as names_shown}
 use Rattle.world_laws.specs.Pieces.{is_there, objects_of, IsPiece, PiecesAreTheNamespace, PiecesAnswerTheNamespace}
 use Rattle.world_core.proofs.Merge.{number_refl}

@@ -14,8 +14,8 @@ use Rattle.entry_core.specs.Locality.{group_for}
 use Rattle.entry_core.specs.Request.{Sealed}
 use Rattle.entry_core.specs.declared.entry.Entry.{Entry}
 use Rattle.entry_core.specs.declared.sealed.GroupId.{GroupId}
-use Rattle.group_core.specs.Each.{Each}
-use Rattle.group_core.specs.Asked.{IsAsked}
+use Rattle.whole_logs.specs.Each.{Each}
+use Rattle.whole_logs.specs.Asked.{IsAsked}
 use Rattle.suffix_core.specs.Group.{Group, submitted, is_submitted}
 use Rattle.world_core.specs.Groups.{is_same_group, is_for}
 use Rattle.world_core.specs.declared.session.Session.{Session}

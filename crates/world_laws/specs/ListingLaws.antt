@@ -10,7 +10,7 @@ use Rattle.entry_core.specs.Log.{is_in, ids}
 use Rattle.entry_core.specs.declared.entry.Entry.{Entry}
 use Rattle.entry_core.specs.declared.reply.Reply.{Reply}
 use Rattle.entry_core.specs.declared.reply.Reply.TheVariants.{Denied, Names}
-use Rattle.group_core.specs.Each.{Each}
+use Rattle.whole_logs.specs.Each.{Each}
 use Rattle.suffix_core.specs.Group.{submitted}
 use Rattle.world_core.specs.declared.event.Event.{Event}
 use Rattle.world_core.specs.Front.{Front}

@@ -11,7 +11,7 @@ use Rattle.suffix_core.specs.Group.{Group, group_step, kick, submitted}
 use Rattle.suffix_core.specs.Group as group
 use Rattle.suffix_core.specs.Budget.{budget}
 use Rattle.suffix_core.specs.Recovery.{is_ready}
-use Rattle.suffix_laws.specs.Recovery.{lost_all}
+use Rattle.group_laws.specs.Recovery.{lost_all}
 use Rattle.world_core.specs.declared.event.Event.{Event}
 use Rattle.world_core.specs.declared.event.Event.TheVariants.{Deliver, Lose, Kick}
 use Rattle.world_core.specs.Groups.{is_same_group}

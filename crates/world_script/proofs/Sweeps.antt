@@ -10,7 +10,7 @@ use Rattle.suffix_core.specs.Group.{Group, group_step, refusal_to, refusal_at}
 use Rattle.suffix_core.specs.Group as group
 use Rattle.entry_core.specs.Log.{is_in}
 use Rattle.suffix_core.specs.Budget.{budget}
-use Rattle.group_core.specs.declared.fault.GroupFault.TheVariants.{Unreachable}
+use Rattle.group_types.specs.declared.fault.GroupFault.TheVariants.{Unreachable}
 use Rattle.suffix_core.specs.Reached.{IsReached}
 use Rattle.suffix_core.proofs.Lowering.{deliver_lowers, lose_lowers}
 use Rattle.world_core.specs.declared.event.Event.{Event}

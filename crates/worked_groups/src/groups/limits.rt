@@ -8,7 +8,8 @@ use super::steps::Step::{
 };
 use super::steps::{Step, begun, run, run_from};
 use entry_core::TryCopy;
-use group_core::{Group, GroupFault};
+use group_core::Group;
+use group_types::GroupFault;
 use object_core::NeedsFault;
 use std::alloc::Global;
 use std::test::Fail;

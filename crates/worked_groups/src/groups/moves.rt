@@ -2,7 +2,7 @@
 
 use super::sets::{self, Who};
 use super::steps::begun;
-use group_core::{GroupFault, GroupMove};
+use group_types::{GroupFault, GroupMove};
 use std::alloc::Global;
 use std::test::Fail;
 

@@ -3,13 +3,54 @@
 use super::requests::Work;
 use super::sets::Who;
 use super::steps::Step::{
-    Ask, Audit, Deliver, Gives, Kick, Lose, LoseAll, Move, Open, Ready, Repeat, Restart, Settle,
-    SettleAll, Wire,
+    Ask, Audit, Copied, Deliver, Gives, IsFull, Kick, Lose, LoseAll, Move, Named, Open, Ready,
+    Repeat, Restart, Sent, Settle, SettleAll, TakeBack, Wire,
 };
 use super::steps::{Step, run_from};
+use crate::copies::Says::{Info, Install, Installed, Query};
+use group_types::Party;
 use std::test::Fail;
 
-// Peerings that were left half done: twice the first of a set chooses a log, and what it sends then is lost.
+const ZERO: Party = Party::Osd(0);
+
+const ONE: Party = Party::Osd(1);
+
+const TWO: Party = Party::Osd(2);
+
+// Five requests are decided, and their primary goes away: nobody lacks anything, and no request is sent.
+const FIVE_DECIDED: &[Step] = &[
+    Settle(11),
+    Ask(1, Work::Append("a")),
+    Settle(6),
+    Ask(2, Work::Append("a")),
+    Settle(6),
+    Ask(3, Work::Append("a")),
+    Settle(6),
+    Ask(4, Work::Append("a")),
+    Settle(6),
+    Ask(5, Work::Append("a")),
+    Settle(6),
+    Audit(&[1, 2, 3, 4, 5]),
+    Move(Who::OneTwo, Who::OneTwo),
+    Deliver(0),
+    Sent(1, ONE, ZERO, Query(2, 5, 5)),
+    Sent(2, ONE, TWO, Query(2, 5, 5)),
+    Deliver(2),
+    Sent(2, TWO, ONE, Info(2, 1, 5, &[])),
+    Deliver(2),
+    Sent(2, ONE, TWO, Install(2, 5, &[])),
+    Deliver(2),
+    Sent(2, TWO, ONE, Installed(2)),
+    Settle(2),
+    Ask(6, Work::Append("a")),
+    Settle(4),
+    Audit(&[1, 2, 3, 4, 5, 6]),
+    Gives(6, ""),
+];
+
+// Peerings that were left half done: twice the first of a set chooses a log, and what it sends then is lost. Request 1 is in
+// the log of daemon 0 alone, and request 2 was decided without it. Daemon 0 drops the one and fits the other, which nobody
+// else lacks.
 const HALF_DONE: &[Step] = &[
     Settle(11),
     Ask(1, Work::Append("a")),
@@ -27,6 +68,7 @@ const HALF_DONE: &[Step] = &[
     Move(Who::ZeroTwo, Who::ZeroTwo),
     Deliver(0),
     Deliver(3),
+    Sent(3, TWO, ZERO, Info(3, 1, 0, &[])),
     Deliver(3),
     Lose(0),
     Lose(0),
@@ -35,15 +77,50 @@ const HALF_DONE: &[Step] = &[
     Move(Who::OneTwo, Who::OneTwo),
     Lose(2),
     Ask(2, Work::Append("b")),
-    SettleAll,
+    Settle(10),
     Audit(&[2]),
     Move(Who::Three, Who::Three),
-    SettleAll,
+    Deliver(0),
+    Sent(3, ZERO, ONE, Query(5, 1, 1)),
+    Sent(4, ZERO, TWO, Query(5, 1, 1)),
+    Deliver(3),
+    Deliver(3),
+    Sent(3, ONE, ZERO, Info(5, 4, 0, &[2])),
+    Sent(4, TWO, ZERO, Info(5, 4, 0, &[2])),
+    Deliver(3),
+    Deliver(3),
+    Sent(3, ZERO, ONE, Install(5, 1, &[])),
+    Sent(4, ZERO, TWO, Install(5, 1, &[])),
+    Wire(5),
+    Kick,
+    Sent(8, ZERO, ONE, Install(5, 1, &[])),
+    Sent(9, ZERO, TWO, Install(5, 1, &[])),
+    Settle(20),
+    Audit(&[2, 1]),
     Ask(3, Work::Read),
-    SettleAll,
+    Settle(6),
     Audit(&[2, 1, 3]),
     Gives(1, ""),
     Gives(3, "ba"),
+];
+
+// A request that is sent twice is decided once, also where the primary restarts before it hears of it.
+const SENT_TWICE: &[Step] = &[
+    Named("data", 5),
+    Settle(11),
+    Ask(1, Work::Append("a")),
+    Repeat(0),
+    TakeBack(2),
+    Restart(0),
+    Wire(6),
+    Copied,
+    Wire(6),
+    Settle(21),
+    Wire(0),
+    Audit(&[1]),
+    Gives(1, ""),
+    Ready(true),
+    IsFull(false, false),
 ];
 
 // Restarts, one of a daemon that is in no set, and kicks.
@@ -117,8 +194,10 @@ const TOO_SMALL: &[Step] = &[
 ];
 
 // How a group begins, with at least so many members and this set, and what happens.
-const WAYS: [(usize, Who, &[Step]); 5] = [
+const WAYS: [(usize, Who, &[Step]); 7] = [
+    (2, Who::Three, FIVE_DECIDED),
     (2, Who::Three, HALF_DONE),
+    (2, Who::Three, SENT_TWICE),
     (2, Who::Three, RESTARTS),
     (1, Who::ZeroOne, BACK),
     (2, Who::ZeroOne, SERVED),

@@ -7,9 +7,10 @@ use super::steps::{begun, gives, has_decided};
 use Event::{Deliver, Lose, LoseAll, Move, Settle, Submit};
 use Party::{Client, Osd};
 use entry_core::{Id, OutOfMemory, Reply, TryCopy};
-use group_core::{Group, GroupFault};
+use group_core::Group;
+use group_types::{GroupFault, Party};
 use object_core::NeedsFault;
-use peer_core::{Body, Party};
+use peer_core::Body;
 use std::alloc::Global;
 use std::test::Fail;
 

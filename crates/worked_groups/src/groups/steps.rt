@@ -4,9 +4,11 @@ ghost use Rattle.std.specs.Prelude.{◌≤◌};
 
 use super::requests::{Work, request};
 use super::sets::{self, Who, set};
+use crate::copies::{Says, is_said};
 use common_types::Name;
-use entry_core::{GroupId, Id, OutOfMemory, Reply, Sealed};
-use group_core::{Group, GroupFault};
+use entry_core::{GroupId, Id, OutOfMemory, Reply, Sealed, TryCopy};
+use group_core::Group;
+use group_types::{GroupFault, Party};
 use object_core::NeedsFault;
 use std::alloc::Global;
 
@@ -38,11 +40,15 @@ pub(super) enum Step {
     Open(u32),
     Gives(u32, &'static str),
     GivesTwo(u32, &'static str, &'static str),
+    // The message at this place: from whom, to whom, and what it says.
+    Sent(usize, Party, Party, Says),
+    // A copy settles, and leaves the group as it is.
+    Copied,
 }
 
 use Step::{
-    Ask, Audit, Audited, Deliver, Doubled, Gives, GivesTwo, Has, IsFull, Kick, Lacks, Lose,
-    LoseAll, Move, Named, Open, Ready, Refused, Repeat, Restart, Settle, SettleAll, Stuck,
+    Ask, Audit, Audited, Copied, Deliver, Doubled, Gives, GivesTwo, Has, IsFull, Kick, Lacks, Lose,
+    LoseAll, Move, Named, Open, Ready, Refused, Repeat, Restart, Sent, Settle, SettleAll, Stuck,
     TakeBack, Wire,
 };
 
@@ -76,6 +82,18 @@ pub(super) fn has_decided(group: &Group, numbers: &[u32]) -> bool {
     true
 }
 
+fn is_sent(group: &Group, place: usize, from: Party, to: Party, says: Says) -> bool {
+    match group.wire().get(place) {
+        Some(sent) => sent.from == from && sent.to == to && is_said(&sent.body, says),
+        None => false,
+    }
+}
+
+fn copy_settles(group: &Group) -> Result<bool, OutOfMemory> {
+    let mut copy = group.copy()?;
+    Ok(copy.settle().is_ok() && copy.wire().is_empty())
+}
+
 // Whether a group looks as a step says. One that asks for no look does.
 fn sees(group: &Group, step: Step) -> bool {
     match step {
@@ -91,6 +109,7 @@ fn sees(group: &Group, step: Step) -> bool {
         }
         Audit(numbers) => has_decided(group, numbers),
         Open(number) => group.answer(Id::new(1, number)).is_none(),
+        Sent(place, from, to, says) => is_sent(group, place, from, to, says),
         Gives(number, output) => gives(group.answer(Id::new(1, number)), &[output]),
         GivesTwo(number, first, second) => {
             gives(group.answer(Id::new(1, number)), &[first, second])
@@ -109,6 +128,7 @@ fn changes(group: &mut Group, step: Step) -> Result<bool, OutOfMemory> {
         Settle(count) => Ok(matches!(group.settle(), Ok(delivered) if delivered == count)),
         SettleAll => Ok(group.settle().is_ok()),
         Audited(count) => Ok(group.audit()?.len() == count),
+        Copied => copy_settles(group),
         _ => Ok(true),
     }
 }

@@ -1,7 +1,7 @@
 //! Worlds that are put together of parts.
 
 ghost use Rattle.std.specs.Prelude.{◌≡◌, [], IfOk, IfErr};
-ghost use Rattle.group_core.specs.Each.{Each};
+ghost use Rattle.whole_logs.specs.Each.{Each};
 ghost use Rattle.world_core.specs.Inside.{entries_told};
 ghost use Rattle.world_core.specs.Parts.{FitTogether, decided_of, put_together, requests_of};
 ghost use Rattle.world_core.specs.Sound.{FitsAt, IsSound};
@@ -14,7 +14,7 @@ use crate::submissions::Submissions;
 use crate::world::World;
 use auth_db::AuthDb;
 use entry_core::OutOfMemory;
-use group_copies::Group;
+use group_core::Group;
 use map_core::ClusterMap;
 use std::alloc::Global;
 

@@ -1,5 +1,5 @@
 use Rattle.std.proofs.Common.{◌∙◌}
-use Rattle.peer_core.proofs.Counted.{has_is_in}
+use Rattle.whole_logs.proofs.Counted.{has_is_in}
 use Rattle.group_core.proofs.daemon_sets.has_member.Goals as goal
 
 pub returns : goal.returns

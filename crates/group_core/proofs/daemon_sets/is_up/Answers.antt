@@ -1,6 +1,6 @@
 use Rattle.std.proofs.Common.{◌∙◌}
 use Rattle.place_core.specs.Placement.{numbers_of}
-use Rattle.peer_core.proofs.Counted.{has_is_in}
+use Rattle.whole_logs.proofs.Counted.{has_is_in}
 use Rattle.group_core.proofs.daemon_sets.is_up.Goals as goal
 
 pub returns : goal.returns

@@ -1,7 +1,7 @@
 use Rattle.std.proofs.Common.{◌≡◌, ◌+◌, ◌∷◌, [], ◌++◌, sym, ◌∙◌, ap, arith, map, take}
 use Rattle.peer_core.specs.Steps.{blank}
-use Rattle.peer_core.specs.ActingSets.{daemons}
-use Rattle.group_core.proofs.Daemons.{map-push, next_daemon}
+use Rattle.whole_logs.specs.ActingSets.{daemons}
+use Rattle.whole_logs.proofs.Daemons.{map-push, next_daemon}
 use Rattle.group_core.proofs.effects.blank_copies.Goals as goal
 
 pub loop-number-preserved : goal.loop-number-preserved

@@ -1,7 +1,7 @@
 use Rattle.std.proofs.Common.{◌≡◌, take, map, not}
 use Rattle.std.specs.List.{filter}
-use Rattle.group_core.specs.Types.{Request}
-use Rattle.group_core.specs.Group.{to_daemon, is_answered}
+use Rattle.suffix_core.specs.Types.{Request}
+use Rattle.suffix_core.specs.Group.{to_daemon, is_answered}
 use Rattle.group_core.proofs.sending.resent.Given as goal
 
 abbrev pub invariant-loop-request : goal.invariant-loop-request

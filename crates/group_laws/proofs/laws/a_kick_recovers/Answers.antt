@@ -1,6 +1,5 @@
-use Rattle.group_laws.proofs.RecoveryLaws.{all_lost, can_lose}
-use Rattle.group_laws.proofs.RecoveryTests.{ready_from, ready_to}
-use Rattle.group_laws.proofs.Statements.{recovers}
+use Rattle.group_laws.proofs.Losses.{all_lost, can_lose}
+use Rattle.group_laws.proofs.Recovery.{ready_from, ready_to, recovers}
 use Rattle.group_laws.proofs.laws.a_kick_recovers.Goals as goal
 
 pub returns : goal.returns

@@ -1,4 +1,4 @@
-use Rattle.group_laws.proofs.Statements.{one_open}
+use Rattle.group_laws.proofs.Opens.{one_open}
 use Rattle.group_laws.proofs.laws.one_entry_is_open.Goals as goal
 
 pub returns : goal.returns

@@ -1,5 +1,4 @@
-use Rattle.group_laws.proofs.QuietLaws.{quiet_opening}
-use Rattle.group_laws.proofs.Statements.{serves_in_time}
+use Rattle.group_laws.proofs.Statements.{quiet_opening, serves_in_time}
 use Rattle.group_laws.proofs.laws.one_interval_serves_all.Goals as goal
 
 pub returns : goal.returns

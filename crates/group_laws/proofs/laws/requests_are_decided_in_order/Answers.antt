@@ -1,5 +1,5 @@
-use Rattle.group_core.specs.Group.{start}
-use Rattle.group_laws.proofs.Takings.{run_takes}
+use Rattle.suffix_core.specs.Group.{start}
+use Rattle.group_laws.proofs.SameGroups.{run_takes}
 use Rattle.group_laws.proofs.Statements.{decides_in_order}
 use Rattle.group_laws.proofs.laws.requests_are_decided_in_order.Goals as goal
 

@@ -1,4 +1,4 @@
-use Rattle.group_laws.proofs.Statements.{settling}
+use Rattle.group_laws.proofs.Settling.{settling}
 use Rattle.group_laws.proofs.laws.settling_ends.Goals as goal
 
 pub returns : goal.returns

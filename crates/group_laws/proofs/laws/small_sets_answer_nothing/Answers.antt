@@ -1,5 +1,4 @@
-use Rattle.group_laws.proofs.SmallRuns.{small_opening}
-use Rattle.group_laws.proofs.Statements.{answers_nothing}
+use Rattle.group_laws.proofs.Statements.{small_opening, answers_nothing}
 use Rattle.group_laws.proofs.laws.small_sets_answer_nothing.Goals as goal
 
 pub returns : goal.returns

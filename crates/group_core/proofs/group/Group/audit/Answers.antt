@@ -1,6 +1,6 @@
 use Rattle.std.proofs.Common.{subst}
-use Rattle.group_core.specs.Reached.{IsReached}
-use Rattle.group_core.proofs.AskedOnce.{decided_few}
+use Rattle.suffix_core.specs.Reached.{IsReached}
+use Rattle.group_core.proofs.Reached.{decided_few}
 use Rattle.group_core.proofs.group.Group.audit.Goals as goal
 
 pub returns-in_err-copy-clause-few : goal.returns-in_err-copy-clause-few

@@ -1,5 +1,5 @@
 use Rattle.std.proofs.Common.{◌++◌, ap, ◌∙◌}
-use Rattle.group_core.specs.Group.{announced, retransmit_primary, last_set}
+use Rattle.suffix_core.specs.Group.{announced, retransmit_primary, last_set}
 use Rattle.group_core.proofs.Calls.{next_kicked}
 use Rattle.group_core.proofs.group.Group.kick.Goals as goal
 

@@ -1,9 +1,8 @@
 use Rattle.std.proofs.Common.{◌≡◌, ◌<◌, ◌≤◌, ap, sym, ◌∙◌, subst, length, max, true, refl}
 use Rattle.std.specs.Prelude.{Some, slice_get, slice_set}
 use Rattle.entry_core.specs.Log.{is_in}
-use Rattle.group_core.specs.Types.{Osd}
+use Rattle.suffix_core.specs.Types.{Osd}
 use Rattle.group_core.proofs.Calls.{get_below, get_or_some, next_swallowed, next_heard, stepped}
-use Rattle.group_core.proofs.Reached.{reached_bounded}
 use Rattle.group_core.proofs.Sends.{sent_few}
 use Rattle.group_core.proofs.group.Group.reach_daemon.Goals as goal
 
@@ -27,7 +26,7 @@ pub reach-requires-clause-few : goal.reach-requires-clause-few
 reach-requires-clause-few c = λ m here. (
     let lt : c.args.daemon < length c.self.inside.state.copies.items = subst (λ l. c.args.daemon < length l) c.as_slice.ensures.value c.if-place-as_slice.false in
     let found : slice_get c.self.inside.state.copies.items c.args.daemon ≡ Some c.index_mut-copy.result.now = get_or_some c.self.inside.state.copies.items c.args.daemon c.index_mut-copy.result.now lt ∙ ap (λ v. Some v) (sym c.index_mut-copy.ensures.value) in
-    sent_few _ (reached_bounded _ c.self.invariant.reached) c.args.k c.args.daemon m c.index_mut-copy.result.now here found)
+    sent_few _ c.self.invariant.reached c.args.k c.args.daemon m c.index_mut-copy.result.now here (c.requires.to m (subst (λ v. slice_get v.wire c.args.k ≡ Some m) c.self.view_is here)) (subst (λ v. is_in v.up c.args.daemon ≡ true) (sym c.self.view_is) c.requires.up) found)
 
 pub invariant_of-self-2 : goal.invariant_of-self-2
 invariant_of-self-2 c =

@@ -1,8 +1,8 @@
 use Rattle.std.proofs.Common.{◌∙◌, ◌==◌, ap}
 use Rattle.std.specs.List.{list_any}
 use Rattle.entry_core.specs.Request.{Sealed}
-use Rattle.group_core.specs.Group.{is_submitted}
-use Rattle.group_core.proofs.ById.{some_has}
+use Rattle.suffix_core.specs.Group.{is_submitted}
+use Rattle.whole_logs.proofs.ById.{some_has}
 use Rattle.group_core.proofs.requests.Requests.has.Goals as goal
 
 pub returns : goal.returns

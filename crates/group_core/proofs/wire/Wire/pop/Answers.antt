@@ -1,5 +1,5 @@
 use Rattle.std.proofs.Common.{◌≡◌, ◌-◌, ap, ◌∙◌, subst, length, take, drop}
-use Rattle.group_core.proofs.Removed.{drop_take_last}
+use Rattle.whole_logs.proofs.Removed.{drop_take_last}
 use Rattle.group_core.proofs.wire.Wire.pop.Goals as goal
 
 pub returns-then-self-left : goal.returns-then-self-left

@@ -1,6 +1,6 @@
 use Rattle.std.proofs.Common.{◌≡◌, ◌+◌, sym, ◌∙◌, ap, subst, drop, arith}
 use Rattle.std.specs.List.{remove}
-use Rattle.group_core.proofs.Removed.{drop_remove, drop_first}
+use Rattle.whole_logs.proofs.Removed.{drop_remove, drop_first}
 use Rattle.group_core.proofs.wire.Wire.remove.Goals as goal
 
 pub returns-then-k-gt0 : goal.returns-then-k-gt0

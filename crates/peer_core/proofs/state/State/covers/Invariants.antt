@@ -1,5 +1,6 @@
 use Rattle.std.proofs.Common.{◌≡◌, ◌+◌, drop}
-use Rattle.peer_core.specs.Choice.{covers, is_informed}
+use Rattle.group_types.specs.ActingSets.{covers}
+use Rattle.peer_core.specs.Choice.{is_informed}
 use Rattle.peer_core.proofs.state.State.covers.Given as goal
 
 abbrev pub invariant-loop-members : goal.invariant-loop-members

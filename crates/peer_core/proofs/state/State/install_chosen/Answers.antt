@@ -1,9 +1,11 @@
-use Rattle.std.proofs.Common.{rules}
-use Rattle.peer_core.proofs.Asking.{install_copy, install_sent}
+use Rattle.std.proofs.Common.{◌∙◌, sym}
+use Rattle.peer_core.proofs.Installs.{install_copy, install_sent}
 use Rattle.peer_core.proofs.state.State.install_chosen.Goals as goal
 
-pub returns-clause-sent : goal.returns-clause-sent
-returns-clause-sent c = install_sent c.args.self.now c.args.log c.args.sent c.send_install.new.sent c.new.result c.new.ensures (search rules) (search rules)
-
 pub returns-clause-copy : goal.returns-clause-copy
-returns-clause-copy c = install_copy c.args.self.now c.args.log c.new-2.result c.new-2.ensures (search rules)
+returns-clause-copy c = λ informed is.
+    install_copy c.args.self.now informed c.args.log c.new.result c.in_ok-common.common c.new.ensures (c.in_ok-common.ensures.common informed is) (sym c.is_alone.ensures ∙ c.if-is_alone.false)
+
+pub returns-clause-sent : goal.returns-clause-sent
+returns-clause-sent c = λ informed is.
+    install_sent c.args.self.now informed c.args.log c.args.sent c.send_chosen.new.sent (sym c.is_alone.ensures ∙ c.if-is_alone.false) (c.in_ok-common.ensures.sent informed is)

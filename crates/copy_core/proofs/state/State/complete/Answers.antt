@@ -1,7 +1,0 @@
-use Rattle.std.proofs.Common.{rules}
-use Rattle.peer_core.specs.Decided.{last}
-use Rattle.copy_core.proofs.Counting.{completes}
-use Rattle.copy_core.proofs.state.State.complete.Goals as goal
-
-pub returns-clause-ok : goal.returns-clause-ok
-returns-clause-ok c = completes c.args.self.now (last c.args.self.now.log) c.reply_to_last.new.sent c.serve.result c.serve.new.self (search rules) (search rules) (search rules)

@@ -1,0 +1,4 @@
+pub mod ActingSets
+pub mod Decided
+pub mod Answers
+pub mod Printed

@@ -1,6 +1,0 @@
-use Rattle.suffix_laws.proofs.Losses.{all_lost, can_lose}
-use Rattle.suffix_laws.proofs.Recovery.{ready_from, ready_to, recovers}
-use Rattle.suffix_laws.proofs.laws.a_kick_recovers.Goals as goal
-
-pub returns : goal.returns
-returns c = record { recovers = recovers; lost = all_lost; loses = can_lose; ready = ready_from; unready = ready_to }
