@@ -16,9 +16,9 @@ use crate::element_at::at;
 use crate::opening::{open, prepare};
 use crate::requests::Requests;
 use crate::wire::Wire;
-use peer_core::{Body, Daemon, Message, Sent};
 use entry_core::{Items, OutOfMemory, Sealed, TryCopy};
 use group_types::IntervalSets;
+use peer_core::{Body, Daemon, Message, Sent};
 use place_core::{ActingSet, DaemonSet};
 use std::alloc::Global;
 

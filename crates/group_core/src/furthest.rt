@@ -5,8 +5,8 @@ ghost use Rattle.whole_logs.specs.Choice.{is_better};
 ghost use Rattle.group_core.specs.Furthest.{whole_offer};
 ghost use Rattle.group_core.specs.Furthest.{furthest as furthest_log};
 
-use peer_core::Daemon;
 use entry_core::Entry;
+use peer_core::Daemon;
 
 /// Whether the first copy is further on.
 fn is_further(one: &Daemon, other: &Daemon) -> bool

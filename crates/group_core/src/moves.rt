@@ -13,8 +13,7 @@ use crate::group::{Group, INTERVALS};
 use crate::opening::{Opening, open, prepare};
 use crate::state::GroupState;
 use crate::wire::Wire;
-use group_types::{GroupFault, GroupMove};
-use group_types::IntervalSets;
+use group_types::{GroupFault, GroupMove, IntervalSets};
 use place_core::ActingSet;
 use std::marker::Model;
 

@@ -7,9 +7,9 @@ use crate::answers::Answers;
 use crate::requests::Requests;
 use crate::sending::{announced, resent};
 use crate::wire::Wire;
-use peer_core::Sent;
 use entry_core::OutOfMemory;
 use group_types::IntervalSets;
+use peer_core::Sent;
 use place_core::ActingSet;
 use std::alloc::Global;
 

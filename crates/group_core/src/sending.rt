@@ -8,9 +8,9 @@ use crate::answers::Answers;
 use crate::daemon_sets::last_set;
 use crate::element_at::at;
 use crate::requests::Requests;
-use peer_core::{Body, Daemon, Sent};
 use entry_core::{OutOfMemory, Sealed, TryCopy};
 use group_types::{IntervalSets, Party};
+use peer_core::{Body, Daemon, Sent};
 use place_core::ActingSet;
 use std::alloc::Global;
 

@@ -3,9 +3,9 @@
 use crate::answers::Answers;
 use crate::requests::Requests;
 use crate::wire::Wire;
-use peer_core::Daemon;
 use entry_core::GroupId;
 use group_types::IntervalSets;
+use peer_core::Daemon;
 use place_core::DaemonSet;
 
 /// The copies of one group, the messages among them, its intervals, its requests and its answers.

@@ -2,8 +2,8 @@
 
 ghost use Rattle.std.specs.Prelude.{◌≡◌, ◌+◌, ◌-◌, ◌<◌, ◌≤◌, ◌++◌, [], length, take, remove, IfOk, OnOk, OnErr, vec_len};
 
-use peer_core::Sent;
 use entry_core::{Items, OutOfMemory, TryCopy};
+use peer_core::Sent;
 use std::alloc::Global;
 use std::marker::Model;
 

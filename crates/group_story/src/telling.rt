@@ -6,8 +6,8 @@ ghost use Rattle.group_story.specs.Story.{wire_in, place_in, TellsEvent};
 ghost use Rattle.world_core.specs.World.{counts, world_step};
 
 use common_types::OutOfMemory;
-use peer_core::Sent;
 use entry_core::GroupId;
+use peer_core::Sent;
 use std::alloc::Global;
 use wire_steps::{WireStep, hold_wire, tell_step};
 use world_core::{Event, Told, World, WorldFault};

@@ -4,10 +4,10 @@ ghost use Rattle.std.specs.Prelude.{◌<◌};
 ghost use Rattle.cluster.specs.Passes.{AreSeatsOf, group_count};
 
 use cluster::{Cluster, LockedGroup, Seats};
-use peer_core::{Body, Sent};
 use entry_core::{Id, reply_number};
 use group_core::Group;
 use group_types::Party;
+use peer_core::{Body, Sent};
 use std::sync::Wait;
 use turn_lock::Step;
 

@@ -1,8 +1,8 @@
 //! What can be seen of messages and replies, as one number that takes no memory.
 
-use peer_core::{Body, Sent};
 use entry_core::{Id, Reply, reply_number};
 use group_types::Party;
+use peer_core::{Body, Sent};
 
 /// Where each look begins.
 pub(crate) const NOTHING: u64 = 14695981039346656037;

@@ -1,9 +1,9 @@
 //! The names of groups and of messages.
 
 use common_types::OutOfMemory;
-use peer_core::Body;
 use entry_core::{GroupId, Id};
 use group_types::Party;
+use peer_core::Body;
 use picture_text::Topic;
 use std::alloc::Global;
 use std::fmt::Write;
