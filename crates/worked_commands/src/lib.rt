@@ -10,4 +10,6 @@ mod files;
 #[cfg(test)]
 mod no_texts;
 #[cfg(test)]
+mod pictures;
+#[cfg(test)]
 mod script_texts;
