@@ -270,7 +270,7 @@ impl Log {
         if !self.are_new(kept, part)? {
             return Ok(false);
         }
-        if kept == self.len() && part.is_empty() {
+        if kept == self.entries.len() && part.is_empty() {
             return Ok(true);
         }
         let draft = self.draft(kept, part)?;

@@ -3,7 +3,7 @@ use Rattle.std.proofs.lemmas.List.{take-append-drop}
 use Rattle.std.specs.Arc.{arc_value}
 use Rattle.std.specs.FinMap.{get}
 use Rattle.std.specs.Option.{option_map}
-use Rattle.entry_core.specs.Deciding.{store_of}
+use Rattle.entry_core.specs.Deciding.{name_of, store_of}
 use Rattle.entry_core.specs.Log.{Legal}
 use Rattle.entry_core.specs.declared.decided.ObjectChange.TheVariants.{Became}
 use Rattle.entry_core.specs.declared.entry.Entry.{Entry}
@@ -28,5 +28,6 @@ returns c =
     let whole = whole_of log n last.result one (last.is ∙ ap (λ l. get_or l n last.result) c.entries-2.ensures) in
     let made = c.earlier.invariant.made ∙ ap store_of (c.earlier.view_is ∙ c.in_ok-earlier.ensures ∙ ap (take n) c.entries.ensures) in
     let object = c.in_ok-object in
+    let named = c.name.ensures ∙ ap (λ (e : Entry). name_of e.sealed) (sym last.is) in
     back_from front log last.result (Became object.object) whole
-    (put_back front last.result (option_map arc_value object.object) (object.ensures ∙ (λ i. get (made i) (c.name.ensures i))))
+    (put_back front last.result (option_map arc_value object.object) (object.ensures ∙ (λ i. get (made i) (named i))))
