@@ -163,8 +163,8 @@ draft_back log kept last part d d' back one is draft leads objects changes unkno
         leads = subst (LeadsBack (take kept log)) (sym unknown) tt;
       };
       alike =
-      subst (λ s. AlikeFor d'.objects s part) leads_to
-      (subst (λ s. AlikeFor s (changed (store_of log) (name_of last.sealed) (change_of back)) part) (sym objects) (changed_for d.objects (store_of log) (name_of last.sealed) (change_of back) part draft.alike));
+          subst (λ s. AlikeFor d'.objects s part) leads_to
+          (subst (λ s. AlikeFor s (changed (store_of log) (name_of last.sealed) (change_of back)) part) (sym objects) (changed_for d.objects (store_of log) (name_of last.sealed) (change_of back) part draft.alike));
     }
 
 -- one more request is decided
@@ -178,12 +178,12 @@ draft_more log front s part d d' draft objects changes undo =
       found = record {
         made = changes (store_of log) ∙ ap (λ x. changed x (name_of s) c) draft.found.made ∙ sym grown;
         leads =
-        undone_back front (decide front s) d.objects c d'.back (get_alike d.objects (store_of front) (name_of s) s.work draft.alike.0) grown
-        (subst (λ x. Undoes x d.objects (name_of s) d'.back) objects undo);
+            undone_back front (decide front s) d.objects c d'.back (get_alike d.objects (store_of front) (name_of s) s.work draft.alike.0) grown
+            (subst (λ x. Undoes x d.objects (name_of s) d'.back) objects undo);
       };
       alike =
-      subst (λ x. AlikeFor d'.objects x part) (sym grown)
-      (subst (λ x. AlikeFor x (changed (store_of front) (name_of s) c) part) (sym objects) (changed_for d.objects (store_of front) (name_of s) c part draft.alike.1));
+          subst (λ x. AlikeFor d'.objects x part) (sym grown)
+          (subst (λ x. AlikeFor x (changed (store_of front) (name_of s) c) part) (sym objects) (changed_for d.objects (store_of front) (name_of s) c part draft.alike.1));
     }
 
 -- the next request of a part is decided

@@ -11,7 +11,7 @@ use Rattle.entry_core.specs.Log.{Legal, LegalFrom, decide, ids, is_in}
 use Rattle.entry_core.specs.Fitting.{requests_of, part_of, agreed, are_new, decided_behind, kept, can_fit, fitted}
 use Rattle.entry_core.specs.FittingLaws.{SameNext, FitGivesTheLog, FitOfNothing, FittedIsLegal}
 use Rattle.entry_core.specs.declared.entry.Entry.{Entry}
-use Rattle.entry_core.proofs.LegalLogs.{legal_front, legal_rest, ids-push, behind_again, new_again, legal_behind}
+use Rattle.entry_core.proofs.LegalLogs.{legal_front, legal_rest, behind_again, new_again, legal_behind}
 
 le_true : (a b : ℕ) → a ≤ b → leb a b ≡ true
 le_true a b h = grind (arith, nat_tests)

@@ -1,5 +1,5 @@
--- What a push and a step back keep of a log's index and objects.
-use Rattle.std.proofs.Common.{◌≡◌, ℕ, ◌+◌, ◌-◌, ◌<◌, List, [], ◌∷◌, ◌++◌, Bool, true, false, cond, ◌==◌, Option, Some, None, is_some, length, get_or, take, refl, sym, ap, ◌∙◌, subst, arith}
+-- What a push, a copy and a fit keep of a log's index and objects.
+use Rattle.std.proofs.Common.{◌≡◌, ℕ, ◌+◌, List, [], ◌∷◌, ◌++◌, Bool, true, false, cond, ◌==◌, Option, Some, None, is_some, length, get_or, take, refl, sym, ap, ◌∙◌, subst, arith}
 use Rattle.std.specs.Cmp.{unsigned_Decides}
 use Rattle.std.proofs.lemmas.List.{length-append, take_more, take_all}
 use Rattle.std.specs.List.{AllZip}

@@ -283,6 +283,9 @@ impl Log {
     ///
     /// It answers false, and changes nothing, where the place is behind the log's end, where more than one entry would
     /// be dropped, or where an id would stand twice. Where memory is wanting, nothing changes either.
+    ///
+    /// It costs what the part costs, and nothing in the log's length, unless the last entry goes right after a fit that
+    /// dropped one and decided none: then the earlier requests are decided again.
     pub fn fit(&mut self, from: usize, part: &[Sealed]) -> Result<bool, AllocError>
         ensures fits { IfOk result (λ fits. fits ≡ is_some (fitted self.old from part.now)) }
         ensures log { OnOk result (self.new ≡ unwrap_or (fitted self.old from part.now) self.old) }
@@ -396,11 +399,7 @@ fn cut(entries: &mut Vec<Entry>, index: &mut HashMap<Id, usize, IdHash>, kept: u
 }
 
 /// Adds entries behind the others. There is room for them.
-fn append_all(
-    entries: &mut Vec<Entry>,
-    index: &mut HashMap<Id, usize, IdHash>,
-    more: Vec<Entry>,
-)
+fn append_all(entries: &mut Vec<Entry>, index: &mut HashMap<Id, usize, IdHash>, more: Vec<Entry>)
     requires entries { vec_len entries.old + vec_len more ≤ vec_capacity entries.old }
     requires index { vec_len more ≤ spare index.old }
     requires places { Places index.old.entries entries.old.items }

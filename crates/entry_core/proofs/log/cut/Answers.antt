@@ -1,4 +1,4 @@
-use Rattle.std.proofs.Common.{◌≡◌, ◌∙◌, ◌==◌, cond, None, sym, ap, subst}
+use Rattle.std.proofs.Common.{◌∙◌, ◌==◌, cond, None, sym, ap}
 use Rattle.std.specs.Map.{lookup}
 use Rattle.entry_core.proofs.Pushing.{places_back}
 use Rattle.entry_core.proofs.log.cut.Goals as goal

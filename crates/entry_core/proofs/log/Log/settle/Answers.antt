@@ -1,4 +1,4 @@
-use Rattle.std.proofs.Common.{◌≡◌, ◌∙◌, true, [], take, sym, ap, subst}
+use Rattle.std.proofs.Common.{◌∙◌, [], take, ap}
 use Rattle.entry_core.specs.Fitting.{are_new, requests_of}
 use Rattle.entry_core.specs.Log.{ids}
 use Rattle.entry_core.proofs.LegalLogs.{legal_rest, new_again}

@@ -1,11 +1,10 @@
-use Rattle.std.proofs.Common.{◌≡◌, ◌∙◌, List, Option, Some, None, true, is_some, not, take, sym, ap, arith}
+use Rattle.std.proofs.Common.{◌≡◌, ◌∙◌, List, Option, Some, None, true, is_some, not, ap, arith}
 use Rattle.std.proofs.lemmas.Result.{IfOk-weaker}
 use Rattle.std.specs.Arc.{arc_value}
 use Rattle.std.specs.Borrow.{Bor}
 use Rattle.std.specs.Option.{option_copied, option_map}
 use Rattle.object_core.specs.declared.op.Op.{Op}
 use Rattle.std.specs.FinMap.{get}
-use Rattle.entry_core.specs.Drafts.{AlikeFor}
 use Rattle.entry_core.specs.Store.{with_object}
 use Rattle.entry_core.proofs.Drafts.{bring_more, same_alike}
 use Rattle.entry_core.proofs.objects.Objects.needed_by.Goals as goal
