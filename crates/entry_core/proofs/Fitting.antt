@@ -1,17 +1,17 @@
 -- Logs that are fitted to parts.
-use Rattle.std.proofs.Common.{◌≡◌, ℕ, suc, ◌+◌, ◌-◌, ◌<◌, ◌≤◌, List, [], ◌∷◌, ◌++◌, Bool, true, false, ◌&&◌, ◌==◌, cond, leb, Some, None, length, take, drop, get_or, min, not, refl, sym, ap, ◌∙◌, subst, append-nil, append_assoc, arith, add-one}
+use Rattle.std.proofs.Common.{◌≡◌, ℕ, suc, ◌+◌, ◌-◌, ◌<◌, ◌≤◌, List, [], ◌∷◌, ◌++◌, Bool, true, false, ◌&&◌, ◌||◌, ◌==◌, cond, map, leb, Some, None, length, take, drop, get_or, min, not, refl, sym, ap, ◌∙◌, subst, append-nil, append_assoc, arith, add-one}
 use Rattle.std.specs.Cmp.{unsigned_Decides}
 use Rattle.std.proofs.lemmas.Bool.{eq-eqb}
 use Rattle.std.proofs.lemmas.Bool.Decides.{nat_tests}
-use Rattle.std.proofs.lemmas.List.{take_all, length-append, length-drop, length-map, map-append, drop-append-le, take-append-drop}
+use Rattle.std.proofs.lemmas.List.{take_all, take_more, drop_all, drop-map, length-append, length-drop, length-map, map-append, drop-append-le, take-append-drop}
 use Prim.Native.Nat.{zero}
 use Rattle.std.proofs.Math.Seq.{drop-cons, take-append_seam, drop-append_seam}
 use Rattle.entry_core.specs.Request.{Sealed}
-use Rattle.entry_core.specs.Log.{Legal, LegalFrom, Decision, decision, decide, ids, is_in}
+use Rattle.entry_core.specs.Log.{Legal, LegalFrom, decide, ids, is_in}
 use Rattle.entry_core.specs.Fitting.{requests_of, part_of, agreed, are_new, decided_behind, kept, can_fit, fitted}
 use Rattle.entry_core.specs.FittingLaws.{SameNext, FitGivesTheLog, FitOfNothing, FittedIsLegal}
 use Rattle.entry_core.specs.declared.entry.Entry.{Entry}
-use Rattle.entry_core.proofs.LegalLogs.{legal_front, legal_rest, ids-push, behind_again, new_again, legal_behind}
+use Rattle.entry_core.proofs.LegalLogs.{legal_front, legal_rest, behind_again, new_again, legal_behind}
 
 le_true : (a b : ℕ) → a ≤ b → leb a b ≡ true
 le_true a b h = grind (arith, nat_tests)
@@ -130,14 +130,10 @@ agreed_end (e ∷ es) [] p h = at p
 agreed_end (e ∷ es) (s ∷ part) zero h = absurd (omega arith)
 agreed_end (e ∷ es) (s ∷ part) (suc p) h = agreed_end es part p (omega arith)
 
--- the next request of a part, at a log
-pub new_at : (log : List Entry) (part : List Sealed) (p : ℕ) (s : Sealed) → p < length part → s ≡ get_or part p s → are_new (ids log) (drop p part) ≡ (not (is_in (ids log) s.id) && are_new (ids log ++ s.id ∷ []) (drop (suc p) part))
-new_at log part p s within is =
-    ap (are_new (ids log)) (drop-cons part p s within) ∙ (λ i. not (is_in (ids log) (sym is i).id) && are_new (ids log ++ (sym is i).id ∷ []) (drop (suc p) part))
-
-pub behind_at : (log : List Entry) (part : List Sealed) (p : ℕ) (s : Sealed) → p < length part → s ≡ get_or part p s → decided_behind log (drop p part) ≡ decided_behind (log ++ decide log s ∷ []) (drop (suc p) part)
+-- the next request of a part is decided on the log
+pub behind_at : (log : List Entry) (part : List Sealed) (p : ℕ) (s : Sealed) → p < length part → s ≡ get_or part p s → decided_behind log (drop p part) ≡ decided_behind (log ++ decide log s ∷ []) (drop (p + 1) part)
 behind_at log part p s within is =
-    ap (decided_behind log) (drop-cons part p s within) ∙ (λ i. decided_behind (log ++ decide log (sym is i) ∷ []) (drop (suc p) part))
+    ap (decided_behind log) (drop-cons part p s within) ∙ (λ i. decided_behind (log ++ decide log (sym is i) ∷ []) (drop (sym (add-one p) i) part))
 
 pub not_true : (b : Bool) → not b ≡ true → b ≡ false
 not_true true h = sym h
@@ -147,18 +143,108 @@ pub not_false : (b : Bool) → not b ≡ false → b ≡ true
 not_false true h = refl
 not_false false h = sym h
 
+-- the numbers of requests
+abbrev pub numbers_of : List Sealed → List ℕ
+numbers_of part = map (λ (s : Sealed). s.id) part
+
+or_assoc : (a b c : Bool) → ((a || b) || c) ≡ (a || (b || c))
+or_assoc true b c = refl
+or_assoc false b c = refl
+
+pub is_in-append : (a b : List ℕ) (x : ℕ) → is_in (a ++ b) x ≡ (is_in a x || is_in b x)
+is_in-append [] b x = refl
+is_in-append (y ∷ a) b x = ap (λ c. (y == x) || c) (is_in-append a b x) ∙ sym (or_assoc (y == x) (is_in a x) (is_in b x))
+
+-- the next request of a part is new to some numbers, and those behind it are
+pub new_at : (before : List ℕ) (part : List Sealed) (p : ℕ) (s : Sealed) → p < length part → s ≡ get_or part p s → are_new before (drop p part) ≡ (not (is_in before s.id) && are_new (before ++ s.id ∷ []) (drop (suc p) part))
+new_at before part p s within is =
+    ap (are_new before) (drop-cons part p s within) ∙ (λ i. not (is_in before (sym is i).id) && are_new (before ++ (sym is i).id ∷ []) (drop (suc p) part))
+
+numbers_of-more : (part : List Sealed) (p : ℕ) (s : Sealed) → p < length part → s ≡ get_or part p s → numbers_of (take (p + 1) part) ≡ numbers_of (take p part) ++ s.id ∷ []
+numbers_of-more part p s within is =
+    ap numbers_of (take_more part p s within) ∙ map-append (λ (x : Sealed). x.id) (take p part) (get_or part p s ∷ []) ∙ ap (λ (x : Sealed). numbers_of (take p part) ++ x.id ∷ []) (sym is)
+
+-- how far a part was looked at: what is left is new where all is, and a set has the numbers so far
+pub record AreSeen (front : List ℕ) (part : List Sealed) (has : ℕ → Bool) (p : ℕ) : Type 0 where
+  pub new : are_new (front ++ numbers_of (take p part)) (drop p part) ≡ are_new front part
+  pub seen : (q : ℕ) → has q ≡ is_in (numbers_of (take p part)) q
+
+pub none_seen : (front : List ℕ) (part : List Sealed) (has : ℕ → Bool) → ((q : ℕ) → has q ≡ false) → AreSeen front part has 0
+none_seen front [] has h = record { new = ap (λ l. are_new l []) (append-nil front); seen = h }
+none_seen front (s ∷ part) has h = record { new = ap (λ l. are_new l (s ∷ part)) (append-nil front); seen = h }
+
+stands_by : (a b : Bool) (c : Bool) → (a || b) ≡ true → (not (a || b) && c) ≡ false
+stands_by a b c h = λ i. not (h i) && c
+
+-- a number that stands already
+pub seen_twice : (front : List ℕ) (part : List Sealed) (has : ℕ → Bool) (p : ℕ) (s : Sealed) → p < length part → s ≡ get_or part p s → AreSeen front part has p → (is_in front s.id || has s.id) ≡ true → are_new front part ≡ false
+seen_twice front part has p s within is so_far stands =
+    let there : is_in (front ++ numbers_of (take p part)) s.id ≡ true = is_in-append front (numbers_of (take p part)) s.id ∙ ap (λ b. is_in front s.id || b) (sym (so_far.seen s.id)) ∙ stands in
+    sym so_far.new ∙ new_at (front ++ numbers_of (take p part)) part p s within is ∙ ap (λ b. not b && are_new ((front ++ numbers_of (take p part)) ++ s.id ∷ []) (drop (suc p) part)) there
+
 fresh_by : (a b : Bool) → a ≡ false → (not a && b) ≡ b
 fresh_by a b h = λ i. not (h i) && b
 
--- one more request decided
-pub record More (log log' : List Entry) (part : List Sealed) (p : ℕ) : Type 0 where
-  pub new : are_new (ids log') (drop (p + 1) part) ≡ are_new (ids log) (drop p part)
-  pub all : decided_behind log' (drop (p + 1) part) ≡ decided_behind log (drop p part)
+or_false : (b : Bool) → (b || false) ≡ b
+or_false true = refl
+or_false false = refl
 
-pub decide_more : (log log' : List Entry) (part : List Sealed) (p : ℕ) (s : Sealed) (d : Decision) → p < length part → s ≡ get_or part p s → is_in (ids log) s.id ≡ false → d ≡ decision log s → log' ≡ log ++ d.entry ∷ [] → More log log' part p
-decide_more log log' part p s d within is fresh decided grown =
-    let next : log' ≡ log ++ decide log s ∷ [] = grown ∙ ap (λ (x : Decision). log ++ x.entry ∷ []) decided in
+put_by : (b c : Bool) → cond b true c ≡ (c || (b || false))
+put_by true true = refl
+put_by true false = refl
+put_by false true = refl
+put_by false false = refl
+
+-- one more number
+pub see_more : (front : List ℕ) (part : List Sealed) (has has' : ℕ → Bool) (p : ℕ) (s : Sealed) → p < length part → s ≡ get_or part p s → AreSeen front part has p → is_in front s.id ≡ false → has s.id ≡ false → ((q : ℕ) → has' q ≡ cond (s.id == q) true (has q))
+    → AreSeen front part has' (p + 1)
+see_more front part has has' p s within is so_far off unseen put =
+    let n : List ℕ = numbers_of (take p part) in
+    let fresh : is_in (front ++ n) s.id ≡ false = is_in-append front n s.id ∙ (λ i. off i || (sym (so_far.seen s.id) ∙ unseen) i) in
+    let more : numbers_of (take (p + 1) part) ≡ n ++ s.id ∷ [] = numbers_of-more part p s within is in
     record {
-      new = (λ i. are_new (ids (next i)) (drop (add-one p i) part)) ∙ ap (λ l. are_new l (drop (suc p) part)) (ids-push log (decide log s)) ∙ sym (new_at log part p s within is ∙ fresh_by (is_in (ids log) s.id) _ fresh);
-      all = (λ i. decided_behind (next i) (drop (add-one p i) part)) ∙ sym (behind_at log part p s within is);
+      new = (λ i. are_new (front ++ more i) (drop (add-one p i) part)) ∙ ap (λ l. are_new l (drop (suc p) part)) (sym (append_assoc front n (s.id ∷ [])))
+          ∙ sym (fresh_by (is_in (front ++ n) s.id) _ fresh) ∙ sym (new_at (front ++ n) part p s within is) ∙ so_far.new;
+      seen = λ q. put q ∙ ap (cond (s.id == q) true) (so_far.seen q) ∙ put_by (s.id == q) (is_in n q) ∙ sym (is_in-append n (s.id ∷ []) q) ∙ ap (λ l. is_in l q) (sym more);
     }
+
+pub all_seen : (front : List ℕ) (part : List Sealed) (has : ℕ → Bool) (p : ℕ) → p ≡ length part → AreSeen front part has p → are_new front part ≡ true
+all_seen front part has p end so_far = sym so_far.new ∙ ap (are_new (front ++ numbers_of (take p part))) (drop_all p part (omega arith))
+
+-- requests that are decided come behind those of the log
+requests_behind : (log : List Entry) (part : List Sealed) → requests_of (decided_behind log part) ≡ requests_of log ++ part
+requests_behind log [] = sym (append-nil (requests_of log))
+requests_behind log (s ∷ part) =
+    requests_behind (log ++ decide log s ∷ []) part ∙ ap (λ l. l ++ part) (map-append (λ (e : Entry). e.sealed) log (decide log s ∷ [])) ∙ append_assoc (requests_of log) (s ∷ []) part
+
+ids_of : (log : List Entry) → ids log ≡ numbers_of (requests_of log)
+ids_of [] = refl
+ids_of (e ∷ log) = ap (λ l. e.sealed.id ∷ l) (ids_of log)
+
+fitted_by : (b : Bool) (x new : List Entry) → cond b (Some x) None ≡ Some new → x ≡ new
+fitted_by true x new is = cc
+fitted_by false x new is = absurd (cc)
+
+-- a log that was fitted has the requests that it keeps, and the rest of the part
+pub fitted_requests : (log : List Entry) (from : ℕ) (part : List Sealed) (new : List Entry) → fitted log from part ≡ Some new
+    → requests_of new ≡ requests_of (take (kept log from part) log) ++ drop (agreed (drop from log) part) part
+fitted_requests log from part new is =
+    ap requests_of (sym (fitted_by (can_fit log from part) _ new is)) ∙ requests_behind (take (kept log from part) log) (drop (agreed (drop from log) part) part)
+
+-- and their numbers
+pub fitted_ids : (log : List Entry) (from : ℕ) (part : List Sealed) (new : List Entry) → fitted log from part ≡ Some new
+    → ids new ≡ ids (take (kept log from part) log) ++ numbers_of (drop (agreed (drop from log) part) part)
+fitted_ids log from part new is =
+    let stay : List Entry = take (kept log from part) log in
+    let rest : List Sealed = drop (agreed (drop from log) part) part in
+    ids_of new ∙ ap numbers_of (fitted_requests log from part new is) ∙ map-append (λ (s : Sealed). s.id) (requests_of stay) rest ∙ ap (λ l. l ++ numbers_of rest) (sym (ids_of stay))
+
+-- and its parts from a place within the entries that it keeps
+pub fitted_part : (log : List Entry) (from : ℕ) (part : List Sealed) (new : List Entry) (start : ℕ) → fitted log from part ≡ Some new → start ≤ length (take (kept log from part) log)
+    → part_of new start ≡ part_of (take (kept log from part) log) start ++ drop (agreed (drop from log) part) part
+fitted_part log from part new start is within =
+    let stay : List Entry = take (kept log from part) log in
+    let rest : List Sealed = drop (agreed (drop from log) part) part in
+    let long : start ≤ length (requests_of stay) = omega (arith, length-map stay (λ (e : Entry). e.sealed)) in
+    sym (drop-map (λ (e : Entry). e.sealed) start new) ∙ ap (drop start) (fitted_requests log from part new is) ∙ drop-append-le start (requests_of stay) rest long
+    ∙ ap (λ l. l ++ rest) (drop-map (λ (e : Entry). e.sealed) start stay)

@@ -1,3 +1,4 @@
+pub mod Drafts
 pub mod Fitting
 pub mod FoundEntries
 pub mod Lawful

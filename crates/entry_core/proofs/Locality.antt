@@ -81,7 +81,7 @@ performed_alike groups s a b placed agree (Vector object ops) e hashes =
     ap (λ o. ran (effect o ops)) (agree (name_of s) (subst P (sym e) (named_in groups s object placed.counts hashes)))
 performed_alike groups s a b placed agree Listing e hashes = ap (λ names. answered (Names names)) (names_alike groups s a b placed agree)
 
-chosen_alike : (allowed : Bool) (x y denial : Answer) → x ≡ y → cond allowed x denial ≡ cond allowed y denial
+pub chosen_alike : (allowed : Bool) (x y denial : Answer) → x ≡ y → cond allowed x denial ≡ cond allowed y denial
 chosen_alike true x y denial h = h
 chosen_alike false x y denial h = refl
 

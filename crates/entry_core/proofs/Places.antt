@@ -1,7 +1,8 @@
 -- Where the entries of a log stand.
-use Rattle.std.proofs.Common.{◌≡◌, ℕ, suc, ◌+◌, ◌<◌, ◌≤◌, List, [], ◌∷◌, ◌++◌, Bool, true, false, ◌||◌, cond, ◌==◌, Option, Some, None, is_some, length, get_or, take, refl, sym, ap, ◌∙◌, arith, add-one}
+use Rattle.std.proofs.Common.{◌≡◌, ℕ, suc, ◌+◌, ◌<◌, ◌≤◌, List, [], ◌∷◌, ◌++◌, Bool, true, false, ◌||◌, cond, ◌==◌, ltb, Option, Some, None, is_some, length, get_or, take, refl, sym, ap, ◌∙◌, arith, add-one}
 use Prim.Native.Nat.{zero}
 use Rattle.std.specs.Cmp.{unsigned_Decides}
+use Rattle.std.proofs.lemmas.Bool.Decides.{nat_tests}
 use Rattle.std.specs.Option.{option_map, IfSome}
 use Rattle.entry_core.specs.Log.{find, reply_in, ids, is_in}
 use Rattle.entry_core.specs.Stored.{place_in}
@@ -108,3 +109,27 @@ place_push (f ∷ es) e id h =
 pub within_if : (log : List Entry) (id : ℕ) (o : Option ℕ) → o ≡ place_in log id → IfSome o (λ p. p < length log)
 within_if log id None h = tt
 within_if log id (Some p) h = place_within log id p (sym h)
+
+-- whether a place is below a number
+abbrev pub is_below : ℕ → Option ℕ → Bool
+is_below n None = false
+is_below n (Some p) = ltb p n
+
+below_zero : (o : Option ℕ) → is_below 0 o ≡ false
+below_zero None = refl
+below_zero (Some p) = grind (arith, nat_tests)
+
+below_by : (b : Bool) (n : ℕ) (o : Option ℕ) (r : Bool) → r ≡ is_below n o → (b || r) ≡ is_below (suc n) (cond b (Some 0) (next o))
+below_by true n o r h = grind (arith, nat_tests)
+below_by false n None r h = h
+below_by false n (Some p) r h = h ∙ one_up p n
+  where
+    one_up : (p n : ℕ) → ltb p n ≡ ltb (p + 1) (suc n)
+    one_up p n = grind (arith, nat_tests)
+
+-- a number is among the first ids where its place is among the first
+pub in_front : (log : List Entry) (n id : ℕ) → is_in (ids (take n log)) id ≡ is_below n (place_in log id)
+in_front [] zero id = refl
+in_front [] (suc n) id = refl
+in_front (e ∷ es) zero id = sym (below_zero (place_in (e ∷ es) id))
+in_front (e ∷ es) (suc n) id = below_by (e.sealed.id == id) n (place_in es id) (is_in (ids (take n es)) id) (in_front es n id)

@@ -1,5 +1,5 @@
--- What a push and a step back keep of a log's index and objects.
-use Rattle.std.proofs.Common.{◌≡◌, ℕ, ◌+◌, ◌-◌, ◌<◌, List, [], ◌∷◌, ◌++◌, Bool, true, false, cond, ◌==◌, Option, Some, None, is_some, length, get_or, take, refl, sym, ap, ◌∙◌, subst, arith}
+-- What a push, a copy and a fit keep of a log's index and objects.
+use Rattle.std.proofs.Common.{◌≡◌, ℕ, ◌+◌, List, [], ◌∷◌, ◌++◌, Bool, true, false, cond, ◌==◌, Option, Some, None, is_some, length, get_or, take, refl, sym, ap, ◌∙◌, subst, arith}
 use Rattle.std.specs.Cmp.{unsigned_Decides}
 use Rattle.std.proofs.lemmas.List.{length-append, take_more, take_all}
 use Rattle.std.specs.List.{AllZip}
@@ -7,13 +7,14 @@ use Rattle.std.specs.Map.{lookup}
 use Rattle.std.specs.Option.{option_map}
 use Rattle.entry_core.specs.Store.{Store}
 use Rattle.entry_core.specs.Deciding.{Decision, store_of, name_of}
+use Rattle.entry_core.specs.Fitting.{are_new, requests_of}
 use Rattle.entry_core.specs.Laws.{changed}
 use Rattle.entry_core.specs.Log.{Legal, decision, ids, is_in}
-use Rattle.entry_core.specs.Stored.{IsStored, LeadsBack, place_in, decided_of, change_of}
+use Rattle.entry_core.specs.Stored.{IsStored, LeadsBack, Places, place_in, decided_of, change_of}
 use Rattle.entry_core.specs.declared.entry.Entry.{Entry}
 use Rattle.entry_core.specs.declared.decided.ObjectChange.{ObjectChange}
 use Rattle.entry_core.proofs.Lawful.{decision_tells_the_store}
-use Rattle.entry_core.proofs.LegalLogs.{StandsAt, legal_at, legal_front, legal_push}
+use Rattle.entry_core.proofs.LegalLogs.{first_new, ids-push, legal_push, legal_rest, rest_new}
 use Rattle.entry_core.proofs.Places.{is_in-place, place_push}
 
 -- the objects after what was decided
@@ -26,7 +27,7 @@ nothing_ends : (b : List Entry) (y : Entry) → [] ≡ b ++ y ∷ [] → ⊥
 nothing_ends b y h = let l : 0 ≡ length (b ++ y ∷ []) = ap length h in let m : length (b ++ y ∷ []) ≡ length b + 1 = length-append b (y ∷ []) in omega arith
 
 -- logs with a last entry are equal where both parts are
-split_last : (a b : List Entry) (x y : Entry) → a ++ x ∷ [] ≡ b ++ y ∷ [] → (a ≡ b) × (x ≡ y)
+pub split_last : (a b : List Entry) (x y : Entry) → a ++ x ∷ [] ≡ b ++ y ∷ [] → (a ≡ b) × (x ≡ y)
 split_last [] [] x y h = (refl, cc)
 split_last [] (f ∷ b) x y h = absurd (nothing_ends b y (cc))
 split_last (e ∷ a) [] x y h = let rest : a ++ x ∷ [] ≡ [] = cc in absurd (nothing_ends a x (sym rest))
@@ -61,22 +62,32 @@ gone_by front last id n new true is =
     not_there (place_in front id) (sym (is_in-place front id) ∙ ap (is_in (ids front)) (sym ((unsigned_Decides last.sealed.id id).0 is)) ∙ new)
 gone_by front last id n new false is = refl
 
-pub after_back : (log : List Entry) (index : List (ℕ × ℕ)) (store : Store) (kept : Option ObjectChange) (last : Entry) (back : ObjectChange) → IsStored log index store kept → 0 < length log → last ≡ get_or log (length log - 1) last → LeadsBack log (Some back)
-    → (log' : List Entry) (index' : List (ℕ × ℕ)) (store' : Store) → log' ≡ take (length log - 1) log → ((id : ℕ) → lookup (λ n. id == n) index' ≡ cond (last.sealed.id == id) None (lookup (λ n. id == n) index))
-    → store' ≡ changed store (name_of last.sealed) (change_of back) → IsStored log' index' store' None
-after_back log index store kept last back stored some is leads log' index' store' cut indexed changed_to =
-    let n : ℕ = length log - 1 in
-    let front : List Entry = take n log in
-    let within : n < length log = omega arith in
-    let whole : front ++ last ∷ [] ≡ log = ap (λ x. front ++ x ∷ []) is ∙ sym (take_more log n last within) ∙ take_all (n + 1) log (omega arith) in
-    let stands : StandsAt front last = legal_at log n last stored.legal within is in
+-- a log by its last entry
+pub whole_of : (log : List Entry) (kept : ℕ) (last : Entry) → length log ≡ kept + 1 → last ≡ get_or log kept last → take kept log ++ last ∷ [] ≡ log
+whole_of log kept last one is =
+    ap (λ x. take kept log ++ x ∷ []) is ∙ sym (take_more log kept last (omega arith)) ∙ take_all (kept + 1) log (omega arith)
+
+-- an index without the last entry's number
+pub places_back : (log : List Entry) (index index' : List (ℕ × ℕ)) (front : List Entry) (last : Entry) → front ++ last ∷ [] ≡ log → Legal log → Places index log
+    → ((id : ℕ) → lookup (λ n. id == n) index' ≡ cond (last.sealed.id == id) None (lookup (λ n. id == n) index)) → Places index' front
+places_back log index index' front last whole legal places indexed id =
+    let new : is_in (ids front) last.sealed.id ≡ false = (legal_rest [] front (last ∷ []) (subst Legal (sym whole) legal)).0 in
+    indexed id ∙ ap (cond (last.sealed.id == id) None) (places id ∙ ap (λ l. place_in l id) (sym whole) ∙ place_push front last id new)
+    ∙ gone_by front last id (length front) new (last.sealed.id == id) refl
+
+-- one more of the entries that are added: its number is new, and those behind it stay new
+pub record MoreAdded (log' : List Entry) (index' : List (ℕ × ℕ)) (more : List Entry) : Type 0 where
+  pub places : Places index' log'
+  pub new : are_new (ids log') (requests_of more) ≡ true
+
+pub add_entry : (log : List Entry) (index : List (ℕ × ℕ)) (e : Entry) (more : List Entry) → Places index log → are_new (ids log) (requests_of (e ∷ more)) ≡ true → (log' : List Entry) (index' : List (ℕ × ℕ)) → log' ≡ log ++ e ∷ []
+    → ((id : ℕ) → lookup (λ n. id == n) index' ≡ cond (e.sealed.id == id) (Some (length log)) (lookup (λ n. id == n) index)) → MoreAdded log' index' more
+add_entry log index e more places new log' index' grown indexed =
+    let fresh : is_in (ids log) e.sealed.id ≡ false = first_new (is_in (ids log) e.sealed.id) _ new in
+    let rest : are_new (ids log ++ e.sealed.id ∷ []) (requests_of more) ≡ true = rest_new (is_in (ids log) e.sealed.id) _ new in
     record {
-      places = λ id.
-          indexed id ∙ ap (cond (last.sealed.id == id) None) (stored.places id ∙ ap (λ l. place_in l id) (sym whole) ∙ place_push front last id stands.new)
-          ∙ gone_by front last id (length front) stands.new (last.sealed.id == id) refl ∙ ap (λ l. place_in l id) (sym cut);
-      made = changed_to ∙ ap (λ s. changed s (name_of last.sealed) (change_of back)) stored.made ∙ leads front last whole ∙ ap store_of (sym cut);
-      legal = subst Legal (sym cut) (legal_front [] front (last ∷ []) (subst Legal (sym whole) stored.legal));
-      back = tt;
+      places = λ id. indexed id ∙ ap (cond (e.sealed.id == id) (Some (length log))) (places id) ∙ sym (place_push log e id fresh) ∙ ap (λ l. place_in l id) (sym grown);
+      new = ap (λ l. are_new (ids l) (requests_of more)) grown ∙ ap (λ l. are_new l (requests_of more)) (ids-push log e) ∙ rest;
     }
 
 -- changes that are alike lead back alike

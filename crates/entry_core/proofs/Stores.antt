@@ -43,6 +43,9 @@ after_insert es fs k a h = same_map name_cmp_total same_names _ _ (λ q. after_c
 pub after_remove : (es fs : StoredObjects) (k : ObjectName) → ((q : ObjectName) → lookup (is_same q) fs ≡ cond (is_same k q) None (lookup (is_same q) es)) → objects_of fs ≡ remove (objects_of es) k
 after_remove es fs k h = same_map name_cmp_total same_names _ _ (λ q. after_change es fs k None None q refl (h q) ∙ sym (get-remove name_cmp_total (objects_of es) k q))
 
+pub same_objects : (es fs : StoredObjects) → ((q : ObjectName) → lookup (is_same q) fs ≡ lookup (is_same q) es) → objects_of fs ≡ objects_of es
+same_objects es fs h = same_map name_cmp_total same_names _ _ (λ q. get-objects_of fs q ∙ ap (option_map arc_value) (h q) ∙ sym (get-objects_of es q))
+
 -- what a look-up lends
 pub copied : (r : Option (Bor (Arc Content Global))) → option_map (λ a. arc_value a.now) r ≡ option_map arc_value (option_copied r)
 copied None = refl
@@ -62,7 +65,7 @@ pub after_clone : (es fs : StoredObjects) → AllZip (λ p q. (q.0 ≡ p.0) × (
 after_clone es fs h = ap from_entries (same_pairs es fs h)
 
 -- what stands at each name after a change of one object
-get-with_object : (store : Store) (k q : ObjectName) (o : Option Content) → get (with_object store k o) q ≡ cond (eq_by_cmp name_cmp q k) o (get store q)
+pub get-with_object : (store : Store) (k q : ObjectName) (o : Option Content) → get (with_object store k o) q ≡ cond (eq_by_cmp name_cmp q k) o (get store q)
 get-with_object store k q (Some c) = get-insert name_cmp_total store k c q
 get-with_object store k q None = get-remove name_cmp_total store k q
 

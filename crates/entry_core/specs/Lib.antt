@@ -1,4 +1,5 @@
 pub mod Deciding
+pub mod Drafts
 pub mod Fitting
 pub mod FittingLaws
 pub mod IdHash

@@ -40,6 +40,10 @@ abbrev pub place_in : List Entry → ℕ → Option ℕ
 place_in [] id = None
 place_in (e ∷ es) id = if e.sealed.id == id then Some 0 else option_map (λ n. n + 1) (place_in es id)
 
+-- an index finds just the entries' numbers
+abbrev pub Places : List (ℕ × ℕ) → List Entry → Type 0
+Places index log = (id : ℕ) → lookup (λ n. id == n) index ≡ place_in log id
+
 -- this change of the last entry's object, where it is known, leads back to the store before that entry
 abbrev pub LeadsBack : List Entry → Option ObjectChange → Type 0
 LeadsBack log None = Unit {0}
@@ -47,7 +51,7 @@ LeadsBack log (Some back) = (front : List Entry) (e : Entry) → front ++ e ∷ 
 
 -- a log's index finds just the entries' numbers, and its objects are the store that the entries make; the log is legal
 pub record IsStored (log : List Entry) (index : List (ℕ × ℕ)) (objects : Store) (kept : Option ObjectChange) : Type 0 where
-  pub places : (id : ℕ) → lookup (λ n. id == n) index ≡ place_in log id
+  pub places : Places index log
   pub made : objects ≡ store_of log
   pub legal : Legal log
   pub back : LeadsBack log kept

@@ -4,6 +4,7 @@ ghost use Rattle.std.specs.Prelude.{◌≡◌, IfOk};
 ghost use Rattle.entry_core.specs.Stored.{change_of, decided_of};
 
 use crate::entry::Entry;
+use crate::object_name::ObjectName;
 use common_types::OutOfMemory;
 use object_core::Object;
 use std::marker::Model;
@@ -31,6 +32,13 @@ impl ObjectChange {
             )?))),
         }
     }
+}
+
+/// What becomes of the object of a name.
+#[derive(Drop)]
+pub(crate) struct NamedChange {
+    pub(crate) name: ObjectName,
+    pub(crate) left: ObjectChange,
 }
 
 /// An entry, and what becomes of its object.

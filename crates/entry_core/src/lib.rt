@@ -7,6 +7,7 @@
 mod boxed_log;
 mod decided;
 mod deciding;
+mod draft;
 mod entry;
 mod id;
 mod id_hasher;

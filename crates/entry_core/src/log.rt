@@ -7,10 +7,12 @@ ghost use Rattle.entry_core.specs.Log.{Legal, decision, reply_in, is_in, ids};
 ghost use Rattle.entry_core.specs.Fitting as fitting;
 ghost use Rattle.entry_core.specs.Fitting.{are_new, decided_behind, fitted, last_id, part_of};
 ghost use Rattle.std.specs.Option.{option_map};
-ghost use Rattle.entry_core.specs.Stored.{LeadsBack, change_of, place_in};
+ghost use Rattle.entry_core.specs.Drafts.{IsDraft, IsFound};
+ghost use Rattle.entry_core.specs.Stored.{LeadsBack, Places, change_of, place_in};
 
 use crate::decided::{Decided, ObjectChange};
 use crate::deciding::decide;
+use crate::draft::Draft;
 use crate::entry::Entry;
 use crate::id::Id;
 use crate::id_hasher::IdHash;
@@ -19,7 +21,7 @@ use crate::reply::Reply;
 use crate::sealed::Sealed;
 use common_types::{Items, TryCopy};
 use std::alloc::{AllocError, Global};
-use std::collections::HashMap;
+use std::collections::{HashMap, HashSet};
 use std::marker::Model;
 
 /// The entries that one copy of a group holds, in order, with the objects that they make. Contracts see the entries.
@@ -166,67 +168,95 @@ impl Log {
         Ok(())
     }
 
-    // Drops the last entry, whose object becomes what it was before.
-    fn go_back(&mut self, back: ObjectChange) -> Result<(), AllocError>
-        requires some { 0 < length self.old }
-        requires back { LeadsBack self.old (Some back) }
-        ensures ok { OnOk result (self.new ≡ take (length self.old - 1) self.old) }
-        ensures err { OnErr result (self.new ≡ self.old) }
+    // Whether the request of an id stands among the first entries.
+    fn is_before(&self, kept: usize, id: Id) -> bool
+        ensures { result ≡ is_in (ids (take kept self.now)) id }
     {
-        let last = self.len() - 1;
-        let sealed = self.entries()[last].sealed.copy()?;
-        let _ = self.objects.change(sealed.name(), back)?;
-        let _ = self.index.remove(&sealed.id());
-        self.entries.truncate(last);
-        self.back = None;
-        Ok(())
-    }
-
-    // Drops the last entry. Where it is not known what its object was before, the earlier requests are decided again.
-    fn drop_last(&mut self) -> Result<(), AllocError>
-        requires { 0 < length self.old }
-        ensures ok { OnOk result (self.new ≡ take (length self.old - 1) self.old) }
-        ensures err { OnErr result (self.new ≡ self.old) }
-    {
-        match &self.back {
-            Some(back) => {
-                let back = back.share()?;
-                self.go_back(back)
-            }
-            None => {
-                let last = self.len() - 1;
-                *self = decided_again(self.allocator(), &self.entries()[..last])?;
-                Ok(())
-            }
+        match self.place_of(id) {
+            None => false,
+            Some(place) => place < kept,
         }
     }
 
-    // A log of all its entries, or of all but the last.
-    fn beginning(&self, kept: usize) -> Result<Log, AllocError>
-        requires within { kept ≤ length self.now }
-        requires one { length self.now ≤ kept + 1 }
-        ensures { IfOk result (λ log. log ≡ take kept self.now) }
+    // Whether no id stands twice where these requests come behind the first entries.
+    fn are_new(&self, kept: usize, part: &[Sealed]) -> Result<bool, AllocError>
+        ensures { IfOk result (λ new. new ≡ are_new (ids (take kept self.now)) part.now) }
     {
-        let mut log = self.copy()?;
-        if kept < log.len() {
-            log.drop_last()?;
-        }
-        Ok(log)
-    }
-
-    // Decides requests and adds them, and says whether their ids are new. Otherwise the log may have some of them.
-    fn decide_all(&mut self, part: &[Sealed]) -> Result<bool, AllocError>
-        ensures new { IfOk result (λ new. new ≡ are_new (ids self.old) part.now) }
-        ensures all { IfOk result (λ new. new ≡ true → self.new ≡ decided_behind self.old part.now) }
-    {
+        let mut seen: HashSet<Id, IdHash> = HashSet::with_hasher(self.allocator(), IdHash::new());
         for sealed in part {
-            if self.contains(sealed.id()) {
+            let id = sealed.id();
+            if self.is_before(kept, id) {
                 return Ok(false);
             }
-            let decided = self.decide(sealed)?;
-            self.push(decided)?;
+            if !seen.insert(id)? {
+                return Ok(false);
+            }
         }
         Ok(true)
+    }
+
+    // What the last entry's object was before it. Where that is not known, the earlier requests are decided again.
+    fn last_back(&self) -> Result<ObjectChange, AllocError>
+        requires { 0 < length self.now }
+        ensures { IfOk result (λ back. LeadsBack self.now (Some back)) }
+    {
+        if let Some(back) = &self.back {
+            return back.share();
+        }
+        let last = self.len() - 1;
+        let earlier = decided_again(self.allocator(), &self.entries()[..last])?;
+        let object = earlier.objects.shared(self.entries()[last].sealed.name())?;
+        Ok(ObjectChange::Became(object))
+    }
+
+    // A draft of the first entries: all of them, or all but the last, whose object is put back.
+    fn begin(&self, kept: usize, part: &[Sealed]) -> Result<Draft, AllocError>
+        requires within { kept ≤ length self.now }
+        requires one { length self.now ≤ kept + 1 }
+        ensures draft { IfOk result (λ d. IsDraft self.now (take kept self.now) part.now d) }
+        ensures entries { IfOk result (λ d. d.entries.items ≡ []) }
+    {
+        let alloc = self.allocator();
+        let mut draft = Draft::new(alloc, self.objects.needed_by(alloc, part)?);
+        if kept == self.len() {
+            return Ok(draft);
+        }
+        let back = self.last_back()?;
+        let _ = draft.change(self.entries()[kept].sealed.name(), back)?;
+        Ok(draft)
+    }
+
+    // What requests come to behind the first entries.
+    fn draft(&self, kept: usize, part: &[Sealed]) -> Result<Draft, AllocError>
+        requires within { kept ≤ length self.now }
+        requires one { length self.now ≤ kept + 1 }
+        ensures new { IfOk result (λ d. take kept self.now ++ d.entries.items ≡ decided_behind (take kept self.now) part.now) }
+        ensures found { IfOk result (λ d. IsFound self.now (take kept self.now ++ d.entries.items) d.changes.items d.back) }
+    {
+        let mut draft = self.begin(kept, part)?;
+        for sealed in part {
+            draft.decide(self.allocator(), sealed)?;
+        }
+        Ok(draft)
+    }
+
+    // Does what was found. All that needs memory comes first.
+    fn settle(&mut self, kept: usize, draft: Draft) -> Result<(), AllocError>
+        requires within { kept ≤ length self.old }
+        requires one { length self.old ≤ kept + 1 }
+        requires legal { Legal (take kept self.old ++ draft.entries.items) }
+        requires found { IsFound self.old (take kept self.old ++ draft.entries.items) draft.changes.items draft.back }
+        ensures ok { OnOk result (self.new ≡ take kept self.old ++ draft.entries.items) }
+        ensures err { OnErr result (self.new ≡ self.old) }
+    {
+        let (changes, entries, back) = draft.into_parts();
+        self.entries.reserve(entries.len())?;
+        self.index.reserve(entries.len())?;
+        self.objects.change_all(changes)?;
+        cut(&mut self.entries, &mut self.index, kept);
+        append_all(&mut self.entries, &mut self.index, entries);
+        self.back = back;
+        Ok(())
     }
 
     // Decides requests behind the first entries, and drops the last entry where it is not one of these.
@@ -237,12 +267,15 @@ impl Log {
         ensures log { IfOk result (λ fits. self.new ≡ (if fits then decided_behind (take kept self.old) part.now else self.old)) }
         ensures err { OnErr result (self.new ≡ self.old) }
     {
-        let mut log = self.beginning(kept)?;
-        let fits = log.decide_all(part)?;
-        if fits {
-            *self = log;
+        if !self.are_new(kept, part)? {
+            return Ok(false);
         }
-        Ok(fits)
+        if kept == self.entries.len() && part.is_empty() {
+            return Ok(true);
+        }
+        let draft = self.draft(kept, part)?;
+        self.settle(kept, draft)?;
+        Ok(true)
     }
 
     /// Fits the log to a part of another one, from a place on: the part's first requests that this log has at the same
@@ -250,6 +283,9 @@ impl Log {
     ///
     /// It answers false, and changes nothing, where the place is behind the log's end, where more than one entry would
     /// be dropped, or where an id would stand twice. Where memory is wanting, nothing changes either.
+    ///
+    /// It costs what the part costs, and nothing in the log's length, unless the last entry goes right after a fit that
+    /// dropped one and decided none: then the earlier requests are decided again.
     pub fn fit(&mut self, from: usize, part: &[Sealed]) -> Result<bool, AllocError>
         ensures fits { IfOk result (λ fits. fits ≡ is_some (fitted self.old from part.now)) }
         ensures log { OnOk result (self.new ≡ unwrap_or (fitted self.old from part.now) self.old) }
@@ -332,11 +368,48 @@ fn append(entries: &mut Vec<Entry>, index: &mut HashMap<Id, usize, IdHash>, entr
     requires entries { vec_len entries.old < vec_capacity entries.old }
     requires index { 0 < spare index.old }
     ensures entries { entries.new.items ≡ entries.old.items ++ entry ∷ [] }
+    ensures len { vec_len entries.new ≡ vec_len entries.old + 1 }
+    ensures capacity { vec_capacity entries.new ≡ vec_capacity entries.old }
+    ensures spare { spare index.old ≤ spare index.new + 1 }
     ensures index { (id : ℕ) → lookup (λ n. id == n) index.new.entries
         ≡ (if entry.sealed.id == id then Some (length entries.old.items) else lookup (λ n. id == n) index.old.entries) }
 {
     let _ = index.insert(entry.sealed.id(), entries.len());
     entries.push_reserved(entry);
+}
+
+/// Drops the last entry, where there is one more than are kept.
+fn cut(entries: &mut Vec<Entry>, index: &mut HashMap<Id, usize, IdHash>, kept: usize)
+    requires within { kept ≤ vec_len entries.old }
+    requires one { vec_len entries.old ≤ kept + 1 }
+    requires legal { Legal entries.old.items }
+    requires places { Places index.old.entries entries.old.items }
+    ensures entries { entries.new.items ≡ take kept entries.old.items }
+    ensures places { Places index.new.entries entries.new.items }
+    ensures len { vec_len entries.new ≤ vec_len entries.old }
+    ensures capacity { vec_capacity entries.new ≡ vec_capacity entries.old }
+    ensures spare { spare index.old ≤ spare index.new }
+{
+    if kept == entries.len() {
+        return;
+    }
+    if let Some(entry) = entries.pop() {
+        let _ = index.remove(&entry.sealed.id());
+    }
+}
+
+/// Adds entries behind the others. There is room for them.
+fn append_all(entries: &mut Vec<Entry>, index: &mut HashMap<Id, usize, IdHash>, more: Vec<Entry>)
+    requires entries { vec_len entries.old + vec_len more ≤ vec_capacity entries.old }
+    requires index { vec_len more ≤ spare index.old }
+    requires places { Places index.old.entries entries.old.items }
+    requires new { are_new (ids entries.old.items) (fitting.requests_of more.items) ≡ true }
+    ensures entries { entries.new.items ≡ entries.old.items ++ more.items }
+    ensures places { Places index.new.entries entries.new.items }
+{
+    for entry in more {
+        append(entries, index, entry);
+    }
 }
 
 impl TryCopy for Log {

@@ -1,14 +1,16 @@
 //! The objects that the entries of a log make.
 
-ghost use Rattle.std.specs.Prelude.{◌≡◌, ◌<◌, IfOk, OnOk, OnErr};
+ghost use Rattle.std.specs.Prelude.{◌≡◌, ◌+◌, ◌<◌, ◌≤◌, IfOk, OnOk, OnErr, vec_len};
 ghost use Rattle.std.specs.Option.{option_map};
 ghost use Rattle.std.specs.Arc.{arc_value};
 ghost use Rattle.std.specs.FinMap.{empty, get, insert, remove};
+ghost use Rattle.std.specs.HashMap.{spare};
 ghost use Rattle.entry_core.specs.Deciding.{names_in};
 ghost use Rattle.entry_core.specs.Laws.{changed};
-ghost use Rattle.entry_core.specs.Stored.{change_of};
+ghost use Rattle.entry_core.specs.Drafts.{AlikeFor, all_changed};
+ghost use Rattle.entry_core.specs.Stored.{change_of, objects_of};
 
-use crate::decided::ObjectChange;
+use crate::decided::{NamedChange, ObjectChange};
 use crate::object_name::ObjectName;
 use crate::sealed::Sealed;
 use crate::texts::Texts;
@@ -100,6 +102,41 @@ impl Objects {
         }
     }
 
+    /// Does changes, one after another. Where memory is wanting, nothing changes.
+    pub(crate) fn change_all(&mut self, changes: Vec<NamedChange>) -> Result<(), OutOfMemory>
+        ensures ok { OnOk result (self.new ≡ all_changed self.old changes.items) }
+        ensures err { OnErr result (self.new ≡ self.old) }
+    {
+        self.map.reserve(changes.len())?;
+        change_each(&mut self.map, changes);
+        Ok(())
+    }
+
+    /// The object of a name, shared.
+    pub(crate) fn shared(&self, name: &ObjectName) -> Result<Option<Arc<Object>>, OutOfMemory>
+        ensures { IfOk result (λ o. option_map arc_value o ≡ get self.now name.now) }
+    {
+        match self.get(name) {
+            None => Ok(None),
+            Some(object) => Ok(Some(Arc::try_clone(object)?)),
+        }
+    }
+
+    /// The objects that requests look at, shared: those that vectors name, or all where one of the requests lists names.
+    pub(crate) fn needed_by(&self, alloc: Global, part: &[Sealed]) -> Result<Objects, OutOfMemory>
+        ensures { IfOk result (λ few. AlikeFor few self.now part.now) }
+    {
+        let mut few = Objects::new(alloc);
+        for sealed in part {
+            if sealed.ops().is_none() {
+                return self.copy();
+            }
+            let object = self.shared(sealed.name())?;
+            let _ = few.change(sealed.name(), ObjectChange::Became(object))?;
+        }
+        Ok(few)
+    }
+
     /// The names of a listing piece, in the order of their bytes.
     pub(crate) fn names(&self, alloc: Global, sealed: &Sealed) -> Result<Items<Name>, OutOfMemory>
         ensures { IfOk result (λ names. names ≡ names_in self.now sealed.now) }
@@ -120,5 +157,33 @@ impl Objects {
         Ok(Objects {
             map: self.map.clone()?,
         })
+    }
+}
+
+/// Does a change. There is room for one more object.
+fn change_one(map: &mut HashMap<ObjectName, Arc<Object>>, change: NamedChange)
+    requires { 0 < spare map.old }
+    ensures store { objects_of map.new.entries ≡ changed (objects_of map.old.entries) change.name (change_of change.left) }
+    ensures spare { spare map.old ≤ spare map.new + 1 }
+{
+    let NamedChange { name, left } = change;
+    match left {
+        ObjectChange::Kept => {}
+        ObjectChange::Became(None) => {
+            let _ = map.remove(&name);
+        }
+        ObjectChange::Became(Some(object)) => {
+            let _ = map.insert(name, object);
+        }
+    }
+}
+
+/// Does changes, one after another. There is room for as many objects.
+fn change_each(map: &mut HashMap<ObjectName, Arc<Object>>, changes: Vec<NamedChange>)
+    requires { vec_len changes ≤ spare map.old }
+    ensures { objects_of map.new.entries ≡ all_changed (objects_of map.old.entries) changes.items }
+{
+    for change in changes {
+        change_one(map, change);
     }
 }
