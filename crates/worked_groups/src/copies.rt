@@ -222,17 +222,25 @@ fn does_send(
     Ok(are_sent(sent.as_slice(), want))
 }
 
+// How many entries it has, how many of them are decided, and how many requests wait.
+fn counts(daemon: &Daemon) -> [usize; 3] {
+    [
+        daemon.log().len(),
+        daemon.decided().len(),
+        daemon.waiting_count(),
+    ]
+}
+
+// Its number, its promise and its base.
+fn stands(daemon: &Daemon) -> [u64; 3] {
+    [daemon.number() as u64, daemon.promise(), daemon.base()]
+}
+
 // Whether a daemon looks as a line says. One that asks for no look does.
 fn sees(daemon: &Daemon, line: Line) -> bool {
     match line {
-        Counts(entries, decided, waiting) => {
-            daemon.log().len() == entries
-                && daemon.decided().len() == decided
-                && daemon.waiting_count() == waiting
-        }
-        Is(number, promise, base) => {
-            daemon.number() == number && daemon.promise() == promise && daemon.base() == base
-        }
+        Counts(entries, decided, waiting) => counts(daemon) == [entries, decided, waiting],
+        Is(number, promise, base) => stands(daemon) == [number as u64, promise, base],
         Holds(numbers, base) => holds(daemon, numbers, base),
         Leads => matches!(daemon.role(), Role::Active(None)),
         Idles => matches!(daemon.role(), Role::Idle),

@@ -9,7 +9,7 @@ use Party::{Client, Osd};
 use entry_core::{Id, OutOfMemory, Reply, TryCopy};
 use group_core::Group;
 use group_types::{GroupFault, Party};
-use object_core::NeedsFault;
+use object_core::{Bytes, NeedsFault};
 use peer_core::Body;
 use std::alloc::Global;
 use std::test::Fail;
@@ -194,20 +194,31 @@ impl Stage {
     }
 }
 
+// The outputs of a reply, none where it is a denial.
+fn outputs(reply: &Reply) -> Option<&[Bytes]> {
+    match reply {
+        Reply::Done(outputs) => Some(outputs.as_slice()),
+        _ => None,
+    }
+}
+
+fn are_equal(one: &[Bytes], other: &[Bytes]) -> bool {
+    one.len() == other.len()
+        && one
+            .iter()
+            .zip(other)
+            .all(|(one, other)| one.as_slice() == other.as_slice())
+}
+
 // Whether two replies have the same outputs.
 fn same(one: &Reply, other: &Reply) -> bool {
-    let (Reply::Done(one), Reply::Done(other)) = (one, other) else {
+    let Some(one) = outputs(one) else {
         return false;
     };
-    if one.as_slice().len() != other.as_slice().len() {
-        return false;
+    match outputs(other) {
+        Some(other) => are_equal(one, other),
+        None => false,
     }
-    for (one, other) in one.as_slice().iter().zip(other.as_slice()) {
-        if one.as_slice() != other.as_slice() {
-            return false;
-        }
-    }
-    true
 }
 
 // Whether each of the first requests is answered, and as it was before where it was.
