@@ -55,13 +55,13 @@ next_repeated {g} {n} w k m wire here is =
 
 -- a request is taken
 
-pub next_taken : {g : Group} {n : ℕ} → IsSound g n → (s : Sealed) (wire : List Sent) (requests : List Sealed) → is_submitted g.requests s.id ≡ false → length g.requests < 16384 →
-    wire ≡ g.wire ++ to_primary (last_set g.sets) (Request s ∷ []) → requests ≡ g.requests ++ s ∷ [] → Next g (Submit s) (record g { wire = wire; requests = requests }) n
-next_taken {g} {n} w s wire requests new room is_wire is_requests =
+pub next_taken : {g : Group} {n : ℕ} → IsSound g n → (s : Sealed) (wire : List Sent) (requests : List Sealed) (answers : List Answer) → is_submitted g.requests s.id ≡ false → length g.requests < 16384 →
+    wire ≡ g.wire ++ to_primary (last_set g.sets) (Request s ∷ []) → requests ≡ g.requests ++ s ∷ [] → answers ≡ g.answers → Next g (Submit s) (record g { wire = wire; requests = requests; answers = answers }) n
+next_taken {g} {n} w s wire requests answers new room is_wire is_requests is_answers =
     let full : has_all_requests g ≡ false = grind (arith) in
-    next w (Submit s) tt (record g { wire = wire; requests = requests }) n
+    next w (Submit s) tt (record g { wire = wire; requests = requests; answers = answers }) n
     (free (is_submitted g.requests s.id) (has_all_requests g) new full)
-    (ap (λ l. record g { wire = l; requests = requests }) is_wire ∙ ap (λ l. record g { wire = g.wire ++ to_primary (last_set g.sets) (Request s ∷ []); requests = l }) is_requests
+    (ap (λ l. record g { wire = wire; requests = requests; answers = l }) is_answers ∙ ap (λ l. record g { wire = l; requests = requests }) is_wire ∙ ap (λ l. record g { wire = g.wire ++ to_primary (last_set g.sets) (Request s ∷ []); requests = l }) is_requests
     ∙ sym (opened (is_submitted g.requests s.id) (has_all_requests g) new full))
     w.count
   where
@@ -107,12 +107,12 @@ answered_is g (NotHere id) = refl
 to_client : (g : Group) (k : ℕ) (m : Sent) → m.to ≡ Client → arrives (without g k) m m.to ≡ record g { wire = remove g.wire k; answers = answers_after g.answers m.body }
 to_client g k m is = ap (λ p. arrives (without g k) m p) is ∙ answered_is (without g k) m.body
 
-pub next_answered : {g : Group} {n : ℕ} → IsSound g n → (k : ℕ) (m : Sent) (wire : List Sent) (answers : List Answer) → slice_get g.wire k ≡ Some m → m.to ≡ Client →
-    wire ≡ remove g.wire k → answers ≡ answers_after g.answers m.body → Next g (Deliver k) (record g { wire = wire; answers = answers }) n
-next_answered {g} {n} w k m wire answers here to is_wire is_answers =
-    next w (Deliver k) tt (record g { wire = wire; answers = answers }) n
+pub next_answered : {g : Group} {n : ℕ} → IsSound g n → (k : ℕ) (m : Sent) (wire : List Sent) (requests : List Sealed) (answers : List Answer) → slice_get g.wire k ≡ Some m → m.to ≡ Client →
+    wire ≡ remove g.wire k → requests ≡ g.requests → answers ≡ answers_after g.answers m.body → Next g (Deliver k) (record g { wire = wire; requests = requests; answers = answers }) n
+next_answered {g} {n} w k m wire requests answers here to is_wire is_requests is_answers =
+    next w (Deliver k) tt (record g { wire = wire; requests = requests; answers = answers }) n
     (ap (λ o. refusal_at g k o) here ∙ ap (λ p. refusal_to g p) to)
-    (ap (λ l. record g { wire = l; answers = answers }) is_wire ∙ ap (λ l. record g { wire = remove g.wire k; answers = l }) is_answers
+    (ap (λ l. record g { wire = wire; requests = l; answers = answers }) is_requests ∙ ap (λ l. record g { wire = l; answers = answers }) is_wire ∙ ap (λ l. record g { wire = remove g.wire k; answers = l }) is_answers
     ∙ sym (ap (λ o. deliver g k o) here ∙ to_client g k m to))
     w.count
 
@@ -280,9 +280,9 @@ taken_back g before s t =
     ap without_last is ∙ ap (λ l. record before { wire = l; requests = take (length (before.requests ++ s ∷ []) - 1) (before.requests ++ s ∷ []) }) (unsent_is (last_set before.sets) before.wire s)
     ∙ ap (λ l. record before { requests = l }) (take-front before.requests s)
 
-pub whole_back : (g before : Group) (s : Sealed) (n : ℕ) (wire : List Sent) (requests : List Sealed) → HasJustTaken g before s → IsSound g n →
-    wire ≡ unsent (last_set g.sets) g.wire → requests ≡ take (length g.requests - 1) g.requests → IsSound (record g { wire = wire; requests = requests }) n
-whole_back g before s n wire requests t w is_wire is_requests =
-    let is : record g { wire = wire; requests = requests } ≡ before =
-    ap (λ l. record g { wire = l; requests = requests }) is_wire ∙ ap (λ l. record g { wire = unsent (last_set g.sets) g.wire; requests = l }) is_requests ∙ taken_back g before s t in
+pub whole_back : (g before : Group) (s : Sealed) (n : ℕ) (wire : List Sent) (requests : List Sealed) (answers : List Answer) → HasJustTaken g before s → IsSound g n →
+    wire ≡ unsent (last_set g.sets) g.wire → requests ≡ take (length g.requests - 1) g.requests → answers ≡ g.answers → IsSound (record g { wire = wire; requests = requests; answers = answers }) n
+whole_back g before s n wire requests answers t w is_wire is_requests is_answers =
+    let is : record g { wire = wire; requests = requests; answers = answers } ≡ before =
+    ap (λ l. record g { wire = wire; requests = requests; answers = l }) is_answers ∙ ap (λ l. record g { wire = l; requests = requests }) is_wire ∙ ap (λ l. record g { wire = unsent (last_set g.sets) g.wire; requests = l }) is_requests ∙ taken_back g before s t in
     record { reached = subst IsReached (sym is) t.reached; count = w.count }

@@ -8,4 +8,4 @@ use Rattle.suffix_core.specs.Group.{Group}
 
 -- what was decided is the beginning of the log of the copy that is furthest on
 abbrev pub group_of : GroupState → Group
-group_of a = record { group = a.group; min_size = a.min_size; copies = a.copies.items; wire = a.wire.sent; sets = a.sets; up = numbers_of a.up; requests = a.requests; answers = a.answers; audit = take a.decided (furthest a.copies.items) }
+group_of a = record { group = a.group; min_size = a.min_size; copies = a.copies.items; wire = a.wire.sent; sets = a.sets; up = numbers_of a.up; requests = a.ledger.requests; answers = a.ledger.answers; audit = take a.decided (furthest a.copies.items) }

@@ -10,11 +10,11 @@ ghost use Rattle.suffix_core.specs.Types as types;
 ghost use Rattle.suffix_core.specs.Group.{is_submitted, answers_after, announced, resent};
 ghost use Rattle.suffix_core.specs.Reached.{unsent};
 
-use crate::answers::{Answer, Answers};
+use crate::answers::Answer;
 use crate::daemon_sets::is_up;
 use crate::element_at::at;
+use crate::ledger::Ledger;
 use crate::opening::{open, prepare};
-use crate::requests::Requests;
 use crate::wire::Wire;
 use entry_core::{Items, OutOfMemory, Sealed, TryCopy};
 use group_types::IntervalSets;
@@ -103,18 +103,19 @@ pub(crate) fn restart_one(copies: &mut Vec<Daemon>, daemon: u8)
 /// Takes a request, and sends what is to be sent for it.
 pub(crate) fn take_request(
     wire: &mut Wire,
-    requests: &mut Requests,
+    ledger: &mut Ledger,
     request: Sealed,
     sent: Vec<Sent>,
 ) -> Result<(), OutOfMemory>
-    requires { is_submitted requests.old request.id ≡ false }
+    requires { is_submitted ledger.old.requests request.id ≡ false }
     ensures wire_ok { OnOk result (wire.new.sent ≡ wire.old.sent ++ sent.items) }
-    ensures requests_ok { OnOk result (requests.new ≡ requests.old ++ request ∷ []) }
+    ensures requests_ok { OnOk result (ledger.new.requests ≡ ledger.old.requests ++ request ∷ []) }
+    ensures answers_ok { OnOk result (ledger.new.answers ≡ ledger.old.answers) }
     ensures wire_err { OnErr result (wire.new.sent ≡ wire.old.sent) }
-    ensures requests_err { OnErr result (requests.new ≡ requests.old) }
+    ensures ledger_err { OnErr result (ledger.new ≡ ledger.old) }
 {
     wire.reserve(sent.len())?;
-    requests.push(request)?;
+    ledger.submit(request)?;
     wire.append(sent);
     Ok(())
 }
@@ -135,15 +136,14 @@ pub(crate) fn begin(
     wire: &mut Wire,
     sets: &mut IntervalSets,
     acting: ActingSet,
-    requests: &Requests,
-    answers: &Answers,
+    ledger: &Ledger,
 ) -> Result<(), OutOfMemory>
     ensures sets_ok { OnOk result (sets.new ≡ sets.old ++ acting ∷ []) }
-    ensures wire_ok { OnOk result (wire.new.sent ≡ (wire.old.sent ++ announced (sets.old ++ acting ∷ [])) ++ resent (sets.old ++ acting ∷ []) requests.now answers.now) }
+    ensures wire_ok { OnOk result (wire.new.sent ≡ (wire.old.sent ++ announced (sets.old ++ acting ∷ [])) ++ resent (sets.old ++ acting ∷ []) ledger.now.requests ledger.now.answers) }
     ensures sets_err { OnErr result (sets.new ≡ sets.old) }
     ensures wire_err { OnErr result (wire.new.sent ≡ wire.old.sent) }
 {
-    let opening = prepare(alloc, wire, sets, acting, requests, answers)?;
+    let opening = prepare(alloc, wire, sets, acting, ledger)?;
     open(wire, sets, opening);
     Ok(())
 }
@@ -151,34 +151,36 @@ pub(crate) fn begin(
 /// Takes the message at place k for the client: the first reply to a request is its answer.
 pub(crate) fn reach_client(
     wire: &mut Wire,
-    answers: &mut Answers,
+    ledger: &mut Ledger,
     k: usize,
 ) -> Result<(), OutOfMemory>
     requires { k < length wire.old.sent }
     ensures wire_ok { OnOk result (wire.new.sent ≡ remove wire.old.sent k) }
-    ensures answers_ok { OnOk result ((m : types.Sent) → slice_get wire.old.sent k ≡ Some m → answers.new ≡ answers_after answers.old m.body) }
+    ensures requests_ok { OnOk result (ledger.new.requests ≡ ledger.old.requests) }
+    ensures answers_ok { OnOk result ((m : types.Sent) → slice_get wire.old.sent k ≡ Some m → ledger.new.answers ≡ answers_after ledger.old.answers m.body) }
     ensures wire_err { OnErr result (wire.new.sent ≡ wire.old.sent) }
-    ensures answers_err { OnErr result (answers.new ≡ answers.old) }
+    ensures ledger_err { OnErr result (ledger.new ≡ ledger.old) }
 {
     if let Some(message) = at(wire.as_slice(), k) {
-        hear(answers, &message.body)?;
+        hear(ledger, &message.body)?;
     }
     wire.remove(k);
     Ok(())
 }
 
 /// Hears a message to the client.
-fn hear(answers: &mut Answers, body: &Body) -> Result<(), OutOfMemory>
-    ensures ok { OnOk result (answers.new ≡ answers_after answers.old body.now) }
-    ensures err { OnErr result (answers.new ≡ answers.old) }
+fn hear(ledger: &mut Ledger, body: &Body) -> Result<(), OutOfMemory>
+    ensures requests { OnOk result (ledger.new.requests ≡ ledger.old.requests) }
+    ensures answers { OnOk result (ledger.new.answers ≡ answers_after ledger.old.answers body.now) }
+    ensures err { OnErr result (ledger.new ≡ ledger.old) }
 {
     match body {
         Body::Reply { id, reply } => {
-            if answers.has(*id) {
+            if ledger.is_answered(*id) {
                 return Ok(());
             }
             let reply = reply.copy()?;
-            answers.push(Answer { id: *id, reply })
+            ledger.hear(Answer { id: *id, reply })
         }
         _ => Ok(()),
     }

@@ -7,6 +7,7 @@ mod effects;
 mod element_at;
 mod furthest;
 mod group;
+mod ledger;
 mod moves;
 mod opening;
 mod ready;

@@ -68,14 +68,7 @@ fn make(state: &mut GroupState, change: &GroupMove) -> Result<Option<Opening>, G
         return Err(GroupFault::Full);
     }
     let alloc = *state.copies.allocator();
-    let opening = prepare(
-        alloc,
-        &mut state.wire,
-        &state.sets,
-        acting,
-        &state.requests,
-        &state.answers,
-    )?;
+    let opening = prepare(alloc, &mut state.wire, &state.sets, acting, &state.ledger)?;
     Ok(Some(opening))
 }
 

@@ -3,8 +3,7 @@
 ghost use Rattle.std.specs.Prelude.{◌≡◌, ◌≤◌, ◌++◌, ◌∷◌, [], IfOk, OnOk, vec_len};
 ghost use Rattle.suffix_core.specs.Group.{announced, resent};
 
-use crate::answers::Answers;
-use crate::requests::Requests;
+use crate::ledger::Ledger;
 use crate::sending::{announced, resent};
 use crate::wire::Wire;
 use entry_core::OutOfMemory;
@@ -26,17 +25,16 @@ pub(crate) fn prepare(
     wire: &mut Wire,
     sets: &IntervalSets,
     acting: ActingSet,
-    requests: &Requests,
-    answers: &Answers,
+    ledger: &Ledger,
 ) -> Result<Opening, OutOfMemory>
     ensures sets { IfOk result (λ o. o.sets ≡ sets.now ++ acting ∷ []) }
-    ensures sent { IfOk result (λ o. o.sent.items ≡ announced (sets.now ++ acting ∷ []) ++ resent (sets.now ++ acting ∷ []) requests.now answers.now) }
+    ensures sent { IfOk result (λ o. o.sent.items ≡ announced (sets.now ++ acting ∷ []) ++ resent (sets.now ++ acting ∷ []) ledger.now.requests ledger.now.answers) }
     ensures room { IfOk result (λ o. vec_len o.sent ≤ wire.new.room) }
     ensures same { wire.new.sent ≡ wire.old.sent }
 {
     let next = sets.followed_by(alloc, acting)?;
     let mut sent = announced(alloc, &next)?;
-    let mut again = resent(alloc, &next, requests, answers)?;
+    let mut again = resent(alloc, &next, ledger)?;
     sent.append(&mut again)?;
     wire.reserve(sent.len())?;
     Ok(Opening { sets: next, sent })

@@ -1,7 +1,8 @@
 //! The requests that were submitted to a group.
 
-ghost use Rattle.std.specs.Prelude.{◌≡◌, ◌-◌, ◌++◌, [], ◌∷◌, false, length, take, OnOk, OnErr};
+ghost use Rattle.std.specs.Prelude.{◌≡◌, ◌-◌, ◌++◌, [], ◌∷◌, false, length, take, OnOk, OnErr, MatchOption};
 ghost use Rattle.suffix_core.specs.Group.{is_submitted};
+ghost use Rattle.group_core.specs.Places.{IsPlaceOf};
 
 use entry_core::{Id, IdHash, Items, OutOfMemory, Sealed, TryCopy};
 use indexmap::IndexSet;
@@ -48,6 +49,19 @@ impl Requests {
     {
         let _all = &self.all;
         self.ids.contains(&id)
+    }
+
+    /// The place of the request of this id.
+    pub fn place_of(&self, id: Id) -> Option<usize>
+        ensures { MatchOption result (is_submitted self.now id ≡ false) (λ k. IsPlaceOf self.now id k) }
+    {
+        let _all = &self.all;
+        // `len` is called for its clause that the ids differ.
+        let _count = self.ids.len();
+        match self.ids.get_index_of(&id) {
+            Some(place) => Some(place),
+            None => None,
+        }
     }
 
     /// Adds a request of a new id.

@@ -1,13 +1,13 @@
 //! What a group itself sends: news of intervals, and requests.
 
-ghost use Rattle.std.specs.Prelude.{◌≡◌, ◌∷◌, [], IfOk};
+ghost use Rattle.std.specs.Prelude.{◌≡◌, ◌∷◌, [], ◌++◌, map, slice_get, IfOk, OnOk};
+ghost use Rattle.std.specs.List.{filter_map};
 ghost use Rattle.suffix_core.specs.Types.{Request};
 ghost use Rattle.suffix_core.specs.Group.{to_daemon, to_primary, last_set, announced, resent, retransmit_primary};
 
-use crate::answers::Answers;
 use crate::daemon_sets::last_set;
 use crate::element_at::at;
-use crate::requests::Requests;
+use crate::ledger::Ledger;
 use entry_core::{OutOfMemory, Sealed, TryCopy};
 use group_types::{IntervalSets, Party};
 use peer_core::{Body, Daemon, Sent};
@@ -52,24 +52,36 @@ pub(crate) fn announced(alloc: Global, sets: &IntervalSets) -> Result<Vec<Sent>,
     Ok(sent)
 }
 
+/// Sends the request at a place to a daemon.
+fn send_at(
+    sent: &mut Vec<Sent>,
+    daemon: u8,
+    requests: &[Sealed],
+    place: usize,
+) -> Result<(), OutOfMemory>
+    ensures { OnOk result (sent.new.items ≡ sent.old.items ++ map (to_daemon daemon) (map Request (filter_map (slice_get requests.now) (place ∷ [])))) }
+{
+    if let Some(request) = at(requests, place) {
+        sent.push(to_daemon(daemon, Body::Request(request.copy()?)))?;
+    }
+    Ok(())
+}
+
 /// Sends the requests that have no answer to the first of the last set.
 pub(crate) fn resent(
     alloc: Global,
     sets: &IntervalSets,
-    requests: &Requests,
-    answers: &Answers,
+    ledger: &Ledger,
 ) -> Result<Vec<Sent>, OutOfMemory>
-    ensures { IfOk result (λ v. v.items ≡ resent sets.now requests.now answers.now) }
+    ensures { IfOk result (λ v. v.items ≡ resent sets.now ledger.now.requests ledger.now.answers) }
 {
     let mut sent = Vec::new(alloc);
     let set = last_set(sets);
     let Some(first) = set.as_slice().first() else {
         return Ok(sent);
     };
-    for request in requests.as_slice() {
-        if !answers.has(request.id()) {
-            sent.push(to_daemon(*first, Body::Request(request.copy()?)))?;
-        }
+    for place in ledger.unanswered() {
+        send_at(&mut sent, *first, ledger.requests(), *place)?;
     }
     Ok(sent)
 }

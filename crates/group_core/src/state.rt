@@ -1,7 +1,6 @@
 //! What a group has.
 
-use crate::answers::Answers;
-use crate::requests::Requests;
+use crate::ledger::Ledger;
 use crate::wire::Wire;
 use entry_core::GroupId;
 use group_types::IntervalSets;
@@ -17,7 +16,6 @@ pub(crate) struct GroupState {
     pub wire: Wire,
     pub sets: IntervalSets,
     pub up: DaemonSet,
-    pub requests: Requests,
-    pub answers: Answers,
+    pub ledger: Ledger,
     pub decided: usize,
 }

@@ -10,21 +10,21 @@ use Rattle.group_core.proofs.group.Group.deliver.Goals as goal
 pub invariant_of-self : goal.invariant_of-self
 invariant_of-self c =
     let here : slice_get c.self.inside.state.wire.sent c.args.k ≡ Some c.in-Some.message.now = ap (λ l. slice_get l c.args.k) (sym c.as_slice.ensures) ∙ sym c.in-Some.ensures in
-    (next_answered c.self.invariant c.args.k c.in-Some.message.now c.reach_client.new.wire.sent c.reach_client.new.answers here c.in-Client.is
-    c.in_ok-reach_client-in-Client.ensures.wire_ok (c.in_ok-reach_client-in-Client.ensures.answers_ok c.in-Some.message.now here)).whole
+    (next_answered c.self.invariant c.args.k c.in-Some.message.now c.reach_client.new.wire.sent c.reach_client.new.ledger.requests c.reach_client.new.ledger.answers here c.in-Client.is
+    c.in_ok-reach_client-in-Client.ensures.wire_ok c.in_ok-reach_client-in-Client.ensures.requests_ok (c.in_ok-reach_client-in-Client.ensures.answers_ok c.in-Some.message.now here)).whole
 
 pub returns-in_ok-reach_client-in-Client-clause-steps : goal.returns-in_ok-reach_client-in-Client-clause-steps
 returns-in_ok-reach_client-in-Client-clause-steps c =
     let here : slice_get c.self.inside.state.wire.sent c.args.k ≡ Some c.in-Some.message.now = ap (λ l. slice_get l c.args.k) (sym c.as_slice.ensures) ∙ sym c.in-Some.ensures in
-    stepped c.self.view_is (next_answered c.self.invariant c.args.k c.in-Some.message.now c.reach_client.new.wire.sent c.reach_client.new.answers here c.in-Client.is
-    c.in_ok-reach_client-in-Client.ensures.wire_ok (c.in_ok-reach_client-in-Client.ensures.answers_ok c.in-Some.message.now here))
+    stepped c.self.view_is (next_answered c.self.invariant c.args.k c.in-Some.message.now c.reach_client.new.wire.sent c.reach_client.new.ledger.requests c.reach_client.new.ledger.answers here c.in-Client.is
+    c.in_ok-reach_client-in-Client.ensures.wire_ok c.in_ok-reach_client-in-Client.ensures.requests_ok (c.in_ok-reach_client-in-Client.ensures.answers_ok c.in-Some.message.now here))
 
 pub returns-in_ok-reach_client-in-Client-clause-delivered : goal.returns-in_ok-reach_client-in-Client-clause-delivered
 returns-in_ok-reach_client-in-Client-clause-delivered c =
     let here : slice_get c.self.inside.state.wire.sent c.args.k ≡ Some c.in-Some.message.now = ap (λ l. slice_get l c.args.k) (sym c.as_slice.ensures) ∙ sym c.in-Some.ensures in
     delivery_lowers _ _ c.args.k (subst IsReached c.self.view_is c.self.invariant.reached)
-    (stepped c.self.view_is (next_answered c.self.invariant c.args.k c.in-Some.message.now c.reach_client.new.wire.sent c.reach_client.new.answers here c.in-Client.is
-    c.in_ok-reach_client-in-Client.ensures.wire_ok (c.in_ok-reach_client-in-Client.ensures.answers_ok c.in-Some.message.now here)))
+    (stepped c.self.view_is (next_answered c.self.invariant c.args.k c.in-Some.message.now c.reach_client.new.wire.sent c.reach_client.new.ledger.requests c.reach_client.new.ledger.answers here c.in-Client.is
+    c.in_ok-reach_client-in-Client.ensures.wire_ok c.in_ok-reach_client-in-Client.ensures.requests_ok (c.in_ok-reach_client-in-Client.ensures.answers_ok c.in-Some.message.now here)))
 
 pub remove-requires : goal.remove-requires
 remove-requires c =

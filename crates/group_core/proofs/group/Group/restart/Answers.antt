@@ -19,8 +19,8 @@ invariant_of-self-2 c =
     let in_last : is_in (last_set c.self.inside.state.sets) c.args.daemon ≡ true = ap (λ l. is_in l c.args.daemon) (sym c.last_set-acting.ensures) ∙ sym c.has_member.ensures ∙ c.if-not-has_member.false in
     let room : length c.self.inside.state.sets < 1024 = subst (λ n. n < 1024) c.len.ensures c.if-len-ge-INTERVALS.false in
     let sets : c.begin.new.sets ≡ c.self.inside.state.sets ++ last_set c.self.inside.state.sets ∷ [] = c.in_ok-begin.ensures.sets_ok ∙ ap (λ a. c.self.inside.state.sets ++ a ∷ []) c.last_set-acting.ensures in
-    let wire : c.begin.new.wire.sent ≡ (c.self.inside.state.wire.sent ++ announced (c.self.inside.state.sets ++ last_set c.self.inside.state.sets ∷ [])) ++ resent (c.self.inside.state.sets ++ last_set c.self.inside.state.sets ∷ []) c.self.inside.state.requests c.self.inside.state.answers =
-    c.in_ok-begin.ensures.wire_ok ∙ ap (λ a. (c.self.inside.state.wire.sent ++ announced (c.self.inside.state.sets ++ a ∷ [])) ++ resent (c.self.inside.state.sets ++ a ∷ []) c.self.inside.state.requests c.self.inside.state.answers) c.last_set-acting.ensures in
+    let wire : c.begin.new.wire.sent ≡ (c.self.inside.state.wire.sent ++ announced (c.self.inside.state.sets ++ last_set c.self.inside.state.sets ∷ [])) ++ resent (c.self.inside.state.sets ++ last_set c.self.inside.state.sets ∷ []) c.self.inside.state.ledger.requests c.self.inside.state.ledger.answers =
+    c.in_ok-begin.ensures.wire_ok ∙ ap (λ a. (c.self.inside.state.wire.sent ++ announced (c.self.inside.state.sets ++ a ∷ [])) ++ resent (c.self.inside.state.sets ++ a ∷ []) c.self.inside.state.ledger.requests c.self.inside.state.ledger.answers) c.last_set-acting.ensures in
     (next_rejoined c.self.invariant c.args.daemon c.restart_one-2.new.copies.items c.begin.new.sets c.begin.new.wire.sent in_last room sets wire c.restart_one-2.ensures refl).whole
 
 pub returns-clause-steps : goal.returns-clause-steps
@@ -28,6 +28,6 @@ returns-clause-steps c =
     let in_last : is_in (last_set c.self.inside.state.sets) c.args.daemon ≡ true = ap (λ l. is_in l c.args.daemon) (sym c.last_set-acting.ensures) ∙ sym c.has_member.ensures ∙ c.if-not-has_member.false in
     let room : length c.self.inside.state.sets < 1024 = subst (λ n. n < 1024) c.len.ensures c.if-len-ge-INTERVALS.false in
     let sets : c.begin.new.sets ≡ c.self.inside.state.sets ++ last_set c.self.inside.state.sets ∷ [] = c.in_ok-begin.ensures.sets_ok ∙ ap (λ a. c.self.inside.state.sets ++ a ∷ []) c.last_set-acting.ensures in
-    let wire : c.begin.new.wire.sent ≡ (c.self.inside.state.wire.sent ++ announced (c.self.inside.state.sets ++ last_set c.self.inside.state.sets ∷ [])) ++ resent (c.self.inside.state.sets ++ last_set c.self.inside.state.sets ∷ []) c.self.inside.state.requests c.self.inside.state.answers =
-    c.in_ok-begin.ensures.wire_ok ∙ ap (λ a. (c.self.inside.state.wire.sent ++ announced (c.self.inside.state.sets ++ a ∷ [])) ++ resent (c.self.inside.state.sets ++ a ∷ []) c.self.inside.state.requests c.self.inside.state.answers) c.last_set-acting.ensures in
+    let wire : c.begin.new.wire.sent ≡ (c.self.inside.state.wire.sent ++ announced (c.self.inside.state.sets ++ last_set c.self.inside.state.sets ∷ [])) ++ resent (c.self.inside.state.sets ++ last_set c.self.inside.state.sets ∷ []) c.self.inside.state.ledger.requests c.self.inside.state.ledger.answers =
+    c.in_ok-begin.ensures.wire_ok ∙ ap (λ a. (c.self.inside.state.wire.sent ++ announced (c.self.inside.state.sets ++ a ∷ [])) ++ resent (c.self.inside.state.sets ++ a ∷ []) c.self.inside.state.ledger.requests c.self.inside.state.ledger.answers) c.last_set-acting.ensures in
     stepped c.self.view_is (next_rejoined c.self.invariant c.args.daemon c.restart_one-2.new.copies.items c.begin.new.sets c.begin.new.wire.sent in_last room sets wire c.restart_one-2.ensures refl)

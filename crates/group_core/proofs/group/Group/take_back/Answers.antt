@@ -8,5 +8,5 @@ pub invariant_of-self : goal.invariant_of-self
 invariant_of-self c =
     let taken = c.requires.1.1 in
     let wire : c.take_back_sent.new.wire.sent ≡ unsent (last_set c.self.inside.state.sets) c.self.inside.state.wire.sent = c.take_back_sent.ensures ∙ ap (λ l. unsent l c.self.inside.state.wire.sent) c.last_set.ensures in
-    whole_back _ c.requires.0 c.requires.1.0 c.self.inside.state.decided c.take_back_sent.new.wire.sent c.pop.new.self
-    (subst (λ v. HasJustTaken v c.requires.0 c.requires.1.0) (sym c.self.view_is) taken) c.self.invariant wire c.pop.ensures
+    whole_back _ c.requires.0 c.requires.1.0 c.self.inside.state.decided c.take_back_sent.new.wire.sent c.take_back.new.self.requests c.take_back.new.self.answers
+    (subst (λ v. HasJustTaken v c.requires.0 c.requires.1.0) (sym c.self.view_is) taken) c.self.invariant wire c.take_back.ensures.requests c.take_back.ensures.answers
