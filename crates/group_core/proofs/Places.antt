@@ -1,5 +1,5 @@
 -- Where in a list the elements stand that pass a test.
-use Rattle.std.proofs.Common.{ℕ, zero, suc, inl, inr, ◌≡◌, ◌+◌, ◌-◌, ◌≤◌, ◌<◌, Bool, true, false, not, ◌==◌, ◌&&◌, ◌||◌, cond, nat_eq, List, [], ◌∷◌, ◌++◌, map, length, get_or, take, drop, filter, filter_map, position, Option, Some, None, slice_get, refl, sym, ◌∙◌, ap, subst, arith, eqb-true, eq-eqb, true≢false, nat_lt, remove, if◌then◌else◌}
+use Rattle.std.proofs.Common.{ℕ, zero, suc, inl, inr, ◌≡◌, ◌+◌, ◌-◌, ◌≤◌, ◌<◌, Bool, true, false, not, ◌==◌, ◌&&◌, ◌||◌, cond, nat_eq, List, [], ◌∷◌, ◌++◌, map, length, get_or, take, filter, filter_map, position, Option, Some, slice_get, refl, sym, ◌∙◌, ap, subst, arith, eqb-true, eq-eqb, true≢false, nat_lt, remove, if◌then◌else◌}
 use Rattle.std.specs.List.{list_any, cons_option, position_or_len, IsDistinct, AllByRecursion}
 use Rattle.std.proofs.Math.Seq.{take-append_seam}
 use Rattle.std.proofs.lemmas.List.{append-nil, length-append, map-append, take_more, take_all}

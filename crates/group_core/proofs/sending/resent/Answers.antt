@@ -1,7 +1,6 @@
 use Rattle.std.proofs.Common.{◌≡◌, ◌∙◌, ◌∷◌, ◌++◌, [], ℕ, List, Some, slice_get, get_or, map, filter_map, sym, ap, take_all}
 use Rattle.suffix_core.specs.Types.{Request}
-use Rattle.suffix_core.specs.Group.{to_daemon, to_primary, last_set}
-use Rattle.group_core.specs.Places.{open_places}
+use Rattle.suffix_core.specs.Group.{to_daemon, last_set}
 use Rattle.group_core.proofs.Places.{found_more, open_found, to_first}
 use Rattle.group_core.proofs.sending.resent.Goals as goal
 
