@@ -22,8 +22,8 @@ use Rattle.verdict_core.specs.declared.request.Needs.{Needs}
 use Rattle.verdict_core.specs.declared.request.ClassCall.{ClassCall}
 use Rattle.verdict_core.specs.Target.{Target}
 use Rattle.verdict_core.specs.Hash.{hash, folded}
-use Rattle.verdict_core.specs.Kinds.{pair_hash, parts_hash, tag_hash, class_hash, named_hash, front_hash, chain_by, chain_in, chain_of, chains_of}
-use Rattle.verdict_core.specs.Chains.{AreChained, NoneBefore, NoneOfKind, NoneOfTags, gives}
+use Rattle.verdict_core.specs.Kinds.{number_of_pairs, only_number, pair_hash, parts_hash, tag_hash, class_hash, named_hash, front_hash, chain_by, chain_in, chain_of, chains_of}
+use Rattle.verdict_core.specs.Chains.{AreChained, NoneBefore, NoneOfKind, NoneOfPairs, NoneOfTags, gives}
 use Rattle.verdict_core.specs.Verdict.{names, matches_namespace, matches_tag, matches_application, matches_pairs, matches_prefix, matches, can_read, can_write, is_usable, covers, is_covered}
 
 -- ---- places and their chains
@@ -293,6 +293,28 @@ none_of_tags kind kinds grants target needs call front asked by_tag has none =
     let pair : HasPair target.tags walk.named = subst (λ n. IsNamed n target call walk.named) by_tag walk.is_named in
     subst (λ k. NoneBefore kinds (length grants) grants k target needs call) (ap (λ n. folded n front) (sym pair.is) ∙ ap (λ f. folded walk.named f) (sym fronts) ∙ sym walk.is)
     (none pair.place pair.app (slice_get_within target.tags pair.place pair.app pair.app_at) pair.app_at pair.pair_place pair.pair (slice_get_within pair.app.pairs pair.pair_place pair.pair pair.pair_at) pair.pair_at))
+
+-- tags of one application with one pair have one chain
+none_of_only_pair : (kinds : List Kind) (grants : List (List ℕ × AllowGrant)) (target : Target) (needs : Needs) (call : Option ClassCall) (application : List ℕ) (pairs : List (List ℕ × List ℕ)) (front number : ℕ)
+    → number_of_pairs application pairs ≡ Some number → NoneBefore kinds (length grants) grants (folded number front) target needs call → NoneOfPairs (length pairs) pairs application front kinds grants target needs call
+none_of_only_pair kinds grants target needs call application [] front number only none j pair below at = absurd (omega arith)
+none_of_only_pair kinds grants target needs call application (found ∷ []) front number only none zero pair below at =
+    let same : found ≡ pair = cc in
+    let here : number ≡ pair_hash application found.0 found.1 = cc in
+    subst (λ p. NoneBefore kinds (length grants) grants (folded (pair_hash application p.0 p.1) front) target needs call) same
+    (subst (λ n. NoneBefore kinds (length grants) grants (folded n front) target needs call) here none)
+none_of_only_pair kinds grants target needs call application (found ∷ []) front number only none (suc j) pair below at = absurd (omega arith)
+none_of_only_pair kinds grants target needs call application (found ∷ other ∷ more) front number only none j pair below at = absurd (cc)
+
+pub none_of_only_tag : (kinds : List Kind) (grants : List (List ℕ × AllowGrant)) (target : Target) (needs : Needs) (call : Option ClassCall) (tags : List AppTags) (front number : ℕ)
+    → only_number tags ≡ Some number → NoneBefore kinds (length grants) grants (folded number front) target needs call → NoneOfTags (length tags) tags front kinds grants target needs call
+none_of_only_tag kinds grants target needs call [] front number only none j app below at = absurd (omega arith)
+none_of_only_tag kinds grants target needs call (found ∷ []) front number only none zero app below at =
+    let same : found ≡ app = cc in
+    subst (λ (a : AppTags). NoneOfPairs (length a.pairs) a.pairs a.application front kinds grants target needs call) same
+    (none_of_only_pair kinds grants target needs call found.application found.pairs front number only none)
+none_of_only_tag kinds grants target needs call (found ∷ []) front number only none (suc j) app below at = absurd (omega arith)
+none_of_only_tag kinds grants target needs call (found ∷ other ∷ more) front number only none j app below at = absurd (cc)
 
 -- ---- the kinds together
 

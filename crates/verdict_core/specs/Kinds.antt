@@ -1,6 +1,6 @@
 -- Refinement: only contracts inside the crate use it.
 -- By which of its parts a grant is found. Only inner contracts use this.
-use Rattle.std.specs.Prelude.{ℕ, List, [], ◌∷◌, Option, None, Some, if◌then◌else◌, nat_le, length, map, take}
+use Rattle.std.specs.Prelude.{ℕ, ◌+◌, ◌%◌, ◌^◌, List, [], ◌∷◌, Option, None, Some, if◌then◌else◌, nat_le, length, map, take}
 use Rattle.std.specs.Option.{unwrap_or, option_map}
 use Rattle.cap_text.specs.declared.grant.AllowGrant.{AllowGrant}
 use Rattle.cap_text.specs.declared.grant.Access.{Access}
@@ -8,6 +8,7 @@ use Rattle.cap_text.specs.declared.grant.Access.TheVariants.{All, Flags, Class}
 use Rattle.cap_text.specs.declared.grant.Part.{Part}
 use Rattle.cap_text.specs.declared.grant.Part.TheVariants.{Any, Is}
 use Rattle.cap_text.specs.declared.grant.Tag.{Tag}
+use Rattle.common_types.specs.declared.tags.AppTags.{AppTags}
 use Rattle.verdict_core.specs.declared.kinds.Kind.{Kind}
 use Rattle.verdict_core.specs.declared.kinds.Named.{Named}
 use Rattle.verdict_core.specs.declared.kinds.Named.TheVariants.{Nothing, ThePool, TheTag, TheClass}
@@ -15,7 +16,18 @@ use Rattle.verdict_core.specs.Hash.{mix, hash, folded}
 
 -- of an application with a pair
 unfoldable pub pair_hash : List ℕ → List ℕ → List ℕ → ℕ
-pair_hash application key value = mix (mix (hash application) (hash key)) (hash value)
+pair_hash application key value = mix ((hash application + hash key) % 2 ^ 64) (hash value)
+
+abbrev pub number_of_pairs : List ℕ → List (List ℕ × List ℕ) → Option ℕ
+number_of_pairs application [] = None
+number_of_pairs application (pair ∷ []) = Some (pair_hash application pair.0 pair.1)
+number_of_pairs application (pair ∷ other ∷ more) = None
+
+-- of tags that are one application with one pair
+abbrev pub only_number : List AppTags → Option ℕ
+only_number [] = None
+only_number (app ∷ []) = number_of_pairs app.application app.pairs
+only_number (app ∷ other ∷ more) = None
 
 abbrev pub parts_hash : List ℕ → Part → Part → Option ℕ
 parts_hash application (Is key) (Is value) = Some (pair_hash application key value)

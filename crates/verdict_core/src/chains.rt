@@ -1,6 +1,6 @@
 //! Where the grants of a ticket stand that may speak of a request.
 
-ghost use Rattle.std.specs.Prelude.{◌≡◌, ◌+◌, ◌<◌, ◌≤◌, ◌⊎◌, ◌||◌, ◌==◌, true, false, length, option_copied, slice_index, IsSome, IfOk};
+ghost use Rattle.std.specs.Prelude.{◌≡◌, ◌+◌, ◌<◌, ◌≤◌, ◌⊎◌, ◌||◌, ◌==◌, true, false, length, option_copied, IsSome, IfOk};
 ghost use Rattle.std.specs.List.{list_any, list_all};
 ghost use Rattle.std.specs.Option.{ForSome};
 ghost use Rattle.verdict_core.specs.Chains.{AreChained, NoneBefore, NoneOfKind, NoneOfPairs, NoneOfTags};
@@ -10,7 +10,7 @@ ghost use Rattle.verdict_core.specs.Verdict.{grants_allow, is_covered, is_usable
 
 use crate::hashing::{folded, hash};
 use crate::judging;
-use crate::kinds::{Kind, NO_KIND, Named, chain_of, front_hash, kinds_of, pair_hash};
+use crate::kinds::{Kind, NO_KIND, Named, chain_of, front_hash, kinds_of, only_number, pair_hash};
 use crate::matching::{CHAINED, allows, is_usable_at_once, is_usable_in_turn};
 use crate::request::{ClassCall, Needs, Target};
 use cap_text::AllowGrant;
@@ -20,6 +20,13 @@ use std::alloc::Global;
 
 /// How many chains there are.
 const CHAINS: usize = NO_KIND + 1;
+
+/// What is asked of the chains. Each question has a copy of what looks for its answer, so that all of it is inlined where it is
+/// asked. Here it is whether a grant is usable.
+const NO_CALL: u8 = 0;
+
+/// Whether a usable grant covers a call.
+const A_CALL: u8 = 1;
 
 /// The grants of a ticket in chains, each in the ticket's order. Those of a kind whose parts are hashed alike share a chain, and
 /// those that are of no kind.
@@ -40,8 +47,9 @@ fn share_a_chain(next: &[u16]) -> bool {
         .all(|(place, next)| usize::from(*next) == place + 1)
 }
 
-/// Whether a grant is usable, mostly by a few comparisons of words.
-#[inline(always)]
+/// Whether a grant is usable, mostly by a few comparisons of words. It is a call of its own that saves no registers: where they do
+/// not tell, another one goes on in its place.
+#[inline(never)]
 fn is_usable_mostly_at_once(grant: &AllowGrant, target: &Target<'_>, needs: &Needs) -> bool
     ensures { result ≡ is_usable grant.now target.now needs.now }
 {
@@ -100,37 +108,9 @@ impl Chains {
         Ok(Chains { kinds, first, next })
     }
 
-    /// Whether some grant of a chain from a place of it on gives what is asked.
-    #[inline(never)]
-    fn gives_from(
-        &self,
-        place: usize,
-        grants: &[(Path, AllowGrant)],
-        target: &Target<'_>,
-        needs: &Needs,
-        call: Option<&ClassCall>,
-    ) -> bool
-        requires inside { place < length grants.now }
-        requires chained { AreChained 0 (chains_of self.now.kinds.items grants.now) self.now.first.items self.now.next.items }
-        ensures some { result ≡ true
-            → list_any (λ entry. spec.gives entry.1 target.now needs.now (option_copied call.entry)) grants.now ≡ true }
-        ensures none { result ≡ false
-            → NoneBefore self.now.kinds.items place grants.now (slice_index (chains_of self.now.kinds.items grants.now) place) target.now needs.now (option_copied call.entry)
-            → NoneBefore self.now.kinds.items (length grants.now) grants.now (slice_index (chains_of self.now.kinds.items grants.now) place) target.now needs.now (option_copied call.entry) }
-    {
-        let mut at = place;
-        while at < grants.len() {
-            if gives(&grants[at].1, target, needs, call) {
-                return true;
-            }
-            at = usize::from(self.next[at]);
-        }
-        false
-    }
-
     /// Whether some grant of a chain gives what is asked. Most chains are empty, which is seen without a call.
     #[inline(always)]
-    fn chain_gives(
+    fn chain_gives<const ASKED: u8>(
         &self,
         grants: &[(Path, AllowGrant)],
         chain: usize,
@@ -145,12 +125,19 @@ impl Chains {
         ensures none { result ≡ false
             → NoneBefore self.now.kinds.items (length grants.now) grants.now chain target.now needs.now (option_copied call.entry) }
     {
-        let place = usize::from(self.first[chain]);
-        place < grants.len() && self.gives_from(place, grants, target, needs, call)
+        let mut place = usize::from(self.first[chain]);
+        while place < grants.len() {
+            if gives(&grants[place].1, target, needs, call) {
+                return true;
+            }
+            place = usize::from(self.next[place]);
+        }
+        false
     }
 
     /// Whether some grant gives what is asked, of those that are found by a pair of an application.
-    fn pairs_give(
+    #[inline(always)]
+    fn pairs_give<const ASKED: u8>(
         &self,
         grants: &[(Path, AllowGrant)],
         app: &AppTags,
@@ -167,15 +154,16 @@ impl Chains {
     {
         for pair in app.pairs.as_slice() {
             let chain = folded(pair_hash(&app.application, &pair.0, &pair.1), front);
-            if self.chain_gives(grants, chain, target, needs, call) {
+            if self.chain_gives::<ASKED>(grants, chain, target, needs, call) {
                 return true;
             }
         }
         false
     }
 
-    /// Whether some grant gives what is asked, of those that are found by the tags of the request's pool.
-    fn tags_give(
+    /// Whether some grant gives what is asked, of those that are found by the tags of the request's pool, whatever these are.
+    #[inline(never)]
+    fn all_tags_give<const ASKED: u8>(
         &self,
         grants: &[(Path, AllowGrant)],
         front: u64,
@@ -190,16 +178,40 @@ impl Chains {
             → NoneOfTags (length target.now.tags) target.now.tags front self.now.kinds.items grants.now target.now needs.now (option_copied call.entry) }
     {
         for app in target.tags.as_slice() {
-            if self.pairs_give(grants, app, front, target, needs, call) {
+            if self.pairs_give::<ASKED>(grants, app, front, target, needs, call) {
                 return true;
             }
         }
         false
     }
 
+    /// Whether some grant gives what is asked, of those that are found by the tags of the request's pool.
+    #[inline(always)]
+    fn tags_give<const ASKED: u8>(
+        &self,
+        grants: &[(Path, AllowGrant)],
+        front: u64,
+        target: &Target<'_>,
+        needs: &Needs,
+        call: Option<&ClassCall>,
+    ) -> bool
+        requires chained { AreChained 0 (chains_of self.now.kinds.items grants.now) self.now.first.items self.now.next.items }
+        ensures some { result ≡ true
+            → list_any (λ entry. spec.gives entry.1 target.now needs.now (option_copied call.entry)) grants.now ≡ true }
+        ensures none { result ≡ false
+            → NoneOfTags (length target.now.tags) target.now.tags front self.now.kinds.items grants.now target.now needs.now (option_copied call.entry) }
+    {
+        match only_number(target.tags) {
+            Some(number) => {
+                self.chain_gives::<ASKED>(grants, folded(number, front), target, needs, call)
+            }
+            None => self.all_tags_give::<ASKED>(grants, front, target, needs, call),
+        }
+    }
+
     /// Whether some grant of a kind gives what is asked.
     #[inline(always)]
-    fn kind_gives(
+    fn kind_gives<const ASKED: u8>(
         &self,
         kind: Kind,
         grants: &[(Path, AllowGrant)],
@@ -220,16 +232,18 @@ impl Chains {
         let named = match (kind.named, call) {
             (Named::Nothing, _) => 0,
             (Named::ThePool, _) => hash(target.pool.as_bytes()),
-            (Named::TheTag, _) => return self.tags_give(grants, front, target, needs, call),
+            (Named::TheTag, _) => return self.tags_give::<ASKED>(
+                grants, front, target, needs, call,
+            ),
             (Named::TheClass, Some(call)) => hash(call.class.as_str().as_bytes()),
             (Named::TheClass, None) => return false,
         };
-        self.chain_gives(grants, folded(named, front), target, needs, call)
+        self.chain_gives::<ASKED>(grants, folded(named, front), target, needs, call)
     }
 
     /// Whether some grant gives what is asked: it is of some kind, or of none.
     #[inline(always)]
-    fn some_gives(
+    fn some_gives<const ASKED: u8>(
         &self,
         grants: &[(Path, AllowGrant)],
         target: &Target<'_>,
@@ -240,11 +254,11 @@ impl Chains {
         requires chained { AreChained 0 (chains_of self.now.kinds.items grants.now) self.now.first.items self.now.next.items }
         ensures { result ≡ list_any (λ entry. spec.gives entry.1 target.now needs.now (option_copied call.entry)) grants.now }
     {
-        if self.chain_gives(grants, NO_KIND, target, needs, call) {
+        if self.chain_gives::<ASKED>(grants, NO_KIND, target, needs, call) {
             return true;
         }
         for kind in self.kinds.as_slice() {
-            if self.kind_gives(*kind, grants, target, needs, call) {
+            if self.kind_gives::<ASKED>(*kind, grants, target, needs, call) {
                 return true;
             }
         }
@@ -257,11 +271,12 @@ impl Chains {
         requires { AreChained 0 (chains_of self.now.kinds.items grants.now) self.now.first.items self.now.next.items }
         ensures { result ≡ list_all (is_covered grants.now target.now needs.now) needs.now.calls }
     {
-        needs
-            .calls
-            .as_slice()
-            .iter()
-            .all(|call| self.some_gives(grants, target, needs, Some(call)))
+        needs.calls.as_slice().iter().all(|call| self.some_gives::<A_CALL>(
+            grants,
+            target,
+            needs,
+            Some(call),
+        ))
     }
 
     /// Whether the grants allow a request, whatever the time. Where all calls are covered, some grant is usable. It is a
@@ -280,7 +295,7 @@ impl Chains {
             return self.cover_calls(grants, target, needs);
         }
         if needs.reads || needs.writes {
-            self.some_gives(grants, target, needs, None)
+            self.some_gives::<NO_CALL>(grants, target, needs, None)
         } else {
             judging::grants_allow(grants, target, needs)
         }

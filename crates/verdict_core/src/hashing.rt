@@ -7,6 +7,9 @@ ghost use Rattle.verdict_core.specs.Hash as spec;
 /// An odd number with many bits, by which words are multiplied.
 const FACTOR: u64 = 11400714819323198485;
 
+/// Its square, by which of names that are much alike fewer share a chain.
+const SQUARE: u64 = 16088033396387240377;
+
 /// A number made of two.
 #[tactic(auto, unfolding(crate::specs::Hash::mix))]
 #[inline(always)]
@@ -23,18 +26,19 @@ pub(crate) fn folded(first: u64, second: u64) -> usize
     ensures value { result ≡ spec.folded first second }
     ensures small { result < 256 }
 {
-    (mix(first, second).wrapping_mul(FACTOR) / 72057594037927936) as usize
+    (mix(first, second).wrapping_mul(SQUARE) / 72057594037927936) as usize
 }
 
-/// The number of these bytes, by one after another.
-fn hash_of_bytes(bytes: &[u8]) -> u64
-    ensures { result ≡ spec.hash_of_bytes bytes.now }
+/// The first byte of a text, the one in its middle and the last one.
+#[tactic(auto, unfolding(crate::specs::Hash::few_bytes))]
+#[inline(always)]
+fn few_bytes(text: &[u8]) -> u64
+    requires { 0 < length text.now }
+    ensures { result ≡ spec.few_bytes text.now }
 {
-    let mut sum: u64 = 0;
-    for byte in bytes {
-        sum = sum.wrapping_mul(33).wrapping_add(u64::from(*byte));
-    }
-    sum
+    let length = text.len();
+    let front = u64::from(text[0]) * 65536 + u64::from(text[length / 2]) * 256;
+    front + u64::from(text[length - 1])
 }
 
 /// Four bytes as a number.
@@ -83,31 +87,46 @@ fn words(text: &[u8]) -> u64
     mix(word(&text[0..8]), word(&text[length - 8..length]))
 }
 
-/// All bytes of a long text.
+/// A longer text's first and last eight bytes, and the eight in its middle.
 #[tactic(auto, unfolding(crate::specs::Hash::with_middle))]
-#[inline(never)]
+#[inline(always)]
 fn with_middle(text: &[u8]) -> u64
     requires { 16 ≤ length text.now }
     ensures { result ≡ spec.with_middle text.now }
 {
-    let length = text.len();
-    mix(words(text), hash_of_bytes(&text[8..length - 8]))
+    let middle = text.len() / 2;
+    mix(words(text), word(&text[middle - 4..middle + 4]))
 }
 
-/// A number that is the same for equal texts: of most names it takes two words.
+/// A number of a text that is not very short: of most names it takes two words.
+#[tactic(auto, unfolding(crate::specs::Hash::long_hash))]
+#[inline(always)]
+fn long_hash(text: &[u8]) -> u64
+    requires { 4 ≤ length text.now }
+    ensures { result ≡ spec.long_hash text.now }
+{
+    let length = text.len();
+    if length < 8 {
+        half_words(text)
+    } else if length <= 16 {
+        words(text)
+    } else {
+        with_middle(text)
+    }
+}
+
+/// A number that is the same for equal texts. It calls nothing.
 #[tactic(auto, unfolding(crate::specs::Hash::hash))]
 #[inline(always)]
 pub(crate) fn hash(text: &[u8]) -> u64
     ensures { result ≡ spec.hash text.now }
 {
     let length = text.len();
-    if length < 4 {
-        hash_of_bytes(text)
-    } else if length < 8 {
-        half_words(text)
-    } else if length <= 16 {
-        words(text)
+    if length >= 4 {
+        long_hash(text)
+    } else if length == 0 {
+        0
     } else {
-        with_middle(text)
+        few_bytes(text)
     }
 }

@@ -80,27 +80,20 @@ pub fn grants_allow(grants: &[(Path, AllowGrant)], target: &Target<'_>, needs: &
     }
 }
 
-/// Whether grants allow a request without calls, by their chains if there are some. Many tickets have one grant, so the first one
-/// is looked at before the chains are, and before a walk begins, if it has no tag.
+/// Whether grants allow a request without calls. Many tickets have one grant, so the first one is looked at before a walk begins,
+/// if it has no tag.
 #[inline(always)]
-fn allow_without_calls(
-    chains: &Option<Chains>,
-    grants: &[(Path, AllowGrant)],
-    target: &Target<'_>,
-    needs: &Needs,
-) -> bool
-    requires chained { ForSome chains.now (λ p. AreChained 0 (chains_of p.kinds.items grants.now) p.first.items p.next.items) }
-    requires no_calls { needs.now.calls ≡ [] }
+fn allow_without_calls(grants: &[(Path, AllowGrant)], target: &Target<'_>, needs: &Needs) -> bool
+    requires { needs.now.calls ≡ [] }
     ensures { result ≡ spec.grants_allow grants.now target.now needs.now }
 {
     let Some((entry, others)) = grants.split_first() else {
         return false;
     };
-    match (is_usable_by_names::<FIRST>(&entry.1, target, needs), chains) {
-        (Some(true), _) => true,
-        (_, Some(chains)) => chains.allow(grants, target, needs),
-        (Some(false), None) => !others.is_empty() && has_usable_at_once(others, target, needs),
-        (None, None) => has_usable_at_once(grants, target, needs),
+    match is_usable_by_names::<FIRST>(&entry.1, target, needs) {
+        Some(true) => true,
+        Some(false) => !others.is_empty() && has_usable_at_once(others, target, needs),
+        None => has_usable_at_once(grants, target, needs),
     }
 }
 
@@ -116,12 +109,13 @@ pub(crate) fn allow_by(
     requires { ForSome chains.now (λ p. AreChained 0 (chains_of p.kinds.items grants.now) p.first.items p.next.items) }
     ensures { result ≡ spec.grants_allow grants.now target.now needs.now }
 {
-    if needs.calls.as_slice().is_empty() {
-        return allow_without_calls(chains, grants, target, needs);
+    if let Some(chains) = chains {
+        return chains.allow(grants, target, needs);
     }
-    match chains {
-        None => are_covered(grants, target, needs),
-        Some(chains) => chains.allow(grants, target, needs),
+    if needs.calls.as_slice().is_empty() {
+        allow_without_calls(grants, target, needs)
+    } else {
+        are_covered(grants, target, needs)
     }
 }
 

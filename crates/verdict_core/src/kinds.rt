@@ -7,7 +7,7 @@ ghost use Rattle.verdict_core.specs.Kinds as spec;
 
 use crate::hashing::{folded, hash, mix};
 use cap_text::{Access, AllowGrant, Part, Tag};
-use common_types::{Name, OutOfMemory};
+use common_types::{Name, OutOfMemory, Tags};
 use grant_core::Path;
 use std::alloc::Global;
 
@@ -43,7 +43,20 @@ pub(crate) fn pair_hash(application: &Name, key: &Name, value: &Name) -> u64
     let application = hash(application.as_str().as_bytes());
     let key = hash(key.as_str().as_bytes());
     let value = hash(value.as_str().as_bytes());
-    mix(mix(application, key), value)
+    mix(application.wrapping_add(key), value)
+}
+
+/// The number of the only application with its only pair, as a pool of CephFS has them, if there is but one.
+pub(crate) fn only_number(tags: &Tags) -> Option<u64>
+    ensures { result ≡ spec.only_number tags.now }
+{
+    let [app] = tags.as_slice() else {
+        return None;
+    };
+    let [pair] = app.pairs.as_slice() else {
+        return None;
+    };
+    Some(pair_hash(&app.application, &pair.0, &pair.1))
 }
 
 /// The number of a tag that names its key and its value.

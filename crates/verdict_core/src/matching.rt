@@ -132,6 +132,7 @@ pub(crate) fn can_write(access: &Access) -> bool
 }
 
 /// Whether an access reads and writes as far as the request does.
+#[inline(always)]
 fn serves(access: &Access, needs: &Needs) -> bool
     ensures { result ≡ ((not needs.now.reads || spec.can_read access.now) && (not needs.now.writes || spec.can_write access.now)) }
 {

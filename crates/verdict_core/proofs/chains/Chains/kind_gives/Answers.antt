@@ -8,23 +8,23 @@ use Rattle.verdict_core.proofs.chains.Chains.kind_gives.Goals as goal
 use Rattle.verdict_core.proofs.chains.Chains.kind_gives.Goals.{in-Nothing-default, in-ThePool-default, in-TheClass-Some}
 
 pub returns-in_default-clause-none : goal.returns-in_default-clause-none
-returns-in_default-clause-none c failed =
+returns-in_default-clause-none g c failed =
     let none : front_hash c.args.target.now.object c.args.kind.front ≡ None =
     sym (c.in_default.ensures ∙ ap (λ text. front_hash text c.args.kind.front) c.as_bytes.ensures.value ∙ ap (λ (p : Target). front_hash p.object c.args.kind.front) c.target.view_is) in
     none_of_short c.args.kind c.args.self.now.kinds.items c.args.grants.now c.args.target.now c.args.needs.now (option_copied c.args.call) c.requires.named none
 
 pub returns-in-TheTag-default-clause-none : goal.returns-in-TheTag-default-clause-none
-returns-in-TheTag-default-clause-none c failed =
+returns-in-TheTag-default-clause-none g c failed =
     let has : front_hash c.args.target.now.object c.args.kind.front ≡ Some c.in-Some.front =
     sym (c.in-Some.ensures ∙ ap (λ text. front_hash text c.args.kind.front) c.as_bytes.ensures.value ∙ ap (λ (p : Target). front_hash p.object c.args.kind.front) c.target.view_is) in
     none_of_tags c.args.kind c.args.self.now.kinds.items c.args.grants.now c.args.target.now c.args.needs.now (option_copied c.args.call) c.in-Some.front c.requires.named c.in-TheTag-default.is-0 has (c.tags_give.ensures.none failed)
 
 pub returns-in-TheClass-None-clause-none : goal.returns-in-TheClass-None-clause-none
-returns-in-TheClass-None-clause-none c failed =
+returns-in-TheClass-None-clause-none g c failed =
     none_of_unasked c.args.kind c.args.self.now.kinds.items c.args.grants.now c.args.target.now c.args.needs.now (option_copied c.args.call) c.requires.named c.in-TheClass-None.is-0 (ap option_copied c.in-TheClass-None.is-1)
 
 pub returns-clause-none : goal.returns-clause-none
-returns-clause-none c failed =
+returns-clause-none g c failed =
     let kind = c.args.kind in
     let target = c.args.target.now in
     let call = option_copied c.args.call in
