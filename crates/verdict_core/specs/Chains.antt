@@ -1,38 +1,17 @@
 -- Refinement: only contracts inside the crate use it.
 -- Where the grants of a ticket stand that may speak of a request. Only inner contracts use this: a public one speaks of
 -- the verdict alone.
-use Rattle.std.specs.Prelude.{◌≡◌, ◌≢◌, ℕ, ◌+◌, ◌*◌, ◌/◌, ◌%◌, ◌^◌, ◌<◌, ◌≤◌, List, Bool, false, Option, None, Some, ◌&&◌, length, map, fold, slice_index}
+use Rattle.std.specs.Prelude.{◌≡◌, ◌≢◌, ℕ, ◌<◌, ◌≤◌, List, Bool, false, Option, None, Some, ◌&&◌, length, slice_index}
 use Rattle.std.specs.List.{slice_get}
 use Rattle.cap_text.specs.declared.grant.AllowGrant.{AllowGrant}
-use Rattle.cap_text.specs.declared.grant.Access.{Access}
-use Rattle.cap_text.specs.declared.grant.Access.TheVariants.{All, Flags, Class}
+use Rattle.common_types.specs.declared.tags.AppTags.{AppTags}
+use Rattle.verdict_core.specs.declared.kinds.Kind.{Kind}
+use Rattle.verdict_core.specs.Hash.{folded}
+use Rattle.verdict_core.specs.Kinds.{pair_hash, chain_in, chain_of}
 use Rattle.verdict_core.specs.declared.request.Needs.{Needs}
 use Rattle.verdict_core.specs.declared.request.ClassCall.{ClassCall}
 use Rattle.verdict_core.specs.Target.{Target}
 use Rattle.verdict_core.specs.Verdict.{is_usable, covers}
-
-abbrev pub hash_step : ℕ → ℕ → ℕ
-hash_step sum byte = (sum * 33 % 2 ^ 32 + byte) % 2 ^ 32
-
--- a number below 128, the same for equal names
-unfoldable pub bucket : List ℕ → ℕ
-bucket name = fold hash_step 0 name * 2654435769 % 2 ^ 32 / 33554432
-
-unfoldable pub pool_chain : Option (List ℕ) → ℕ
-pool_chain None = 256
-pool_chain (Some pool) = bucket pool
-
-abbrev pub chain_by : Access → Option (List ℕ) → ℕ
-chain_by All pool = pool_chain pool
-chain_by (Flags flags) pool = pool_chain pool
-chain_by (Class class method) pool = 128 + bucket class
-
--- the chain that a grant is in: by its class where it names one, else by its pool, else that of those without a pool
-abbrev pub chain_of : AllowGrant → ℕ
-chain_of g = chain_by g.access g.pool
-
-abbrev pub chains_of : List (List ℕ × AllowGrant) → List ℕ
-chains_of grants = map (λ entry. chain_of entry.1) grants
 
 -- The places from some place on are chained: `first` has the first one of each chain, and `next` the one behind each in
 -- its chain, or the number of all where there is none.
@@ -52,5 +31,17 @@ gives g place needs None = is_usable g place needs
 gives g place needs (Some call) = is_usable g place needs && covers g.access call
 
 -- no grant of the chain before some place gives it
-abbrev pub NoneBefore : ℕ → List (List ℕ × AllowGrant) → ℕ → Target → Needs → Option ClassCall → Type 0
-NoneBefore place grants chain at needs call = (i : ℕ) (entry : List ℕ × AllowGrant) → i < place → slice_get grants i ≡ Some entry → chain_of entry.1 ≡ chain → gives entry.1 at needs call ≡ false
+abbrev pub NoneBefore : List Kind → ℕ → List (List ℕ × AllowGrant) → ℕ → Target → Needs → Option ClassCall → Type 0
+NoneBefore kinds place grants chain at needs call = (i : ℕ) (entry : List ℕ × AllowGrant) → i < place → slice_get grants i ≡ Some entry → chain_of kinds entry.1 ≡ chain → gives entry.1 at needs call ≡ false
+
+-- no grant that is found by this kind gives it
+abbrev pub NoneOfKind : Kind → List Kind → List (List ℕ × AllowGrant) → Target → Needs → Option ClassCall → Type 0
+NoneOfKind kind kinds grants at needs call = (i : ℕ) (entry : List ℕ × AllowGrant) → slice_get grants i ≡ Some entry → chain_in kind entry.1 ≡ Some (chain_of kinds entry.1) → gives entry.1 at needs call ≡ false
+
+-- no grant gives it that is in the chain of an application with a pair, by so many first bytes
+abbrev pub NoneOfPairs : ℕ → List (List ℕ × List ℕ) → List ℕ → ℕ → List Kind → List (List ℕ × AllowGrant) → Target → Needs → Option ClassCall → Type 0
+NoneOfPairs count pairs application front kinds grants at needs call = (j : ℕ) (pair : List ℕ × List ℕ) → j < count → slice_get pairs j ≡ Some pair → NoneBefore kinds (length grants) grants (folded (pair_hash application pair.0 pair.1) front) at needs call
+
+-- the same of all applications
+abbrev pub NoneOfTags : ℕ → List AppTags → ℕ → List Kind → List (List ℕ × AllowGrant) → Target → Needs → Option ClassCall → Type 0
+NoneOfTags count tags front kinds grants at needs call = (j : ℕ) (app : AppTags) → j < count → slice_get tags j ≡ Some app → NoneOfPairs (length app.pairs) app.pairs app.application front kinds grants at needs call

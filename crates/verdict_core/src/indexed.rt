@@ -3,7 +3,6 @@
 ghost use Rattle.std.specs.Prelude.{◌≡◌, ◌≤◌, false, map, length, IfOk, IfErr};
 ghost use Rattle.verdict_core.specs.Verdict.{is_allowed, report_of};
 
-use crate::chains::share_a_chain;
 use crate::judging::judge;
 use crate::reporting;
 use crate::request::{Needs, Target};
@@ -17,11 +16,11 @@ use std::marker::Model;
 /// The most grants that are looked at one by one.
 const FEW: usize = 4;
 
-/// A ticket with chains of the grants of each pool, of those without a pool, and of each named class.
+/// A ticket with chains of the grants that name the same pool, tag or class, and whose prefixes begin alike.
 ///
 /// Contracts see it as the ticket. A verdict looks only at the grants that may speak of the request, so it
 /// takes about as long over many grants as over a few. A ticket of one to four grants has no chains, nor has one
-/// whose grants all name one pool, or none: it is judged as the plain ticket is, by the same function.
+/// whose grants would all be in one: it is judged as the plain ticket is, by the same function.
 #[derive(Debug, Drop)]
 pub struct IndexedTicket {
     ticket: Ticket,
@@ -41,7 +40,7 @@ impl IndexedTicket {
         ensures made { IfOk result (λ indexed. indexed ≡ ticket) }
         ensures given_back { IfErr result (λ refused. refused.0 ≡ ticket) }
     {
-        if ticket.grants().len() <= FEW || share_a_chain(ticket.grants()) {
+        if ticket.grants().len() <= FEW {
             return Ok(IndexedTicket { ticket });
         }
         match ticket.with_chains() {

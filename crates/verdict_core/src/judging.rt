@@ -3,12 +3,13 @@
 ghost use Rattle.std.specs.Prelude.{◌≡◌, []};
 ghost use Rattle.std.specs.List.{list_any, list_all};
 ghost use Rattle.std.specs.Option.{ForSome};
-ghost use Rattle.verdict_core.specs.Chains.{AreChained, chains_of};
+ghost use Rattle.verdict_core.specs.Chains.{AreChained};
+ghost use Rattle.verdict_core.specs.Kinds.{chains_of};
 ghost use Rattle.verdict_core.specs.Verdict.{is_allowed};
 ghost use Rattle.verdict_core.specs.Verdict as spec;
 
 use crate::chains::Chains;
-use crate::matching::{FIRST, allows, is_usable, is_usable_at_once, is_usable_by_names};
+use crate::matching::{FIRST, OTHERS, allows, is_usable, is_usable_at_once, is_usable_by_names};
 use crate::request::{ClassCall, Needs, Target};
 use crate::ticket::Ticket;
 use cap_text::AllowGrant;
@@ -46,7 +47,7 @@ fn has_usable_at_once(grants: &[(Path, AllowGrant)], target: &Target<'_>, needs:
 {
     let mut rest = grants;
     while let Some((entry, others)) = rest.split_first() {
-        match is_usable_at_once(&entry.1, target, needs) {
+        match is_usable_at_once::<OTHERS>(&entry.1, target, needs) {
             Some(true) => return true,
             Some(false) => rest = others,
             None => return has_usable_at_length(rest, target, needs),
@@ -79,27 +80,20 @@ pub fn grants_allow(grants: &[(Path, AllowGrant)], target: &Target<'_>, needs: &
     }
 }
 
-/// Whether grants allow a request without calls, by their chains if there are some. Many tickets have one grant, so the first one
-/// is looked at before the chains are, and before a walk begins, if it has no tag.
+/// Whether grants allow a request without calls. Many tickets have one grant, so the first one is looked at before a walk begins,
+/// if it has no tag.
 #[inline(always)]
-fn allow_without_calls(
-    chains: &Option<Chains>,
-    grants: &[(Path, AllowGrant)],
-    target: &Target<'_>,
-    needs: &Needs,
-) -> bool
-    requires chained { ForSome chains.now (λ p. AreChained 0 (chains_of grants.now) p.first.items p.next.items) }
-    requires no_calls { needs.now.calls ≡ [] }
+fn allow_without_calls(grants: &[(Path, AllowGrant)], target: &Target<'_>, needs: &Needs) -> bool
+    requires { needs.now.calls ≡ [] }
     ensures { result ≡ spec.grants_allow grants.now target.now needs.now }
 {
     let Some((entry, others)) = grants.split_first() else {
         return false;
     };
-    match (is_usable_by_names::<FIRST>(&entry.1, target, needs), chains) {
-        (Some(true), _) => true,
-        (_, Some(chains)) => chains.allow(grants, target, needs),
-        (Some(false), None) => !others.is_empty() && has_usable_at_once(others, target, needs),
-        (None, None) => has_usable_at_once(grants, target, needs),
+    match is_usable_by_names::<FIRST>(&entry.1, target, needs) {
+        Some(true) => true,
+        Some(false) => !others.is_empty() && has_usable_at_once(others, target, needs),
+        None => has_usable_at_once(grants, target, needs),
     }
 }
 
@@ -112,15 +106,16 @@ pub(crate) fn allow_by(
     target: &Target<'_>,
     needs: &Needs,
 ) -> bool
-    requires { ForSome chains.now (λ p. AreChained 0 (chains_of grants.now) p.first.items p.next.items) }
+    requires { ForSome chains.now (λ p. AreChained 0 (chains_of p.kinds.items grants.now) p.first.items p.next.items) }
     ensures { result ≡ spec.grants_allow grants.now target.now needs.now }
 {
-    if needs.calls.as_slice().is_empty() {
-        return allow_without_calls(chains, grants, target, needs);
+    if let Some(chains) = chains {
+        return chains.allow(grants, target, needs);
     }
-    match chains {
-        None => are_covered(grants, target, needs),
-        Some(chains) => chains.allow(grants, target, needs),
+    if needs.calls.as_slice().is_empty() {
+        allow_without_calls(grants, target, needs)
+    } else {
+        are_covered(grants, target, needs)
     }
 }
 

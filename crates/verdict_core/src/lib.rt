@@ -6,8 +6,10 @@
 #![tactic(auto)]
 
 mod chains;
+mod hashing;
 mod indexed;
 mod judging;
+mod kinds;
 mod matching;
 mod reporting;
 mod request;

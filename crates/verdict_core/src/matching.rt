@@ -132,6 +132,7 @@ pub(crate) fn can_write(access: &Access) -> bool
 }
 
 /// Whether an access reads and writes as far as the request does.
+#[inline(always)]
 fn serves(access: &Access, needs: &Needs) -> bool
     ensures { result ≡ ((not needs.now.reads || spec.can_read access.now) && (not needs.now.writes || spec.can_write access.now)) }
 {
@@ -165,7 +166,7 @@ pub(crate) fn is_usable(grant: &AllowGrant, target: &Target<'_>, needs: &Needs) 
 
 /// The same in a call of its own, for walks on which few grants come so far. Most grants of a class are for all targets.
 #[inline(never)]
-fn is_usable_in_turn(grant: &AllowGrant, target: &Target<'_>, needs: &Needs) -> bool
+pub(crate) fn is_usable_in_turn(grant: &AllowGrant, target: &Target<'_>, needs: &Needs) -> bool
     ensures { result ≡ spec.is_usable grant.now target.now needs.now }
 {
     let is_here = match grant {
@@ -187,6 +188,9 @@ pub(crate) const FIRST: u8 = 0;
 
 /// The grants of a walk: of these the last byte of the pool is asked for first, in which most names differ.
 pub(crate) const OTHERS: u8 = 1;
+
+/// The grants of a chain, most of which agree in what was hashed.
+pub(crate) const CHAINED: u8 = 2;
 
 /// `names`, if two comparisons of words tell, or before them the last byte, where it is asked for.
 #[inline(always)]
@@ -245,7 +249,11 @@ fn matches_part_at_once(part: &Part, text: &Name) -> Option<bool>
 
 /// Whether an application with this one pair agrees with a tag, if comparisons of words tell.
 #[inline(always)]
-fn matches_pair_at_once(tag: &Tag, application: &Name, pair: &(Name, Name)) -> Option<bool>
+fn matches_pair_at_once<const GRANTS: u8>(
+    tag: &Tag,
+    application: &Name,
+    pair: &(Name, Name),
+) -> Option<bool>
     ensures { ForSome result (λ holds. holds ≡ (bytes_eq tag.now.application application.now && spec.matches_pairs tag.now.key tag.now.value (pair.now ∷ []))) }
 {
     let Some(value) = matches_part_at_once(&tag.value, &pair.1) else {
@@ -266,7 +274,7 @@ fn matches_pair_at_once(tag: &Tag, application: &Name, pair: &(Name, Name)) -> O
 /// `matches_tag`, if comparisons of words tell: of a tag they do where the pool has one application with one pair, as
 /// a pool of CephFS has.
 #[inline(always)]
-fn matches_tag_at_once(wanted: &Option<Tag>, tags: &Tags) -> Option<bool>
+fn matches_tag_at_once<const GRANTS: u8>(wanted: &Option<Tag>, tags: &Tags) -> Option<bool>
     ensures { ForSome result (λ holds. holds ≡ spec.matches_tag wanted.now tags.now) }
 {
     let Some(tag) = wanted else {
@@ -278,7 +286,7 @@ fn matches_tag_at_once(wanted: &Option<Tag>, tags: &Tags) -> Option<bool>
     let [pair] = app.pairs.as_slice() else {
         return None;
     };
-    matches_pair_at_once(tag, &app.application, pair)
+    matches_pair_at_once::<GRANTS>(tag, &app.application, pair)
 }
 
 /// Whether a grant agrees with the names of a target, if a few comparisons of words tell: they do where each name that is
@@ -327,20 +335,20 @@ pub(crate) fn is_usable_by_names<const GRANTS: u8>(
 /// Whether a grant is usable, if a few comparisons of words tell: they do of a tag, too, where the pool has one
 /// application with one pair.
 #[inline(always)]
-pub(crate) fn is_usable_at_once(
+pub(crate) fn is_usable_at_once<const GRANTS: u8>(
     grant: &AllowGrant,
     target: &Target<'_>,
     needs: &Needs,
 ) -> Option<bool>
     ensures { ForSome result (λ usable. usable ≡ spec.is_usable grant.now target.now needs.now) }
 {
-    let Some(tag) = matches_tag_at_once(&grant.tag, target.tags) else {
+    let Some(tag) = matches_tag_at_once::<GRANTS>(&grant.tag, target.tags) else {
         return None;
     };
     if !tag {
         return Some(false);
     }
-    let Some(names) = matches_names_at_once::<OTHERS>(grant, target) else {
+    let Some(names) = matches_names_at_once::<GRANTS>(grant, target) else {
         return None;
     };
     if !names {

@@ -29,14 +29,15 @@ pub struct Ticket {
 impl Model for Ticket {
     ghost use Rattle.std.specs.Prelude.{length, ◌≤◌};
     ghost use Rattle.std.specs.Option.{ForSome};
-    ghost use Rattle.verdict_core.specs.Chains.{AreChained, chains_of};
+    ghost use Rattle.verdict_core.specs.Chains.{AreChained};
+    ghost use Rattle.verdict_core.specs.Kinds.{chains_of};
     ghost use Rattle.verdict_core.specs.Ticket as seen;
 
     ghost Value = { seen.Ticket };
 
     ghost view = { λ t. record { grants = t.grants.items; until = t.until } };
 
-    ghost invariant = { λ t. (length t.grants.items ≤ 256) × ForSome t.chains (λ p. AreChained 0 (chains_of t.grants.items) p.first.items p.next.items) };
+    ghost invariant = { λ t. (length t.grants.items ≤ 256) × ForSome t.chains (λ p. AreChained 0 (chains_of p.kinds.items t.grants.items) p.first.items p.next.items) };
 }
 
 /// Why a request is denied: for each grant its path and the first condition that the request fails.
@@ -79,16 +80,13 @@ impl Ticket {
         }
     }
 
-    /// The same ticket, with the chains of its grants. Where a growth is refused, it is given back as it was.
+    /// The same ticket, with the chains of its grants, unless all are in one. Where a growth is refused, it is given back as it was.
     pub(crate) fn with_chains(self) -> Result<Ticket, (Ticket, OutOfMemory)>
         ensures made { IfOk result (λ ticket. ticket ≡ self) }
         ensures given_back { IfErr result (λ refused. refused.0 ≡ self) }
     {
         match Chains::of(self.allocator(), self.grants()) {
-            Ok(chains) => {
-                let chains = Some(chains);
-                Ok(Ticket { chains, ..self })
-            }
+            Ok(chains) => Ok(Ticket { chains, ..self }),
             Err(error) => Err((self, error)),
         }
     }

@@ -4,5 +4,5 @@ use Rattle.std.proofs.Common.{arith}
 use Rattle.verdict_core.proofs.Walks.{by_calls}
 use Rattle.verdict_core.proofs.judging.allow_by.Goals as goal
 
-pub returns-in-None : goal.returns-in-None
-returns-in-None c = c.are_covered.ensures ∙ by_calls c.args.grants.now c.args.target.now c.args.needs.now c.args.needs.now.calls (λ e. grind (arith, common_steps, e))
+pub returns-else-is_empty : goal.returns-else-is_empty
+returns-else-is_empty c = c.are_covered.ensures ∙ by_calls c.args.grants.now c.args.target.now c.args.needs.now c.args.needs.now.calls (λ e. grind (arith, common_steps, e))

@@ -1,6 +1,0 @@
-use Rattle.std.proofs.Common.{◌-◌}
-use Rattle.verdict_core.specs.Chains.{AreChained, chains_of}
-use Rattle.verdict_core.proofs.chains.Chains.of.Given as goal
-
-abbrev pub invariant-loop-done : goal.invariant-loop-done
-invariant-loop-done l = AreChained (l.count - l.done) (chains_of l.grants) l.first.items l.next.items
