@@ -18,7 +18,7 @@ common_next xs ys p in_xs in_ys same = common_at xs ys p in_xs in_ys ∙ ap (λ 
 pub common_stop : (xs ys : List ℕ) (p : ℕ) → p < length xs → p < length ys → (get_or xs p 0 == get_or ys p 0) ≡ false → common (drop p xs) (drop p ys) ≡ 0
 common_stop xs ys p in_xs in_ys apart = common_at xs ys p in_xs in_ys ∙ ap (λ b. cond b (suc (common (drop (suc p) xs) (drop (suc p) ys))) 0) apart
 
-common_none : (xs : List ℕ) → common xs [] ≡ 0
+pub common_none : (xs : List ℕ) → common xs [] ≡ 0
 common_none [] = refl
 common_none (x ∷ xs) = refl
 

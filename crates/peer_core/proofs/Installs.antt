@@ -1,9 +1,8 @@
 -- How an interval begins with the chosen log.
-use Prim.Native.Nat.{zero, suc}
-use Rattle.std.proofs.Common.{ℕ, ◌≡◌, ◌+◌, ◌<◌, ◌==◌, ◌&&◌, Bool, true, false, cond, List, [], ◌∷◌, ◌++◌, map, take, drop, min, length, slice_index_or, nat_lt, refl, sym, ◌∙◌, ap, arith}
+use Rattle.std.proofs.Common.{ℕ, ◌≡◌, ◌+◌, ◌<◌, ◌==◌, ◌&&◌, Bool, true, false, cond, List, [], ◌∷◌, ◌++◌, map, take, length, slice_index_or, nat_lt, refl, sym, ◌∙◌, ap}
 use Rattle.std.specs.List.{filter}
 use Rattle.std.specs.Prelude.{Option, Some, None, is_some, unwrap_or}
-use Rattle.std.proofs.lemmas.Bool.{eqb-true}
+use Rattle.std.proofs.lemmas.Bool.{eqb-true, eq-eqb}
 use Rattle.std.proofs.lemmas.List.{map-append, append-nil}
 use Rattle.std.proofs.lemmas.List.Elements.{filter_more}
 use Rattle.entry_core.specs.Fitting.{fitted}
@@ -95,10 +94,30 @@ pub unfitted : (c : Copy) (informed : List Offer) (f : Option (List Entry)) → 
 unfitted c informed None is none = ap (λ r. still (record c { role = r })) (sym is)
 unfitted c informed (Some log) is none = absurd (cc)
 
+-- the copy stays as it was, and sends nothing
+pub unfitted_copy : (c : Copy) (informed : List Offer) (f : Option (List Entry)) (log : List Entry) → c.role ≡ Peering informed → is_some f ≡ false → log ≡ unwrap_or f c.log → (fit_chosen c informed f).copy ≡ record c { log = log }
+unfitted_copy c informed None log is none log_is = λ i. record c { log = sym log_is i; role = sym is i }
+unfitted_copy c informed (Some new) log is none log_is = absurd (cc)
+
+pub unfitted_sent : (c : Copy) (informed : List Offer) (f : Option (List Entry)) (before : List Sent) → is_some f ≡ false → before ≡ before ++ (fit_chosen c informed f).sent
+unfitted_sent c informed None before none = sym (append-nil before)
+unfitted_sent c informed (Some new) before none = absurd (cc)
+
 -- and one whose part does
 pub fits : (c : Copy) (informed : List Offer) (f : Option (List Entry)) (old log : List Entry) → is_some f ≡ true → log ≡ unwrap_or f old → fit_chosen c informed f ≡ install_chosen c informed log (others c)
 fits c informed None old log some is = absurd (cc)
 fits c informed (Some new) old log some is = ap (λ l. install_chosen c informed l (others c)) (sym is)
+
+pub fitted_log : (f : Option (List Entry)) (old log : List Entry) → is_some f ≡ true → log ≡ unwrap_or f old → f ≡ Some log
+fitted_log None old log some is = absurd (cc)
+fitted_log (Some new) old log some is = ap (λ l. Some l) (sym is)
+
+-- where nobody else is, and nothing waits
+pub fits_idle : (c : Copy) (informed : List Offer) (f : Option (List Entry)) (log : List Entry) → (length (others c) == 0) ≡ true → length c.waiting ≡ 0 → is_some f ≡ true → log ≡ unwrap_or f c.log →
+    fit_chosen c informed f ≡ record { copy = record c { base = c.promise; log = log; role = Active None; waiting = [] }; sent = [] }
+fits_idle c informed f log alone idle some is =
+    fits c informed f c.log log some is ∙ install_alone c informed log alone
+    ∙ ap (λ w. serve w (record c { base = c.promise; log = log; role = Active None })) (none_left c.waiting (eq-eqb (length c.waiting) 0 idle))
 
 -- an install
 promised : (c : Copy) (n : ℕ) (log : List Entry) (b : Bool) → nat_lt c.promise n ≡ b → promise_interval (record c { base = n; log = log }) n ≡ record (promise_interval c n) { base = n; log = log }
@@ -115,15 +134,3 @@ part_fits c from n None log some is = absurd (cc)
 part_fits c from n (Some new) log some is =
     ap (λ (l : List Entry). record { copy = record (promise_interval c n) { base = n; log = l }; sent = send c from (Installed n) ∷ [] }) (sym is)
     ∙ ap (λ (v : Copy). record { copy = v; sent = send c from (Installed n) ∷ [] }) (sym (promised c n log (nat_lt c.promise n) refl))
-
-drop_none : {X : Type 0} (n : ℕ) → drop n (let none : List X = [] in none) ≡ []
-drop_none zero = refl
-drop_none (suc n) = refl
-
--- a place behind a list's end is as good as its end
-pub drop_min : {X : Type 0} (n : ℕ) (xs : List X) (t : ℕ) → t ≡ min n (length xs) → drop t xs ≡ drop n xs
-drop_min n [] t is = drop_none t ∙ sym (drop_none n)
-drop_min zero (x ∷ xs) zero is = refl
-drop_min zero (x ∷ xs) (suc t) is = absurd (omega arith)
-drop_min (suc n) (x ∷ xs) zero is = absurd (omega arith)
-drop_min (suc n) (x ∷ xs) (suc t) is = drop_min n xs t (omega arith)

@@ -9,4 +9,5 @@ mod Passing
 mod Known
 mod Alike
 mod Told
+mod Fittings
 mod Installs

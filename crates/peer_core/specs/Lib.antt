@@ -8,3 +8,4 @@ pub mod Serve
 pub mod Copy
 pub mod Stages
 pub mod Waiting
+pub mod Fittings

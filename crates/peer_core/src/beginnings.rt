@@ -1,13 +1,13 @@
-//! With how many entries two logs begin alike.
+//! Where logs and parts of logs begin alike.
 
-ghost use Rattle.std.specs.Prelude.{◌≡◌, ◌≤◌, true, length, map, take, drop, IfOk};
+ghost use Rattle.std.specs.Prelude.{◌≡◌, ◌≤◌, true, length, map, take, IfOk};
 ghost use Rattle.entry_core.specs.Log.{ids};
 ghost use Rattle.entry_core.specs.Fitting.{last_id, part_of};
 ghost use Rattle.peer_core.specs.Types as types;
-ghost use Rattle.peer_core.specs.Beginnings.{told_ids, common, common_of, count_at};
+ghost use Rattle.peer_core.specs.Beginnings.{common, count_at};
 ghost use Rattle.peer_core.specs.Copy as rules;
 
-use crate::role::{Common, PeerInfo};
+use crate::role::Common;
 use entry_core::{Entry, Id, Items, Log, OutOfMemory, Sealed};
 
 /// The id of the last of a log's first entries.
@@ -62,25 +62,11 @@ pub fn part_from(log: &Log, start: usize) -> Result<Items<Sealed>, OutOfMemory>
     log.part(start.min(log.len()))
 }
 
-/// How many entries have the same ids, place by place.
-fn alike(entries: &[Entry], others: &[Entry]) -> usize
-    ensures value { result ≡ common (ids entries.now) (ids others.now) }
-    ensures within { result ≤ length entries.now }
-    ensures others { result ≤ length others.now }
-{
-    let most = entries.len().min(others.len());
-    for place in 0..most {
-        if entries[place].sealed.id() != others[place].sealed.id() {
-            return place;
-        }
-    }
-    most
-}
-
 /// How many requests have the ids of these entries, place by place.
-fn alike_part(part: &[Sealed], entries: &[Entry]) -> usize
+pub fn alike_part(part: &[Sealed], entries: &[Entry]) -> usize
     ensures value { result ≡ common (map (λ (s : types.Sealed). s.id) part.now) (ids entries.now) }
-    ensures within { result ≤ length entries.now }
+    ensures entries { result ≤ length entries.now }
+    ensures part { result ≤ length part.now }
 {
     let most = part.len().min(entries.len());
     for place in 0..most {
@@ -91,35 +77,18 @@ fn alike_part(part: &[Sealed], entries: &[Entry]) -> usize
     most
 }
 
-/// With how many entries the log that was told to a copy of the old log begins like the new one. Both have the same entries up to the shared place, so these are not looked at.
-fn common_with(offer: &PeerInfo, old: &Log, new: &Log, shared: usize) -> usize
-    requires old { shared ≤ length old.now }
-    requires new { shared ≤ length new.now }
-    requires same { take shared old.now ≡ take shared new.now }
-    ensures { result ≡ common (told_ids old.now offer.now) (ids new.now) }
+/// How many requests have the same ids, place by place.
+pub fn alike_requests(part: &[Sealed], others: &[Sealed]) -> usize
+    ensures value { result ≡ common (map (λ (s : types.Sealed). s.id) part.now) (map (λ (s : types.Sealed). s.id) others.now) }
+    ensures part { result ≤ length part.now }
 {
-    let told = offer.start.min(old.len());
-    let from = shared.min(told);
-    let alike = from + alike(&old.entries()[from..told], &new.entries()[from..]);
-    if alike < told {
-        return alike;
-    }
-    told + alike_part(offer.part.as_slice(), &new.entries()[told..])
-}
-
-/// With how many entries a member's log, of which one of these offers tells, begins like the new one.
-pub fn common_of(informed: &[PeerInfo], old: &Log, new: &Log, shared: usize, member: u8) -> usize
-    requires old { shared ≤ length old.now }
-    requires new { shared ≤ length new.now }
-    requires same { take shared old.now ≡ take shared new.now }
-    ensures { result ≡ common_of informed.now old.now new.now member }
-{
-    for offer in informed {
-        if offer.number == member {
-            return common_with(offer, old, new, shared);
+    let most = part.len().min(others.len());
+    for place in 0..most {
+        if part[place].id() != others[place].id() {
+            return place;
         }
     }
-    0
+    most
 }
 
 /// What is kept of a member.

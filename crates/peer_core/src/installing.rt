@@ -3,7 +3,7 @@
 ghost use Rattle.std.specs.Prelude.{◌≡◌, ◌==◌, ◌&&◌, length, is_some, unwrap_or, IfOk, OnOk, OnErr};
 ghost use Rattle.entry_core.specs.Fitting.{fitted};
 
-use crate::beginnings::common_of;
+use crate::fitting::Fitting;
 use crate::message::{Body, Sent};
 use crate::role::{Common, PeerInfo, Role};
 use crate::serve::decide_each;
@@ -33,30 +33,28 @@ fn fit(log: &mut Log, start: usize, part: &[Sealed]) -> Result<bool, OutOfMemory
 }
 
 impl State {
-    ghost use Rattle.std.specs.Prelude.{◌≡◌, ◌≤◌, ◌==◌, ◌++◌, true, ℕ, List, length, map, take, IfOk, OnOk, OnErr, None};
+    ghost use Rattle.std.specs.Prelude.{◌≡◌, ◌==◌, ◌++◌, true, false, ℕ, List, length, map, IfOk, OnOk, OnErr, None};
     ghost use Rattle.entry_core.specs.Fitting.{fitted};
     ghost use Rattle.peer_core.specs.Types as types;
     ghost use Rattle.peer_core.specs.ActingSets.{others};
     ghost use Rattle.peer_core.specs.Beginnings.{common_of};
+    ghost use Rattle.peer_core.specs.Fittings.{becomes};
     ghost use Rattle.peer_core.specs.Serve.{serve};
     ghost use Rattle.peer_core.specs.Copy.{fit_chosen, install_chosen, install_fitted, install_from, on_install, on_installed};
 
-    /// How much each other member has of a log, by what these offers tell.
+    /// How much each other member has of the log that is chosen, by what these offers tell.
     fn commons_of(
         &self,
         informed: &[PeerInfo],
-        log: &Log,
-        shared: usize,
+        fitting: &Fitting<'_>,
     ) -> Result<Items<Common>, OutOfMemory>
-        requires old { shared ≤ length self.now.log }
-        requires new { shared ≤ length log.now }
-        requires same { take shared self.now.log ≡ take shared log.now }
-        ensures { IfOk result (λ common. common ≡ map (λ m. record { member = m; count = common_of informed.now self.now.log log.now m }) (others self.now)) }
+        requires { fitting.now.log.now ≡ self.now.log }
+        ensures { IfOk result (λ common. common ≡ map (λ m. record { member = m; count = common_of informed.now self.now.log (becomes fitting.now) m }) (others self.now)) }
     {
         let mut common = Items::new(self.log.allocator());
         for member in self.set() {
             if *member != self.number {
-                let count = common_of(informed, &self.log, log, shared, *member);
+                let count = fitting.common_of(informed, *member);
                 common.push(Common {
                     member: *member,
                     count,
@@ -66,34 +64,29 @@ impl State {
         Ok(common)
     }
 
-    /// How much each other member has of a log, by what it heard.
-    fn commons(&self, log: &Log, shared: usize) -> Result<Items<Common>, OutOfMemory>
-        requires old { shared ≤ length self.now.log }
-        requires new { shared ≤ length log.now }
-        requires same { take shared self.now.log ≡ take shared log.now }
-        ensures { (informed : List types.Offer) → self.now.role ≡ types.Peering informed → IfOk result (λ common. common ≡ map (λ m. record { member = m; count = common_of informed self.now.log log.now m }) (others self.now)) }
+    /// How much each other member has of the log that is chosen, by what it heard.
+    fn commons(&self, fitting: &Fitting<'_>) -> Result<Items<Common>, OutOfMemory>
+        requires { fitting.now.log.now ≡ self.now.log }
+        ensures { (informed : List types.Offer) → self.now.role ≡ types.Peering informed → IfOk result (λ common. common ≡ map (λ m. record { member = m; count = common_of informed self.now.log (becomes fitting.now) m }) (others self.now)) }
     {
         match &self.role {
-            Role::Peering(informed) => self.commons_of(informed.as_slice(), log, shared),
+            Role::Peering(informed) => self.commons_of(informed.as_slice(), fitting),
             _ => Ok(Items::new(self.log.allocator())),
         }
     }
 
-    /// Sends to each other member what it lacks of a log, and says how much each has.
+    /// Sends to each other member what it lacks of the log that is chosen, and says how much each has.
     fn send_chosen(
         &self,
-        log: &Log,
-        shared: usize,
+        fitting: &Fitting<'_>,
         sent: &mut Items<Sent>,
     ) -> Result<Items<Common>, OutOfMemory>
-        requires old { shared ≤ length self.now.log }
-        requires new { shared ≤ length log.now }
-        requires same { take shared self.now.log ≡ take shared log.now }
-        ensures common { (informed : List types.Offer) → self.now.role ≡ types.Peering informed → IfOk result (λ common. common ≡ map (λ m. record { member = m; count = common_of informed self.now.log log.now m }) (others self.now)) }
-        ensures sent { (informed : List types.Offer) → self.now.role ≡ types.Peering informed → OnOk result (sent.new ≡ sent.old ++ map (λ m. install_from self.now log.now m (common_of informed self.now.log log.now m)) (others self.now)) }
+        requires { fitting.now.log.now ≡ self.now.log }
+        ensures common { (informed : List types.Offer) → self.now.role ≡ types.Peering informed → IfOk result (λ common. common ≡ map (λ m. record { member = m; count = common_of informed self.now.log (becomes fitting.now) m }) (others self.now)) }
+        ensures sent { (informed : List types.Offer) → self.now.role ≡ types.Peering informed → OnOk result (sent.new ≡ sent.old ++ map (λ m. install_from self.now (becomes fitting.now) m (common_of informed self.now.log (becomes fitting.now) m)) (others self.now)) }
     {
-        let common = self.commons(log, shared)?;
-        self.send_install(log, common.as_slice(), &ActingSet::new(), sent)?;
+        let common = self.commons(fitting)?;
+        self.send_install(fitting, common.as_slice(), &ActingSet::new(), sent)?;
         Ok(common)
     }
 
@@ -122,7 +115,7 @@ impl State {
         if self.is_alone() {
             return self.serve_own(sent);
         }
-        let common = self.send_chosen(&self.log, self.log.len(), &mut sent)?;
+        let common = self.send_chosen(&Fitting::whole(&self.log), &mut sent)?;
         self.base = self.promise;
         self.role = Role::Installing {
             done: ActingSet::new(),
@@ -149,30 +142,80 @@ impl State {
         Ok(sent)
     }
 
-    /// Begins its interval with this log, and sends to each other member what it lacks.
-    fn install_chosen(
+    /// Begins its interval with its own log, fitted to the part that was chosen: the set has no other member, and nothing waits.
+    fn fit_idle(
         &mut self,
-        log: Log,
-        mut sent: Items<Sent>,
+        start: usize,
+        part: &[Sealed],
+        sent: Items<Sent>,
     ) -> Result<Items<Sent>, OutOfMemory>
-        ensures copy { (informed : List types.Offer) → self.old.role ≡ types.Peering informed → OnOk result ((install_chosen self.old informed log (others self.old)).copy ≡ self.new) }
-        ensures sent { (informed : List types.Offer) → self.old.role ≡ types.Peering informed → IfOk result (λ all. all ≡ sent ++ (install_chosen self.old informed log (others self.old)).sent) }
+        requires alone { (length (others self.old) == 0) ≡ true }
+        requires idle { length self.old.waiting ≡ 0 }
+        ensures copy { (informed : List types.Offer) → self.old.role ≡ types.Peering informed → OnOk result ((fit_chosen self.old informed (fitted self.old.log start part.now)).copy ≡ self.new) }
+        ensures sent { (informed : List types.Offer) → self.old.role ≡ types.Peering informed → IfOk result (λ all. all ≡ sent ++ (fit_chosen self.old informed (fitted self.old.log start part.now)).sent) }
         ensures err { OnErr result (self.new ≡ self.old) }
     {
-        if self.is_alone() {
-            return self.install_alone(log, sent);
+        let fits = self.log.fit(start, part)?;
+        if !fits {
+            return Ok(sent);
         }
-        let common = self.send_chosen(&log, 0, &mut sent)?;
+        self.base = self.promise;
+        self.become_active();
+        Ok(sent)
+    }
+
+    /// Begins its interval with its own log, fitted to the part that was chosen: the set has no other member. The log is copied only where something waits.
+    fn fit_alone(
+        &mut self,
+        start: usize,
+        part: &[Sealed],
+        sent: Items<Sent>,
+    ) -> Result<Items<Sent>, OutOfMemory>
+        requires { (length (others self.old) == 0) ≡ true }
+        ensures copy { (informed : List types.Offer) → self.old.role ≡ types.Peering informed → OnOk result ((fit_chosen self.old informed (fitted self.old.log start part.now)).copy ≡ self.new) }
+        ensures sent { (informed : List types.Offer) → self.old.role ≡ types.Peering informed → IfOk result (λ all. all ≡ sent ++ (fit_chosen self.old informed (fitted self.old.log start part.now)).sent) }
+        ensures err { OnErr result (self.new ≡ self.old) }
+    {
+        if self.waiting.len() == 0 {
+            return self.fit_idle(start, part, sent);
+        }
+        let mut log = self.log.copy()?;
+        let fits = log.fit(start, part)?;
+        if !fits {
+            return Ok(sent);
+        }
+        self.install_alone(log, sent)
+    }
+
+    /// Begins its interval with its own log, fitted to the part that was chosen, and sends to each other member what it lacks. The messages are made first, so that nothing can fail once the log is fitted.
+    fn fit_and_send(
+        &mut self,
+        start: usize,
+        part: &[Sealed],
+        mut sent: Items<Sent>,
+    ) -> Result<Items<Sent>, OutOfMemory>
+        requires { (length (others self.old) == 0) ≡ false }
+        ensures copy { (informed : List types.Offer) → self.old.role ≡ types.Peering informed → OnOk result ((fit_chosen self.old informed (fitted self.old.log start part.now)).copy ≡ self.new) }
+        ensures sent { (informed : List types.Offer) → self.old.role ≡ types.Peering informed → IfOk result (λ all. all ≡ sent ++ (fit_chosen self.old informed (fitted self.old.log start part.now)).sent) }
+        ensures err { OnErr result (self.new ≡ self.old) }
+    {
+        let before = sent.len();
+        let fitting = Fitting::of(&self.log, start, part);
+        let common = self.send_chosen(&fitting, &mut sent)?;
+        let fits = self.log.fit(start, part)?;
+        if !fits {
+            sent.truncate(before);
+            return Ok(sent);
+        }
         self.base = self.promise;
         self.role = Role::Installing {
             done: ActingSet::new(),
             common,
         };
-        self.log = log;
         Ok(sent)
     }
 
-    /// Begins its interval with its own log, fitted to the part that was chosen, or stays as it was where that does not fit. The log is copied only where it lacks something.
+    /// Begins its interval with its own log, fitted to the part that was chosen, or stays as it was where that does not fit.
     pub fn install_fitted(
         &mut self,
         start: usize,
@@ -186,12 +229,10 @@ impl State {
         if is_whole(&self.log, start, part) {
             return self.install_own(sent);
         }
-        let mut log = self.log.copy()?;
-        let fits = log.fit(start, part)?;
-        if !fits {
-            return Ok(sent);
+        if self.is_alone() {
+            return self.fit_alone(start, part, sent);
         }
-        self.install_chosen(log, sent)
+        self.fit_and_send(start, part, sent)
     }
 
     /// Fits its log to a part of the log that an interval begins with. Where that does not fit, nothing changes.

@@ -6,6 +6,7 @@ mod arrival;
 mod beginnings;
 mod choice;
 mod daemon;
+mod fitting;
 mod installing;
 mod message;
 mod peering;

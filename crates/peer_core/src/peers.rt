@@ -6,11 +6,12 @@ ghost use Rattle.entry_core.specs.Log.{is_in};
 ghost use Rattle.place_core.specs.Distinct.{is_distinct};
 ghost use Rattle.group_types.specs.ActingSets.{set_of, is_primary};
 
-use crate::beginnings::{count_at, part_from};
+use crate::beginnings::count_at;
+use crate::fitting::Fitting;
 use crate::message::{Body, Sent};
 use crate::role::{Common, PeerInfo};
 use crate::state::State;
-use entry_core::{Items, Log, OutOfMemory, Sealed, TryCopy};
+use entry_core::{Items, OutOfMemory, Sealed, TryCopy};
 use group_types::Party;
 use place_core::ActingSet;
 
@@ -70,6 +71,7 @@ impl State {
     ghost use Rattle.peer_core.specs.Choice.{is_informed};
     ghost use Rattle.peer_core.specs.Steps.{send};
     ghost use Rattle.peer_core.specs.Copy.{uninformed, query, install_from};
+    ghost use Rattle.peer_core.specs.Fittings.{becomes};
 
     /// The set of the interval that was promised.
     pub fn set(&self) -> &[u8]
@@ -198,13 +200,18 @@ impl State {
     }
 
     /// What a daemon lacks of a log, which it has up to a place, on its way to it.
-    fn install_for(&self, daemon: u8, log: &Log, start: usize) -> Result<Sent, OutOfMemory>
-        ensures { IfOk result (λ message. message ≡ install_from self.now log.now daemon start) }
+    fn install_for(
+        &self,
+        daemon: u8,
+        fitting: &Fitting<'_>,
+        start: usize,
+    ) -> Result<Sent, OutOfMemory>
+        ensures { IfOk result (λ message. message ≡ install_from self.now (becomes fitting.now) daemon start) }
     {
         let body = Body::Install {
             interval: self.promise,
             start,
-            part: part_from(log, start)?,
+            part: fitting.part(start)?,
         };
         Ok(self.send(Party::Osd(daemon), body))
     }
@@ -212,17 +219,17 @@ impl State {
     /// Sends to each other member that does not count yet what it lacks of a log.
     pub fn send_install(
         &self,
-        log: &Log,
+        fitting: &Fitting<'_>,
         common: &[Common],
         done: &ActingSet,
         sent: &mut Items<Sent>,
     ) -> Result<(), OutOfMemory>
-        ensures { OnOk result (sent.new ≡ sent.old ++ map (λ m. install_from self.now log.now m (count_at common.now m)) (missing self.now done.now)) }
+        ensures { OnOk result (sent.new ≡ sent.old ++ map (λ m. install_from self.now (becomes fitting.now) m (count_at common.now m)) (missing self.now done.now)) }
     {
         for member in self.set() {
             if *member != self.number && !has_member(done, *member) {
                 let start = count_at(common, *member);
-                sent.push(self.install_for(*member, log, start)?)?;
+                sent.push(self.install_for(*member, fitting, start)?)?;
             }
         }
         Ok(())

@@ -1,5 +1,6 @@
 //! How the entries of an interval are decided.
 
+use crate::fitting::Fitting;
 use crate::message::{Body, Sent};
 use crate::role::Role;
 use crate::serve::reply_to;
@@ -165,7 +166,7 @@ impl State {
             Role::Idle | Role::Active(None) => Ok(()),
             Role::Peering(informed) => self.send_queries(informed.as_slice(), sent),
             Role::Installing { done, common } => {
-                self.send_install(&self.log, common.as_slice(), done, sent)
+                self.send_install(&Fitting::whole(&self.log), common.as_slice(), done, sent)
             }
             Role::Active(Some(holders)) => self.append_again(holders, sent),
         }

@@ -60,6 +60,8 @@ const ONE: Party = Party::Osd(1);
 
 const TWO: Party = Party::Osd(2);
 
+const THREE: Party = Party::Osd(3);
+
 // A listing of one who may do nothing: what is decided of it does not matter here.
 pub(crate) fn request(alloc: Global, number: u32) -> Result<Sealed, OutOfMemory> {
     let view = PoolView {
@@ -482,8 +484,48 @@ const LACKING: &[Line] = &[
     Kick(&[(ONE, Install(2, 0, &[1, 2, 3])), (TWO, Install(2, 3, &[]))]),
 ];
 
+// What the chosen log sends, which is made before the last entry of the leader's own log goes: the second member has the
+// first request that is new, and the third one has the entry that goes.
+const CHANGED: Sends = &[
+    (ONE, Install(3, 3, &[])),
+    (TWO, Install(3, 2, &[4])),
+    (THREE, Install(3, 1, &[3, 4])),
+];
+
+// The last entry goes for two requests.
+const DROPPED: &[Line] = &[
+    On(CLIENT, Sets(1, &[0]), &[]),
+    On(CLIENT, Request(1), &[(CLIENT, Reply(1))]),
+    On(CLIENT, Request(2), &[(CLIENT, Reply(2))]),
+    On(
+        CLIENT,
+        Sets(3, &[0, 1, 2, 3]),
+        &[
+            (ONE, Query(3, 2, 2)),
+            (TWO, Query(3, 2, 2)),
+            (THREE, Query(3, 2, 2)),
+        ],
+    ),
+    On(ONE, Info(3, 2, 1, &[3, 4]), &[]),
+    On(TWO, Info(3, 1, 1, &[3]), &[]),
+    On(THREE, Info(3, 1, 2, &[]), CHANGED),
+    Holds(&[1, 3, 4], 3),
+    Kick(CHANGED),
+];
+
+// An id would stand twice: nothing is chosen, and nothing is sent.
+const UNFIT: &[Line] = &[
+    On(CLIENT, Sets(1, &[0]), &[]),
+    On(CLIENT, Request(1), &[(CLIENT, Reply(1))]),
+    On(CLIENT, Request(2), &[(CLIENT, Reply(2))]),
+    On(CLIENT, Sets(3, &[0, 1]), &[(ONE, Query(3, 2, 2))]),
+    On(ONE, Info(3, 2, 2, &[3, 1]), &[]),
+    Holds(&[1, 2], 1),
+    Kick(&[]),
+];
+
 // Daemons by their numbers and their least sizes, and what happens to each.
-const DAEMONS: [(u8, usize, &[Line]); 12] = [
+const DAEMONS: [(u8, usize, &[Line]); 14] = [
     (0, 1, ALONE),
     (0, 2, LED),
     (0, 2, KICKED),
@@ -496,6 +538,8 @@ const DAEMONS: [(u8, usize, &[Line]); 12] = [
     (0, 1, HALF),
     (1, 1, OTHER),
     (0, 1, LACKING),
+    (0, 1, DROPPED),
+    (0, 1, UNFIT),
 ];
 
 // How many of the lines of a daemon go as they say.
