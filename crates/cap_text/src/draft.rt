@@ -73,15 +73,23 @@ impl Sheet {
         }
     }
 
-    /// Makes it an `allow` with nothing behind it.
+    /// Makes it an `allow` with nothing behind it. Mostly it is one: what is there is looked at before it is let go.
     pub fn clear(&mut self)
         ensures { self.new.draft ≡ fresh (heads.Allow None) }
     {
         self.kind = Kind::Open;
-        self.grant.pool = None;
-        self.grant.namespace = None;
-        self.grant.prefix = None;
-        self.grant.tag = None;
+        if self.grant.pool.is_some() {
+            self.grant.pool = None;
+        }
+        if self.grant.namespace.is_some() {
+            self.grant.namespace = None;
+        }
+        if self.grant.prefix.is_some() {
+            self.grant.prefix = None;
+        }
+        if self.grant.tag.is_some() {
+            self.grant.tag = None;
+        }
     }
 
     /// Whether it is an `allow` whose access is still due.

@@ -10,7 +10,9 @@ ghost use Rattle.cap_text.specs.Machine.{after_access, accessed, clause_word, ac
 use crate::draft::Sheet;
 use crate::fault::FaultKind;
 use crate::grant::{Access, Flags, NsMatch, Part, Tag};
-use crate::keyword::{Keyword, keyword_of};
+use crate::keyword::{
+    AT_CLAUSE, AT_START, BEHIND_CLASS, BEHIND_CLASS_READ, BEHIND_LETTERS, Keyword, keyword_of,
+};
 use crate::stage::{ClauseSet, Next, Slot};
 use crate::state::Grants;
 use crate::token::Token;
@@ -52,7 +54,12 @@ fn accessed(may: ClauseSet, sheet: &mut Sheet, access: Access) -> Next
     Next::Clauses(after_access(may))
 }
 
-fn access_word(may: ClauseSet, sheet: &mut Sheet, keyword: Keyword) -> Result<Next, FaultKind>
+#[inline(always)]
+fn access_word<const AT: u8>(
+    may: ClauseSet,
+    sheet: &mut Sheet,
+    keyword: Keyword,
+) -> Result<Next, FaultKind>
     ensures { GivesAt result sheet.new (access_word may sheet.old.draft keyword) }
 {
     let none = Flags {
@@ -92,7 +99,12 @@ fn access_word(may: ClauseSet, sheet: &mut Sheet, keyword: Keyword) -> Result<Ne
     }
 }
 
-fn clause_word(may: ClauseSet, sheet: &mut Sheet, keyword: Keyword) -> Result<Next, FaultKind>
+#[inline(always)]
+fn clause_word<const AT: u8>(
+    may: ClauseSet,
+    sheet: &mut Sheet,
+    keyword: Keyword,
+) -> Result<Next, FaultKind>
     ensures { GivesAt result sheet.new (clause_word may sheet.old.draft keyword) }
 {
     match keyword {
@@ -104,7 +116,7 @@ fn clause_word(may: ClauseSet, sheet: &mut Sheet, keyword: Keyword) -> Result<Ne
             Err(FaultKind::BadMatch)
         }
         Keyword::Network => Err(FaultKind::NetworkClause),
-        _ if sheet.wants_access() => access_word(may, sheet, keyword),
+        _ if sheet.wants_access() => access_word::<AT>(may, sheet, keyword),
         _ => Err(FaultKind::UnknownWord),
     }
 }
@@ -114,7 +126,11 @@ fn clauses(may: ClauseSet, sheet: &mut Sheet, token: &Token<'_>) -> Result<Next,
     ensures { GivesAt result sheet.new (clauses may sheet.old.draft token.now) }
 {
     match token {
-        Token::Word(word) => clause_word(may, sheet, keyword_of(word.as_str())),
+        Token::Word(word) => clause_word::<AT_CLAUSE>(
+            may,
+            sheet,
+            keyword_of::<AT_CLAUSE>(word.as_str()),
+        ),
         Token::Star(_) if sheet.wants_access() => Ok(accessed(may, sheet, Access::All)),
         _ if sheet.wants_access() => Err(FaultKind::BadAccess),
         _ => Err(FaultKind::UnknownWord),
@@ -131,7 +147,7 @@ fn letters(
     ensures { GivesAt result sheet.new (letters_step flags may sheet.old.draft token.now) }
 {
     match token {
-        Token::Word(word) => match keyword_of(word.as_str()) {
+        Token::Word(word) => match keyword_of::<BEHIND_LETTERS>(word.as_str()) {
             Keyword::ClassRead => {
                 let class_read = true;
                 Ok(Next::ClassRead(
@@ -142,13 +158,14 @@ fn letters(
                     may,
                 ))
             }
-            keyword => class_read_word(flags, may, sheet, keyword),
+            keyword => class_read_word::<BEHIND_LETTERS>(flags, may, sheet, keyword),
         },
         _ => Err(FaultKind::UnknownWord),
     }
 }
 
-fn class_read_word(
+#[inline(always)]
+fn class_read_word<const AT: u8>(
     flags: Flags,
     may: ClauseSet,
     sheet: &mut Sheet,
@@ -170,7 +187,7 @@ fn class_read_word(
         }
         keyword => {
             sheet.set_access(Access::Flags(flags));
-            clause_word(after_access(may), sheet, keyword)
+            clause_word::<AT>(after_access(may), sheet, keyword)
         }
     }
 }
@@ -185,7 +202,12 @@ fn class_read(
     ensures { GivesAt result sheet.new (class_read_step flags may sheet.old.draft token.now) }
 {
     match token {
-        Token::Word(word) => class_read_word(flags, may, sheet, keyword_of(word.as_str())),
+        Token::Word(word) => class_read_word::<BEHIND_CLASS_READ>(
+            flags,
+            may,
+            sheet,
+            keyword_of::<BEHIND_CLASS_READ>(word.as_str()),
+        ),
         _ => Err(FaultKind::UnknownWord),
     }
 }
@@ -213,14 +235,14 @@ fn method(
 {
     let class = sheet.take_word(alloc);
     match token {
-        Token::Word(word) => match keyword_of(word.as_str()) {
+        Token::Word(word) => match keyword_of::<BEHIND_CLASS>(word.as_str()) {
             keyword @ (Keyword::Pool
             | Keyword::Namespace
             | Keyword::ObjectPrefix
             | Keyword::Tag
             | Keyword::Network) => {
                 sheet.set_access(class_of(class, None));
-                clause_word(after_access(may), sheet, keyword)
+                clause_word::<BEHIND_CLASS>(after_access(may), sheet, keyword)
             }
             _ => {
                 let method = name_of(alloc, word.as_str())?;
@@ -417,7 +439,7 @@ fn start(sheet: &mut Sheet, token: &Token<'_>) -> Result<Next, FaultKind>
 {
     sheet.clear();
     match token {
-        Token::Word(word) => match keyword_of(word.as_str()) {
+        Token::Word(word) => match keyword_of::<AT_START>(word.as_str()) {
             Keyword::Allow => Ok(Next::Clauses(EVERY)),
             Keyword::Profile => Ok(Next::Assigned(Slot::Profile, OF_PROFILE)),
             _ => Err(FaultKind::UnknownWord),

@@ -22,9 +22,9 @@ const MOST_GRANTS: usize = 64;
 /// For how many grants room is made at first, by the text's length in bytes. It says nothing else.
 fn first_room(length: usize) -> usize
     ensures some { 1 ≤ result }
-    ensures few { result ≤ 4 }
+    ensures few { result ≤ 64 }
 {
-    (length / 32).min(3) + 1
+    (length / 20).min(63) + 1
 }
 
 fn fault(kind: FaultKind, at: usize) -> CapFault

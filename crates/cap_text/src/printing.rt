@@ -8,7 +8,7 @@ ghost use Rattle.cap_text.specs.Printed.{quote_for, quoted, printed_value, print
 
 use crate::caps::CapList;
 use crate::grant::{Access, AllowGrant, Flags, Grant, NsMatch, Part, ProfileUse, Tag};
-use crate::keyword::{Keyword, keyword_of};
+use crate::keyword::{IN_PRINT, Keyword, keyword_of};
 use common_types::{Name, OutOfMemory, are_word_bytes};
 use std::alloc::Global;
 
@@ -201,7 +201,7 @@ fn push_part(text: &mut String, part: &Part) -> Result<(), OutOfMemory>
 fn push_method(text: &mut String, method: &Name) -> Result<(), OutOfMemory>
     ensures { OnOk result (string_bytes text.new ≡ string_bytes text.old ++ printed_method method.now) }
 {
-    if begins_clause(keyword_of(method.as_str())) {
+    if begins_clause(keyword_of::<IN_PRINT>(method.as_str())) {
         push_quoted(text, method)
     } else {
         push_value(text, method)
