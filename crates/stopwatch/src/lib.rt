@@ -11,6 +11,3 @@ mod text;
 pub use fault::MeasureFault;
 pub use measure::Work;
 pub use table::{Mode, Table};
-
-#[cfg(test)]
-mod tests;

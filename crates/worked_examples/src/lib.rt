@@ -1,4 +1,4 @@
-//! The worked examples of texts, verdicts, users, objects, placement, maps and printed texts, as tests. Each calls only what is public.
+//! The worked examples of texts, verdicts, users, objects, placement, maps, printed texts and tables of times, as tests. Each calls only what is public.
 //!
 //! They stand here and not beside the code, since a crate with tests is proved a second time with them.
 #![tactic(auto)]
@@ -29,6 +29,8 @@ mod sharing_by_pools;
 mod sharing_in_pools;
 #[cfg(test)]
 mod tickets;
+#[cfg(test)]
+mod times;
 #[cfg(test)]
 mod users;
 #[cfg(test)]
