@@ -23,9 +23,9 @@ use Rattle.world_core.specs.declared.fault.WorldFault.{WorldFault as Fault}
 use Rattle.world_core.specs.declared.event.Event.TheVariants as happens
 use Rattle.world_core.specs.Groups.{is_for}
 use Rattle.world_core.specs.Front.{front_refusal}
-use Rattle.world_script.specs.declared.command.Command.{Command}
-use Rattle.world_script.specs.declared.command.Command.TheVariants.{Osds, Happens, Submit, List as ListNames, Locate, ShowUser, ListUsers, Tick, Settle, KickAll, LoseAll, Answer as AskAnswer, Listing as AskListing, Ready}
-use Rattle.world_script.specs.Command.{read_line}
+use Rattle.script_commands.specs.declared.command.Command.{Command}
+use Rattle.script_commands.specs.declared.command.Command.TheVariants.{Osds, Happens, Submit, List as ListNames, Locate, ShowUser, ListUsers, Tick, Settle, KickAll, LoseAll, Answer as AskAnswer, Listing as AskListing, Ready}
+use Rattle.script_commands.specs.Command.{read_line}
 use Rattle.world_script.specs.Script.{Step, Goes, IsBad, IsOther, Output, stepped, line_step, behind, onward, outputs, kept, begins, ask_now, places}
 use Rattle.script_laws.specs.Plain.{in_store, PlainIn, first_in, with_reply, decides_in, serves_in, cost, SettledIn, settles_in, settles_all_in, settled_step, is_enough, is_move, is_message, asks, judged, plain_event, plain_step_in, output_in, plain_output}
 use Rattle.script_laws.specs.Worked.{Objects, in_list, left_in, performed_in, answer_in, left_by}

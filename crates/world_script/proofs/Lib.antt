@@ -1,4 +1,3 @@
-pub mod ScriptWords
 pub mod FewDaemons
 pub mod PlacesThere
 pub mod Sweeps

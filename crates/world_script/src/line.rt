@@ -1,13 +1,12 @@
 //! Lines of a script, one after another.
 
 ghost use Rattle.std.specs.Prelude.{◌≡◌, ◌≤◌, OnOk, IfErr, None, string_bytes};
-ghost use Rattle.world_script.specs.Command.{Osds};
+ghost use Rattle.script_commands.specs.Command.{Osds};
 ghost use Rattle.world_script.specs.Script.{line_step, script_step};
 ghost use Rattle.world_script.specs.Steps.{GoesTo, IsFaultOf, LineWrote, HasFewDaemons};
 
-use crate::command::Command;
 use crate::machine::{LineFault, Machine};
-use crate::reading::read_line;
+use script_commands::{Command, read_line};
 use script_text::{Line, ScriptFault, write_text};
 use std::alloc::Global;
 use std::io::Write;

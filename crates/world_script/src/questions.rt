@@ -4,13 +4,13 @@ ghost use Rattle.std.specs.Prelude.{◌≡◌, ◌≢◌, ◌++◌, OnOk, string
 ghost use Rattle.world_core.specs.declared.fault.WorldFault.TheVariants.{Map as OfMap};
 ghost use Rattle.world_core.specs.Answers.{answer_at};
 ghost use Rattle.world_script.specs.Script as spec;
-ghost use Rattle.world_script.specs.Text.{id_text, asked_text, refused_text, users_text};
+ghost use Rattle.script_commands.specs.Text.{id_text, asked_text, refused_text, users_text};
 
-use crate::printing::{push_answer, push_located, push_ready, push_refused, push_user, push_users};
 use common_types::{Name, OutOfMemory};
 use entry_core::{GroupId, Id};
 use map_core::MapFault;
 use place_core::group_of;
+use script_commands::{push_answer, push_located, push_ready, push_refused, push_user, push_users};
 use std::alloc::AllocError;
 use world_core::{World, WorldFault, are_names};
 

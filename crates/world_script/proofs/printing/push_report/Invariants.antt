@@ -1,6 +1,0 @@
-use Rattle.std.proofs.Common.{◌≡◌, ◌++◌, flat_map, string_bytes, take}
-use Rattle.world_script.specs.Text.{denied_item}
-use Rattle.world_script.proofs.printing.push_report.Given as goal
-
-abbrev pub invariant-loop-entry : goal.invariant-loop-entry
-invariant-loop-entry l = string_bytes l.text ≡ string_bytes l.initial.text ++ flat_map denied_item (take l.entry-index l.entries)
