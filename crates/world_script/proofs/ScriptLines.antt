@@ -14,7 +14,8 @@ use Rattle.world_core.specs.declared.event.Event.{Event}
 use Rattle.world_core.specs.declared.fault.WorldFault.{WorldFault as Fault}
 use Rattle.world_core.specs.declared.event.Event.TheVariants as happens
 use Rattle.world_core.specs.World.{World, world_step, refusal_of, is_drop}
-use Rattle.script_commands.specs.Command.{Command, Submit, ListNames, Ready}
+use Rattle.script_commands.specs.declared.command.Command.{Command}
+use Rattle.script_commands.specs.declared.command.Command.TheVariants.{Submit, List as ListNames, Ready}
 use Rattle.script_commands.specs.Text.{refused_text}
 use Rattle.world_script.specs.Script.{Step, Goes, IsBad, IsOther, BadAt, Output, Machine, event_told, event_line, line_step, script_step, onward, behind, outputs, script_output, WroteOf, ask_now, ready_line_text, unrefused, settle_events, settle_line}
 use Rattle.world_script.specs.Steps.{Does, at, GoesTo, LineWrote}

@@ -32,7 +32,9 @@ use Rattle.world_core.specs.Front.{Front, told_of, is_object_name, is_namespace,
 use Rattle.world_core.specs.World.{World, first_world, group_at, groups_of, members_of, world_step, refusal_of, is_drop}
 use Rattle.world_core.specs.Answers.{answer_at}
 use Rattle.world_core.specs.Listing.{list_at, listing_of}
-use Rattle.script_commands.specs.Command.{Command, Osds, Happens, Submit, ListNames, Locate, ShowUser, ListUsers, Tick, Settle, KickAll, LoseAll, Answer, Listing, Ready, read_line}
+use Rattle.script_commands.specs.declared.command.Command.{Command}
+use Rattle.script_commands.specs.declared.command.Command.TheVariants.{Osds, Happens, Submit, List as ListNames, Locate, ShowUser, ListUsers, Tick, Settle, KickAll, LoseAll, Answer, Listing, Ready}
+use Rattle.script_commands.specs.Command.{read_line}
 use Rattle.script_commands.specs.Text.{id_text, told_text, refused_text, or_refused, asked_text, user_shown, users_text, located_text, ready_text}
 
 -- ---- lines, one after another

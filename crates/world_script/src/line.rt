@@ -1,7 +1,7 @@
 //! Lines of a script, one after another.
 
 ghost use Rattle.std.specs.Prelude.{◌≡◌, ◌≤◌, OnOk, IfErr, None, string_bytes};
-ghost use Rattle.script_commands.specs.Command.{Osds};
+ghost use Rattle.script_commands.specs.declared.command.Command.TheVariants.{Osds};
 ghost use Rattle.world_script.specs.Script.{line_step, script_step};
 ghost use Rattle.world_script.specs.Steps.{GoesTo, IsFaultOf, LineWrote, HasFewDaemons};
 

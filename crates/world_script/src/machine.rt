@@ -2,7 +2,7 @@
 
 ghost use Rattle.std.specs.Prelude.{◌≡◌, ◌≤◌, ◌++◌, ℕ, codes, Ok, OnOk, IfOk, IfErr, Some, string_bytes};
 ghost use Rattle.script_text.specs.Text.{line};
-ghost use Rattle.script_commands.specs.Command.{LoseAll, KickAll, Tick};
+ghost use Rattle.script_commands.specs.declared.command.Command.TheVariants.{LoseAll, KickAll, Tick};
 ghost use Rattle.world_script.specs.Script.{first_machine, script_step, ask_now, event_line, settle_line, line_of};
 ghost use Rattle.world_script.specs.Steps.{GoesTo, IsFaultOf, Does, at};
 
