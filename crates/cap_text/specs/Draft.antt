@@ -3,7 +3,6 @@
 use Rattle.std.specs.Prelude.{ℕ, List, Option}
 use Rattle.cap_text.specs.declared.grant.Access.{Access}
 use Rattle.cap_text.specs.declared.grant.NsMatch.{NsMatch}
-use Rattle.cap_text.specs.declared.grant.Part.{Part}
 use Rattle.cap_text.specs.declared.grant.Tag.{Tag}
 
 -- what a grant begins with; the access of an allow may come behind its clauses
@@ -18,9 +17,3 @@ pub record Draft : Type 0 where
   pub namespace : Option NsMatch
   pub prefix : Option (List ℕ)
   pub tag : Option Tag
-
--- with a word and a key that belong to a clause which is not whole
-pub record Page : Type 0 where
-  pub draft : Draft
-  pub word : List ℕ
-  pub key : Part

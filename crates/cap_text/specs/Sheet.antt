@@ -7,7 +7,10 @@ use Rattle.cap_text.specs.declared.grant.Access.TheVariants.{All}
 use Rattle.cap_text.specs.declared.grant.AllowGrant.{AllowGrant}
 use Rattle.cap_text.specs.declared.grant.Grant.{Grant}
 use Rattle.cap_text.specs.declared.grant.Part.{Part}
-use Rattle.cap_text.specs.Draft.{Head, Draft, Page}
+use Rattle.cap_text.specs.declared.grant.Flags.{Flags}
+use Rattle.cap_text.specs.declared.stage.ClauseSet.{ClauseSet}
+use Rattle.cap_text.specs.declared.stage.Slot.{Slot}
+use Rattle.cap_text.specs.Draft.{Head, Draft}
 use Rattle.cap_text.specs.Draft as heads
 use Rattle.cap_text.specs.Stage.{Stage, State}
 use Rattle.cap_text.specs.Stage as stages
@@ -20,32 +23,45 @@ use Rattle.cap_text.specs.Gives.{Gives}
 abbrev pub empty_allow : AllowGrant
 empty_allow = record { access = All; pool = None; namespace = None; prefix = None; tag = None }
 
-abbrev pub head_of : Kind → Access → Head
-head_of kinds.Open access = heads.Allow None
-head_of kinds.Allow access = heads.Allow (Some access)
-head_of (kinds.Profile name) access = heads.Profile name
+abbrev pub head_of : Kind → List ℕ → Access → Head
+head_of kinds.Open profile access = heads.Allow None
+head_of kinds.Allow profile access = heads.Allow (Some access)
+head_of kinds.Profile profile access = heads.Profile profile
 
 -- the draft that a sheet is
-abbrev pub draft_of : Kind → AllowGrant → Draft
-draft_of k g = record { head = head_of k g.access; pool = g.pool; namespace = g.namespace; prefix = g.prefix; tag = g.tag }
+abbrev pub draft_of : Kind → List ℕ → AllowGrant → Draft
+draft_of k profile g =
+    record { head = head_of k profile g.access; pool = g.pool; namespace = g.namespace; prefix = g.prefix; tag = g.tag }
 
--- the page that a sheet is
-abbrev pub page_of : Kind → AllowGrant → List ℕ → Part → Page
-page_of k g word key = record { draft = draft_of k g; word = word; key = key }
+-- what a sheet holds: a draft, its access and its profile, which count where its head says so, a word and a key that belong to a clause which is not whole, the clauses that may still come,
+-- the flags that were read, and what the next value is for
+pub record Page : Type 0 where
+  pub draft : Draft
+  pub access : Access
+  pub profile : List ℕ
+  pub word : List ℕ
+  pub key : Part
+  pub may : ClauseSet
+  pub flags : Flags
+  pub slot : Slot
+
+abbrev pub page_of : Kind → List ℕ → AllowGrant → List ℕ → Part → ClauseSet → Flags → Slot → Page
+page_of k profile g word key may flags slot =
+    record { draft = draft_of k profile g; access = g.access; profile = profile; word = word; key = key; may = may; flags = flags; slot = slot }
 
 -- the stage with what was read
 abbrev pub stage_at : Next → Page → Stage
 stage_at nexts.Start p = stages.Start
 stage_at nexts.Separator p = stages.Separator
-stage_at (nexts.Clauses may) p = stages.Clauses may p.draft
-stage_at (nexts.Letters f may) p = stages.Letters f may p.draft
-stage_at (nexts.ClassRead f may) p = stages.ClassRead f may p.draft
-stage_at (nexts.Method may) p = stages.Method p.word may p.draft
-stage_at (nexts.Assigned s may) p = stages.Assigned s may p.draft
-stage_at (nexts.Value s may) p = stages.Value s may p.draft
-stage_at (nexts.Namespace may) p = stages.Namespace may p.draft
-stage_at (nexts.NamespaceEquals may) p = stages.NamespaceEquals may p.draft
-stage_at (nexts.NamespaceWord may) p = stages.NamespaceWord p.word may p.draft
+stage_at nexts.Clauses p = stages.Clauses p.may p.draft
+stage_at nexts.Letters p = stages.Letters p.flags p.may p.draft
+stage_at nexts.ClassRead p = stages.ClassRead p.flags p.may p.draft
+stage_at nexts.Method p = stages.Method p.word p.may p.draft
+stage_at nexts.Assigned p = stages.Assigned p.slot p.may p.draft
+stage_at nexts.Value p = stages.Value p.slot p.may p.draft
+stage_at nexts.Namespace p = stages.Namespace p.may p.draft
+stage_at nexts.NamespaceEquals p = stages.NamespaceEquals p.may p.draft
+stage_at nexts.NamespaceWord p = stages.NamespaceWord p.word p.may p.draft
 stage_at nexts.Key p = stages.Key p.word p.draft
 stage_at nexts.KeyEquals p = stages.KeyEquals p.word p.key p.draft
 stage_at nexts.KeyValue p = stages.KeyValue p.word p.key p.draft

@@ -1,11 +1,11 @@
 //! The grammar, token by token.
 
-ghost use Rattle.std.specs.Prelude.{◌≡◌};
+ghost use Rattle.std.specs.Prelude.{◌≡◌, Ok};
 ghost use Rattle.cap_text.specs.Grammar.{namespace_of, part_of};
 ghost use Rattle.cap_text.specs.declared.grant.Access.TheVariants as accesses;
 ghost use Rattle.cap_text.specs.Gives.{Gives, GivesIn, GivesTo};
 ghost use Rattle.cap_text.specs.Sheet.{GivesAt, stage_at};
-ghost use Rattle.cap_text.specs.Machine.{after_access, accessed, clause_word, access_word, clauses, letters_step, class_read_word, class_read_step, method_step, value_of, value_step, filled, namespace_stage, namespace_step, namespace_word_step, part_at, key_step, key_value_step, start_step, step, close, ended};
+ghost use Rattle.cap_text.specs.Machine.{accessed, clause_word, access_word, clauses, letters_step, class_read_word, class_read_step, method_step, value_of, value_step, filled, namespace_stage, namespace_step, namespace_word_step, part_at, key_step, key_value_step, start_step, step, close, ended};
 
 use crate::draft::Sheet;
 use crate::fault::FaultKind;
@@ -33,34 +33,17 @@ const OF_PROFILE: ClauseSet = ClauseSet {
     tag: false,
 };
 
-const NO_MORE: ClauseSet = ClauseSet {
-    pool: false,
-    namespace: false,
-    prefix: false,
-    tag: false,
-};
-
-/// An access that comes first is followed by the clauses; one that follows them ends the grant.
-fn after_access(may: ClauseSet) -> ClauseSet
-    ensures { result ≡ after_access may }
-{
-    if may.pool { may } else { NO_MORE }
-}
-
-fn accessed(may: ClauseSet, sheet: &mut Sheet, access: Access) -> Next
-    ensures { stage_at result sheet.new ≡ accessed may sheet.old.draft access }
+fn accessed(sheet: &mut Sheet, access: Access) -> Next
+    ensures { stage_at result sheet.new ≡ accessed sheet.old.may sheet.old.draft access }
 {
     sheet.set_access(access);
-    Next::Clauses(after_access(may))
+    sheet.pass_access();
+    Next::Clauses
 }
 
 #[inline(always)]
-fn access_word<const AT: u8>(
-    may: ClauseSet,
-    sheet: &mut Sheet,
-    keyword: Keyword,
-) -> Result<Next, FaultKind>
-    ensures { GivesAt result sheet.new (access_word may sheet.old.draft keyword) }
+fn access_word<const AT: u8>(sheet: &mut Sheet, keyword: Keyword) -> Result<Next, FaultKind>
+    ensures { GivesAt result sheet.new (access_word sheet.old.may sheet.old.draft keyword) }
 {
     let none = Flags {
         read: false,
@@ -69,25 +52,28 @@ fn access_word<const AT: u8>(
         class_write: false,
     };
     match keyword {
-        Keyword::All => Ok(accessed(may, sheet, Access::All)),
-        Keyword::Class => Ok(Next::Value(Slot::Class, may)),
+        Keyword::All => Ok(accessed(sheet, Access::All)),
+        Keyword::Class => {
+            sheet.set_slot(Slot::Class);
+            Ok(Next::Value)
+        }
         Keyword::Letters(read, write, execute) => {
-            let flags = Flags {
+            sheet.set_flags(Flags {
                 read,
                 write,
                 class_read: execute,
                 class_write: execute,
-            };
-            Ok(Next::Letters(flags, may))
+            });
+            Ok(Next::Letters)
         }
         Keyword::ClassRead => {
             let class_read = true;
-            Ok(Next::ClassRead(Flags { class_read, ..none }, may))
+            sheet.set_flags(Flags { class_read, ..none });
+            Ok(Next::ClassRead)
         }
         Keyword::ClassWrite => {
             let class_write = true;
             Ok(accessed(
-                may,
                 sheet,
                 Access::Flags(Flags {
                     class_write,
@@ -99,85 +85,79 @@ fn access_word<const AT: u8>(
     }
 }
 
+/// What a clause's word says of the value behind it.
 #[inline(always)]
-fn clause_word<const AT: u8>(
-    may: ClauseSet,
-    sheet: &mut Sheet,
-    keyword: Keyword,
-) -> Result<Next, FaultKind>
-    ensures { GivesAt result sheet.new (clause_word may sheet.old.draft keyword) }
+fn for_value(sheet: &mut Sheet, slot: Slot, next: Next) -> Result<Next, FaultKind>
+    ensures { GivesAt result sheet.new (Ok (stage_at next (record sheet.old { slot = slot }))) }
+{
+    sheet.set_slot(slot);
+    Ok(next)
+}
+
+#[inline(always)]
+fn clause_word<const AT: u8>(sheet: &mut Sheet, keyword: Keyword) -> Result<Next, FaultKind>
+    ensures { GivesAt result sheet.new (clause_word sheet.old.may sheet.old.draft keyword) }
 {
     match keyword {
-        Keyword::Pool if may.pool => Ok(Next::Assigned(Slot::Pool, may)),
-        Keyword::Namespace if may.namespace => Ok(Next::Namespace(may)),
-        Keyword::ObjectPrefix if may.prefix => Ok(Next::Value(Slot::Prefix, may)),
-        Keyword::Tag if may.tag => Ok(Next::Value(Slot::Application, may)),
+        Keyword::Pool if sheet.may().pool => for_value(sheet, Slot::Pool, Next::Assigned),
+        Keyword::Namespace if sheet.may().namespace => Ok(Next::Namespace),
+        Keyword::ObjectPrefix if sheet.may().prefix => {
+            for_value(sheet, Slot::Prefix, Next::Value)
+        }
+        Keyword::Tag if sheet.may().tag => for_value(sheet, Slot::Application, Next::Value),
         Keyword::Pool | Keyword::Namespace | Keyword::ObjectPrefix | Keyword::Tag => {
             Err(FaultKind::BadMatch)
         }
         Keyword::Network => Err(FaultKind::NetworkClause),
-        _ if sheet.wants_access() => access_word::<AT>(may, sheet, keyword),
+        _ if sheet.wants_access() => access_word::<AT>(sheet, keyword),
         _ => Err(FaultKind::UnknownWord),
     }
 }
 
 #[inline(never)]
-fn clauses(may: ClauseSet, sheet: &mut Sheet, token: &Token<'_>) -> Result<Next, FaultKind>
-    ensures { GivesAt result sheet.new (clauses may sheet.old.draft token.now) }
+fn clauses(sheet: &mut Sheet, token: &Token<'_>) -> Result<Next, FaultKind>
+    ensures { GivesAt result sheet.new (clauses sheet.old.may sheet.old.draft token.now) }
 {
     match token {
-        Token::Word(word) => clause_word::<AT_CLAUSE>(
-            may,
-            sheet,
-            keyword_of::<AT_CLAUSE>(word.as_str()),
-        ),
-        Token::Star(_) if sheet.wants_access() => Ok(accessed(may, sheet, Access::All)),
+        Token::Word(word) => {
+            clause_word::<AT_CLAUSE>(sheet, keyword_of::<AT_CLAUSE>(word.as_str()))
+        }
+        Token::Star(_) if sheet.wants_access() => Ok(accessed(sheet, Access::All)),
         _ if sheet.wants_access() => Err(FaultKind::BadAccess),
         _ => Err(FaultKind::UnknownWord),
     }
 }
 
 #[inline(never)]
-fn letters(
-    flags: Flags,
-    may: ClauseSet,
-    sheet: &mut Sheet,
-    token: &Token<'_>,
-) -> Result<Next, FaultKind>
-    ensures { GivesAt result sheet.new (letters_step flags may sheet.old.draft token.now) }
+fn letters(sheet: &mut Sheet, token: &Token<'_>) -> Result<Next, FaultKind>
+    ensures { GivesAt result sheet.new (letters_step sheet.old.flags sheet.old.may sheet.old.draft token.now) }
 {
     match token {
         Token::Word(word) => match keyword_of::<BEHIND_LETTERS>(word.as_str()) {
             Keyword::ClassRead => {
                 let class_read = true;
-                Ok(Next::ClassRead(
-                    Flags {
-                        class_read,
-                        ..flags
-                    },
-                    may,
-                ))
+                let flags = sheet.flags();
+                sheet.set_flags(Flags {
+                    class_read,
+                    ..flags
+                });
+                Ok(Next::ClassRead)
             }
-            keyword => class_read_word::<BEHIND_LETTERS>(flags, may, sheet, keyword),
+            keyword => class_read_word::<BEHIND_LETTERS>(sheet, keyword),
         },
         _ => Err(FaultKind::UnknownWord),
     }
 }
 
 #[inline(always)]
-fn class_read_word<const AT: u8>(
-    flags: Flags,
-    may: ClauseSet,
-    sheet: &mut Sheet,
-    keyword: Keyword,
-) -> Result<Next, FaultKind>
-    ensures { GivesAt result sheet.new (class_read_word flags may sheet.old.draft keyword) }
+fn class_read_word<const AT: u8>(sheet: &mut Sheet, keyword: Keyword) -> Result<Next, FaultKind>
+    ensures { GivesAt result sheet.new (class_read_word sheet.old.flags sheet.old.may sheet.old.draft keyword) }
 {
+    let flags = sheet.flags();
     match keyword {
         Keyword::ClassWrite => {
             let class_write = true;
             Ok(accessed(
-                may,
                 sheet,
                 Access::Flags(Flags {
                     class_write,
@@ -187,24 +167,18 @@ fn class_read_word<const AT: u8>(
         }
         keyword => {
             sheet.set_access(Access::Flags(flags));
-            clause_word::<AT>(after_access(may), sheet, keyword)
+            sheet.pass_access();
+            clause_word::<AT>(sheet, keyword)
         }
     }
 }
 
 #[inline(never)]
-fn class_read(
-    flags: Flags,
-    may: ClauseSet,
-    sheet: &mut Sheet,
-    token: &Token<'_>,
-) -> Result<Next, FaultKind>
-    ensures { GivesAt result sheet.new (class_read_step flags may sheet.old.draft token.now) }
+fn class_read(sheet: &mut Sheet, token: &Token<'_>) -> Result<Next, FaultKind>
+    ensures { GivesAt result sheet.new (class_read_step sheet.old.flags sheet.old.may sheet.old.draft token.now) }
 {
     match token {
         Token::Word(word) => class_read_word::<BEHIND_CLASS_READ>(
-            flags,
-            may,
             sheet,
             keyword_of::<BEHIND_CLASS_READ>(word.as_str()),
         ),
@@ -225,13 +199,8 @@ fn class_of(class: Name, method: Option<Name>) -> Access
 }
 
 #[inline(never)]
-fn method(
-    alloc: Global,
-    may: ClauseSet,
-    sheet: &mut Sheet,
-    token: &Token<'_>,
-) -> Result<Next, FaultKind>
-    ensures { GivesAt result sheet.new (method_step sheet.old.word may sheet.old.draft token.now) }
+fn method(alloc: Global, sheet: &mut Sheet, token: &Token<'_>) -> Result<Next, FaultKind>
+    ensures { GivesAt result sheet.new (method_step sheet.old.word sheet.old.may sheet.old.draft token.now) }
 {
     let class = sheet.take_word(alloc);
     match token {
@@ -242,11 +211,12 @@ fn method(
             | Keyword::Tag
             | Keyword::Network) => {
                 sheet.set_access(class_of(class, None));
-                clause_word::<BEHIND_CLASS>(after_access(may), sheet, keyword)
+                sheet.pass_access();
+                clause_word::<BEHIND_CLASS>(sheet, keyword)
             }
             _ => {
                 let method = name_of(alloc, word.as_str())?;
-                Ok(accessed(may, sheet, class_of(class, Some(method))))
+                Ok(accessed(sheet, class_of(class, Some(method))))
             }
         },
         Token::Quoted(quoted) => {
@@ -254,7 +224,7 @@ fn method(
                 return Err(FaultKind::BadWord);
             }
             let method = name_of(alloc, quoted.as_str())?;
-            Ok(accessed(may, sheet, class_of(class, Some(method))))
+            Ok(accessed(sheet, class_of(class, Some(method))))
         }
         _ => Err(FaultKind::UnknownWord),
     }
@@ -271,29 +241,27 @@ fn value(alloc: Global, token: &Token<'_>) -> Result<Name, FaultKind>
 }
 
 /// Writes a value into the sheet, and answers what may come behind it.
-fn filled(slot: Slot, may: ClauseSet, sheet: &mut Sheet, value: Name) -> Next
-    ensures { stage_at result sheet.new ≡ filled slot may sheet.old.draft value }
+fn filled(sheet: &mut Sheet, value: Name) -> Next
+    ensures { stage_at result sheet.new ≡ filled sheet.old.slot sheet.old.may sheet.old.draft value }
 {
-    match slot {
+    match sheet.slot() {
         Slot::Profile => {
             sheet.set_profile(value);
-            Next::Clauses(may)
+            Next::Clauses
         }
         Slot::Class => {
             sheet.hold_word(value);
-            Next::Method(may)
+            Next::Method
         }
         Slot::Pool => {
             sheet.set_pool(value);
-            Next::Clauses(ClauseSet {
-                pool: false,
-                tag: false,
-                ..may
-            })
+            sheet.pass_pool();
+            Next::Clauses
         }
         Slot::Prefix => {
             sheet.set_prefix(value);
-            Next::Clauses(NO_MORE)
+            sheet.pass_last();
+            Next::Clauses
         }
         Slot::Application => {
             sheet.hold_word(value);
@@ -303,17 +271,11 @@ fn filled(slot: Slot, may: ClauseSet, sheet: &mut Sheet, value: Name) -> Next
 }
 
 #[inline(never)]
-fn filled_by(
-    alloc: Global,
-    slot: Slot,
-    may: ClauseSet,
-    sheet: &mut Sheet,
-    token: &Token<'_>,
-) -> Result<Next, FaultKind>
-    ensures { GivesAt result sheet.new (value_step slot may sheet.old.draft token.now) }
+fn filled_by(alloc: Global, sheet: &mut Sheet, token: &Token<'_>) -> Result<Next, FaultKind>
+    ensures { GivesAt result sheet.new (value_step sheet.old.slot sheet.old.may sheet.old.draft token.now) }
 {
     let value = value(alloc, token)?;
-    Ok(filled(slot, may, sheet, value))
+    Ok(filled(sheet, value))
 }
 
 fn namespace_of(alloc: Global, text: &str) -> Result<NsMatch, FaultKind>
@@ -327,63 +289,46 @@ fn namespace_of(alloc: Global, text: &str) -> Result<NsMatch, FaultKind>
     Ok(NsMatch::Prefix(name_of(alloc, front)?))
 }
 
-fn in_namespace(may: ClauseSet, sheet: &mut Sheet, namespace: NsMatch) -> Next
-    ensures { stage_at result sheet.new ≡ namespace_stage may sheet.old.draft namespace }
+fn in_namespace(sheet: &mut Sheet, namespace: NsMatch) -> Next
+    ensures { stage_at result sheet.new ≡ namespace_stage sheet.old.may sheet.old.draft namespace }
 {
     sheet.set_namespace(namespace);
-    Next::Clauses(ClauseSet {
-        pool: false,
-        namespace: false,
-        ..may
-    })
+    sheet.pass_namespace();
+    Next::Clauses
 }
 
 #[inline(never)]
-fn namespace(
-    alloc: Global,
-    may: ClauseSet,
-    sheet: &mut Sheet,
-    token: &Token<'_>,
-) -> Result<Next, FaultKind>
-    ensures { GivesAt result sheet.new (namespace_step may sheet.old.draft token.now) }
+fn namespace(alloc: Global, sheet: &mut Sheet, token: &Token<'_>) -> Result<Next, FaultKind>
+    ensures { GivesAt result sheet.new (namespace_step sheet.old.may sheet.old.draft token.now) }
 {
     match token {
         Token::Word(word) => {
             sheet.hold_word(name_of(alloc, word.as_str())?);
-            Ok(Next::NamespaceWord(may))
+            Ok(Next::NamespaceWord)
         }
         Token::Quoted(quoted) => {
             let namespace = namespace_of(alloc, quoted.as_str())?;
-            Ok(in_namespace(may, sheet, namespace))
+            Ok(in_namespace(sheet, namespace))
         }
         Token::Star(_) => {
             let namespace = NsMatch::Prefix(name_of(alloc, "")?);
-            Ok(in_namespace(may, sheet, namespace))
+            Ok(in_namespace(sheet, namespace))
         }
         _ => Err(FaultKind::BadWord),
     }
 }
 
 #[inline(never)]
-fn behind_namespace(
-    alloc: Global,
-    may: ClauseSet,
-    sheet: &mut Sheet,
-    token: &Token<'_>,
-) -> Result<Next, FaultKind>
-    ensures { GivesAt result sheet.new (namespace_word_step sheet.old.word may sheet.old.draft token.now) }
+fn behind_namespace(alloc: Global, sheet: &mut Sheet, token: &Token<'_>) -> Result<Next, FaultKind>
+    ensures { GivesAt result sheet.new (namespace_word_step sheet.old.word sheet.old.may sheet.old.draft token.now) }
 {
     let name = sheet.take_word(alloc);
     match token {
-        Token::Star(true) => Ok(in_namespace(may, sheet, NsMatch::Prefix(name))),
+        Token::Star(true) => Ok(in_namespace(sheet, NsMatch::Prefix(name))),
         token => {
             sheet.set_namespace(NsMatch::Exact(name));
-            let may = ClauseSet {
-                pool: false,
-                namespace: false,
-                ..may
-            };
-            clauses(may, sheet, token)
+            sheet.pass_namespace();
+            clauses(sheet, token)
         }
     }
 }
@@ -430,7 +375,8 @@ fn key_value(alloc: Global, sheet: &mut Sheet, token: &Token<'_>) -> Result<Next
         value,
     };
     sheet.set_tag(tag);
-    Ok(Next::Clauses(NO_MORE))
+    sheet.pass_last();
+    Ok(Next::Clauses)
 }
 
 #[inline(never)]
@@ -440,8 +386,14 @@ fn start(sheet: &mut Sheet, token: &Token<'_>) -> Result<Next, FaultKind>
     sheet.clear();
     match token {
         Token::Word(word) => match keyword_of::<AT_START>(word.as_str()) {
-            Keyword::Allow => Ok(Next::Clauses(EVERY)),
-            Keyword::Profile => Ok(Next::Assigned(Slot::Profile, OF_PROFILE)),
+            Keyword::Allow => {
+                sheet.set_may(EVERY);
+                Ok(Next::Clauses)
+            }
+            Keyword::Profile => {
+                sheet.set_may(OF_PROFILE);
+                for_value(sheet, Slot::Profile, Next::Assigned)
+            }
             _ => Err(FaultKind::UnknownWord),
         },
         _ => Err(FaultKind::UnknownWord),
@@ -462,21 +414,21 @@ pub(crate) fn step(
 {
     match next {
         Next::Start | Next::Separator => start(sheet, token),
-        Next::Clauses(may) => clauses(may, sheet, token),
-        Next::Letters(flags, may) => letters(flags, may, sheet, token),
-        Next::ClassRead(flags, may) => class_read(flags, may, sheet, token),
-        Next::Method(may) => method(alloc, may, sheet, token),
-        Next::Assigned(slot, may) => match token {
-            Token::Equals => Ok(Next::Value(slot, may)),
-            token => filled_by(alloc, slot, may, sheet, token),
+        Next::Clauses => clauses(sheet, token),
+        Next::Letters => letters(sheet, token),
+        Next::ClassRead => class_read(sheet, token),
+        Next::Method => method(alloc, sheet, token),
+        Next::Assigned => match token {
+            Token::Equals => Ok(Next::Value),
+            token => filled_by(alloc, sheet, token),
         },
-        Next::Value(slot, may) => filled_by(alloc, slot, may, sheet, token),
-        Next::Namespace(may) => match token {
-            Token::Equals => Ok(Next::NamespaceEquals(may)),
-            token => namespace(alloc, may, sheet, token),
+        Next::Value => filled_by(alloc, sheet, token),
+        Next::Namespace => match token {
+            Token::Equals => Ok(Next::NamespaceEquals),
+            token => namespace(alloc, sheet, token),
         },
-        Next::NamespaceEquals(may) => namespace(alloc, may, sheet, token),
-        Next::NamespaceWord(may) => behind_namespace(alloc, may, sheet, token),
+        Next::NamespaceEquals => namespace(alloc, sheet, token),
+        Next::NamespaceWord => behind_namespace(alloc, sheet, token),
         Next::Key => key(alloc, sheet, token),
         Next::KeyEquals => match token {
             Token::Equals => Ok(Next::KeyValue),
@@ -498,20 +450,21 @@ pub(crate) fn close(
     ensures { GivesIn result done.new (ended done.old (close (stage_at next sheet.old))) }
 {
     match next {
-        Next::Clauses(_) => sheet.end_in(done),
-        Next::Letters(flags, _) | Next::ClassRead(flags, _) => {
+        Next::Clauses => sheet.end_in(alloc, done),
+        Next::Letters | Next::ClassRead => {
+            let flags = sheet.flags();
             sheet.set_access(Access::Flags(flags));
-            sheet.end_in(done)
+            sheet.end_in(alloc, done)
         }
-        Next::Method(_) => {
+        Next::Method => {
             let class = sheet.take_word(alloc);
             sheet.set_access(class_of(class, None));
-            sheet.end_in(done)
+            sheet.end_in(alloc, done)
         }
-        Next::NamespaceWord(_) => {
+        Next::NamespaceWord => {
             let name = sheet.take_word(alloc);
             sheet.set_namespace(NsMatch::Exact(name));
-            sheet.end_in(done)
+            sheet.end_in(alloc, done)
         }
         Next::Start | Next::Separator => Err(FaultKind::UnknownWord),
         Next::KeyEquals => Err(FaultKind::BadMatch),

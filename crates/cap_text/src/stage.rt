@@ -21,7 +21,7 @@ pub enum Slot {
     Application,
 }
 
-/// What may come next. It is small, since a step moves it; what was read stays in the sheet.
+/// What may come next. It is a number alone, which a step hands on in a register; all else stays in the sheet.
 #[derive(Clone, Copy, Debug, PartialEq, Eq)]
 pub enum Next {
     /// The first grant, or the end of an empty text.
@@ -29,23 +29,23 @@ pub enum Next {
     /// A grant, behind a separator.
     Separator,
     /// A clause, the access where it is still due, or the end of the grant.
-    Clauses(ClauseSet),
+    Clauses,
     /// `class-read` or `class-write` behind the letters, or what follows the access.
-    Letters(Flags, ClauseSet),
+    Letters,
     /// `class-write` behind `class-read`, or what follows the access.
-    ClassRead(Flags, ClauseSet),
+    ClassRead,
     /// The method of the class that the sheet holds, or what follows the access.
-    Method(ClauseSet),
+    Method,
     /// `=`, or the value.
-    Assigned(Slot, ClauseSet),
+    Assigned,
     /// The value.
-    Value(Slot, ClauseSet),
+    Value,
     /// `=`, or the namespace.
-    Namespace(ClauseSet),
+    Namespace,
     /// The namespace.
-    NamespaceEquals(ClauseSet),
+    NamespaceEquals,
     /// A star directly behind the word of a namespace that the sheet holds, or what follows the clause.
-    NamespaceWord(ClauseSet),
+    NamespaceWord,
     /// The key of a tag, whose application the sheet holds.
     Key,
     /// The `=` behind the key, which the sheet holds too.

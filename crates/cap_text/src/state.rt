@@ -46,10 +46,12 @@ impl Grants {
         self.items.len()
     }
 
+    #[inline(always)]
     pub fn push(&mut self, grant: Grant) -> Result<(), FaultKind>
         ensures { GivesIn result self.new (Ok (self.old ++ grant ∷ [])) }
     {
-        self.items.push(grant)?;
+        self.items.reserve(1)?;
+        self.items.push_reserved(grant);
         Ok(())
     }
 

@@ -98,3 +98,9 @@ returns-in-None-clause-first c =
     let some : start ≢ [] = not_nil_of start c.is_empty.result c.is_empty.ensures c.if-is_empty.false in
     let bad : IsUnreadable c.tokens.behind_word c.tokens.rest.now = (skips_some c.tokens.rest.now start c.look-found.ensures.start some, rw c.in-None.is at c.look-found.ensures.token) in
     rw c.fault-in-None.ensures (inr (c.tokens.invariant.2, first_unread c.args.text.now c.tokens.rest.now c.tokens.behind_word c.tokens.state i.0 i.1 start at (λ z. c.if-len-eq-MOST_GRANTS.false (c.len.ensures ∙ z)) c.look-found.ensures.start position bad))
+
+pub tokens-smaller : goal.tokens-smaller
+tokens-smaller c =
+    let one = rw c.in-Some.is at c.look-found.ensures.token in
+    let shorter = one_shorter c.tokens.behind_word c.tokens.rest.now c.in-Some.token c.in-Some.after.now one in
+    omega (arith, shorter)
