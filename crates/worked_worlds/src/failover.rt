@@ -1,25 +1,23 @@
 //! A group moves while a tag and a user go, as a list of events. `sessions/answers` shows them one after another.
 
-use super::events::read_event;
-use super::lines::expect_on;
-use super::telling::number;
-use super::words::is_number;
+use super::lines::{event_of, expect_on};
 use grant_core::ProfileTable;
+use script_commands::push_refused;
 use std::alloc::Global;
-use std::test::Fail;
+use std::process::Abort;
 use world_core::{Event, World, WorldFault, run};
 
 // The events, each message to daemon 0 lost, which is down.
 const EVENTS: &str = "\
-pool data 1 3 2
-auth add client.a 'allow rwx tag app k=v'
-app enable app
-app set app k v
+osd pool create data 1 3 2
+auth add client.a osd 'allow rwx tag app k=v'
+osd pool application enable data app
+osd pool application set data app k v
 open client.a
-submit 1 4 0 data '' x add
+at 4 0 do 1 data '' x call counter add 1
 osd down 0
-app unset app k
-auth delete client.a
+osd pool application rm data app k
+auth del client.a
 lose data 0 0
 deliver data 0 0
 deliver data 0 0
@@ -35,7 +33,7 @@ deliver data 0 0
 deliver data 0 0
 deliver data 0 0
 deliver data 0 0
-submit 1 6 0 data '' x add
+at 6 0 do 1 data '' x call counter add 1
 deliver data 0 0
 deliver data 0 0
 deliver data 0 0
@@ -44,18 +42,18 @@ deliver data 0 0
 
 // What must be seen of a world after all of them.
 const SEEN: &str = "\
-at 6
-wire 0 0
-audit 1.1 1.2
-decided 1.1 output 1
-decided 1.2 denied tag
+epoch -> 6
+wire data 0 -> 0
+audit -> decided 1.1 1.2
+decided 1.1 -> 1.1 ok / - \"1\"
+decided 1.2 -> 1.2 denied / - 1 tag
 ";
 
 // What stands in these lines behind this number.
 fn changed<'a>(changes: &'a str, place: usize) -> Option<&'a str> {
     for change in changes.lines() {
         if let Some((word, line)) = change.split_once(' ')
-            && is_number(place as u64, word)
+            && word.parse::<usize>() == Ok(place)
         {
             return Some(line);
         }
@@ -64,59 +62,65 @@ fn changed<'a>(changes: &'a str, place: usize) -> Option<&'a str> {
 }
 
 // The events of a text, some of which are changed: a change is an event behind its place, counted from 0.
-fn events_of(alloc: Global, text: &str, changes: &str) -> Result<Vec<Event>, Fail> {
+fn events_of<R: Abort>(rt: &R, alloc: Global, text: &str, changes: &str) -> Vec<Event> {
     let mut events = Vec::new(alloc);
     for (place, line) in text.lines().enumerate() {
         let line = changed(changes, place).unwrap_or(line);
-        events.push(read_event(alloc, line)?)?;
+        events
+            .push(event_of(rt, alloc, line, 0))
+            .expect(rt, "memory");
     }
-    Ok(events)
+    events
 }
 
 // The world of three daemons that events make, or the place and the fault of the first refusal.
-fn made(alloc: Global, events: &[Event]) -> Result<Result<World, (usize, WorldFault)>, Fail> {
-    let table = ProfileTable::builtin(alloc)?;
-    Ok(run(alloc, table, 3, events))
-}
-
-// Looks at the world that events make.
-fn look_at(alloc: Global, events: &[Event]) -> Result<(), Fail> {
-    match made(alloc, events)? {
-        Ok(mut world) => expect_on(alloc, &mut world, &[(SEEN, 5)]),
-        Err(_) => Err(Fail::new("an event is refused")),
-    }
+fn made<R: Abort>(rt: &R, alloc: Global, events: &[Event]) -> Result<World, (usize, WorldFault)> {
+    run(
+        alloc,
+        ProfileTable::builtin(alloc).expect(rt, "profiles"),
+        3,
+        events,
+    )
 }
 
 #[test]
-fn a_list_of_events(rt: HostRuntime) -> Result<(), Fail> {
-    let events = events_of(rt.alloc(), EVENTS, "")?;
+fn a_list_of_events(rt: HostRuntime) {
+    let events = events_of(&rt, rt.alloc(), EVENTS, "");
     assert_eq!(&rt; events.len(), 29);
-    look_at(rt.alloc(), events.as_slice())
+    match made(&rt, rt.alloc(), events.as_slice()) {
+        Ok(mut world) => expect_on(&rt, rt.alloc(), &mut world, SEEN),
+        Err(_) => panic!(&rt; "an event is refused"),
+    }
 }
 
-// Changes of the list, and the place and the number of its first refusal.
+// Changes of the list, and the place of its first refusal and what is printed of it.
 const CHANGES: [(&str, usize, &str); 3] = [
-    ("9 deliver data 0 0", 9, "P2"),
-    ("9 deliver data 0 0\n8 renew 2", 8, "W1"),
-    ("8 renew 2\n0 pool data 65 3 2", 0, "M7"),
+    ("9 deliver data 0 0", 9, "refused P2 Unreachable\n"),
+    ("9 deliver data 0 0\n8 renew 2", 8, "refused W1 NoSession\n"),
+    (
+        "8 renew 2\n0 osd pool create data 65 3 2",
+        0,
+        "refused M7 Limit\n",
+    ),
 ];
 
-// Whether the list is refused at this place, by this number, where some of its events are changed.
-fn stops(alloc: Global, changes: &str, place: usize, wanted: &str) -> Result<bool, Fail> {
-    let events = events_of(alloc, EVENTS, changes)?;
-    Ok(match made(alloc, events.as_slice())? {
+// Whether the list is refused at this place, and so, where some of its events are changed.
+fn stops<R: Abort>(rt: &R, alloc: Global, changes: &str, place: usize, wanted: &str) -> bool {
+    let events = events_of(rt, alloc, EVENTS, changes);
+    match made(rt, alloc, events.as_slice()) {
         Ok(_) => false,
-        Err((stop, fault)) => stop == place && number(fault) == wanted,
-    })
+        Err((stop, fault)) => {
+            let mut text = String::new(alloc);
+            push_refused(&mut text, fault).expect(rt, "memory");
+            stop == place && text.as_str() == wanted
+        }
+    }
 }
 
 #[test]
-fn a_list_stops_at_the_first_refusal(rt: HostRuntime) -> Result<(), Fail> {
+fn a_list_stops_at_the_first_refusal(rt: HostRuntime) {
     for (changes, place, wanted) in CHANGES {
-        let right = stops(rt.alloc(), changes, place, wanted)?;
-        assert!(&rt; right, "{changes}");
+        assert!(&rt; stops(&rt, rt.alloc(), changes, place, wanted), "{changes}");
     }
-    let is_made = made(rt.alloc(), &[])?.is_ok();
-    assert!(&rt; is_made);
-    Ok(())
+    assert!(&rt; made(&rt, rt.alloc(), &[]).is_ok());
 }

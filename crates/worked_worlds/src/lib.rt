@@ -6,8 +6,6 @@
 #[cfg(test)]
 mod answers;
 #[cfg(test)]
-mod events;
-#[cfg(test)]
 mod failover;
 #[cfg(test)]
 mod group_refusals;
@@ -20,12 +18,6 @@ mod looks;
 #[cfg(test)]
 mod refusals;
 #[cfg(test)]
-mod replies;
-#[cfg(test)]
 mod stories;
 #[cfg(test)]
-mod telling;
-#[cfg(test)]
 mod users;
-#[cfg(test)]
-mod words;

@@ -1,141 +1,203 @@
 //! A driver: texts whose lines a world takes one after another.
 //!
-//! A line is an event and, behind an arrow, what it must tell, as `close 2 -> done`; or what must be seen, as `wire 0 3`.
-//! A word that is empty or has blanks stands in single quotes. A line that says nothing fails its test. Groups are those of
-//! the pool `data` where no other is named:
+//! A line stands before an arrow, and behind it what it must print, as `close 2 -> ok`. Where that is more than a line, ` / `
+//! stands between two. Lines are those of scripts that are events or questions, and these besides:
 //!
-//! - `settle G N`: message 0 of a group is delivered until none is left: N were delivered.
-//! - `times N EVENT`: an event happens so many times, and is refused none of them.
-//! - `wire G N`: how many messages of a group are on their way.
-//! - `ready G yes` or `no`: whether a group can be recovered by hand.
-//! - `group P G N yes`: both of these of a group of this pool, or the refusal in the place of either.
-//! - `at E`: the map's epoch.
-//! - `audit S.N S.N ..`: the ids of the audit, in order.
-//! - `decided S.N SAYS`: what the audit says of a request.
-//! - `answer S.N SAYS`, `listing S.N SAYS`: what the client is answered, `none` for nothing yet, or `refused F`.
+//! - `at E T LINE`: a request by this epoch and tick. Without it a request goes by the map's epoch and tick 0.
+//! - `nothing S POOL NAMESPACE OBJECT`, `seventeen ..`: requests of so many operations.
+//! - `kick POOL GROUP`: this group alone is kicked.
+//! - `settle POOL GROUP`: message 0 of this group is delivered until none is left.
+//! - `times N LINE`: a line so many times, to the first that is refused; it prints what the last one does.
+//! - `wire POOL GROUP`, `epoch`, `audit`, `decided S.N`: what is seen of the world.
 
 ghost use Rattle.std.specs.Prelude.{◌≤◌};
 
-use super::events::{event_of, group_of, read_event};
-use super::looks::sees;
-use super::telling::is_told;
-use super::words::{is_number, number_of, words_of};
+use super::looks::{happen, see, settle};
+use entry_core::GroupId;
 use grant_core::ProfileTable;
-use group_types::GroupFault;
+use script_commands::{Command, read_line};
 use std::alloc::Global;
-use std::test::Fail;
-use world_core::{Event, Told, World, WorldFault};
+use std::process::Abort;
+use world_core::{Ask, Event, Ops, World};
 
-// What the event of a line tells.
-fn apply(alloc: Global, world: &mut World, line: &str) -> Result<Result<Told, WorldFault>, Fail> {
-    let event = read_event(alloc, line)?;
-    Ok(world.apply(event))
+// What a line of a script says.
+pub(super) fn read<R: Abort>(rt: &R, alloc: Global, line: &str) -> Command {
+    match read_line(alloc, line.as_bytes()) {
+        Ok(Some(command)) => command,
+        _ => panic!(rt; "not understood: {line}"),
+    }
 }
 
-// Whether the event of a line tells just this.
-fn tells(alloc: Global, world: &mut World, line: &str, wanted: &str) -> Result<bool, Fail> {
-    let told = apply(alloc, world, line)?;
-    let words = words_of(alloc, wanted)?;
-    Ok(is_told(told, words.as_slice()))
+// The group of these words: a pool and a number.
+pub(super) fn group_of<R: Abort>(rt: &R, alloc: Global, words: &str) -> GroupId {
+    let line = format!(in alloc; "ready {words}").expect(rt, "memory");
+    match read(rt, alloc, line.as_str()) {
+        Command::Ready(group) => group,
+        _ => panic!(rt; "no group: {words}"),
+    }
 }
 
-// Whether an event is accepted so many times in a row.
-fn are_accepted(
-    alloc: Global,
-    world: &mut World,
-    words: &[&str],
-    count: u32,
-) -> Result<bool, Fail> {
-    for _ in 0..count {
-        let event = event_of(alloc, words)?;
-        if world.apply(event).is_err() {
-            return Ok(false);
+// The number that a word is.
+fn number_of<R: Abort>(rt: &R, word: &str) -> u32 {
+    word.parse::<u32>().expect(rt, "a number")
+}
+
+// The event that a command is, where a request goes by this epoch and tick.
+fn event_by<R: Abort>(rt: &R, command: Command, epoch: u32, tick: u64) -> Event {
+    match command {
+        Command::Happens(event) => event,
+        Command::Submit {
+            session,
+            pool,
+            namespace,
+            object,
+            ops,
+        } => Event::Submit {
+            ask: Ask {
+                session,
+                epoch,
+                tick,
+                pool,
+                namespace,
+            },
+            object,
+            ops,
+        },
+        Command::List {
+            session,
+            pool,
+            namespace,
+        } => Event::List(Ask {
+            session,
+            epoch,
+            tick,
+            pool,
+            namespace,
+        }),
+        _ => panic!(rt; "no event"),
+    }
+}
+
+// A request of no operations.
+fn nothing<R: Abort>(rt: &R, alloc: Global, words: &str, epoch: u32, tick: u64) -> Event {
+    let line = format!(in alloc; "do {words} stat").expect(rt, "memory");
+    match event_by(rt, read(rt, alloc, line.as_str()), epoch, tick) {
+        Event::Submit { ask, object, .. } => Event::Submit {
+            ask,
+            object,
+            ops: Ops::new(alloc),
+        },
+        _ => panic!(rt; "no request: {words}"),
+    }
+}
+
+// A request of seventeen operations.
+fn seventeen<R: Abort>(rt: &R, alloc: Global, words: &str) -> Command {
+    let mut line = format!(in alloc; "do {words} stat").expect(rt, "memory");
+    for _ in 0..16 {
+        line.push_str(" + stat").expect(rt, "memory");
+    }
+    read(rt, alloc, line.as_str())
+}
+
+// The event of a line, where a request goes by this epoch and tick.
+fn event_at<R: Abort>(rt: &R, alloc: Global, line: &str, epoch: u32, tick: u64) -> Event {
+    match line.split_once(' ') {
+        Some(("kick", words)) => Event::Kick {
+            group: group_of(rt, alloc, words),
+        },
+        Some(("nothing", words)) => nothing(rt, alloc, words, epoch, tick),
+        Some(("seventeen", words)) => event_by(rt, seventeen(rt, alloc, words), epoch, tick),
+        _ => event_by(rt, read(rt, alloc, line), epoch, tick),
+    }
+}
+
+// The event of a line, where a request that says nothing else goes by this epoch and tick 0.
+pub(super) fn event_of<R: Abort>(rt: &R, alloc: Global, line: &str, epoch: u32) -> Event {
+    let mut words = line.splitn(4, ' ');
+    match (words.next(), words.next(), words.next(), words.next()) {
+        (Some("at"), Some(epoch), Some(tick), Some(rest)) => {
+            let (epoch, tick) = (number_of(rt, epoch), number_of(rt, tick));
+            event_at(rt, alloc, rest, epoch, u64::from(tick))
+        }
+        _ => event_at(rt, alloc, line, epoch, 0),
+    }
+}
+
+// Carries out an event so many times, to the first that is refused, and prints what the last one does.
+fn repeat<R: Abort>(rt: &R, alloc: Global, world: &mut World, words: &str, text: &mut String) {
+    let (count, line) = words.split_once(' ').unwrap_or((words, ""));
+    for _ in 0..number_of(rt, count) {
+        text.clear();
+        happen(
+            rt,
+            world,
+            event_of(rt, alloc, line, world.map().epoch()),
+            text,
+        );
+        if text.starts_with("refused") {
+            return;
         }
     }
-    Ok(true)
 }
 
-// Whether so many messages 0 of a group can be delivered, and then none is left.
-fn settles(alloc: Global, world: &mut World, group: &str, wanted: &str) -> Result<bool, Fail> {
-    for delivered in 0..10000u64 {
-        let event = Event::Deliver {
-            group: group_of(alloc, "data", group)?,
-            place: 0,
-        };
-        match world.apply(event) {
-            Ok(_) => {}
-            Err(WorldFault::Group(GroupFault::NoMessage(0))) => {
-                return Ok(is_number(delivered, wanted));
+// What a line prints.
+fn printed<R: Abort>(rt: &R, alloc: Global, world: &mut World, line: &str) -> String {
+    let mut text = String::new(alloc);
+    match line.split_once(' ') {
+        Some(("times", words)) => repeat(rt, alloc, world, words, &mut text),
+        Some(("settle", words)) => settle(rt, world, &group_of(rt, alloc, words), &mut text),
+        _ => {
+            if !see(rt, alloc, world, line, &mut text) {
+                happen(
+                    rt,
+                    world,
+                    event_of(rt, alloc, line, world.map().epoch()),
+                    &mut text,
+                );
             }
-            Err(_) => return Ok(false),
         }
     }
-    Ok(false)
+    text
 }
 
-// Whether many events happen as these words say, or a world looks so.
-fn happens(alloc: Global, world: &mut World, words: &[&str]) -> Result<bool, Fail> {
-    match words {
-        ["settle", group, count] => settles(alloc, world, *group, *count),
-        ["times", count, event @ ..] => are_accepted(alloc, world, event, number_of(*count)?),
-        _ => sees(alloc, world, words),
+// Whether a text is these lines, between which ` / ` stands.
+fn are_lines(text: &str, wanted: &str) -> bool {
+    let mut lines = text.lines();
+    for part in wanted.split(" / ") {
+        match lines.next() {
+            Some(line) if line == part => {}
+            _ => return false,
+        }
     }
+    lines.next().is_none()
 }
 
-// Whether a line without an arrow goes as it says.
-fn goes_by_words(alloc: Global, world: &mut World, line: &str) -> Result<bool, Fail> {
-    let words = words_of(alloc, line)?;
-    happens(alloc, world, words.as_slice())
-}
-
-// Whether a line goes as it says.
-fn goes(alloc: Global, world: &mut World, line: &str) -> Result<bool, Fail> {
-    match line.split_once(" -> ") {
-        Some((event, wanted)) => tells(alloc, world, event, wanted),
-        None => goes_by_words(alloc, world, line),
-    }
-}
-
-// How many lines of a text go as they say, one after another, to the first that does not.
-fn run_on(alloc: Global, world: &mut World, text: &str) -> Result<usize, Fail> {
-    let mut gone = 0usize;
+// A world takes the lines of a text, one after another, and prints what they say.
+pub(super) fn expect_on<R: Abort>(rt: &R, alloc: Global, world: &mut World, text: &str) {
     for line in text.lines() {
-        if !goes(alloc, world, line)? {
-            return Ok(gone);
-        }
-        gone = gone.saturating_add(1);
+        let (line, wanted) = line.split_once(" -> ").expect(rt, "an arrow");
+        let said = printed(rt, alloc, world, line);
+        assert!(rt; are_lines(said.as_str(), wanted), "{line} -> {said}");
     }
-    Ok(gone)
 }
 
 // A world of so many daemons, with the built-in profiles.
-pub(super) fn begun(alloc: Global, daemons: u8) -> Result<World, Fail>
+pub(super) fn begun<R: Abort>(rt: &R, alloc: Global, daemons: u8) -> World
     requires some { 1 ≤ daemons }
     requires few { daemons ≤ 16 }
 {
-    let table = ProfileTable::builtin(alloc)?;
-    Ok(World::new(alloc, table, daemons).map_err(|_| "no world")?)
+    let table = ProfileTable::builtin(alloc).expect(rt, "profiles");
+    World::new(alloc, table, daemons).expect(rt, "a world")
 }
 
-// A text, and how many lines it has.
-type Part<'a> = (&'a str, usize);
-
-// A world takes all lines of these parts, one after another.
-pub(super) fn expect_on(alloc: Global, world: &mut World, parts: &[Part<'_>]) -> Result<(), Fail> {
-    for (text, lines) in parts {
-        let gone = run_on(alloc, world, *text)?;
-        if gone != *lines {
-            return Err(Fail::new(format_args!("{gone} of {lines} lines go as they say: {text}")));
-        }
+// A new world of so many daemons takes the lines of these texts.
+pub(super) fn expect<R: Abort>(rt: &R, alloc: Global, daemons: u8, texts: &[&str])
+    requires some { 1 ≤ daemons }
+    requires few { daemons ≤ 16 }
+{
+    let mut world = begun(rt, alloc, daemons);
+    for text in texts {
+        expect_on(rt, alloc, &mut world, *text);
     }
-    Ok(())
-}
-
-// The same, of a new world of so many daemons.
-pub(super) fn expect(alloc: Global, daemons: u8, parts: &[Part<'_>]) -> Result<(), Fail>
-    requires some { 1 ≤ daemons }
-    requires few { daemons ≤ 16 }
-{
-    let mut world = begun(alloc, daemons)?;
-    expect_on(alloc, &mut world, parts)
 }

@@ -1,111 +1,128 @@
-//! What must be seen of a world.
+//! What is done to a world, and what is seen of it, as printed.
 
-use super::events::group_of;
-use super::replies::is;
-use super::telling::{is_refused, number};
-use super::words::{id_of, is_id, is_number, not_understood};
-use entry_core::{GroupId, Reply};
+use super::lines::{group_of, read};
+use entry_core::{GroupId, Id, TryCopy};
+use group_types::GroupFault;
+use script_commands::{Command, push_answer, push_counted, push_ready, push_refused, push_told};
 use std::alloc::Global;
-use std::test::Fail;
-use world_core::World;
+use std::process::Abort;
+use world_core::{Event, World, WorldFault};
 
-// Whether so many messages of a group are on their way, or the question is refused by this number; true where nothing is wanted.
-fn has_wire(world: &World, id: &GroupId, wanted: Option<&str>) -> bool {
-    let Some(wanted) = wanted else {
-        return true;
-    };
-    match world.wire(id) {
-        Ok(sent) => is_number(sent.len() as u64, wanted),
-        Err(fault) => number(fault) == wanted,
+/// No group here settles by so many deliveries.
+const MOST_DELIVERIES: u64 = 10_000;
+
+// Carries out an event, and prints what it tells or why it is refused.
+pub(super) fn happen<R: Abort>(rt: &R, world: &mut World, event: Event, text: &mut String) {
+    match world.apply(event) {
+        Ok(told) => push_told(text, told).expect(rt, "memory"),
+        Err(fault) => push_refused(text, fault).expect(rt, "memory"),
     }
 }
 
-// Whether a group is ready, `yes` or `no`, or the question is refused by this number; true where nothing is wanted.
-fn is_ready(world: &World, id: &GroupId, wanted: Option<&str>) -> bool {
-    let Some(wanted) = wanted else {
-        return true;
-    };
-    match world.ready(id) {
-        Ok(true) => wanted == "yes",
-        Ok(false) => wanted == "no",
-        Err(fault) => number(fault) == wanted,
-    }
-}
-
-// Whether the audit has these ids, in this order.
-fn has_audit(world: &World, ids: &[&str]) -> Result<bool, Fail> {
-    let audit = world.audit()?;
-    let mut same = audit.len() == ids.len();
-    for (entry, id) in audit.iter().zip(ids) {
-        same = same && is_id(entry.sealed.id(), *id);
-    }
-    Ok(same)
-}
-
-// Whether the audit has one entry of a request, with this reply.
-fn has_decided(world: &World, id: &str, says: &[&str]) -> Result<bool, Fail> {
-    let audit = world.audit()?;
-    let mut count = 0usize;
-    let mut right = true;
-    for entry in audit.iter() {
-        if is_id(entry.sealed.id(), id) {
-            count = count.saturating_add(1);
-            right = right && is(&entry.reply, says);
+// Delivers message 0 of a group until none is left, and prints how many were delivered.
+pub(super) fn settle<R: Abort>(rt: &R, world: &mut World, group: &GroupId, text: &mut String) {
+    for delivered in 0..MOST_DELIVERIES {
+        let event = Event::Deliver {
+            group: group.copy().expect(rt, "memory"),
+            place: 0,
+        };
+        match world.apply(event) {
+            Ok(_) => {}
+            Err(WorldFault::Group(GroupFault::NoMessage(0))) => {
+                return push_counted(text, "settled ", delivered).expect(rt, "memory");
+            }
+            Err(fault) => return push_refused(text, fault).expect(rt, "memory"),
         }
     }
-    Ok(count == 1 && right)
 }
 
-// Whether an answer is this reply, or none yet.
-fn fits(reply: Option<&Reply>, wanted: &[&str]) -> bool {
-    match reply {
-        Some(reply) => is(reply, wanted),
-        None => matches!(wanted, ["none"]),
+// How many messages of a group are on their way.
+fn wire<R: Abort>(rt: &R, world: &World, group: &GroupId, text: &mut String) {
+    match world.wire(group) {
+        Ok(sent) => push_counted(text, "", sent.len() as u64).expect(rt, "memory"),
+        Err(fault) => push_refused(text, fault).expect(rt, "memory"),
     }
 }
 
-// Whether a request is answered so.
-fn answers(world: &World, id: &str, wanted: &[&str]) -> Result<bool, Fail> {
-    Ok(match world.answer(id_of(id)?) {
-        Ok(reply) => fits(reply, wanted),
-        Err(fault) => is_refused(fault, wanted),
-    })
+// Whether a group can be recovered by hand.
+fn ready<R: Abort>(rt: &R, world: &World, group: &GroupId, text: &mut String) {
+    match world.ready(group) {
+        Ok(ready) => push_ready(text, ready).expect(rt, "memory"),
+        Err(fault) => push_refused(text, fault).expect(rt, "memory"),
+    }
 }
 
-// Whether a list comes to this.
-fn lists(world: &World, first: &str, wanted: &[&str]) -> Result<bool, Fail> {
-    Ok(match world.listing(id_of(first)?) {
-        Ok(reply) => fits(reply.as_ref(), wanted),
-        Err(fault) => is_refused(fault, wanted),
-    })
+// The ids of the audit, in order.
+fn audit<R: Abort>(rt: &R, world: &World, text: &mut String) {
+    text.push_str("decided").expect(rt, "memory");
+    for entry in world.audit().expect(rt, "memory").iter() {
+        let id = entry.sealed.id();
+        write!(text, " {}.{}", id.session(), id.number()).expect(rt, "memory");
+    }
 }
 
-// Whether a group looks so, of those that are wanted.
-fn sees_group(
+// What the audit says of a request, by each of its entries.
+fn decided<R: Abort>(rt: &R, alloc: Global, world: &World, word: &str, text: &mut String) {
+    let wanted = id_of(rt, alloc, word);
+    for entry in world.audit().expect(rt, "memory").iter() {
+        let id = entry.sealed.id();
+        if id.session() == wanted.session() && id.number() == wanted.number() {
+            push_answer(text, id, Some(&entry.reply)).expect(rt, "memory");
+        }
+    }
+}
+
+// The id that a word is.
+fn id_of<R: Abort>(rt: &R, alloc: Global, word: &str) -> Id {
+    let line = format!(in alloc; "answer {word}").expect(rt, "memory");
+    match read(rt, alloc, line.as_str()) {
+        Command::Answer(id) => id,
+        _ => panic!(rt; "no id: {word}"),
+    }
+}
+
+// What the client is answered.
+fn answer<R: Abort>(rt: &R, world: &World, id: Id, text: &mut String) {
+    match world.answer(id) {
+        Ok(reply) => push_answer(text, id, reply).expect(rt, "memory"),
+        Err(fault) => push_refused(text, fault).expect(rt, "memory"),
+    }
+}
+
+// What a list came to.
+fn listing<R: Abort>(rt: &R, world: &World, first: Id, text: &mut String) {
+    match world.listing(first) {
+        Ok(reply) => push_answer(text, first, reply.as_ref()).expect(rt, "memory"),
+        Err(fault) => push_refused(text, fault).expect(rt, "memory"),
+    }
+}
+
+// Prints what a question of a script sees.
+fn ask<R: Abort>(rt: &R, world: &World, question: Command, text: &mut String) {
+    match question {
+        Command::Answer(id) => answer(rt, world, id, text),
+        Command::Listing(first) => listing(rt, world, first, text),
+        Command::Ready(group) => ready(rt, world, &group, text),
+        _ => panic!(rt; "no question"),
+    }
+}
+
+// Prints what a line sees of a world: whether it is a line that looks at it.
+pub(super) fn see<R: Abort>(
+    rt: &R,
     alloc: Global,
     world: &World,
-    pool: &str,
-    group: &str,
-    sent: Option<&str>,
-    ready: Option<&str>,
-) -> Result<bool, Fail> {
-    let id = group_of(alloc, pool, group)?;
-    Ok(has_wire(world, &id, sent) && is_ready(world, &id, ready))
-}
-
-// Whether a world looks as these words say.
-pub(super) fn sees(alloc: Global, world: &World, words: &[&str]) -> Result<bool, Fail> {
-    match words {
-        ["wire", group, sent] => sees_group(alloc, world, "data", *group, Some(*sent), None),
-        ["ready", group, ready] => sees_group(alloc, world, "data", *group, None, Some(*ready)),
-        ["group", pool, group, sent, ready] => {
-            sees_group(alloc, world, *pool, *group, Some(*sent), Some(*ready))
-        }
-        ["at", epoch] => Ok(is_number(u64::from(world.map().epoch()), *epoch)),
-        ["audit", ids @ ..] => has_audit(world, ids),
-        ["decided", id, says @ ..] => has_decided(world, *id, says),
-        ["answer", id, wanted @ ..] => answers(world, *id, wanted),
-        ["listing", id, wanted @ ..] => lists(world, *id, wanted),
-        _ => Err(not_understood(words)),
+    line: &str,
+    text: &mut String,
+) -> bool {
+    let (word, rest) = line.split_once(' ').unwrap_or((line, ""));
+    match word {
+        "wire" => wire(rt, world, &group_of(rt, alloc, rest), text),
+        "audit" => audit(rt, world, text),
+        "decided" => decided(rt, alloc, world, rest, text),
+        "epoch" => push_counted(text, "", u64::from(world.map().epoch())).expect(rt, "memory"),
+        "answer" | "listing" | "ready" => ask(rt, world, read(rt, alloc, line), text),
+        _ => return false,
     }
+    true
 }

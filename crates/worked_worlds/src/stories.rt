@@ -1,11 +1,10 @@
 //! What an event takes from the messages of a group and what it sends, each by a call of its own.
 
-use super::events::{group_of, read_event};
-use super::lines::begun;
+use super::lines::{begun, event_of, group_of};
 use entry_core::GroupId;
 use group_story::step_and_tell;
 use std::alloc::Global;
-use std::test::Fail;
+use std::process::Abort;
 use wire_steps::{WireStep, hold_wire, tell_step};
 use world_core::World;
 
@@ -13,12 +12,12 @@ use world_core::World;
 type Row = (&'static str, bool, bool, usize);
 
 const ROWS: &[Row; 9] = &[
-    ("pool data 1 1 1", true, false, 1),
-    ("auth add client.a 'allow rw'", true, false, 0),
+    ("osd pool create data 1 1 1", true, false, 1),
+    ("auth add client.a osd 'allow rw'", true, false, 0),
     ("deliver data 0 1", false, false, 0),
     ("deliver data 0 0", true, true, 0),
     ("open client.a", true, false, 0),
-    ("submit 1 2 0 data '' x append a", true, false, 1),
+    ("do 1 data '' x append a", true, false, 1),
     ("deliver data 0 0", true, true, 1),
     ("lose data 0 0", true, true, 0),
     ("kick data 0", true, false, 2),
@@ -30,42 +29,46 @@ fn tells(step: &WireStep, takes: bool, sends: usize) -> bool {
 }
 
 /// Whether an event does what its row says.
-fn is_so(
+fn is_so<R: Abort>(
+    rt: &R,
     alloc: Global,
     world: &mut World,
     group: &GroupId,
     (line, happens, takes, sends): Row,
-) -> Result<bool, Fail> {
-    let step = step_and_tell(alloc, world, group, read_event(alloc, line)?)?;
-    Ok(step.done.is_ok() == happens && tells(&step.wire, takes, sends))
+) -> bool {
+    let event = event_of(rt, alloc, line, world.map().epoch());
+    let step = step_and_tell(alloc, world, group, event).expect(rt, "memory");
+    step.done.is_ok() == happens && tells(&step.wire, takes, sends)
 }
 
 #[test]
-fn each_event_takes_and_sends_what_is_told(rt: HostRuntime) -> Result<(), Fail> {
-    let mut world = begun(rt.alloc(), 1)?;
-    let group = group_of(rt.alloc(), "data", "0")?;
-    for (place, row) in ROWS.iter().enumerate() {
-        assert!(rt; is_so(rt.alloc(), &mut world, &group, *row)?, "{place}");
+fn each_event_takes_and_sends_what_is_told(rt: HostRuntime) {
+    let mut world = begun(&rt, rt.alloc(), 1);
+    let group = group_of(&rt, rt.alloc(), "data 0");
+    for row in ROWS {
+        assert!(&rt;
+            is_so(&rt, rt.alloc(), &mut world, &group, *row),
+            "{}",
+            row.0
+        );
     }
-    Ok(())
 }
 
 /// What a step did in which the first of two messages of a group, a reply, is taken.
-fn first_taken(alloc: Global) -> Result<WireStep, Fail> {
-    let mut world = begun(alloc, 1)?;
-    let group = group_of(alloc, "data", "0")?;
+fn first_taken<R: Abort>(rt: &R, alloc: Global) -> WireStep {
+    let mut world = begun(rt, alloc, 1);
+    let group = group_of(rt, alloc, "data 0");
     for row in &ROWS[..7] {
-        is_so(alloc, &mut world, &group, *row)?;
+        is_so(rt, alloc, &mut world, &group, *row);
     }
-    is_so(alloc, &mut world, &group, ROWS[8])?;
-    let held = hold_wire(world.wire(&group).unwrap_or(&[]), Some(0))?;
-    is_so(alloc, &mut world, &group, ROWS[6])?;
-    Ok(tell_step(alloc, held, world.wire(&group).unwrap_or(&[]))?)
+    is_so(rt, alloc, &mut world, &group, ROWS[8]);
+    let held = hold_wire(world.wire(&group).unwrap_or(&[]), Some(0)).expect(rt, "memory");
+    is_so(rt, alloc, &mut world, &group, ROWS[6]);
+    tell_step(alloc, held, world.wire(&group).unwrap_or(&[])).expect(rt, "memory")
 }
 
 #[test]
-fn a_held_wire_tells_the_step(rt: HostRuntime) -> Result<(), Fail> {
-    let step = first_taken(rt.alloc())?;
-    assert!(rt; tells(&step, true, 0));
-    Ok(())
+fn a_held_wire_tells_the_step(rt: HostRuntime) {
+    let step = first_taken(&rt, rt.alloc());
+    assert!(&rt; tells(&step, true, 0));
 }
