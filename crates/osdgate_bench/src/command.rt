@@ -49,7 +49,7 @@ PART is one of
 ";
 
 /// What is measured.
-#[derive(Clone, Copy, Debug)]
+#[derive(Clone, Copy)]
 enum Part {
     Verdict,
     Parse,

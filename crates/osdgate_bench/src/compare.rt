@@ -30,7 +30,7 @@ impl Work for Widening {
 }
 
 /// How the new ticket differs from the old one.
-#[derive(Clone, Copy, Debug)]
+#[derive(Clone, Copy)]
 enum Change {
     /// Not at all.
     Same,

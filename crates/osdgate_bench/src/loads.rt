@@ -81,7 +81,7 @@ impl Work for Alone {
 
 /// What is measured on threads: requests by so many workers on so many groups, verdicts by so many workers, and views
 /// by one worker, while the map changes or not.
-#[derive(Clone, Copy, Debug)]
+#[derive(Clone, Copy)]
 enum Kind {
     Requests { groups: u32, workers: u32 },
     Verdicts { workers: u32 },

@@ -35,7 +35,7 @@ impl Work for Parse {
 }
 
 /// The texts that are measured.
-#[derive(Clone, Copy, Debug)]
+#[derive(Clone, Copy)]
 enum Kind {
     All,
     OnePool,

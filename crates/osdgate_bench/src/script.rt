@@ -42,7 +42,7 @@ impl Work for Running {
 }
 
 /// What is measured: so many comments, ticks, requests, pairs of moves, or restarts.
-#[derive(Clone, Copy, Debug)]
+#[derive(Clone, Copy)]
 enum Kind {
     Comments(u32),
     Ticks(u32),

@@ -34,7 +34,7 @@ pub(crate) fn ticks(alloc: Global, count: u32) -> Result<Script, OutOfMemory> {
 }
 
 /// When requests are settled.
-#[derive(Clone, Copy, Debug)]
+#[derive(Clone, Copy)]
 pub(crate) enum Settling {
     /// Behind the last one.
     Once,

@@ -93,7 +93,7 @@ fn sixteen(alloc: Global, name: &str) -> Result<Vec<Op>, OutOfMemory> {
 }
 
 /// The vectors that are measured.
-#[derive(Clone, Copy, Debug)]
+#[derive(Clone, Copy)]
 enum Kind {
     Read,
     Append,

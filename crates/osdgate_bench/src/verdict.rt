@@ -14,7 +14,7 @@ use verdict_core::{Calls, ClassCall, IndexedTicket, Needs, Target, Ticket, judge
 const NOBODY: usize = 99;
 
 /// By which condition the last grant of a ticket is told from those before it.
-#[derive(Clone, Copy, Debug)]
+#[derive(Clone, Copy)]
 enum Shape {
     Pool,
     Prefix,
@@ -299,7 +299,7 @@ impl Work for JudgeAndReport<'_> {
 }
 
 /// The tickets of some rows: by which condition their grants are told apart, and how many there are.
-#[derive(Clone, Copy, Debug)]
+#[derive(Clone, Copy)]
 struct Rows {
     shape: Shape,
     grants: usize,
