@@ -1,6 +1,6 @@
 //! Clusters that the tests begin with, and what their passes ask for.
 
-ghost use Rattle.std.specs.Prelude.{◌≤◌, All, IfOk, IfSome};
+ghost use Rattle.std.specs.Prelude.{◌≤◌, All, IfSome};
 ghost use Rattle.cluster.specs.Asks.{IsBegun, IsPassOf};
 ghost use Rattle.cluster.specs.Monitors.{IsMonitorOf, FollowsStart};
 
@@ -14,8 +14,8 @@ use grant_core::ProfileTable;
 use group_types::GroupFault;
 use object_core::{Bytes, Op};
 use std::alloc::Global;
+use std::process::Abort;
 use std::sync::Wait;
-use std::test::Fail;
 use verdict_core::Condition;
 use world_core::{Ops, WorldFault};
 
@@ -25,42 +25,47 @@ pub(crate) const MOST_TRIES: u32 = 1000;
 /// How many deliveries a request needs at most, here.
 const MOST_DELIVERIES: u32 = 256;
 
+/// The user who opens sessions.
+pub(crate) const USER: &str = "client.a";
+
+// The name that a text is.
+pub(crate) fn name_of<R: Abort>(rt: &R, alloc: Global, text: &str) -> Name {
+    Name::new(alloc, text).expect(rt, "memory")
+}
+
 // A user with an osd text alone.
-fn user(alloc: Global, name: &str, osd: &str) -> Result<UserSpec, Fail> {
+fn user<R: Abort>(rt: &R, alloc: Global, name: &str, osd: &str) -> UserSpec {
     let mut caps = Caps::none();
-    caps.osd = Some(Name::new(alloc, osd)?);
-    Ok(UserSpec {
-        name: Name::new(alloc, name)?,
+    caps.osd = Some(name_of(rt, alloc, osd));
+    UserSpec {
+        name: name_of(rt, alloc, name),
         caps,
-    })
+    }
 }
 
 // A cluster of three daemons, with a pool `data` of so many groups, size 3, min_size 2, one user, and so many passes.
-pub(crate) fn begun<R: Wait>(
+pub(crate) fn begun<R: Wait + Abort>(
     rt: &R,
     alloc: Global,
     groups: u32,
     name: &str,
     osd: &str,
     passes: usize,
-) -> Result<(Cluster, Monitor, Vec<Pass>), Fail>
+) -> (Cluster, Monitor, Vec<Pass>)
     requires { 1 ≤ passes }
-    ensures begun { IfOk result (λ r. IsBegun r.0 × All (IsPassOf r.0) r.2.items) }
-    ensures monitor { IfOk result (λ r. IsMonitorOf r.0 r.1 × FollowsStart r.0 r.1) }
+    ensures begun { IsBegun result.0 × All (IsPassOf result.0) result.2.items }
+    ensures monitor { IsMonitorOf result.0 result.1 × FollowsStart result.0 result.1 }
 {
     let pool = PoolSpec {
-        name: Name::new(alloc, "data")?,
+        name: name_of(rt, alloc, "data"),
         pg_num: groups,
         size: 3,
         min_size: 2,
     };
-    let pools = vec![in alloc; pool]?;
-    let users = vec![in alloc; user(alloc, name, osd)?]?;
-    let table = ProfileTable::builtin(alloc)?;
-    match start(rt, alloc, table, 3, pools, users, passes) {
-        Ok(begun) => Ok(begun),
-        Err(_) => Err(Fail::from("no cluster")),
-    }
+    let pools = vec![in alloc; pool].expect(rt, "memory");
+    let users = vec![in alloc; user(rt, alloc, name, osd)].expect(rt, "memory");
+    let table = ProfileTable::builtin(alloc).expect(rt, "profiles");
+    start(rt, alloc, table, 3, pools, users, passes).expect(rt, "a cluster")
 }
 
 // The next pass.
@@ -72,6 +77,17 @@ pub(crate) fn take_pass(cluster: &Cluster, passes: &mut Vec<Pass>) -> Option<Pas
     passes.pop()
 }
 
+// Two passes.
+pub(crate) fn two_passes<R: Abort>(rt: &R, cluster: &Cluster, passes: Vec<Pass>) -> (Pass, Pass)
+    requires { All (IsPassOf cluster.now) passes.items }
+    ensures { IsPassOf cluster.now result.0 × IsPassOf cluster.now result.1 }
+{
+    let mut passes = passes;
+    let second = take_pass(cluster, &mut passes).expect(rt, "a pass");
+    let first = take_pass(cluster, &mut passes).expect(rt, "another pass");
+    (first, second)
+}
+
 // Puts the pass behind the others: whether there was memory.
 pub(crate) fn put_pass(cluster: &Cluster, passes: &mut Vec<Pass>, pass: Pass) -> bool
     requires rest { All (IsPassOf cluster.now) passes.old.items }
@@ -81,19 +97,35 @@ pub(crate) fn put_pass(cluster: &Cluster, passes: &mut Vec<Pass>, pass: Pass) ->
     passes.push(pass).is_ok()
 }
 
+// Opens a session of the user, whose ticket ends at a tick or never.
+pub(crate) fn open<R: Wait + Abort>(
+    rt: &R,
+    alloc: Global,
+    cluster: &Cluster,
+    pass: &mut Pass,
+    until: Option<u64>,
+) -> u32
+    requires { IsPassOf cluster.now pass.old }
+    ensures { IsPassOf cluster.now pass.new }
+{
+    let user = name_of(rt, alloc, USER);
+    cluster.open(rt, pass, user, until).expect(rt, "a session")
+}
+
 // Who asks, in a namespace of the pool `data`, at a tick.
-pub(crate) fn asking(
+pub(crate) fn asking<R: Abort>(
+    rt: &R,
     alloc: Global,
     session: u32,
     namespace: &str,
     tick: u64,
-) -> Result<Asking, ClusterFault> {
-    Ok(Asking {
+) -> Asking {
+    Asking {
         session,
         tick,
-        pool: Name::new(alloc, "data")?,
-        namespace: Name::new(alloc, namespace)?,
-    })
+        pool: name_of(rt, alloc, "data"),
+        namespace: name_of(rt, alloc, namespace),
+    }
 }
 
 /// What is asked of an object.
@@ -107,26 +139,26 @@ pub(crate) enum Wish {
     Add,
 }
 
-fn ops_of(alloc: Global, wish: Wish) -> Result<Ops, ClusterFault> {
+fn ops_of<R: Abort>(rt: &R, alloc: Global, wish: Wish) -> Ops {
     let op = match wish {
-        Wish::Append => Op::Append(Bytes::from_slice(alloc, b"a")?),
+        Wish::Append => Op::Append(Bytes::from_slice(alloc, b"a").expect(rt, "memory")),
         Wish::Read => Op::Read {
             offset: 0,
             length: 0,
         },
         Wish::Add => Op::Call {
-            class: Name::new(alloc, "counter")?,
-            method: Name::new(alloc, "add")?,
-            input: Bytes::from_slice(alloc, b"1")?,
+            class: name_of(rt, alloc, "counter"),
+            method: name_of(rt, alloc, "add"),
+            input: Bytes::from_slice(alloc, b"1").expect(rt, "memory"),
         },
     };
     let mut ops = Ops::new(alloc);
-    ops.push(op)?;
-    Ok(ops)
+    ops.push(op).expect(rt, "memory");
+    ops
 }
 
 // Submits a request on an object of the default namespace, at a tick. Where there is no reading the call is made again.
-pub(crate) fn submit_at<R: Wait>(
+pub(crate) fn submit_at<R: Wait + Abort>(
     rt: &R,
     alloc: Global,
     cluster: &Cluster,
@@ -140,9 +172,9 @@ pub(crate) fn submit_at<R: Wait>(
     ensures { IsPassOf cluster.now pass.new }
 {
     for _try in 0..MOST_TRIES {
-        let asking = asking(alloc, session, "", tick)?;
-        let object = Name::new(alloc, object)?;
-        match cluster.submit(rt, pass, asking, object, ops_of(alloc, wish)?) {
+        let asking = asking(rt, alloc, session, "", tick);
+        let object = name_of(rt, alloc, object);
+        match cluster.submit(rt, pass, asking, object, ops_of(rt, alloc, wish)) {
             Err(ClusterFault::NoReader) => {}
             answer => return answer,
         }
@@ -151,7 +183,7 @@ pub(crate) fn submit_at<R: Wait>(
 }
 
 // Submits a request on an object of the default namespace, at the tick 0.
-pub(crate) fn submit<R: Wait>(
+pub(crate) fn submit<R: Wait + Abort>(
     rt: &R,
     alloc: Global,
     cluster: &Cluster,
@@ -159,11 +191,11 @@ pub(crate) fn submit<R: Wait>(
     session: u32,
     object: &str,
     wish: Wish,
-) -> Result<Asked, ClusterFault>
+) -> Asked
     requires { IsPassOf cluster.now pass.old }
     ensures { IsPassOf cluster.now pass.new }
 {
-    submit_at(rt, alloc, cluster, pass, session, object, wish, 0)
+    submit_at(rt, alloc, cluster, pass, session, object, wish, 0).expect(rt, "a request")
 }
 
 // The monitor's news. Where no reader is left the call is made again.
@@ -196,27 +228,41 @@ pub(crate) fn learn(cluster: &Cluster, pass: &mut Pass, news: News) -> bool
     false
 }
 
-// Delivers messages of the request's group until it is answered.
-pub(crate) fn answered<R: Wait>(
+// The reply to a request that is answered.
+pub(crate) fn reply_of<R: Wait + Abort>(
     rt: &R,
     cluster: &Cluster,
     pass: &mut Pass,
     asked: &Asked,
-) -> Result<Option<Reply>, ClusterFault>
+) -> Reply
+    requires { IsPassOf cluster.now pass.old }
+    ensures { IsPassOf cluster.now pass.new }
+{
+    let reply = cluster.answer(rt, pass, asked).expect(rt, "a request");
+    reply.expect(rt, "a reply")
+}
+
+// Delivers messages of the request's group until it is answered.
+pub(crate) fn answered<R: Wait + Abort>(
+    rt: &R,
+    cluster: &Cluster,
+    pass: &mut Pass,
+    asked: &Asked,
+) -> Reply
     requires { IsPassOf cluster.now pass.old }
     ensures { IsPassOf cluster.now pass.new }
 {
     for _delivery in 0..MOST_DELIVERIES {
         match cluster.work(rt, pass, &asked.group) {
             Ok(_) | Err(ClusterFault::World(WorldFault::Group(GroupFault::Unreachable))) => {}
-            Err(fault) => return Err(fault),
+            Err(fault) => panic!(rt; "no delivery: {fault}"),
         }
     }
-    cluster.answer(rt, pass, asked)
+    reply_of(rt, cluster, pass, asked)
 }
 
 // Submits a request and works until it is answered.
-pub(crate) fn reply_to<R: Wait>(
+pub(crate) fn reply_to<R: Wait + Abort>(
     rt: &R,
     alloc: Global,
     cluster: &Cluster,
@@ -224,18 +270,18 @@ pub(crate) fn reply_to<R: Wait>(
     session: u32,
     object: &str,
     wish: Wish,
-) -> Result<Option<Reply>, ClusterFault>
+) -> Reply
     requires { IsPassOf cluster.now pass.old }
     ensures { IsPassOf cluster.now pass.new }
 {
-    let asked = submit(rt, alloc, cluster, pass, session, object, wish)?;
+    let asked = submit(rt, alloc, cluster, pass, session, object, wish);
     answered(rt, cluster, pass, &asked)
 }
 
 // Whether a reply is a denial by this condition of grant 1.
-pub(crate) fn is_denied(reply: &Option<Reply>, condition: Condition) -> bool {
+pub(crate) fn is_denied(reply: &Reply, condition: Condition) -> bool {
     match reply {
-        Some(Reply::Denied(report)) => match report.lines() {
+        Reply::Denied(report) => match report.lines() {
             [(path, only)] => path.as_slice() == [1].as_slice() && *only == condition,
             _ => false,
         },
@@ -244,9 +290,9 @@ pub(crate) fn is_denied(reply: &Option<Reply>, condition: Condition) -> bool {
 }
 
 // Whether a reply is the one output.
-pub(crate) fn is_output(reply: &Option<Reply>, text: &str) -> bool {
+pub(crate) fn is_output(reply: &Reply, text: &str) -> bool {
     match reply {
-        Some(Reply::Done(outputs)) => match outputs.as_slice() {
+        Reply::Done(outputs) => match outputs.as_slice() {
             [only] => only.as_slice() == text.as_bytes(),
             _ => false,
         },

@@ -2,160 +2,133 @@
 //!
 //! `apart` does the same on threads.
 
-ghost use Rattle.std.specs.Prelude.{All};
 ghost use Rattle.cluster.specs.Asks.{IsPassOf};
 ghost use Rattle.cluster.specs.Monitors.{IsMonitorOf};
 
 use crate::begun::{
-    Wish, answered, begun, is_denied, is_output, learn, reply_to, submit, take_pass, tell,
+    USER, Wish, answered, begun, is_denied, is_output, learn, name_of, open, reply_to, submit,
+    tell, two_passes,
 };
 use auth_db::{AuthFault, Caps};
-use cluster::{Cluster, ClusterFault, Monitor, Pass};
-use common_types::Name;
+use cluster::{Asked, Cluster, ClusterFault, Monitor, Pass};
 use map_core::MapCommand;
 use std::alloc::Global;
+use std::process::Abort;
 use std::sync::Wait;
-use std::test::Fail;
 use verdict_core::Condition;
 use world_core::{AuthCommand, WorldFault};
 
-/// The user who comes and goes.
-const USER: &str = "client.a";
-
-fn name(alloc: Global, text: &str) -> Result<Name, ClusterFault> {
-    Ok(Name::new(alloc, text)?)
-}
-
 // Adds the user, who may do all that a tag of the pool allows.
-pub(crate) fn add_user<R: Wait>(
-    rt: &R,
-    alloc: Global,
-    cluster: &Cluster,
-    second: &mut Pass,
-) -> Result<(), ClusterFault>
+pub(crate) fn add_user<R: Wait + Abort>(rt: &R, alloc: Global, cluster: &Cluster, second: &mut Pass)
     requires { IsPassOf cluster.now second.old }
     ensures { IsPassOf cluster.now second.new }
 {
     let mut caps = Caps::none();
-    caps.osd = Some(name(alloc, "allow rwx tag app k=v")?);
+    caps.osd = Some(name_of(rt, alloc, "allow rwx tag app k=v"));
     let add = AuthCommand::Add {
-        name: name(alloc, USER)?,
+        name: name_of(rt, alloc, USER),
         caps,
     };
-    cluster.auth(rt, second, add)?;
-    Ok(())
+    cluster.auth(rt, second, add).expect(rt, "an addition");
 }
 
 // Deletes the user.
-pub(crate) fn delete_user<R: Wait>(
+pub(crate) fn delete_user<R: Wait + Abort>(
     rt: &R,
     alloc: Global,
     cluster: &Cluster,
     second: &mut Pass,
-) -> Result<(), ClusterFault>
+)
     requires { IsPassOf cluster.now second.old }
     ensures { IsPassOf cluster.now second.new }
 {
     let delete = AuthCommand::Delete {
-        name: name(alloc, USER)?,
+        name: name_of(rt, alloc, USER),
     };
-    cluster.auth(rt, second, delete)?;
-    Ok(())
+    cluster.auth(rt, second, delete).expect(rt, "a deletion");
 }
 
 // Changes the map.
-fn change<R: Wait>(rt: &R, cluster: &Cluster, monitor: &mut Monitor, command: MapCommand) -> bool
+fn change<R: Wait + Abort>(rt: &R, cluster: &Cluster, monitor: &mut Monitor, command: MapCommand)
     requires { IsMonitorOf cluster.now monitor.old }
     ensures { IsMonitorOf cluster.now monitor.new }
 {
-    monitor.change_map(rt, cluster, command).is_ok()
+    monitor
+        .change_map(rt, cluster, command)
+        .expect(rt, "a change");
 }
 
 // Tags the pool.
-pub(crate) fn set_tag<R: Wait>(
+pub(crate) fn set_tag<R: Wait + Abort>(
     rt: &R,
     alloc: Global,
     cluster: &Cluster,
     monitor: &mut Monitor,
-) -> Result<bool, ClusterFault>
+)
     requires { IsMonitorOf cluster.now monitor.old }
     ensures { IsMonitorOf cluster.now monitor.new }
 {
     let enable = MapCommand::AppEnable {
-        pool: name(alloc, "data")?,
-        app: name(alloc, "app")?,
+        pool: name_of(rt, alloc, "data"),
+        app: name_of(rt, alloc, "app"),
     };
     let set = MapCommand::AppSet {
-        pool: name(alloc, "data")?,
-        app: name(alloc, "app")?,
-        key: name(alloc, "k")?,
-        value: name(alloc, "v")?,
+        pool: name_of(rt, alloc, "data"),
+        app: name_of(rt, alloc, "app"),
+        key: name_of(rt, alloc, "k"),
+        value: name_of(rt, alloc, "v"),
     };
-    Ok(change(rt, cluster, monitor, enable) && change(rt, cluster, monitor, set))
+    change(rt, cluster, monitor, enable);
+    change(rt, cluster, monitor, set);
 }
 
 // A daemon goes down, and the tag is removed.
-pub(crate) fn move_and_untag<R: Wait>(
+pub(crate) fn move_and_untag<R: Wait + Abort>(
     rt: &R,
     alloc: Global,
     cluster: &Cluster,
     monitor: &mut Monitor,
-) -> Result<bool, ClusterFault>
+)
     requires { IsMonitorOf cluster.now monitor.old }
     ensures { IsMonitorOf cluster.now monitor.new }
 {
     let remove = MapCommand::AppRm {
-        pool: name(alloc, "data")?,
-        app: name(alloc, "app")?,
-        key: name(alloc, "k")?,
+        pool: name_of(rt, alloc, "data"),
+        app: name_of(rt, alloc, "app"),
+        key: name_of(rt, alloc, "k"),
     };
-    let down = change(rt, cluster, monitor, MapCommand::OsdDown(0));
-    Ok(change(rt, cluster, monitor, remove) && down)
+    change(rt, cluster, monitor, MapCommand::OsdDown(0));
+    change(rt, cluster, monitor, remove);
 }
 
-// The first pass hears what the second has seen, and learns what the monitor has published: whether it does.
-pub(crate) fn catch_up(
+// The first pass hears what the second has seen, and learns what the monitor has published.
+pub(crate) fn catch_up<R: Abort>(
+    rt: &R,
     alloc: Global,
     cluster: &Cluster,
     monitor: &mut Monitor,
     first: &mut Pass,
     second: &mut Pass,
-) -> Result<bool, ClusterFault>
+)
     requires monitor { IsMonitorOf cluster.now monitor.old }
     requires passes { IsPassOf cluster.now first.old × IsPassOf cluster.now second.old }
     ensures monitor { IsMonitorOf cluster.now monitor.new }
     ensures passes { IsPassOf cluster.now first.new × IsPassOf cluster.now second.new }
 {
-    let note = second.note(cluster, alloc)?;
+    let note = second.note(cluster, alloc).expect(rt, "a note");
     first.hear(cluster, note);
-    match tell(cluster, monitor) {
-        Some(news) => Ok(learn(cluster, first, news)),
-        None => Ok(false),
-    }
+    let news = tell(cluster, monitor).expect(rt, "news");
+    assert!(rt; learn(cluster, first, news));
 }
 
-// Opens a session of the user.
-pub(crate) fn open<R: Wait>(
-    rt: &R,
-    alloc: Global,
-    cluster: &Cluster,
-    first: &mut Pass,
-) -> Result<u32, ClusterFault>
-    requires { IsPassOf cluster.now first.old }
-    ensures { IsPassOf cluster.now first.new }
-{
-    let user = name(alloc, USER)?;
-    cluster.open(rt, first, user, None)
-}
-
-// Whether the renewal is refused, since the user is gone, and a second request is denied by the tag of grant 1, which is gone.
-pub(crate) fn goes_on<R: Wait>(
+// The renewal is refused, since the user is gone, and a second request is denied by the tag of grant 1, which is gone.
+pub(crate) fn goes_on<R: Wait + Abort>(
     rt: &R,
     alloc: Global,
     cluster: &Cluster,
     first: &mut Pass,
     session: u32,
-) -> Result<bool, ClusterFault>
+)
     requires { IsPassOf cluster.now first.old }
     ensures { IsPassOf cluster.now first.new }
 {
@@ -163,66 +136,40 @@ pub(crate) fn goes_on<R: Wait>(
         cluster.renew(rt, first, session, None),
         Err(ClusterFault::World(WorldFault::Auth(AuthFault::NoEntity)))
     );
-    let reply = reply_to(rt, alloc, cluster, first, session, "x", Wish::Add)?;
-    Ok(gone && is_denied(&reply, Condition::Tag))
+    assert!(rt; gone);
+    let reply = reply_to(rt, alloc, cluster, first, session, "x", Wish::Add);
+    assert!(rt; is_denied(&reply, Condition::Tag));
+}
+
+// The request is answered `1`.
+pub(crate) fn expect_one<R: Wait + Abort>(
+    rt: &R,
+    cluster: &Cluster,
+    first: &mut Pass,
+    asked: &Asked,
+)
+    requires { IsPassOf cluster.now first.old }
+    ensures { IsPassOf cluster.now first.new }
+{
+    let reply = answered(rt, cluster, first, asked);
+    assert!(rt; is_output(&reply, "1"));
 }
 
 // The first pass asks, and all else happens before its request is decided.
-fn ask<R: Wait>(
-    rt: &R,
-    alloc: Global,
-    cluster: &Cluster,
-    monitor: &mut Monitor,
-    first: &mut Pass,
-    second: &mut Pass,
-) -> Result<bool, ClusterFault>
-    requires monitor { IsMonitorOf cluster.now monitor.old }
-    requires passes { IsPassOf cluster.now first.old × IsPassOf cluster.now second.old }
-    ensures monitor { IsMonitorOf cluster.now monitor.new }
-{
-    add_user(rt, alloc, cluster, second)?;
-    let tagged = set_tag(rt, alloc, cluster, monitor)?;
-    let caught_up = catch_up(alloc, cluster, monitor, first, second)?;
-    let session = open(rt, alloc, cluster, first)?;
-    let asked = submit(rt, alloc, cluster, first, session, "x", Wish::Add)?;
-    let moved = move_and_untag(rt, alloc, cluster, monitor)?;
-    delete_user(rt, alloc, cluster, second)?;
-    let reply = answered(rt, cluster, first, &asked)?;
-    let again = catch_up(alloc, cluster, monitor, first, second)?;
-    let went_on = goes_on(rt, alloc, cluster, first, session)?;
-    Ok(tagged && caught_up && moved && is_output(&reply, "1") && again && went_on)
-}
-
-// Both passes.
-fn both<R: Wait>(
-    rt: &R,
-    alloc: Global,
-    cluster: &Cluster,
-    monitor: &mut Monitor,
-    passes: Vec<Pass>,
-) -> bool
-    requires monitor { IsMonitorOf cluster.now monitor.old }
-    requires passes { All (IsPassOf cluster.now) passes.items }
-{
-    let mut passes = passes;
-    let Some(mut second) = take_pass(cluster, &mut passes) else {
-        return false;
-    };
-    let Some(mut first) = take_pass(cluster, &mut passes) else {
-        return false;
-    };
-    matches!(
-        ask(rt, alloc, cluster, monitor, &mut first, &mut second),
-        Ok(true)
-    )
-}
-
 #[test]
-fn a_tag_and_a_user_go_while_a_group_moves(rt: HostRuntime) -> Result<(), Fail> {
+fn a_tag_and_a_user_go_while_a_group_moves(rt: HostRuntime) {
     let alloc = rt.alloc();
-    let (cluster, mut monitor, passes) = begun(&rt, alloc, 1, "client.b", "allow r", 2)?;
-    let right = both(&rt, alloc, &cluster, &mut monitor, passes);
+    let (cluster, mut monitor, passes) = begun(&rt, alloc, 1, "client.b", "allow r", 2);
+    let (mut first, mut second) = two_passes(&rt, &cluster, passes);
+    add_user(&rt, alloc, &cluster, &mut second);
+    set_tag(&rt, alloc, &cluster, &mut monitor);
+    catch_up(&rt, alloc, &cluster, &mut monitor, &mut first, &mut second);
+    let session = open(&rt, alloc, &cluster, &mut first, None);
+    let asked = submit(&rt, alloc, &cluster, &mut first, session, "x", Wish::Add);
+    move_and_untag(&rt, alloc, &cluster, &mut monitor);
+    delete_user(&rt, alloc, &cluster, &mut second);
+    expect_one(&rt, &cluster, &mut first, &asked);
+    catch_up(&rt, alloc, &cluster, &mut monitor, &mut first, &mut second);
+    goes_on(&rt, alloc, &cluster, &mut first, session);
     monitor.end(&rt);
-    assert!(&rt; right);
-    Ok(())
 }

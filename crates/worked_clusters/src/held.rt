@@ -4,15 +4,15 @@ ghost use Rattle.std.specs.Prelude.{All, ◌<◌};
 ghost use Rattle.cluster.specs.Asks.{IsPassOf};
 ghost use Rattle.cluster.specs.Passes.{AreSeatsOf, group_count};
 
-use crate::begun::{MOST_TRIES, begun, take_pass};
+use crate::begun::{MOST_TRIES, begun, name_of, open, two_passes};
 use cluster::{Cluster, ClusterFault, Located, LockedGroup, Pass, Seats, Worked};
 use common_types::Name;
 use entry_core::GroupId;
 use map_core::PoolView;
 use std::alloc::Global;
+use std::process::Abort;
 use std::sync::Wait;
 use std::sync::atomic::{AtomicU64, Ordering};
-use std::test::Fail;
 use std::thread::{Threads, join_mut};
 use turn_lock::Step;
 use verdict_core::{Calls, Needs};
@@ -103,90 +103,74 @@ fn locate(
     Err(ClusterFault::NoReader)
 }
 
-// Looks at the map, judges, and works on group 1: whether all is answered.
-fn look<R: Wait>(
-    rt: &R,
-    alloc: Global,
-    cluster: &Cluster,
-    pass: &mut Pass,
-    session: u32,
-) -> Result<bool, ClusterFault>
+// Looks at the map, judges, and works on group 1, and all is answered.
+fn look<R: Wait + Abort>(rt: &R, alloc: Global, cluster: &Cluster, pass: &mut Pass, session: u32)
     requires { IsPassOf cluster.now pass.old }
 {
-    let pool = Name::new(alloc, "data")?;
-    let namespace = Name::new(alloc, "")?;
-    let object = Name::new(alloc, "x")?;
-    let view = view(cluster, pass, &pool)?;
-    let located = locate(cluster, pass, &pool, &namespace, &object)?;
+    let pool = name_of(rt, alloc, "data");
+    let namespace = name_of(rt, alloc, "");
+    let object = name_of(rt, alloc, "x");
+    let view = view(cluster, pass, &pool).expect(rt, "a view");
+    assert!(rt; view.pg_num == 2);
+    let located = locate(cluster, pass, &pool, &namespace, &object).expect(rt, "a place");
+    assert!(rt; located.group < 2);
     let needs = Needs {
         reads: true,
         writes: false,
         calls: Calls::new(alloc),
     };
-    let allowed = cluster.judge(pass, session, &view, "", "x", &needs, 0)?;
+    let allowed = cluster.judge(pass, session, &view, "", "x", &needs, 0);
+    assert!(rt; allowed.expect(rt, "a session"));
     let group = GroupId { pool, number: 1 };
-    let worked = cluster.work(rt, pass, &group)?;
-    Ok(view.pg_num == 2 && located.group < 2 && allowed && worked == Worked::Delivered)
+    let worked = cluster.work(rt, pass, &group).expect(rt, "a delivery");
+    assert!(rt; worked == Worked::Delivered);
 }
 
 // The same once the lock is held, and tells that it is answered.
-fn look_meanwhile<R: Wait>(
+fn look_meanwhile<R: Wait + Abort>(
     rt: &R,
     alloc: Global,
     cluster: &Cluster,
     pass: &mut Pass,
     session: u32,
     progress: &Progress,
-) -> bool
+)
     requires { IsPassOf cluster.now pass.old }
 {
-    let held = progress.has_come(1);
-    let right = matches!(look(rt, alloc, cluster, pass, session), Ok(true));
+    assert!(rt; progress.has_come(1));
+    look(rt, alloc, cluster, pass, session);
     progress.stage.store(2, Ordering::SeqCst);
-    held && right
 }
 
 // One pass holds a lock while the other looks.
-fn both<R: Threads + Wait + Sync>(
+fn hold_and_look<R: Threads + Wait + Abort + Sync>(
     rt: &R,
     alloc: Global,
     cluster: &Cluster,
     passes: Vec<Pass>,
-) -> bool
+)
     requires passes { All (IsPassOf cluster.now) passes.items }
     requires groups { 0 < group_count cluster.now }
 {
-    let mut passes = passes;
-    let Some(holder) = take_pass(cluster, &mut passes) else {
-        return false;
-    };
-    let Some(mut looker) = take_pass(cluster, &mut passes) else {
-        return false;
-    };
-    let Ok(name) = Name::new(alloc, "client.a") else {
-        return false;
-    };
-    let Ok(session) = cluster.open(rt, &mut looker, name, None) else {
-        return false;
-    };
+    let (holder, mut looker) = two_passes(rt, cluster, passes);
+    let session = open(rt, alloc, cluster, &mut looker, None);
     let mut seats = holder.into_seats();
     let progress = Progress {
         stage: AtomicU64::new(0),
     };
-    let (held, looked) = join_mut(
+    let (held, ()) = join_mut(
         rt,
         &mut || hold_group(rt, cluster, &mut seats, &progress),
         &mut || look_meanwhile(rt, alloc, cluster, &mut looker, session, &progress),
     );
-    held && looked
+    assert!(rt; held);
 }
 
 #[test]
-fn judge_while_a_step_is_held(rt: HostRuntime) -> Result<(), Fail> {
+fn judge_while_a_step_is_held(rt: HostRuntime) {
     let alloc = rt.alloc();
-    let (cluster, monitor, passes) = begun(&rt, alloc, 2, "client.a", "allow r pool=data", 2)?;
-    let right = cluster.group_count() == 2 && both(&rt, alloc, &cluster, passes);
+    let (cluster, monitor, passes) = begun(&rt, alloc, 2, "client.a", "allow r pool=data", 2);
+    assert!(rt; cluster.group_count() == 2);
+    hold_and_look(&rt, alloc, &cluster, passes);
     monitor.end(&rt);
-    assert!(&rt; right);
-    Ok(())
 }

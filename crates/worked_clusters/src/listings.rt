@@ -1,15 +1,13 @@
 //! Lists of names over a cluster.
 
-ghost use Rattle.std.specs.Prelude.{All};
 ghost use Rattle.cluster.specs.Asks.{IsPassOf};
 
-use crate::begun::{answered, asking, begun, take_pass};
-use cluster::{Asked, Cluster, ClusterFault, Pass};
-use common_types::Name;
+use crate::begun::{answered, asking, begun, open, take_pass};
+use cluster::{Asked, Cluster, Pass};
 use entry_core::Reply;
 use std::alloc::Global;
+use std::process::Abort;
 use std::sync::Wait;
-use std::test::Fail;
 use verdict_core::Condition;
 
 /// What each piece of a list is to be answered.
@@ -22,83 +20,58 @@ enum Expected {
 }
 
 // Whether a piece is answered so.
-fn is_expected(reply: &Option<Reply>, expected: Expected) -> bool {
+fn is_expected(reply: &Reply, expected: Expected) -> bool {
     match (reply, expected) {
-        (Some(Reply::Denied(report)), Expected::Prefix) => match report.lines() {
+        (Reply::Denied(report), Expected::Prefix) => match report.lines() {
             [(_, condition)] => *condition == Condition::Prefix,
             _ => false,
         },
-        (Some(Reply::Names(names)), Expected::NoNames) => names.as_slice().is_empty(),
+        (Reply::Names(names), Expected::NoNames) => names.as_slice().is_empty(),
         _ => false,
     }
 }
 
-// Whether each piece is answered so.
-fn are_answered<R: Wait>(
+// Each piece is answered so.
+fn are_answered<R: Wait + Abort>(
     rt: &R,
     cluster: &Cluster,
     pass: &mut Pass,
     pieces: &[Asked],
     expected: Expected,
-) -> Result<bool, ClusterFault>
+)
     requires { IsPassOf cluster.now pass.old }
     ensures { IsPassOf cluster.now pass.new }
 {
     for piece in pieces {
-        let reply = answered(rt, cluster, pass, piece)?;
-        if !is_expected(&reply, expected) {
-            return Ok(false);
-        }
+        let reply = answered(rt, cluster, pass, piece);
+        assert!(rt; is_expected(&reply, expected));
     }
-    Ok(true)
 }
 
-// Lists a namespace: a piece for each of the four groups, each answered so.
-fn list<R: Wait>(
-    rt: &R,
-    alloc: Global,
-    cluster: &Cluster,
-    pass: &mut Pass,
-    namespace: &str,
-    expected: Expected,
-) -> Result<bool, ClusterFault>
-    requires { IsPassOf cluster.now pass.old }
-{
-    let session = cluster.open(rt, pass, Name::new(alloc, "client.a")?, None)?;
-    let pieces = cluster.list(rt, pass, asking(alloc, session, namespace, 0)?)?;
-    Ok(pieces.len() == 4 && are_answered(rt, cluster, pass, pieces.as_slice(), expected)?)
-}
-
-// A list by a user with this text is answered so.
-fn check<R: Wait>(
-    rt: &R,
-    alloc: Global,
-    osd: &str,
-    namespace: &str,
-    expected: Expected,
-) -> Result<bool, Fail> {
-    let (cluster, monitor, mut passes) = begun(rt, alloc, 4, "client.a", osd, 1)?;
-    let right = match take_pass(&cluster, &mut passes) {
-        None => false,
-        Some(mut pass) => matches!(
-            list(rt, alloc, &cluster, &mut pass, namespace, expected),
-            Ok(true)
-        ),
-    };
+// A list of a namespace by a user with this text: a piece for each of the four groups, each answered so.
+fn check<R: Wait + Abort>(rt: &R, alloc: Global, osd: &str, namespace: &str, expected: Expected) {
+    let (cluster, monitor, mut passes) = begun(rt, alloc, 4, "client.a", osd, 1);
+    let mut pass = take_pass(&cluster, &mut passes).expect(rt, "a pass");
+    let session = open(rt, alloc, &cluster, &mut pass, None);
+    let asking = asking(rt, alloc, session, namespace, 0);
+    let pieces = cluster.list(rt, &mut pass, asking).expect(rt, "a list");
+    assert!(rt; pieces.len() == 4);
+    are_answered(rt, &cluster, &mut pass, pieces.as_slice(), expected);
     monitor.end(rt);
-    Ok(right)
 }
 
 #[test]
-fn a_list_by_a_prefix_is_denied(rt: HostRuntime) -> Result<(), Fail> {
-    let alloc = rt.alloc();
-    assert!(&rt; check(&rt, alloc, "allow r object_prefix a", "", Expected::Prefix)?);
-    Ok(())
+fn a_list_by_a_prefix_is_denied(rt: HostRuntime) {
+    check(
+        &rt,
+        rt.alloc(),
+        "allow r object_prefix a",
+        "",
+        Expected::Prefix,
+    );
 }
 
 #[test]
-fn an_unused_namespace_has_no_names(rt: HostRuntime) -> Result<(), Fail> {
-    let alloc = rt.alloc();
-    assert!(&rt; check(&rt, alloc, "allow r", "none", Expected::NoNames)?);
-    Ok(())
+fn an_unused_namespace_has_no_names(rt: HostRuntime) {
+    check(&rt, rt.alloc(), "allow r", "none", Expected::NoNames);
 }

@@ -1,10 +1,6 @@
 //! Workers on threads. `sessions/command_line/workers.console` shows what became of their requests.
 
 use entry_core::{Entry, Reply};
-use std::alloc::Global;
-use std::sync::Wait;
-use std::test::Fail;
-use std::thread::Threads;
 use workload::world_of_workload;
 
 // The number that an addition gave.
@@ -32,16 +28,10 @@ fn count_up_to(entries: &[Entry], last: u32) -> bool {
     next == last.saturating_add(1)
 }
 
-// Whether four workers, while groups move, leave a list of additions that counts to 200.
-fn counts<R: Threads + Wait + Sync>(rt: &R, alloc: Global) -> Result<bool, Fail> {
-    let (world, _moves) = world_of_workload(rt, alloc, 4, true).map_err(
-        |_| "a workload that fails",
-    )?;
-    Ok(count_up_to(world.audit()?.as_slice(), 200))
-}
-
+// Four workers, while groups move, leave a list of additions that counts to 200.
 #[test]
-fn additions_are_decided_once_each(rt: HostRuntime) -> Result<(), Fail> {
-    assert!(&rt; counts(&rt, rt.alloc())?);
-    Ok(())
+fn additions_are_decided_once_each(rt: HostRuntime) {
+    let (world, _moves) = world_of_workload(&rt, rt.alloc(), 4, true).expect(&rt, "a workload");
+    let audit = world.audit().expect(&rt, "memory");
+    assert!(rt; count_up_to(audit.as_slice(), 200));
 }

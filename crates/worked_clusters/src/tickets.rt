@@ -1,15 +1,14 @@
 //! Tickets that end, over a cluster.
 
-ghost use Rattle.std.specs.Prelude.{All};
 ghost use Rattle.cluster.specs.Asks.{IsPassOf};
 
-use crate::begun::{Wish, answered, begun, is_denied, is_output, submit_at, take_pass};
+use crate::begun::{Wish, answered, begun, is_denied, is_output, open, submit_at, take_pass};
 use Expected::{Expired, Output, Stale};
 use cluster::{Cluster, ClusterFault, Pass};
-use common_types::Name;
+use entry_core::Reply;
 use std::alloc::Global;
+use std::process::Abort;
 use std::sync::Wait;
-use std::test::Fail;
 use verdict_core::Condition;
 use world_core::WorldFault;
 
@@ -37,82 +36,63 @@ const RENEWED: &[Row; 4] = &[
     (20, Wish::Read, Expired),
 ];
 
+// Whether a reply is what is expected.
+fn is_expected(reply: &Reply, expected: Expected) -> bool {
+    match expected {
+        Output(text) => is_output(reply, text),
+        Expired => is_denied(reply, Condition::Expired),
+        Stale => false,
+    }
+}
+
 // Whether a request comes to what its row says.
-fn is_so<R: Wait>(
+fn is_so<R: Wait + Abort>(
     rt: &R,
     alloc: Global,
     cluster: &Cluster,
     pass: &mut Pass,
     session: u32,
     row: &Row,
-) -> Result<bool, ClusterFault>
+) -> bool
     requires { IsPassOf cluster.now pass.old }
     ensures { IsPassOf cluster.now pass.new }
 {
-    let asked = match submit_at(rt, alloc, cluster, pass, session, "x", row.1, row.0) {
-        Ok(asked) => asked,
-        Err(ClusterFault::World(WorldFault::StaleTick)) => return Ok(matches!(row.2, Stale)),
-        Err(fault) => return Err(fault),
-    };
-    let reply = answered(rt, cluster, pass, &asked)?;
-    Ok(match row.2 {
-        Output(text) => is_output(&reply, text),
-        Expired => is_denied(&reply, Condition::Expired),
-        Stale => false,
-    })
+    match submit_at(rt, alloc, cluster, pass, session, "x", row.1, row.0) {
+        Ok(asked) => is_expected(&answered(rt, cluster, pass, &asked), row.2),
+        Err(ClusterFault::World(WorldFault::StaleTick)) => matches!(row.2, Stale),
+        Err(_) => false,
+    }
 }
 
-// Whether each request does.
-fn are_so<R: Wait>(
+// Each request does.
+fn are_so<R: Wait + Abort>(
     rt: &R,
     alloc: Global,
     cluster: &Cluster,
     pass: &mut Pass,
     session: u32,
     rows: &[Row],
-) -> bool
+)
     requires { IsPassOf cluster.now pass.old }
     ensures { IsPassOf cluster.now pass.new }
 {
     for row in rows {
-        if !matches!(is_so(rt, alloc, cluster, pass, session, row), Ok(true)) {
-            return false;
-        }
+        let right = is_so(rt, alloc, cluster, pass, session, row);
+        assert!(rt; right, "at {}", row.0);
     }
-    true
 }
 
 // A session until 10, which is renewed until 20.
-fn ask<R: Wait>(
-    rt: &R,
-    alloc: Global,
-    cluster: &Cluster,
-    pass: &mut Pass,
-) -> Result<bool, ClusterFault>
-    requires { IsPassOf cluster.now pass.old }
-{
-    let session = cluster.open(rt, pass, Name::new(alloc, "client.a")?, Some(10))?;
-    let right = are_so(rt, alloc, cluster, pass, session, FIRST);
-    cluster.renew(rt, pass, session, Some(20))?;
-    Ok(right && are_so(rt, alloc, cluster, pass, session, RENEWED))
-}
-
-fn is_right<R: Wait>(rt: &R, alloc: Global, cluster: &Cluster, passes: Vec<Pass>) -> bool
-    requires { All (IsPassOf cluster.now) passes.items }
-{
-    let mut passes = passes;
-    match take_pass(cluster, &mut passes) {
-        None => false,
-        Some(mut pass) => matches!(ask(rt, alloc, cluster, &mut pass), Ok(true)),
-    }
-}
-
 #[test]
-fn a_ticket_ends_and_is_renewed(rt: HostRuntime) -> Result<(), Fail> {
+fn a_ticket_ends_and_is_renewed(rt: HostRuntime) {
     let alloc = rt.alloc();
-    let (cluster, monitor, passes) = begun(&rt, alloc, 1, "client.a", "allow rw pool=data", 1)?;
-    let right = is_right(&rt, alloc, &cluster, passes);
+    let (cluster, monitor, mut passes) = begun(&rt, alloc, 1, "client.a", "allow rw pool=data", 1);
+    let mut pass = take_pass(&cluster, &mut passes).expect(&rt, "a pass");
+    let session = open(&rt, alloc, &cluster, &mut pass, Some(10));
+    are_so(&rt, alloc, &cluster, &mut pass, session, FIRST);
+    cluster
+        .renew(&rt, &mut pass, session, Some(20))
+        .expect(&rt, "a renewal");
+    are_so(&rt, alloc, &cluster, &mut pass, session, RENEWED);
     monitor.end(&rt);
-    assert!(&rt; right);
-    Ok(())
 }
