@@ -1,13 +1,13 @@
 //! Copies that are fed by hand: what each message makes them send.
 
-use common_types::{Name, Tags};
-use entry_core::{Id, Items, OutOfMemory, Sealed, TryCopy};
+use crate::looks::are;
+use crate::operations::{name, view};
+use crate::sets::set;
+use entry_core::{Id, Items, Sealed, TryCopy};
 use group_types::{IntervalSets, Party};
-use map_core::PoolView;
 use peer_core::{Body, Daemon, Message, Role, Sent};
-use place_core::ActingSet;
 use std::alloc::Global;
-use std::test::Fail;
+use std::process::Abort;
 use verdict_core::{SharedTicket, Ticket};
 
 // What a message says, in short: requests are given by their numbers. A query tells a length and the last number, 0 for none.
@@ -52,6 +52,9 @@ enum Line {
 
 use Line::{Counts, Has, Holds, Idles, Is, Kick, Leads, On, Restart};
 
+// What a story is called, its daemon's number and least size, and what happens.
+type Story = (&'static str, u8, usize, &'static [Line]);
+
 const CLIENT: Party = Party::Client;
 
 const ZERO: Party = Party::Osd(0);
@@ -63,40 +66,29 @@ const TWO: Party = Party::Osd(2);
 const THREE: Party = Party::Osd(3);
 
 // A listing of one who may do nothing: what is decided of it does not matter here.
-pub(crate) fn request(alloc: Global, number: u32) -> Result<Sealed, OutOfMemory> {
-    let view = PoolView {
-        epoch: 2,
-        pool: Name::new(alloc, "data")?,
-        pg_num: 1,
-        size: 3,
-        min_size: 2,
-        tags: Tags::from_vec(Vec::new(alloc)),
-    };
-    let ticket = SharedTicket::of(Ticket::empty(alloc, None))?;
-    let namespace = Name::new(alloc, "")?;
-    Sealed::listing(alloc, Id::new(1, number), ticket, 0, view, 0, namespace)
+fn request<R: Abort>(rt: &R, alloc: Global, number: u32) -> Sealed {
+    let ticket = SharedTicket::of(Ticket::empty(alloc, None)).expect(rt, "memory");
+    let view = view(rt, alloc, 1);
+    let namespace = name(rt, alloc, "");
+    Sealed::listing(alloc, Id::new(1, number), ticket, 0, view, 0, namespace).expect(rt, "memory")
 }
 
 // Sets of intervals, each of which has the same members.
-pub(crate) fn sets(
-    alloc: Global,
-    count: usize,
-    members: &[u8],
-) -> Result<IntervalSets, OutOfMemory> {
-    let set = ActingSet::from_slice(members).unwrap_or(ActingSet::new());
+fn sets<R: Abort>(rt: &R, alloc: Global, count: usize, members: &[u8]) -> IntervalSets {
+    let set = set(members);
     let mut sets = IntervalSets::new();
     for _ in 0..count {
-        sets = sets.followed_by(alloc, set)?;
+        sets = sets.followed_by(alloc, set).expect(rt, "memory");
     }
-    Ok(sets)
+    sets
 }
 
-fn part(alloc: Global, numbers: &[u32]) -> Result<Items<Sealed>, OutOfMemory> {
+fn part<R: Abort>(rt: &R, alloc: Global, numbers: &[u32]) -> Items<Sealed> {
     let mut part = Items::new(alloc);
     for number in numbers {
-        part.push(request(alloc, *number)?)?;
+        part.push(request(rt, alloc, *number)).expect(rt, "memory");
     }
-    Ok(part)
+    part
 }
 
 fn last(number: u32) -> Option<Id> {
@@ -106,9 +98,9 @@ fn last(number: u32) -> Option<Id> {
     }
 }
 
-fn body(alloc: Global, says: Says) -> Result<Body, OutOfMemory> {
-    Ok(match says {
-        Sets(count, members) => Body::Interval(sets(alloc, count, members)?),
+fn body<R: Abort>(rt: &R, alloc: Global, says: Says) -> Body {
+    match says {
+        Sets(count, members) => Body::Interval(sets(rt, alloc, count, members)),
         Query(interval, len, number) => Body::Query {
             interval,
             len,
@@ -118,23 +110,23 @@ fn body(alloc: Global, says: Says) -> Result<Body, OutOfMemory> {
             interval,
             base,
             start,
-            part: part(alloc, numbers)?,
+            part: part(rt, alloc, numbers),
         },
         Install(interval, start, numbers) => Body::Install {
             interval,
             start,
-            part: part(alloc, numbers)?,
+            part: part(rt, alloc, numbers),
         },
         Installed(interval) => Body::Installed { interval },
         Append(interval, index, number) => Body::Append {
             interval,
             index,
-            request: request(alloc, number)?,
+            request: request(rt, alloc, number),
         },
         Appended(interval, index) => Body::Appended { interval, index },
-        Request(number) => Body::Request(request(alloc, number)?),
+        Request(number) => Body::Request(request(rt, alloc, number)),
         Reply(number) | NotHere(number) => Body::NotHere(Id::new(1, number)),
-    })
+    }
 }
 
 // Whether a part has the requests of these numbers.
@@ -200,50 +192,22 @@ fn are_sent(sent: &[Sent], want: Sends) -> bool {
             && is_said(&sent.body, *says))
 }
 
-fn holds(daemon: &Daemon, numbers: &[u32], base: u64) -> bool {
-    daemon.base() == base
-        && daemon.log().len() == numbers.len()
-        && daemon
-            .log()
-            .entries()
-            .iter()
-            .zip(numbers)
-            .all(|(entry, number)| entry.sealed.id().number() == *number)
-}
-
-// Whether a message makes a daemon send this.
-fn does_send(
-    alloc: Global,
-    daemon: &mut Daemon,
-    from: Party,
-    says: Says,
-    want: Sends,
-) -> Result<bool, OutOfMemory> {
-    let body = body(alloc, says)?;
-    let sent = daemon.on(Message { from, body })?;
-    Ok(are_sent(sent.as_slice(), want))
-}
-
-// How many entries it has, how many of them are decided, and how many requests wait.
-fn counts(daemon: &Daemon) -> [usize; 3] {
-    [
-        daemon.log().len(),
-        daemon.decided().len(),
-        daemon.waiting_count(),
-    ]
-}
-
-// Its number, its promise and its base.
-fn stands(daemon: &Daemon) -> [u64; 3] {
-    [daemon.number() as u64, daemon.promise(), daemon.base()]
-}
-
 // Whether a daemon looks as a line says. One that asks for no look does.
 fn sees(daemon: &Daemon, line: Line) -> bool {
     match line {
-        Counts(entries, decided, waiting) => counts(daemon) == [entries, decided, waiting],
-        Is(number, promise, base) => stands(daemon) == [number as u64, promise, base],
-        Holds(numbers, base) => holds(daemon, numbers, base),
+        Counts(entries, decided, waiting) => {
+            daemon.log().len() == entries
+                && daemon.decided().len() == decided
+                && daemon.waiting_count() == waiting
+        }
+        Is(number, promise, base) => {
+            daemon.number() == number && daemon.promise() == promise && daemon.base() == base
+        }
+        Holds(numbers, base) => {
+            daemon.base() == base
+                && daemon.log().len() == numbers.len()
+                && are(daemon.log().entries(), numbers)
+        }
         Leads => matches!(daemon.role(), Role::Active(None)),
         Idles => matches!(daemon.role(), Role::Idle),
         Has(number) => daemon.log().contains(Id::new(1, number)),
@@ -252,26 +216,32 @@ fn sees(daemon: &Daemon, line: Line) -> bool {
 }
 
 // Whether a line goes as it says.
-fn goes(alloc: Global, daemon: &mut Daemon, line: Line) -> Result<bool, OutOfMemory> {
+fn goes<R: Abort>(rt: &R, alloc: Global, daemon: &mut Daemon, line: Line) -> bool {
     match line {
-        On(from, says, want) => does_send(alloc, daemon, from, says, want),
-        Kick(want) => Ok(are_sent(daemon.kick()?.as_slice(), want)),
+        On(from, says, want) => {
+            let body = body(rt, alloc, says);
+            let sent = daemon.on(Message { from, body }).expect(rt, "memory");
+            are_sent(sent.as_slice(), want)
+        }
+        Kick(want) => {
+            let sent = daemon.kick().expect(rt, "memory");
+            are_sent(sent.as_slice(), want)
+        }
         Restart => {
             daemon.restart();
-            Ok(true)
+            true
         }
-        _ => Ok(sees(daemon, line)),
+        _ => sees(daemon, line),
     }
 }
 
-// How many of these lines go as they say, one after another, to the first that does not.
-fn run(alloc: Global, daemon: &mut Daemon, lines: &[Line]) -> Result<usize, OutOfMemory> {
-    for (gone, line) in lines.iter().enumerate() {
-        if !goes(alloc, daemon, *line)? {
-            return Ok(gone);
-        }
+// A daemon after all the lines of its story, each of which must go as it says.
+fn play<R: Abort>(rt: &R, alloc: Global, (name, number, min_size, lines): Story) -> Daemon {
+    let mut daemon = Daemon::new(alloc, number, min_size);
+    for (place, line) in lines.iter().enumerate() {
+        assert!(rt; goes(rt, alloc, &mut daemon, *line), "{name}: line {place}");
     }
-    Ok(lines.len())
+    daemon
 }
 
 const APPENDS: Sends = &[(ONE, Append(1, 1, 7)), (TWO, Append(1, 1, 7))];
@@ -524,70 +494,28 @@ const UNFIT: &[Line] = &[
     Kick(&[]),
 ];
 
-// Daemons by their numbers and their least sizes, and what happens to each.
-const DAEMONS: [(u8, usize, &[Line]); 14] = [
-    (0, 1, ALONE),
-    (0, 2, LED),
-    (0, 2, KICKED),
-    (0, 2, IN_TURN),
-    (0, 2, RESTARTED),
-    (0, 2, CHOSEN),
-    (1, 2, FOLLOWED),
-    (0, 1, PRIMARY),
-    (1, 1, ASKED),
-    (0, 1, HALF),
-    (1, 1, OTHER),
-    (0, 1, LACKING),
-    (0, 1, DROPPED),
-    (0, 1, UNFIT),
+const STORIES: [Story; 14] = [
+    ("alone", 0, 1, ALONE),
+    ("led", 0, 2, LED),
+    ("kicked", 0, 2, KICKED),
+    ("in turn", 0, 2, IN_TURN),
+    ("restarted", 0, 2, RESTARTED),
+    ("chosen", 0, 2, CHOSEN),
+    ("followed", 1, 2, FOLLOWED),
+    ("primary", 0, 1, PRIMARY),
+    ("asked", 1, 1, ASKED),
+    ("half", 0, 1, HALF),
+    ("other", 1, 1, OTHER),
+    ("lacking", 0, 1, LACKING),
+    ("dropped", 0, 1, DROPPED),
+    ("unfit", 0, 1, UNFIT),
 ];
 
-// How many of the lines of a daemon go as they say.
-fn played(
-    alloc: Global,
-    number: u8,
-    min_size: usize,
-    lines: &[Line],
-) -> Result<usize, OutOfMemory> {
-    let mut daemon = Daemon::new(alloc, number, min_size);
-    run(alloc, &mut daemon, lines)
-}
-
 #[test]
-fn daemons_answer_messages(rt: HostRuntime) -> Result<(), Fail> {
-    for (place, (number, min_size, lines)) in DAEMONS.iter().enumerate() {
-        assert_eq!(rt;
-            played(rt.alloc(), *number, *min_size, lines)?,
-            lines.len(),
-            "{place}"
-        );
+fn daemons_answer_messages(rt: HostRuntime) {
+    for story in STORIES {
+        play(&rt, rt.alloc(), story);
     }
-    Ok(())
-}
-
-// Whether a daemon and its copy send the same at a message and its copy, also by a copy of what is sent.
-fn copies_send(
-    daemon: &mut Daemon,
-    copy: &mut Daemon,
-    message: Message,
-    want: Sends,
-) -> Result<bool, OutOfMemory> {
-    let copied = copy.on(message.copy()?)?.copy()?;
-    if !are_sent(copied.as_slice(), want) {
-        return Ok(false);
-    }
-    let sent = daemon.on(message)?;
-    Ok(are_sent(sent.as_slice(), want))
-}
-
-// Whether a copy of a leader does as the leader does.
-fn is_copied(alloc: Global, leader: &mut Daemon) -> Result<bool, OutOfMemory> {
-    let message = Message {
-        from: CLIENT,
-        body: Body::Request(request(alloc, 7)?),
-    };
-    let mut copy = leader.copy()?;
-    copies_send(leader, &mut copy, message, APPENDS)
 }
 
 // How daemon 0 of a set of three comes to lead interval 1.
@@ -599,10 +527,22 @@ const LEADING: &[Line] = &[
     On(TWO, Installed(1), &[]),
 ];
 
+// Whether a leader and its copy send the same at a message and its copy, also by a copy of what is sent.
+fn is_copied<R: Abort>(rt: &R, alloc: Global, leader: &mut Daemon) -> bool {
+    let mut copy = leader.copy().expect(rt, "memory");
+    let message = Message {
+        from: CLIENT,
+        body: body(rt, alloc, Request(7)),
+    };
+    let copied = message.copy().expect(rt, "memory");
+    let copied = copy.on(copied).expect(rt, "memory");
+    let copied = copied.copy().expect(rt, "memory");
+    let sent = leader.on(message).expect(rt, "memory");
+    are_sent(copied.as_slice(), APPENDS) && are_sent(sent.as_slice(), APPENDS)
+}
+
 #[test]
-fn copies_are_equal(rt: HostRuntime) -> Result<(), Fail> {
-    let mut leader = Daemon::new(rt.alloc(), 0, 2);
-    assert_eq!(rt; run(rt.alloc(), &mut leader, LEADING)?, 5);
-    assert!(rt; is_copied(rt.alloc(), &mut leader)?);
-    Ok(())
+fn copies_are_equal(rt: HostRuntime) {
+    let mut leader = play(&rt, rt.alloc(), ("leading", 0, 2, LEADING));
+    assert!(&rt; is_copied(&rt, rt.alloc(), &mut leader));
 }

@@ -3,5 +3,4 @@ mod moves;
 mod moving;
 mod requests;
 mod schedules;
-mod sets;
 mod steps;

@@ -12,6 +12,10 @@ mod groups;
 #[cfg(test)]
 mod logs;
 #[cfg(test)]
+mod looks;
+#[cfg(test)]
 mod operations;
+#[cfg(test)]
+mod sets;
 #[cfg(test)]
 mod tickets;

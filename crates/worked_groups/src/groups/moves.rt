@@ -1,55 +1,53 @@
 //! Moves in two steps: given up, and made.
 
-use super::sets::{self, Who};
 use super::steps::begun;
-use group_types::{GroupFault, GroupMove};
+use crate::sets::{set, up};
+use group_core::PreparedGroup;
+use group_types::GroupMove;
 use std::alloc::Global;
-use std::test::Fail;
+use std::process::Abort;
 
 // Where a group of the daemons 0, 1 and 2 moves.
 #[derive(Clone, Copy)]
 enum To {
-    Set(Who),
+    Set(&'static [u8]),
     Again(u8),
 }
 
 fn change(to: To) -> GroupMove {
     match to {
-        To::Set(who) => GroupMove::NewInterval {
-            acting: sets::set(who),
-            up: sets::up(Who::Three),
+        To::Set(members) => GroupMove::NewInterval {
+            acting: set(members),
+            up: up(&[0, 1, 2]),
         },
         To::Again(daemon) => GroupMove::Restart(daemon),
     }
 }
 
-// How many messages are on their way once the move was given up.
-fn given_up(alloc: Global, to: To) -> Result<usize, GroupFault> {
-    match begun(alloc, 2, Who::Three)?.prepare(change(to)) {
-        Ok(prepared) => Ok(prepared.give_up().wire().len()),
-        Err((_, fault)) => Err(fault),
+fn prepared<R: Abort>(rt: &R, alloc: Global, to: To) -> PreparedGroup {
+    match begun(rt, alloc, 2, &[0, 1, 2]).prepare(change(to)) {
+        Ok(prepared) => prepared,
+        Err((_, fault)) => panic!(rt; "{fault}"),
     }
 }
 
-// And once it was made.
-fn made(alloc: Global, to: To) -> Result<usize, GroupFault> {
-    match begun(alloc, 2, Who::Three)?.prepare(change(to)) {
-        Ok(prepared) => Ok(prepared.commit().wire().len()),
-        Err((_, fault)) => Err(fault),
-    }
+// How many messages are on their way once a move was given up, and once it was made.
+fn on_the_way<R: Abort>(rt: &R, alloc: Global, to: To) -> (usize, usize) {
+    let given_up = prepared(rt, alloc, to).give_up();
+    let made = prepared(rt, alloc, to).commit();
+    (given_up.wire().len(), made.wire().len())
 }
+
+const MOVES: &[(To, usize); 4] = &[
+    (To::Set(&[1, 2]), 5),
+    (To::Set(&[0, 1, 2]), 3),
+    (To::Again(1), 6),
+    (To::Again(9), 3),
+];
 
 #[test]
-fn moves_in_two_steps(rt: HostRuntime) -> Result<(), Fail> {
-    let moves = [
-        (To::Set(Who::OneTwo), 5),
-        (To::Set(Who::Three), 3),
-        (To::Again(1), 6),
-        (To::Again(9), 3),
-    ];
-    for (to, sent) in moves {
-        assert_eq!(&rt; given_up(rt.alloc(), to), Ok(3));
-        assert_eq!(&rt; made(rt.alloc(), to), Ok(sent));
+fn moves_in_two_steps(rt: HostRuntime) {
+    for (place, (to, sent)) in MOVES.iter().enumerate() {
+        assert!(&rt; on_the_way(&rt, rt.alloc(), *to) == (3, *sent), "{place}");
     }
-    Ok(())
 }

@@ -1,15 +1,13 @@
 //! Groups that go from set to set, restart and are kicked, in ways that no script can ask for.
 
-use super::requests::Work;
-use super::sets::Who;
 use super::steps::Step::{
     Ask, Audit, Copied, Deliver, Gives, IsFull, Kick, Lose, LoseAll, Move, Named, Open, Ready,
     Repeat, Restart, Sent, Settle, SettleAll, TakeBack, Wire,
 };
-use super::steps::{Step, run_from};
+use super::steps::{Step, expect_from};
 use crate::copies::Says::{Info, Install, Installed, Query};
+use crate::operations::Work;
 use group_types::Party;
-use std::test::Fail;
 
 const ZERO: Party = Party::Osd(0);
 
@@ -31,7 +29,7 @@ const FIVE_DECIDED: &[Step] = &[
     Ask(5, Work::Append("a")),
     Settle(6),
     Audit(&[1, 2, 3, 4, 5]),
-    Move(Who::OneTwo, Who::OneTwo),
+    Move(&[1, 2], &[1, 2]),
     Deliver(0),
     Sent(1, ONE, ZERO, Query(2, 5, 5)),
     Sent(2, ONE, TWO, Query(2, 5, 5)),
@@ -45,7 +43,7 @@ const FIVE_DECIDED: &[Step] = &[
     Ask(6, Work::Append("a")),
     Settle(4),
     Audit(&[1, 2, 3, 4, 5, 6]),
-    Gives(6, ""),
+    Gives(6, &[""]),
 ];
 
 // Peerings that were left half done: twice the first of a set chooses a log, and what it sends then is lost. Request 1 is in
@@ -57,7 +55,7 @@ const HALF_DONE: &[Step] = &[
     Deliver(0),
     Lose(0),
     Lose(0),
-    Move(Who::OneTwo, Who::OneTwo),
+    Move(&[1, 2], &[1, 2]),
     Deliver(0),
     Deliver(3),
     Deliver(3),
@@ -65,7 +63,7 @@ const HALF_DONE: &[Step] = &[
     Lose(0),
     Lose(0),
     Lose(0),
-    Move(Who::ZeroTwo, Who::ZeroTwo),
+    Move(&[0, 2], &[0, 2]),
     Deliver(0),
     Deliver(3),
     Sent(3, TWO, ZERO, Info(3, 1, 0, &[])),
@@ -74,12 +72,12 @@ const HALF_DONE: &[Step] = &[
     Lose(0),
     Lose(0),
     Lose(0),
-    Move(Who::OneTwo, Who::OneTwo),
+    Move(&[1, 2], &[1, 2]),
     Lose(2),
     Ask(2, Work::Append("b")),
     Settle(10),
     Audit(&[2]),
-    Move(Who::Three, Who::Three),
+    Move(&[0, 1, 2], &[0, 1, 2]),
     Deliver(0),
     Sent(3, ZERO, ONE, Query(5, 1, 1)),
     Sent(4, ZERO, TWO, Query(5, 1, 1)),
@@ -100,8 +98,8 @@ const HALF_DONE: &[Step] = &[
     Ask(3, Work::Read),
     Settle(6),
     Audit(&[2, 1, 3]),
-    Gives(1, ""),
-    Gives(3, "ba"),
+    Gives(1, &[""]),
+    Gives(3, &["ba"]),
 ];
 
 // A request that is sent twice is decided once, also where the primary restarts before it hears of it.
@@ -118,7 +116,7 @@ const SENT_TWICE: &[Step] = &[
     Settle(21),
     Wire(0),
     Audit(&[1]),
-    Gives(1, ""),
+    Gives(1, &[""]),
     Ready(true),
     IsFull(false, false),
 ];
@@ -139,8 +137,8 @@ const RESTARTS: &[Step] = &[
     Kick,
     SettleAll,
     Audit(&[1]),
-    Gives(1, ""),
-    Move(Who::ZeroOne, Who::Three),
+    Gives(1, &[""]),
+    Move(&[0, 1], &[0, 1, 2]),
     SettleAll,
     Restart(2),
     Wire(0),
@@ -152,31 +150,31 @@ const RESTARTS: &[Step] = &[
 const BACK: &[Step] = &[
     SettleAll,
     Ready(true),
-    Move(Who::Two, Who::Two),
+    Move(&[2], &[2]),
     Ready(false),
-    Move(Who::TwoZero, Who::ZeroTwo),
+    Move(&[2, 0], &[0, 2]),
     Ready(true),
     Ask(1, Work::Append("a")),
     LoseAll,
     Wire(0),
     Kick,
     Settle(10),
-    Gives(1, ""),
-    Move(Who::Nobody, Who::ZeroTwo),
+    Gives(1, &[""]),
+    Move(&[], &[0, 2]),
     Ready(false),
 ];
 
 // Moves to the same set and to one that differs in who is up.
 const SERVED: &[Step] = &[
     Settle(6),
-    Move(Who::ZeroOne, Who::ZeroOne),
+    Move(&[0, 1], &[0, 1]),
     Restart(2),
     Ask(2, Work::Append("a")),
     Ask(1, Work::Read),
-    Move(Who::ZeroOne, Who::Three),
+    Move(&[0, 1], &[0, 1, 2]),
     Settle(8),
     Audit(&[2, 1]),
-    Gives(1, "a"),
+    Gives(1, &["a"]),
 ];
 
 // Sets that are too small.
@@ -184,7 +182,7 @@ const TOO_SMALL: &[Step] = &[
     Ask(1, Work::Append("a")),
     Restart(2),
     Settle(3),
-    Move(Who::Zero, Who::ZeroOne),
+    Move(&[0], &[0, 1]),
     Ask(2, Work::Append("a")),
     Settle(2),
     Open(1),
@@ -194,21 +192,20 @@ const TOO_SMALL: &[Step] = &[
 ];
 
 // How a group begins, with at least so many members and this set, and what happens.
-const WAYS: [(usize, Who, &[Step]); 7] = [
-    (2, Who::Three, FIVE_DECIDED),
-    (2, Who::Three, HALF_DONE),
-    (2, Who::Three, SENT_TWICE),
-    (2, Who::Three, RESTARTS),
-    (1, Who::ZeroOne, BACK),
-    (2, Who::ZeroOne, SERVED),
-    (2, Who::Zero, TOO_SMALL),
+const WAYS: [(usize, &[u8], &[Step]); 7] = [
+    (2, &[0, 1, 2], FIVE_DECIDED),
+    (2, &[0, 1, 2], HALF_DONE),
+    (2, &[0, 1, 2], SENT_TWICE),
+    (2, &[0, 1, 2], RESTARTS),
+    (1, &[0, 1], BACK),
+    (2, &[0, 1], SERVED),
+    (2, &[0], TOO_SMALL),
 ];
 
 #[test]
-fn groups_move(rt: HostRuntime) -> Result<(), Fail> {
-    for (min_size, who, steps) in WAYS {
-        assert!(rt; min_size >= 1);
-        assert_eq!(rt; run_from(rt.alloc(), min_size, who, steps)?, steps.len());
+fn groups_move(rt: HostRuntime) {
+    for (min_size, members, steps) in WAYS {
+        assert!(&rt; min_size >= 1);
+        expect_from(&rt, rt.alloc(), min_size, members, steps);
     }
-    Ok(())
 }

@@ -1,18 +1,18 @@
 //! The long examples of peering, each with one thing gone wrong at one place. After that the group settles, is kicked and
 //! settles: every request is answered, none is decided twice, and what was answered before stands.
 
-use super::requests::{Work, request};
-use super::sets::{self, Who, set};
-use super::steps::{begun, gives, has_decided};
+use super::requests::request;
+use super::steps::{begun, has_decided, is_answered};
+use crate::operations::Work;
+use crate::sets::{set, up};
 use Event::{Deliver, Lose, LoseAll, Move, Settle, Submit};
 use Party::{Client, Osd};
-use entry_core::{Id, OutOfMemory, Reply, TryCopy};
+use entry_core::{Id, Reply, TryCopy};
 use group_core::Group;
 use group_types::{GroupFault, Party};
-use object_core::{Bytes, NeedsFault};
 use peer_core::Body;
 use std::alloc::Global;
-use std::test::Fail;
+use std::process::Abort;
 
 #[derive(Clone, Copy, PartialEq, Eq)]
 enum Kind {
@@ -51,7 +51,7 @@ enum Event {
     Deliver(Kind, Party),
     Lose(Kind, Party),
     LoseAll,
-    Move(Who, Who),
+    Move(&'static [u8], &'static [u8]),
     Settle,
 }
 
@@ -170,55 +170,41 @@ impl Stage {
         false
     }
 
-    fn submits(&mut self, alloc: Global, work: Work) -> Result<bool, NeedsFault> {
+    fn submits<R: Abort>(&mut self, rt: &R, alloc: Global, work: Work) -> bool {
         self.asked = self.asked.saturating_add(1);
-        let request = request(alloc, self.asked, work)?;
-        Ok(self.group.submit(request).is_ok() && self.counts())
+        let request = request(rt, alloc, self.asked, work);
+        self.group.submit(request).is_ok() && self.counts()
     }
 
-    fn moves(&mut self, acting: Who, up: Who) -> bool {
-        let moved = self.group.new_interval(set(acting), sets::up(up));
+    fn moves(&mut self, acting: &[u8], running: &[u8]) -> bool {
+        let moved = self.group.new_interval(set(acting), up(running));
         moved.is_ok() && self.counts()
     }
 
     // Whether this was accepted.
-    fn plays(&mut self, alloc: Global, event: Event) -> Result<bool, NeedsFault> {
+    fn plays<R: Abort>(&mut self, rt: &R, alloc: Global, event: Event) -> bool {
         match event {
-            Submit(work) => self.submits(alloc, work),
-            Deliver(of, to) => Ok(self.meets_one(of, to, false)),
-            Lose(of, to) => Ok(self.meets_one(of, to, true)),
-            LoseAll => Ok(self.meets_all(true)),
-            Move(acting, up) => Ok(self.moves(acting, up)),
-            Settle => Ok(self.meets_all(false)),
+            Submit(work) => self.submits(rt, alloc, work),
+            Deliver(of, to) => self.meets_one(of, to, false),
+            Lose(of, to) => self.meets_one(of, to, true),
+            LoseAll => self.meets_all(true),
+            Move(acting, running) => self.moves(acting, running),
+            Settle => self.meets_all(false),
         }
     }
 }
 
-// The outputs of a reply, none where it is a denial.
-fn outputs(reply: &Reply) -> Option<&[Bytes]> {
-    match reply {
-        Reply::Done(outputs) => Some(outputs.as_slice()),
-        _ => None,
-    }
-}
-
-fn are_equal(one: &[Bytes], other: &[Bytes]) -> bool {
-    one.len() == other.len()
-        && one
-            .iter()
-            .zip(other)
-            .all(|(one, other)| one.as_slice() == other.as_slice())
-}
-
-// Whether two replies have the same outputs.
+// Whether two replies have the same outputs, which a denial has not.
 fn same(one: &Reply, other: &Reply) -> bool {
-    let Some(one) = outputs(one) else {
+    let (Reply::Done(one), Reply::Done(other)) = (one, other) else {
         return false;
     };
-    match outputs(other) {
-        Some(other) => are_equal(one, other),
-        None => false,
-    }
+    one.len() == other.len()
+        && one
+            .as_slice()
+            .iter()
+            .zip(other.as_slice())
+            .all(|(one, other)| one.as_slice() == other.as_slice())
 }
 
 // Whether each of the first requests is answered, and as it was before where it was.
@@ -253,21 +239,10 @@ fn settles_and_kicks(group: &mut Group) -> bool {
     group.settle().is_ok() && group.kick().is_ok() && group.settle().is_ok()
 }
 
-// Whether all is well with a group at its end, where so many requests were submitted.
-fn ends_well(group: &mut Group, asked: u32) -> Result<bool, OutOfMemory> {
-    let before = group.copy()?;
-    Ok(
-        group.ready()
-            && settles_and_kicks(group)
-            && answers(&before, group, asked)
-            && is_decided_once(group),
-    )
-}
-
 // An example begins with daemons 0, 1 and 2 up, and this set.
 #[derive(Clone, Copy)]
 struct Example {
-    acting: Who,
+    acting: &'static [u8],
     events: &'static [Event],
     // how many messages are met, requests submitted and intervals begun
     count: usize,
@@ -277,13 +252,13 @@ struct Example {
 }
 
 const LATE_ACKNOWLEDGEMENT: Example = Example {
-    acting: Who::ZeroOne,
+    acting: &[0, 1],
     events: &[
         Settle,
         Submit(Work::Append("a")),
         Deliver(Kind::Request, Osd(0)),
         Deliver(Kind::Append, Osd(1)),
-        Move(Who::OneTwo, Who::Three),
+        Move(&[1, 2], &[0, 1, 2]),
         Deliver(Kind::Interval, Osd(1)),
         Deliver(Kind::Query, Osd(2)),
         Deliver(Kind::Info, Osd(1)),
@@ -297,7 +272,7 @@ const LATE_ACKNOWLEDGEMENT: Example = Example {
 };
 
 const REPLY_LOST: Example = Example {
-    acting: Who::Three,
+    acting: &[0, 1, 2],
     events: &[
         Settle,
         Submit(Work::Add),
@@ -307,7 +282,7 @@ const REPLY_LOST: Example = Example {
         Deliver(Kind::Appended, Osd(0)),
         Deliver(Kind::Appended, Osd(0)),
         Lose(Kind::Reply, Client),
-        Move(Who::OneTwo, Who::OneTwo),
+        Move(&[1, 2], &[1, 2]),
         Settle,
         Submit(Work::Get),
         Settle,
@@ -318,28 +293,28 @@ const REPLY_LOST: Example = Example {
 };
 
 const HALF_DONE: Example = Example {
-    acting: Who::Three,
+    acting: &[0, 1, 2],
     events: &[
         Settle,
         Submit(Work::Append("a")),
         Deliver(Kind::Request, Osd(0)),
         Lose(Kind::Append, Osd(1)),
         Lose(Kind::Append, Osd(2)),
-        Move(Who::OneTwo, Who::OneTwo),
+        Move(&[1, 2], &[1, 2]),
         Deliver(Kind::Interval, Osd(1)),
         Deliver(Kind::Query, Osd(2)),
         Deliver(Kind::Info, Osd(1)),
         LoseAll,
-        Move(Who::ZeroTwo, Who::ZeroTwo),
+        Move(&[0, 2], &[0, 2]),
         Deliver(Kind::Interval, Osd(0)),
         Deliver(Kind::Query, Osd(2)),
         Deliver(Kind::Info, Osd(0)),
         LoseAll,
-        Move(Who::OneTwo, Who::OneTwo),
+        Move(&[1, 2], &[1, 2]),
         Lose(Kind::Request, Osd(1)),
         Submit(Work::Append("b")),
         Settle,
-        Move(Who::Three, Who::Three),
+        Move(&[0, 1, 2], &[0, 1, 2]),
         Settle,
         Submit(Work::Read),
         Settle,
@@ -349,91 +324,81 @@ const HALF_DONE: Example = Example {
     last: "ba",
 };
 
-fn begins(
-    alloc: Global,
-    example: Example,
-    mishap: Mishap,
-    at: usize,
-) -> Result<Stage, OutOfMemory> {
-    Ok(Stage {
-        group: begun(alloc, 2, example.acting)?,
+const EXAMPLES: [Example; 3] = [HALF_DONE, REPLY_LOST, LATE_ACKNOWLEDGEMENT];
+
+// An example to its end, where this goes wrong there. Every event must be accepted.
+fn played<R: Abort>(rt: &R, alloc: Global, example: Example, mishap: Mishap, at: usize) -> Stage {
+    let mut stage = Stage {
+        group: begun(rt, alloc, 2, example.acting),
         asked: 0,
         count: 0,
         mishap,
         at,
         late: None,
         passed_over: 0,
-    })
-}
-
-// Whether every event was accepted.
-fn plays_all(alloc: Global, stage: &mut Stage, events: &[Event]) -> Result<bool, NeedsFault> {
-    for event in events {
-        if !stage.plays(alloc, *event)? {
-            return Ok(false);
-        }
+    };
+    for event in example.events {
+        assert!(rt;
+            stage.plays(rt, alloc, *event),
+            "refused, {at} of {}",
+            example.count
+        );
     }
-    Ok(true)
+    stage
 }
 
 // Whether an example in which nothing goes wrong goes as it is told.
-fn goes_as_told(alloc: Global, example: Example) -> Result<bool, NeedsFault> {
-    let mut stage = begins(alloc, example, Mishap::Lost, usize::MAX)?;
-    let accepted = plays_all(alloc, &mut stage, example.events)?;
-    let last = stage.group.answer(Id::new(1, stage.asked));
-    Ok(
-        accepted
-            && stage.passed_over == 0
-            && stage.count == example.count
-            && has_decided(&stage.group, example.decided)
-            && gives(last, &[example.last]),
-    )
+fn goes_as_told<R: Abort>(rt: &R, alloc: Global, example: Example) -> bool {
+    let stage = played(rt, alloc, example, Mishap::Lost, usize::MAX);
+    stage.passed_over == 0
+        && stage.count == example.count
+        && has_decided(&stage.group, example.decided)
+        && is_answered(&stage.group, stage.asked, &[example.last])
+}
+
+#[test]
+fn nothing_goes_wrong(rt: HostRuntime) {
+    for example in EXAMPLES {
+        assert!(&rt; goes_as_told(&rt, rt.alloc(), example), "{}", example.count);
+    }
 }
 
 // Whether an example in which this goes wrong there ends well.
-fn goes_well(
-    alloc: Global,
-    example: Example,
-    mishap: Mishap,
-    at: usize,
-) -> Result<bool, NeedsFault> {
-    let mut stage = begins(alloc, example, mishap, at)?;
-    Ok(plays_all(alloc, &mut stage, example.events)? && ends_well(&mut stage.group, stage.asked)?)
+fn ends_well<R: Abort>(rt: &R, alloc: Global, example: Example, mishap: Mishap, at: usize) -> bool {
+    let mut stage = played(rt, alloc, example, mishap, at);
+    let before = stage.group.copy().expect(rt, "memory");
+    stage.group.ready()
+        && settles_and_kicks(&mut stage.group)
+        && answers(&before, &stage.group, stage.asked)
+        && is_decided_once(&stage.group)
 }
 
-// How often in a row an example ends well, where this goes wrong at one place after another.
-fn times_well(alloc: Global, example: Example, mishap: Mishap) -> Result<usize, NeedsFault> {
+// An example ends well, where this goes wrong at one place after another.
+fn expect_well<R: Abort>(rt: &R, alloc: Global, example: Example, mishap: Mishap) {
     for at in 0..example.count {
-        if !goes_well(alloc, example, mishap, at)? {
-            return Ok(at);
-        }
+        assert!(rt;
+            ends_well(rt, alloc, example, mishap, at),
+            "{at} of {}",
+            example.count
+        );
     }
-    Ok(example.count)
 }
 
-#[test]
-fn nothing_goes_wrong(rt: HostRuntime) -> Result<(), Fail> {
-    for example in [HALF_DONE, REPLY_LOST, LATE_ACKNOWLEDGEMENT] {
-        assert!(&rt; goes_as_told(rt.alloc(), example)?);
-    }
-    Ok(())
-}
+const MISHAPS: [Mishap; 7] = [
+    Mishap::Lost,
+    Mishap::Repeated,
+    Mishap::Overtaken,
+    Mishap::Late,
+    Mishap::Restart(0),
+    Mishap::Restart(1),
+    Mishap::Restart(2),
+];
 
 #[test]
-fn one_thing_goes_wrong(rt: HostRuntime) -> Result<(), Fail> {
-    let mishaps = [
-        Mishap::Lost,
-        Mishap::Repeated,
-        Mishap::Overtaken,
-        Mishap::Late,
-        Mishap::Restart(0),
-        Mishap::Restart(1),
-        Mishap::Restart(2),
-    ];
-    for example in [HALF_DONE, REPLY_LOST, LATE_ACKNOWLEDGEMENT] {
-        for mishap in mishaps {
-            assert_eq!(&rt; times_well(rt.alloc(), example, mishap)?, example.count);
+fn one_thing_goes_wrong(rt: HostRuntime) {
+    for example in EXAMPLES {
+        for mishap in MISHAPS {
+            expect_well(&rt, rt.alloc(), example, mishap);
         }
     }
-    Ok(())
 }

@@ -2,15 +2,16 @@
 
 ghost use Rattle.std.specs.Prelude.{◌≤◌};
 
-use super::requests::{Work, request};
-use super::sets::{self, Who, set};
+use super::requests::request;
 use crate::copies::{Says, is_said};
-use common_types::Name;
-use entry_core::{GroupId, Id, OutOfMemory, Reply, Sealed, TryCopy};
+use crate::looks::{are, gives};
+use crate::operations::{Work, name};
+use crate::sets::{set, up};
+use entry_core::{GroupId, Id, Sealed, TryCopy};
 use group_core::Group;
 use group_types::{GroupFault, Party};
-use object_core::NeedsFault;
 use std::alloc::Global;
+use std::process::Abort;
 
 // An event, which must be accepted, or what must be seen.
 #[derive(Clone, Copy)]
@@ -21,13 +22,12 @@ pub(super) enum Step {
     Lose(usize),
     LoseAll,
     Repeat(usize),
-    Move(Who, Who),
+    Move(&'static [u8], &'static [u8]),
     Restart(u8),
     Kick,
     Settle(u32),
     SettleAll,
-    Doubled(u32),
-    Refused(u32),
+    Refused(u32, GroupFault),
     Stuck(u8),
     Named(&'static str, u32),
     Has(u32),
@@ -38,8 +38,7 @@ pub(super) enum Step {
     Audit(&'static [u32]),
     Audited(usize),
     Open(u32),
-    Gives(u32, &'static str),
-    GivesTwo(u32, &'static str, &'static str),
+    Gives(u32, &'static [&'static str]),
     // The message at this place: from whom, to whom, and what it says.
     Sent(usize, Party, Party, Says),
     // A copy settles, and leaves the group as it is.
@@ -47,39 +46,21 @@ pub(super) enum Step {
 }
 
 use Step::{
-    Ask, Audit, Audited, Copied, Deliver, Doubled, Gives, GivesTwo, Has, IsFull, Kick, Lacks, Lose,
-    LoseAll, Move, Named, Open, Ready, Refused, Repeat, Restart, Sent, Settle, SettleAll, Stuck,
-    TakeBack, Wire,
+    Ask, Audit, Audited, Copied, Deliver, Gives, Has, IsFull, Kick, Lacks, Lose, LoseAll, Move,
+    Named, Open, Ready, Refused, Repeat, Restart, Sent, Settle, SettleAll, Stuck, TakeBack, Wire,
 };
 
-// Whether a reply has just these outputs.
-pub(super) fn gives(reply: Option<&Reply>, outputs: &[&str]) -> bool {
-    let Some(Reply::Done(given)) = reply else {
-        return false;
-    };
-    if given.as_slice().len() != outputs.len() {
-        return false;
+// Whether the request of a number is answered by just these outputs.
+pub(super) fn is_answered(group: &Group, number: u32, outputs: &[&str]) -> bool {
+    match group.answer(Id::new(1, number)) {
+        Some(reply) => gives(reply, outputs),
+        None => false,
     }
-    for (bytes, output) in given.as_slice().iter().zip(outputs) {
-        if bytes.as_slice() != output.as_bytes() {
-            return false;
-        }
-    }
-    true
 }
 
 // Whether the requests of these numbers were decided, in this order.
 pub(super) fn has_decided(group: &Group, numbers: &[u32]) -> bool {
-    let decided = group.decided();
-    if decided.len() != numbers.len() || group.decided_count() != numbers.len() {
-        return false;
-    }
-    for (entry, number) in decided.iter().zip(numbers) {
-        if entry.sealed.id() != Id::new(1, *number) {
-            return false;
-        }
-    }
-    true
+    group.decided_count() == numbers.len() && are(group.decided(), numbers)
 }
 
 fn is_sent(group: &Group, place: usize, from: Party, to: Party, says: Says) -> bool {
@@ -89,9 +70,9 @@ fn is_sent(group: &Group, place: usize, from: Party, to: Party, says: Says) -> b
     }
 }
 
-fn copy_settles(group: &Group) -> Result<bool, OutOfMemory> {
-    let mut copy = group.copy()?;
-    Ok(copy.settle().is_ok() && copy.wire().is_empty())
+fn copy_settles<R: Abort>(rt: &R, group: &Group) -> bool {
+    let mut copy = group.copy().expect(rt, "memory");
+    copy.settle().is_ok() && copy.wire().is_empty()
 }
 
 // Whether a group looks as a step says. One that asks for no look does.
@@ -110,26 +91,23 @@ fn sees(group: &Group, step: Step) -> bool {
         Audit(numbers) => has_decided(group, numbers),
         Open(number) => group.answer(Id::new(1, number)).is_none(),
         Sent(place, from, to, says) => is_sent(group, place, from, to, says),
-        Gives(number, output) => gives(group.answer(Id::new(1, number)), &[output]),
-        GivesTwo(number, first, second) => {
-            gives(group.answer(Id::new(1, number)), &[first, second])
-        }
+        Gives(number, outputs) => is_answered(group, number, outputs),
         _ => true,
     }
 }
 
 // Whether a move, a restart or a kick is accepted, or refused as it must be.
-fn changes(group: &mut Group, step: Step) -> Result<bool, OutOfMemory> {
+fn changes<R: Abort>(rt: &R, group: &mut Group, step: Step) -> bool {
     match step {
-        Move(acting, up) => { Ok(group.new_interval(set(acting), sets::up(up)).is_ok()) }
-        Restart(daemon) => Ok(group.restart(daemon).is_ok()),
-        Stuck(daemon) => Ok(matches!(group.restart(daemon), Err(GroupFault::Full))),
-        Kick => Ok(group.kick().is_ok()),
-        Settle(count) => Ok(matches!(group.settle(), Ok(delivered) if delivered == count)),
-        SettleAll => Ok(group.settle().is_ok()),
-        Audited(count) => Ok(group.audit()?.len() == count),
-        Copied => copy_settles(group),
-        _ => Ok(true),
+        Move(acting, running) => group.new_interval(set(acting), up(running)).is_ok(),
+        Restart(daemon) => group.restart(daemon).is_ok(),
+        Stuck(daemon) => matches!(group.restart(daemon), Err(GroupFault::Full)),
+        Kick => group.kick().is_ok(),
+        Settle(count) => matches!(group.settle(), Ok(delivered) if delivered == count),
+        SettleAll => group.settle().is_ok(),
+        Audited(count) => group.audit().expect(rt, "memory").len() == count,
+        Copied => copy_settles(rt, group),
+        _ => sees(group, step),
     }
 }
 
@@ -141,17 +119,6 @@ fn loses_all(group: &mut Group) -> bool {
         }
     }
     true
-}
-
-// Whether a message is delivered, lost or repeated, or refused as it must be.
-fn passes(group: &mut Group, step: Step) -> bool {
-    match step {
-        Deliver(k) => group.deliver(k).is_ok(),
-        Lose(k) => group.lose(k).is_ok(),
-        LoseAll => loses_all(group),
-        Repeat(k) => group.repeat(k).is_ok(),
-        _ => true,
-    }
 }
 
 // Submits a request, and takes it back at once where it was accepted. Says whether it was.
@@ -166,64 +133,59 @@ fn submits_and_takes_back(group: &mut Group, request: Sealed) -> bool {
     }
 }
 
-// Whether a request is accepted, or refused as it must be.
-fn asks(alloc: Global, group: &mut Group, step: Step) -> Result<bool, NeedsFault> {
+// Whether a step goes as it says: whether an event is accepted, or refused as it must be, or what must be seen is.
+fn goes<R: Abort>(rt: &R, alloc: Global, group: &mut Group, step: Step) -> bool {
     match step {
-        Ask(number, work) => {
-            let request = request(alloc, number, work)?;
-            Ok(group.submit(request).is_ok())
+        Ask(number, work) => group.submit(request(rt, alloc, number, work)).is_ok(),
+        Refused(number, fault) => {
+            let request = request(rt, alloc, number, Work::Read);
+            matches!(group.submit(request), Err(told) if told == fault)
         }
         TakeBack(number) => {
-            let request = request(alloc, number, Work::Append("a"))?;
-            Ok(submits_and_takes_back(group, request))
+            let request = request(rt, alloc, number, Work::Append("a"));
+            submits_and_takes_back(group, request)
         }
-        Doubled(number) => {
-            let request = request(alloc, number, Work::Read)?;
-            Ok(matches!(group.submit(request), Err(GroupFault::Doubled)))
-        }
-        Refused(number) => {
-            let request = request(alloc, number, Work::Read)?;
-            Ok(matches!(group.submit(request), Err(GroupFault::Full)))
-        }
-        _ => Ok(true),
+        Deliver(k) => group.deliver(k).is_ok(),
+        Lose(k) => group.lose(k).is_ok(),
+        LoseAll => loses_all(group),
+        Repeat(k) => group.repeat(k).is_ok(),
+        _ => changes(rt, group, step),
     }
 }
 
-// How many of these steps go as they say, one after another, to the first that does not.
-pub(super) fn run(alloc: Global, group: &mut Group, steps: &[Step]) -> Result<usize, NeedsFault> {
-    for (gone, step) in steps.iter().enumerate() {
-        let right = passes(group, *step)
-            && asks(alloc, group, *step)?
-            && changes(group, *step)?
-            && sees(group, *step);
-        if !right {
-            return Ok(gone);
-        }
+// A group takes these steps, one after another, each of which must go as it says.
+pub(super) fn expect<R: Abort>(rt: &R, alloc: Global, group: &mut Group, steps: &[Step]) {
+    for (place, step) in steps.iter().enumerate() {
+        assert!(rt;
+            goes(rt, alloc, group, *step),
+            "step {place} of {}",
+            steps.len()
+        );
     }
-    Ok(steps.len())
 }
 
 // A group of daemons 0, 1 and 2, all up, that begins with this set.
-pub(super) fn begun(alloc: Global, min_size: usize, who: Who) -> Result<Group, OutOfMemory>
+pub(super) fn begun<R: Abort>(rt: &R, alloc: Global, min_size: usize, members: &[u8]) -> Group
     requires { 1 ≤ min_size }
 {
     let group = GroupId {
-        pool: Name::new(alloc, "data")?,
+        pool: name(rt, alloc, "data"),
         number: 5,
     };
-    let acting = set(who);
-    Group::new(alloc, group, min_size, 3, acting, sets::up(Who::Three))
+    let acting = set(members);
+    Group::new(alloc, group, min_size, 3, acting, up(&[0, 1, 2])).expect(rt, "memory")
 }
 
-// A group of daemons 0, 1 and 2 that takes these steps, and how many of them go as they say.
-pub(super) fn run_from(
+// Such a group takes these steps.
+pub(super) fn expect_from<R: Abort>(
+    rt: &R,
     alloc: Global,
     min_size: usize,
-    who: Who,
+    members: &[u8],
     steps: &[Step],
-) -> Result<usize, NeedsFault>
+)
     requires { 1 ≤ min_size }
 {
-    let mut group = begun(alloc, min_size, who)?;
-    run(alloc, &mut group, steps)
+    let mut group = begun(rt, alloc, min_size, members);
+    expect(rt, alloc, &mut group, steps);
 }
