@@ -6,7 +6,6 @@ use cap_text::{
 };
 use std::alloc::Global;
 use std::process::Abort;
-use std::test::Fail;
 
 /// Texts that use profiles, which need not be there, and their canonical forms.
 const USES: &[(&str, &str); 3] = &[
@@ -21,53 +20,39 @@ const USES: &[(&str, &str); 3] = &[
     ),
 ];
 
-fn canonical(alloc: Global, text: &str) -> Result<String, Fail> {
-    let list = parse(alloc, text)?;
-    Ok(print(alloc, &list)?)
-}
-
-fn expect_canonical(rt: &impl Abort, alloc: Global) -> Result<(), Fail> {
-    for (text, want) in USES {
-        let printed = canonical(alloc, text)?;
-        assert_eq!(rt; printed.as_str(), *want, "{text}");
-    }
-    Ok(())
-}
-
 #[test]
-fn uses_of_profiles_are_read_and_printed(rt: HostRuntime) -> Result<(), Fail> {
+fn uses_of_profiles_are_read_and_printed(rt: HostRuntime) {
     spells_at_most_one();
-    expect_canonical(&rt, rt.alloc())
+    for (text, want) in USES {
+        let list = parse(rt.alloc(), text).expect(&rt, "a list");
+        let printed = print(rt.alloc(), &list).expect(&rt, "memory");
+        assert_eq!(&rt; printed.as_str(), *want, "{text}");
+    }
 }
 
 /// A list that allows all.
-fn all(alloc: Global) -> Result<CapList, Fail> {
+fn all<R: Abort>(rt: &R, alloc: Global) -> CapList {
     let mut grants = Vec::new(alloc);
-    grants.push(Grant::Allow(AllowGrant {
+    let grant = Grant::Allow(AllowGrant {
         access: Access::All,
         pool: None,
         namespace: None,
         prefix: None,
         tag: None,
-    }))?;
-    if !CapList::can_hold(grants.as_slice()) {
-        return Err(Fail::from("grants that no text spells"));
-    }
-    Ok(CapList::from_vec(grants))
-}
-
-/// What is printed of a copy of it.
-fn all_printed(alloc: Global) -> Result<String, Fail> {
-    let copy = all(alloc)?.copy()?;
-    Ok(print(alloc, &copy)?)
+    });
+    grants.push(grant).expect(rt, "memory");
+    assert!(rt; CapList::can_hold(grants.as_slice()));
+    CapList::from_vec(grants)
 }
 
 #[test]
-fn lists_are_made_and_printed(rt: HostRuntime) -> Result<(), Fail> {
+fn lists_are_made_and_printed(rt: HostRuntime) {
+    let alloc = rt.alloc();
     spelled_is_spellable();
     spellable_is_spelled();
-    assert_eq!(rt; all_printed(rt.alloc())?.as_str(), "allow *");
-    let nothing = CapList::empty(rt.alloc());
-    assert_eq!(rt; print(rt.alloc(), &nothing)?.as_str(), "");
-    Ok(())
+    let copy = all(&rt, alloc).copy().expect(&rt, "memory");
+    let printed = print(alloc, &copy).expect(&rt, "memory");
+    assert_eq!(&rt; printed.as_str(), "allow *");
+    let nothing = print(alloc, &CapList::empty(alloc)).expect(&rt, "memory");
+    assert_eq!(&rt; nothing.as_str(), "");
 }

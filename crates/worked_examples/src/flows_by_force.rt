@@ -1,13 +1,13 @@
 //! Flows of small clusters, compared with the distances that stepping through each place in turn comes to.
 
-use common_types::{Name, OutOfMemory, Tags};
+use crate::drawing::{draw, pick};
+use crate::pieces::{TagRow, entities_of, is_printed, pools_of};
 use flow_core::{Found, chains_from};
-use gate_text::{Entity, Printed, ticket_of_text};
+use gate_text::{Entity, ticket_of_text};
 use share_core::{Pool, Touch, share, share_in};
 use share_text::flow_entities;
 use std::alloc::Global;
 use std::process::Abort;
-use std::test::Fail;
 use verdict_core::Ticket;
 
 /// How many entities a cluster has, each of which goes by a digit.
@@ -42,58 +42,31 @@ const READS: &[&str] = &[
     " pool=",
 ];
 
-/// The next of a fixed row of numbers.
-fn draw(row: &mut u64) -> usize {
-    *row = row
-        .wrapping_mul(6364136223846793005)
-        .wrapping_add(1442695040888963407);
-    (*row >> 33) as usize
-}
+/// Some of the pools that the texts name.
+const POOLS: &[(&str, &[TagRow]); 2] = &[("a", &[]), ("c", &[])];
 
-fn pick(row: &mut u64, words: &[&'static str]) -> &'static str {
-    if words.is_empty() {
-        return "";
-    }
-    words[draw(row) % words.len()]
-}
-
-/// An entity that goes by a digit.
-fn draw_entity(alloc: Global, row: &mut u64, digit: &str) -> Result<Entity, OutOfMemory> {
-    let mut osd = String::from_str(alloc, pick(row, WRITES))?;
-    osd.push_str(pick(row, READS))?;
-    Ok(Entity {
-        name: String::from_str(alloc, digit)?,
-        osd,
-    })
-}
-
-fn draw_entities(alloc: Global, row: &mut u64) -> Result<Vec<Entity>, OutOfMemory> {
+/// Entities that go by the digits.
+fn draw_entities<R: Abort>(rt: &R, alloc: Global, row: &mut u64) -> Vec<Entity> {
     let mut entities = Vec::new(alloc);
     for digit in ["0", "1", "2", "3", "4", "5", "6"] {
-        entities.push(draw_entity(alloc, row, digit)?)?;
+        let (writes, reads) = (pick(row, WRITES), pick(row, READS));
+        let entity = Entity {
+            name: String::from_str(alloc, digit).expect(rt, "memory"),
+            osd: format!(in alloc; "{writes}{reads}").expect(rt, "memory"),
+        };
+        entities.push(entity).expect(rt, "memory");
     }
-    Ok(entities)
-}
-
-/// Some of the pools that the texts name.
-fn some_pools(alloc: Global) -> Result<Vec<Pool>, Fail> {
-    let mut pools = Vec::new(alloc);
-    for name in ["a", "c"] {
-        pools.push(Pool {
-            name: Name::new(alloc, name)?,
-            tags: Tags::from_vec(Vec::new(alloc)),
-        })?;
-    }
-    Ok(pools)
+    entities
 }
 
 /// The tickets of the entities, and none where one has no grants.
-fn tickets_of(alloc: Global, entities: &[Entity]) -> Result<Vec<Option<Ticket>>, OutOfMemory> {
+fn tickets_of<R: Abort>(rt: &R, alloc: Global, entities: &[Entity]) -> Vec<Option<Ticket>> {
     let mut tickets = Vec::new(alloc);
     for entity in entities {
-        tickets.push(ticket_of_text(alloc, entity.osd.as_str()).ok())?;
+        let ticket = ticket_of_text(alloc, entity.osd.as_str()).ok();
+        tickets.push(ticket).expect(rt, "memory");
     }
-    Ok(tickets)
+    tickets
 }
 
 /// Whether the one writes what the other reads.
@@ -163,7 +136,7 @@ fn walked(steps: &Distances, start: usize, places: &[usize]) -> u8 {
 }
 
 /// The writer, those between and the reader of a line: the reader stands second in it.
-fn places_of(alloc: Global, line: &str) -> Result<Vec<usize>, OutOfMemory> {
+fn places_of<R: Abort>(rt: &R, alloc: Global, line: &str) -> Vec<usize> {
     let mut places = Vec::new(alloc);
     let mut reader = None;
     for digit in line.bytes().filter(|byte| byte.is_ascii_digit()) {
@@ -171,36 +144,37 @@ fn places_of(alloc: Global, line: &str) -> Result<Vec<usize>, OutOfMemory> {
         if places.len() == 1 && reader.is_none() {
             reader = Some(place);
         } else {
-            places.push(place)?;
+            places.push(place).expect(rt, "memory");
         }
     }
     if let Some(reader) = reader {
-        places.push(reader)?;
+        places.push(reader).expect(rt, "memory");
     }
-    Ok(places)
+    places
 }
 
 /// Whether a line tells of a shortest chain from the one to the other.
-fn is_line_right(
+fn is_line_right<R: Abort>(
+    rt: &R,
     alloc: Global,
     line: &str,
     steps: &Distances,
     ends: (usize, usize),
     far: u8,
-) -> Result<bool, OutOfMemory> {
-    let places = places_of(alloc, line)?;
+) -> bool {
+    let places = places_of(rt, alloc, line);
     match places.split_first() {
-        None => Ok(false),
-        Some((writer, rest)) => Ok(
+        None => false,
+        Some((writer, rest)) => {
             *writer == ends.0
                 && rest.last().copied() == Some(ends.1)
-                && walked(steps, *writer, rest) == far,
-        ),
+                && walked(steps, *writer, rest) == far
+        }
     }
 }
 
 /// Whether each two of which the one is reached have a line, in order, and no others.
-fn are_lines_right(alloc: Global, text: &str, steps: &Distances) -> Result<bool, OutOfMemory> {
+fn are_lines_right<R: Abort>(rt: &R, alloc: Global, text: &str, steps: &Distances) -> bool {
     let far = all_through(*steps);
     let mut lines = text.lines();
     for writer in 0..COUNT {
@@ -208,60 +182,61 @@ fn are_lines_right(alloc: Global, text: &str, steps: &Distances) -> Result<bool,
             let expected = far_from(&far, writer, reader);
             if reader != writer && expected < FAR {
                 let line = lines.next().unwrap_or("");
-                if !is_line_right(alloc, line, steps, (writer, reader), expected)? {
-                    return Ok(false);
+                if !is_line_right(rt, alloc, line, steps, (writer, reader), expected) {
+                    return false;
                 }
             }
         }
     }
-    Ok(lines.next().is_none())
+    lines.next().is_none()
 }
 
 /// Whether the flows of some entities are those that distances tell.
-fn are_flows_right(
+fn are_flows_right<R: Abort>(
+    rt: &R,
     alloc: Global,
     entities: &[Entity],
     pools: Option<&[Pool]>,
-) -> Result<bool, OutOfMemory> {
-    let tickets = tickets_of(alloc, entities)?;
+) -> bool {
+    let tickets = tickets_of(rt, alloc, entities);
     let steps = direct(&tickets, pools);
-    let printed = flow_entities(alloc, entities, pools, true)?;
-    let is_any = !printed.text.is_empty();
-    Ok(printed.fails == is_any && are_lines_right(alloc, printed.text.as_str(), &steps)?)
+    let printed = flow_entities(alloc, entities, pools, true).expect(rt, "memory");
+    printed.fails != printed.text.is_empty()
+        && are_lines_right(rt, alloc, printed.text.as_str(), &steps)
 }
 
 #[test]
-fn flows_are_those_of_distances(rt: HostRuntime) -> Result<(), Fail> {
+fn flows_are_those_of_distances(rt: HostRuntime) {
     let alloc = rt.alloc();
-    let pools = some_pools(alloc)?;
+    let pools = pools_of(&rt, alloc, POOLS);
     let mut row = 11u64;
     for _ in 0..24u32 {
-        let entities = draw_entities(alloc, &mut row)?;
-        assert!(rt; are_flows_right(alloc, &entities, None)?);
-        assert!(rt; are_flows_right(alloc, &entities, Some(&pools))?);
+        let entities = draw_entities(&rt, alloc, &mut row);
+        assert!(&rt; are_flows_right(&rt, alloc, &entities, None));
+        assert!(&rt; are_flows_right(&rt, alloc, &entities, Some(&pools)));
     }
-    Ok(())
 }
 
 /// The steps of random places, some of which do not exist.
-fn draw_steps(
+fn draw_steps<R: Abort>(
+    rt: &R,
     alloc: Global,
     row: &mut u64,
     found: &mut Distances,
-) -> Result<Vec<Vec<usize>>, OutOfMemory> {
+) -> Vec<Vec<usize>> {
     let mut steps = Vec::new(alloc);
     for distances in found.iter_mut() {
         let mut places = Vec::new(alloc);
         for _ in 0..draw(row) % 4 {
             let place = draw(row) % 9;
-            places.push(place)?;
+            places.push(place).expect(rt, "memory");
             if let Some(far) = distances.get_mut(place) {
                 *far = 1;
             }
         }
-        steps.push(places)?;
+        steps.push(places).expect(rt, "memory");
     }
-    Ok(steps)
+    steps
 }
 
 /// Whether it is a chain of steps to the end, as long as the distance.
@@ -290,18 +265,16 @@ fn are_chains_right(chains: &[Found], start: usize, steps: &Distances) -> bool {
 }
 
 #[test]
-fn chains_are_those_of_distances(rt: HostRuntime) -> Result<(), Fail> {
-    let alloc = rt.alloc();
+fn chains_are_those_of_distances(rt: HostRuntime) {
     let mut row = 5u64;
     for _ in 0..40u32 {
         let mut found = [[FAR; COUNT]; COUNT];
-        let steps = draw_steps(alloc, &mut row, &mut found)?;
+        let steps = draw_steps(&rt, rt.alloc(), &mut row, &mut found);
         for start in 0..9usize {
-            let chains = chains_from(alloc, &steps, start)?;
-            assert!(rt; are_chains_right(&chains, start, &found));
+            let chains = chains_from(rt.alloc(), &steps, start).expect(&rt, "memory");
+            assert!(&rt; are_chains_right(&chains, start, &found));
         }
     }
-    Ok(())
 }
 
 /// What comes from a database over a lake to reports, and to a dashboard, which writes back.
@@ -314,25 +287,18 @@ const CLUSTER: &[(&str, &str); 6] = &[
     ("client.apart", "allow rw pool=apart"),
 ];
 
-/// What is printed of them.
-fn told(alloc: Global) -> Result<Printed, OutOfMemory> {
-    let mut entities = Vec::new(alloc);
-    for (name, osd) in CLUSTER {
-        entities.push(Entity {
-            name: String::from_str(alloc, name)?,
-            osd: String::from_str(alloc, osd)?,
-        })?;
-    }
-    flow_entities(alloc, entities.as_slice(), None, false)
-}
+const FLOWS: &str = "\
+client.database reaches client.lake
+client.database reaches client.report through client.lake
+client.database reaches client.reader through client.lake, client.report
+client.lake reaches client.report
+client.lake reaches client.reader through client.report
+client.report reaches client.reader
+";
 
 #[test]
-fn flows_print(rt: HostRuntime) -> Result<(), Fail> {
-    let printed = told(rt.alloc())?;
-    assert_eq!(rt;
-        printed.text.as_str(),
-        "client.database reaches client.lake\nclient.database reaches client.report through client.lake\nclient.database reaches client.reader through client.lake, client.report\nclient.lake reaches client.report\nclient.lake reaches client.reader through client.report\nclient.report reaches client.reader\n"
-    );
-    assert!(rt; !printed.fails);
-    Ok(())
+fn flows_print(rt: HostRuntime) {
+    let entities = entities_of(&rt, rt.alloc(), CLUSTER);
+    let printed = flow_entities(rt.alloc(), &entities, None, false).expect(&rt, "memory");
+    assert!(&rt; is_printed(&printed, FLOWS, false), "{}", printed.text);
 }

@@ -4,9 +4,13 @@
 #![tactic(auto)]
 
 #[cfg(test)]
+mod alphabets;
+#[cfg(test)]
 mod capability_texts;
 #[cfg(test)]
 mod comparisons_by_force;
+#[cfg(test)]
+mod drawing;
 #[cfg(test)]
 mod flows_by_force;
 #[cfg(test)]
@@ -15,6 +19,8 @@ mod linting_by_force;
 mod maps;
 #[cfg(test)]
 mod objects;
+#[cfg(test)]
+mod pieces;
 #[cfg(test)]
 mod placement;
 #[cfg(test)]
@@ -27,8 +33,6 @@ mod sharing_by_force;
 mod sharing_by_pools;
 #[cfg(test)]
 mod sharing_in_pools;
-#[cfg(test)]
-mod tickets;
 #[cfg(test)]
 mod times;
 #[cfg(test)]

@@ -1,81 +1,77 @@
 //! Maps by each call: old epochs, what a command will lead to, and copies. `sessions/maps` shows commands, refusals and limits.
 
+use crate::pieces::name;
 use common_types::Name;
-use map_core::{ClusterMap, Epoch, MapCommand, MapFault, OutOfMemory};
+use map_core::{ClusterMap, Epoch, MapCommand, MapFault};
 use place_core::ActingSet;
 use std::alloc::Global;
 use std::process::Abort;
-use std::test::Fail;
 
 /// The key `k` of the application of the pool gets a value.
-fn set(alloc: Global, value: &str) -> Result<MapCommand, OutOfMemory> {
-    Ok(MapCommand::AppSet {
-        pool: Name::new(alloc, "data")?,
-        app: Name::new(alloc, "app")?,
-        key: Name::new(alloc, "k")?,
-        value: Name::new(alloc, value)?,
-    })
-}
-
-fn unset(alloc: Global) -> Result<MapCommand, OutOfMemory> {
-    Ok(MapCommand::AppRm {
-        pool: Name::new(alloc, "data")?,
-        app: Name::new(alloc, "app")?,
-        key: Name::new(alloc, "k")?,
-    })
-}
-
-fn enable(alloc: Global) -> Result<MapCommand, OutOfMemory> {
-    Ok(MapCommand::AppEnable {
-        pool: Name::new(alloc, "data")?,
-        app: Name::new(alloc, "app")?,
-    })
+fn set<R: Abort>(rt: &R, alloc: Global, value: &str) -> MapCommand {
+    MapCommand::AppSet {
+        pool: name(rt, alloc, "data"),
+        app: name(rt, alloc, "app"),
+        key: name(rt, alloc, "k"),
+        value: name(rt, alloc, value),
+    }
 }
 
 /// A pool of so many groups.
-fn create(alloc: Global, pg_num: u32) -> Result<MapCommand, OutOfMemory> {
-    Ok(MapCommand::PoolCreate {
-        name: Name::new(alloc, "data")?,
+fn create<R: Abort>(rt: &R, alloc: Global, pg_num: u32) -> MapCommand {
+    MapCommand::PoolCreate {
+        name: name(rt, alloc, "data"),
         pg_num,
         size: 3,
         min_size: 2,
-    })
+    }
 }
 
 /// The command that words name: on the pool `data`, its application `app`, or a daemon.
-fn command(alloc: Global, words: &str) -> Result<MapCommand, OutOfMemory> {
+fn command<R: Abort>(rt: &R, alloc: Global, words: &str) -> MapCommand {
     match words {
-        "create 2" => create(alloc, 2),
-        "create 4" => create(alloc, 4),
-        "enable" => enable(alloc),
-        "set v" => set(alloc, "v"),
-        "set w" => set(alloc, "w"),
-        "rm" => unset(alloc),
-        "up 1" => Ok(MapCommand::OsdUp(1)),
-        "down 1" => Ok(MapCommand::OsdDown(1)),
-        "restart 0" => Ok(MapCommand::OsdRestart(0)),
-        _ => Ok(MapCommand::OsdRestart(2)),
+        "create 2" => create(rt, alloc, 2),
+        "create 4" => create(rt, alloc, 4),
+        "enable" => MapCommand::AppEnable {
+            pool: name(rt, alloc, "data"),
+            app: name(rt, alloc, "app"),
+        },
+        "set v" => set(rt, alloc, "v"),
+        "set w" => set(rt, alloc, "w"),
+        "rm" => MapCommand::AppRm {
+            pool: name(rt, alloc, "data"),
+            app: name(rt, alloc, "app"),
+            key: name(rt, alloc, "k"),
+        },
+        "up 1" => MapCommand::OsdUp(1),
+        "down 1" => MapCommand::OsdDown(1),
+        "restart 0" => MapCommand::OsdRestart(0),
+        "restart 2" => MapCommand::OsdRestart(2),
+        _ => panic!(rt; "no command: {words}"),
     }
 }
 
-/// Carries out the commands that lines name, of which none may be refused.
-fn apply(alloc: Global, map: &mut ClusterMap, lines: &[&str]) -> Result<(), MapFault> {
+/// A map of three daemons behind the commands that lines name, of which none may be refused.
+fn map_behind<R: Abort>(rt: &R, alloc: Global, lines: &[&str]) -> ClusterMap {
+    let mut map = ClusterMap::new(alloc, 3).expect(rt, "memory");
     for line in lines {
-        map.apply(command(alloc, line)?)?;
+        let command = command(rt, alloc, line);
+        map.apply(command).expect(rt, "a command");
     }
-    Ok(())
+    map
 }
 
 /// A pool at an epoch: the epoch, its numbers, how many applications it has, and the first value of the first one; or the refusal.
-fn view_shown(
+fn view_shown<R: Abort>(
+    rt: &R,
     alloc: Global,
     map: &ClusterMap,
     pool: &Name,
     epoch: Epoch,
-) -> Result<String, OutOfMemory> {
+) -> String {
     let view = match map.view(pool, epoch) {
-        Ok(view) => view.copy()?,
-        Err(fault) => return fault.to_string(alloc),
+        Ok(view) => view.copy().expect(rt, "memory"),
+        Err(fault) => return fault.to_string(alloc).expect(rt, "memory"),
     };
     let value = match view.tags.as_slice() {
         [tag, ..] => match tag.pairs.as_slice() {
@@ -84,10 +80,8 @@ fn view_shown(
         },
         [] => "none",
     };
-    format!(in alloc;
-        "{} {} {} {} {value}",
-        view.epoch, view.pg_num, view.size, view.min_size
-    )
+    let (pg_num, size, min_size) = (view.pg_num, view.size, view.min_size);
+    format!(in alloc; "{} {pg_num} {size} {min_size} {value}", view.epoch).expect(rt, "memory")
 }
 
 const COMMANDS: &[&str; 8] = &[
@@ -113,27 +107,17 @@ const VIEWS: &[(Epoch, &str); 8] = &[
     (10, "M11 NoEpoch"),
 ];
 
-fn expect_views(
-    rt: &impl Abort,
-    alloc: Global,
-    map: &ClusterMap,
-    pool: &Name,
-) -> Result<(), OutOfMemory> {
-    for (epoch, want) in VIEWS {
-        let shown = view_shown(alloc, map, pool, *epoch)?;
-        assert_eq!(rt; shown.as_str(), *want, "at {epoch}");
-    }
-    Ok(())
-}
-
 #[test]
-fn pools_are_seen_at_old_epochs(rt: HostRuntime) -> Result<(), Fail> {
-    let data = Name::new(rt.alloc(), "data")?;
-    let mut map = ClusterMap::new(rt.alloc(), 3)?;
-    apply(rt.alloc(), &mut map, COMMANDS)?;
-    assert_eq!(rt; (map.epoch(), map.daemons(), map.pools().len()), (9, 3, 1));
-    assert!(rt; map.pool(&data).is_some());
-    Ok(expect_views(&rt, rt.alloc(), &map, &data)?)
+fn pools_are_seen_at_old_epochs(rt: HostRuntime) {
+    let alloc = rt.alloc();
+    let data = name(&rt, alloc, "data");
+    let map = map_behind(&rt, alloc, COMMANDS);
+    assert_eq!(&rt; (map.epoch(), map.daemons(), map.pools().len()), (9, 3, 1));
+    assert!(&rt; map.pool(&data).is_some());
+    for (epoch, want) in VIEWS {
+        let shown = view_shown(&rt, alloc, &map, &data, *epoch);
+        assert_eq!(&rt; shown.as_str(), *want, "at {epoch}");
+    }
 }
 
 /// The acting sets of groups, and the refusal of one that is not there.
@@ -158,12 +142,6 @@ fn has_acting(
         }
 }
 
-fn expect_acting(rt: &impl Abort, map: &ClusterMap, pool: &Name) {
-    for (group, members, fault) in ACTING {
-        assert!(rt; has_acting(map, pool, *group, members, *fault), "{group}");
-    }
-}
-
 /// Whether a command leads to this acting set of group 1 and begins an interval there, and then does.
 fn leads_to(map: &mut ClusterMap, command: MapCommand, pool: &Name, members: &[u8]) -> bool {
     if map.refusal(&command).is_some() {
@@ -183,62 +161,45 @@ const STEPS: &[(&str, &[u8]); 3] = &[
     ("restart 2", &[1, 0, 2]),
 ];
 
-fn expect_steps(
-    rt: &impl Abort,
-    alloc: Global,
-    map: &mut ClusterMap,
-    pool: &Name,
-) -> Result<(), OutOfMemory> {
-    for (line, members) in STEPS {
-        let command = command(alloc, line)?;
-        assert!(rt; leads_to(map, command, pool, members), "{line}");
-    }
-    Ok(())
-}
-
 #[test]
-fn acting_sets_as_daemons_come_and_go(rt: HostRuntime) -> Result<(), Fail> {
-    let data = Name::new(rt.alloc(), "data")?;
-    let mut map = ClusterMap::new(rt.alloc(), 3)?;
-    apply(rt.alloc(), &mut map, &["create 4"])?;
-    expect_acting(&rt, &map, &data);
-    Ok(expect_steps(&rt, rt.alloc(), &mut map, &data)?)
+fn acting_sets_as_daemons_come_and_go(rt: HostRuntime) {
+    let alloc = rt.alloc();
+    let data = name(&rt, alloc, "data");
+    let mut map = map_behind(&rt, alloc, &["create 4"]);
+    for (group, members, fault) in ACTING {
+        assert!(&rt; has_acting(&map, &data, *group, members, *fault), "{group}");
+    }
+    for (line, members) in STEPS {
+        let command = command(&rt, alloc, line);
+        assert!(&rt; leads_to(&mut map, command, &data, members), "{line}");
+    }
 }
 
 /// Whether a copy goes on from the map once daemon 2 went down in it, the map does not go on from the copy, and daemon 2 is up in the map alone.
-fn goes_on(map: &ClusterMap) -> Result<bool, MapFault> {
-    let mut later = map.copy()?;
-    later.apply(MapCommand::OsdDown(2))?;
+fn goes_on<R: Abort>(rt: &R, map: &ClusterMap) -> bool {
+    let mut later = map.copy().expect(rt, "memory");
+    later.apply(MapCommand::OsdDown(2)).expect(rt, "a command");
     let is_later = later.goes_on_from(map) && !map.goes_on_from(&later);
-    Ok(is_later && !later.up().has(2) && map.up().has(2) && later.pools().len() == 1)
+    is_later && !later.up().has(2) && map.up().has(2) && later.pools().len() == 1
 }
 
 #[test]
-fn a_map_goes_on_from_its_copy(rt: HostRuntime) -> Result<(), Fail> {
-    let mut map = ClusterMap::new(rt.alloc(), 3)?;
-    apply(rt.alloc(), &mut map, &["create 2"])?;
-    assert!(rt; goes_on(&map)?);
-    Ok(())
+fn a_map_goes_on_from_its_copy(rt: HostRuntime) {
+    let map = map_behind(&rt, rt.alloc(), &["create 2"]);
+    assert!(&rt; goes_on(&rt, &map));
 }
 
 #[test]
-fn a_map_of_other_daemons_does_not_go_on(rt: HostRuntime) -> Result<(), Fail> {
-    let three = ClusterMap::new(rt.alloc(), 3)?;
-    let four = ClusterMap::new(rt.alloc(), 4)?;
-    assert!(rt; three.goes_on_from(&three));
-    assert!(rt; !three.goes_on_from(&four) && !four.goes_on_from(&three));
-    Ok(())
-}
-
-/// Whether a copy of a command equals it, and not another.
-fn is_copied(alloc: Global) -> Result<bool, OutOfMemory> {
-    let command = set(alloc, "v")?;
-    let copy = command.copy()?;
-    Ok(copy.equals(&command) && !copy.equals(&MapCommand::OsdUp(0)))
+fn a_map_of_other_daemons_does_not_go_on(rt: HostRuntime) {
+    let three = ClusterMap::new(rt.alloc(), 3).expect(&rt, "memory");
+    let four = ClusterMap::new(rt.alloc(), 4).expect(&rt, "memory");
+    assert!(&rt; three.goes_on_from(&three));
+    assert!(&rt; !three.goes_on_from(&four) && !four.goes_on_from(&three));
 }
 
 #[test]
-fn commands_are_copied(rt: HostRuntime) -> Result<(), Fail> {
-    assert!(rt; is_copied(rt.alloc())?);
-    Ok(())
+fn commands_are_copied(rt: HostRuntime) {
+    let command = set(&rt, rt.alloc(), "v");
+    let copy = command.copy().expect(&rt, "memory");
+    assert!(&rt; copy.equals(&command) && !copy.equals(&MapCommand::OsdUp(0)));
 }

@@ -2,75 +2,64 @@
 
 ghost use Rattle.std.specs.Prelude.{◌≤◌, length};
 
-use common_types::{Name, OutOfMemory, TryCopy};
+use crate::pieces::name;
+use common_types::{Name, TryCopy};
 use object_core::{
     Attributes, Bytes, Change, NeedsFault, Object, Op, Outcome, Outputs, needs_of, removed_is_gone,
     run_vector,
 };
 use std::alloc::Global;
-use std::fmt::Write;
 use std::process::Abort;
-use std::test::Fail;
 
-fn call(alloc: Global, class: &str, method: &str, input: &str) -> Result<Op, OutOfMemory> {
-    Ok(Op::Call {
-        class: Name::new(alloc, class)?,
-        method: Name::new(alloc, method)?,
-        input: Bytes::from_slice(alloc, input.as_bytes())?,
-    })
-}
-
-/// The attribute k is set to v.
-fn set(alloc: Global) -> Result<Op, OutOfMemory> {
-    Ok(Op::SetAttribute {
-        name: Name::new(alloc, "k")?,
-        value: Bytes::from_slice(alloc, b"v")?,
-    })
+fn bytes<R: Abort>(rt: &R, alloc: Global, text: &str) -> Bytes {
+    Bytes::from_slice(alloc, text.as_bytes()).expect(rt, "memory")
 }
 
 /// One byte more than an object has at most.
-fn too_much(alloc: Global) -> Result<Op, OutOfMemory> {
-    Ok(Op::WriteFull(Bytes::from_vec(vec![in alloc; b'x'; 65537]?)))
+fn too_much<R: Abort>(rt: &R, alloc: Global) -> Bytes {
+    Bytes::from_vec(vec![in alloc; b'x'; 65537].expect(rt, "memory"))
 }
 
-/// A call of a method, which a word names, or what is too much.
-fn other(alloc: Global, word: &str) -> Result<Op, OutOfMemory> {
-    match word {
-        "vault.peek" => call(alloc, "vault", "peek", ""),
-        "vault.drop" => call(alloc, "vault", "drop", ""),
-        "vault.get" => call(alloc, "vault", "get", ""),
-        "counter.get" => call(alloc, "counter", "get", ""),
-        "counter.add" => call(alloc, "counter", "add", "1"),
-        "counter.drop" => call(alloc, "counter", "drop", ""),
-        _ => too_much(alloc),
+/// The call that a word names, as `counter.add`, which adds 1.
+fn call<R: Abort>(rt: &R, alloc: Global, word: &str) -> Op {
+    let (class, method) = word.split_once('.').expect(rt, "a class and a method");
+    let input = if method == "add" { "1" } else { "" };
+    Op::Call {
+        class: name(rt, alloc, class),
+        method: name(rt, alloc, method),
+        input: bytes(rt, alloc, input),
     }
 }
 
 /// The operation that a word names.
-fn op(alloc: Global, word: &str) -> Result<Op, OutOfMemory> {
+fn op<R: Abort>(rt: &R, alloc: Global, word: &str) -> Op {
     match word {
-        "read" => Ok(Op::Read {
+        "read" => Op::Read {
             offset: 0,
             length: 0,
-        }),
-        "stat" => Ok(Op::Stat),
-        "remove" => Ok(Op::Remove),
-        "create" => Ok(Op::Create { exclusive: false }),
-        "append" => Ok(Op::Append(Bytes::from_slice(alloc, b"a")?)),
-        "getxattr" => Ok(Op::GetAttribute(Name::new(alloc, "k")?)),
-        "rmxattr" => Ok(Op::RemoveAttribute(Name::new(alloc, "k")?)),
-        "setxattr" => set(alloc),
-        _ => other(alloc, word),
+        },
+        "stat" => Op::Stat,
+        "remove" => Op::Remove,
+        "create" => Op::Create { exclusive: false },
+        "append" => Op::Append(bytes(rt, alloc, "a")),
+        "getxattr" => Op::GetAttribute(name(rt, alloc, "k")),
+        "rmxattr" => Op::RemoveAttribute(name(rt, alloc, "k")),
+        "setxattr" => Op::SetAttribute {
+            name: name(rt, alloc, "k"),
+            value: bytes(rt, alloc, "v"),
+        },
+        "too_much" => Op::WriteFull(too_much(rt, alloc)),
+        _ => call(rt, alloc, word),
     }
 }
 
 /// The operations that words name.
-fn vector(alloc: Global, words: &str) -> Result<Vec<Op>, OutOfMemory> {
+fn vector<R: Abort>(rt: &R, alloc: Global, words: &str) -> Vec<Op> {
     let mut ops = Vec::new(alloc);
     for word in words.split_whitespace() {
-        ops.push(op(alloc, word)?)?;
+        ops.push(op(rt, alloc, word)).expect(rt, "memory");
     }
-    Ok(ops)
+    ops
 }
 
 /// What vectors ask for: whether they read and write, and their calls, each with whether its class reads, writes and is listed;
@@ -102,12 +91,16 @@ const NEEDS: &[(&str, &str); 11] = &[
 ];
 
 /// What a vector asks for as text.
-fn needs_shown(alloc: Global, ops: &[Op]) -> Result<String, OutOfMemory> {
-    let needs = match needs_of(alloc, ops) {
-        Err(fault) => return format!(in alloc; "{fault} {}", fault.number().unwrap_or(0)),
+fn needs_shown<R: Abort>(rt: &R, alloc: Global, words: &str) -> String {
+    let ops = vector(rt, alloc, words);
+    let needs = match needs_of(alloc, ops.as_slice()) {
         Ok(needs) => needs,
+        Err(fault) => {
+            let number = fault.number().unwrap_or(0);
+            return format!(in alloc; "{fault} {number}").expect(rt, "memory");
+        }
     };
-    let mut text = format!(in alloc; "{} {}", needs.reads, needs.writes)?;
+    let mut text = format!(in alloc; "{} {}", needs.reads, needs.writes).expect(rt, "memory");
     for call in needs.calls.as_slice() {
         write!(
             text,
@@ -117,38 +110,30 @@ fn needs_shown(alloc: Global, ops: &[Op]) -> Result<String, OutOfMemory> {
             call.class_reads,
             call.class_writes,
             call.listed
-        )?;
+        )
+        .expect(rt, "memory");
     }
-    Ok(text)
-}
-
-fn asked(alloc: Global, words: &str) -> Result<String, OutOfMemory> {
-    let ops = vector(alloc, words)?;
-    needs_shown(alloc, ops.as_slice())
-}
-
-fn expect_needs(rt: &impl Abort, alloc: Global) -> Result<(), OutOfMemory> {
-    for (words, want) in NEEDS {
-        let needs = asked(alloc, words)?;
-        assert_eq!(rt; needs.as_str(), *want, "{words}");
-    }
-    Ok(())
+    text
 }
 
 #[test]
-fn needs_follow_the_vector_and_refusals_their_order(rt: HostRuntime) -> Result<(), Fail> {
-    expect_needs(&rt, rt.alloc())?;
-    let memory = NeedsFault::OutOfMemory.to_string(rt.alloc())?;
-    assert_eq!(rt; memory.as_str(), "N4 OutOfMemory");
-    Ok(())
+fn needs_follow_the_vector_and_refusals_their_order(rt: HostRuntime) {
+    for (words, want) in NEEDS {
+        let needs = needs_shown(&rt, rt.alloc(), words);
+        assert_eq!(&rt; needs.as_str(), *want, "{words}");
+    }
+    let memory = NeedsFault::OutOfMemory
+        .to_string(rt.alloc())
+        .expect(&rt, "memory");
+    assert_eq!(&rt; memory.as_str(), "N4 OutOfMemory");
 }
 
 /// An object of these bytes.
-fn object(alloc: Global, bytes: &[u8]) -> Result<Object, OutOfMemory>
+fn object<R: Abort>(rt: &R, alloc: Global, bytes: &[u8]) -> Object
     requires { length bytes.now ≤ 65536 }
 {
-    let bytes = Bytes::from_slice(alloc, bytes)?;
-    Ok(Object::new(bytes, Attributes::new(alloc)))
+    let bytes = Bytes::from_slice(alloc, bytes).expect(rt, "memory");
+    Object::new(bytes, Attributes::new(alloc))
 }
 
 /// What becomes of the object: it stays as it was, is another, or is gone; or the place and the number of what failed.
@@ -193,30 +178,25 @@ const ON_NONE: &[(&str, Becomes); 4] = &[
     ("too_much", Fails(1, 27)),
 ];
 
-fn run(alloc: Global, given: Option<&Object>, words: &str) -> Result<Becomes, OutOfMemory> {
-    let ops = vector(alloc, words)?;
-    let outcome = run_vector(alloc, given, ops.as_slice())?;
-    Ok(end_of(&outcome))
+fn run<R: Abort>(rt: &R, alloc: Global, given: Option<&Object>, words: &str) -> Becomes {
+    let ops = vector(rt, alloc, words);
+    let outcome = run_vector(alloc, given, ops.as_slice()).expect(rt, "memory");
+    end_of(&outcome)
 }
 
-fn expect(
-    rt: &impl Abort,
-    alloc: Global,
-    given: Option<&Object>,
-    rows: &[(&str, Becomes)],
-) -> Result<(), OutOfMemory> {
+fn expect<R: Abort>(rt: &R, alloc: Global, given: Option<&Object>, rows: &[(&str, Becomes)]) {
     for (words, want) in rows {
-        assert_eq!(rt; run(alloc, given, words)?, *want, "{words}");
+        assert_eq!(rt; run(rt, alloc, given, words), *want, "{words}");
     }
-    Ok(())
 }
 
 #[test]
-fn objects_are_kept_or_become_others(rt: HostRuntime) -> Result<(), Fail> {
+fn objects_are_kept_or_become_others(rt: HostRuntime) {
+    let alloc = rt.alloc();
     removed_is_gone();
-    let hello = object(rt.alloc(), b"hello")?;
-    expect(&rt, rt.alloc(), Some(&hello), ON_HELLO)?;
-    Ok(expect(&rt, rt.alloc(), None, ON_NONE)?)
+    let hello = object(&rt, alloc, b"hello");
+    expect(&rt, alloc, Some(&hello), ON_HELLO);
+    expect(&rt, alloc, None, ON_NONE);
 }
 
 /// Whether an object has the byte `a`, and `v` for its attribute `k`.
@@ -237,46 +217,45 @@ fn gives(outputs: &Outputs) -> bool {
 }
 
 /// What a vector comes to that makes an object and its attribute.
-fn makes(alloc: Global) -> Result<Outcome, OutOfMemory> {
-    let ops = vector(alloc, "append setxattr getxattr")?;
-    run_vector(alloc, None, ops.as_slice())?.copy()
+fn makes<R: Abort>(rt: &R, alloc: Global) -> Outcome {
+    let ops = vector(rt, alloc, "append setxattr getxattr");
+    let outcome = run_vector(alloc, None, ops.as_slice()).expect(rt, "memory");
+    outcome.copy().expect(rt, "memory")
 }
 
 /// Whether an outcome gives the value and shows the object, and then hands it out.
-fn is_right(outcome: Outcome, k: &Name) -> Result<bool, OutOfMemory> {
+fn is_right<R: Abort>(rt: &R, outcome: Outcome, k: &Name) -> bool {
     let is_seen = match outcome.look(None) {
         Some(object) => is_made(object, k),
         None => false,
     };
     let Outcome::Done { outputs, object } = outcome else {
-        return Ok(false);
+        return false;
     };
     let gives = gives(&outputs);
-    Ok(match object.into_object(None)? {
+    match object.into_object(None).expect(rt, "memory") {
         Some(object) => is_seen && gives && is_made(&object, k),
         None => false,
-    })
+    }
 }
 
 #[test]
-fn outcomes_hand_out_the_object(rt: HostRuntime) -> Result<(), Fail> {
-    let k = Name::new(rt.alloc(), "k")?;
-    let outcome = makes(rt.alloc())?;
-    assert!(rt; is_right(outcome, &k)?);
-    Ok(())
+fn outcomes_hand_out_the_object(rt: HostRuntime) {
+    let k = name(&rt, rt.alloc(), "k");
+    assert!(&rt; is_right(&rt, makes(&rt, rt.alloc()), &k));
 }
 
 /// How many bytes and attributes copies of an object and of its attributes have.
-fn lengths(object: &Object) -> Result<(usize, usize), OutOfMemory> {
-    let attributes = object.attributes().copy()?.as_slice().len();
-    let (bytes, _) = object.copy()?.into_parts();
-    Ok((bytes.into_vec().len(), attributes))
+fn lengths<R: Abort>(rt: &R, object: &Object) -> (usize, usize) {
+    let attributes = object.attributes().copy().expect(rt, "memory");
+    let (bytes, _) = object.copy().expect(rt, "memory").into_parts();
+    (bytes.into_vec().len(), attributes.as_slice().len())
 }
 
 #[test]
-fn objects_are_made_of_their_parts(rt: HostRuntime) -> Result<(), Fail> {
-    assert_eq!(rt; lengths(&object(rt.alloc(), b"a")?)?, (1, 0));
-    assert_eq!(rt; lengths(&Object::empty(rt.alloc()))?, (0, 0));
-    assert!(rt; Bytes::new(rt.alloc()).as_slice().is_empty());
-    Ok(())
+fn objects_are_made_of_their_parts(rt: HostRuntime) {
+    let alloc = rt.alloc();
+    assert_eq!(&rt; lengths(&rt, &object(&rt, alloc, b"a")), (1, 0));
+    assert_eq!(&rt; lengths(&rt, &Object::empty(alloc)), (0, 0));
+    assert!(&rt; Bytes::new(alloc).as_slice().is_empty());
 }

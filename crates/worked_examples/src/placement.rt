@@ -1,7 +1,8 @@
 //! Hashes, groups of objects, and the daemons that serve a group.
 
 use place_core::{ActingSet, DaemonSet, acting, acting_set, group_of, hash};
-use std::test::Fail;
+use std::alloc::Global;
+use std::process::Abort;
 
 #[test]
 fn hashes_of_texts(rt: HostRuntime) {
@@ -44,12 +45,29 @@ fn groups_of_objects(rt: HostRuntime) {
     }
 }
 
+/// Whether each call says that these are the members of a group of the pool `data`.
+fn is_acting<R: Abort>(
+    rt: &R,
+    alloc: Global,
+    (group, up, size): (u32, DaemonSet, u32),
+    members: &[u8],
+) -> bool {
+    let found = acting(alloc, "data", group, &up, size).expect(rt, "memory");
+    let set = acting_set("data", group, &up, size);
+    let all_three = acting_set("data", 1, &DaemonSet::first(3), 3);
+    found.as_slice() == members
+        && set.as_slice() == members
+        && Some(set) == ActingSet::from_slice(members)
+        && set.has(2) == members.contains(&2)
+        && set.equals(&all_three) == (members == [1, 0, 2].as_slice())
+}
+
 #[test]
-fn acting_sets_of_groups(rt: HostRuntime) -> Result<(), Fail> {
+fn acting_sets_of_groups(rt: HostRuntime) {
     let three = DaemonSet::first(3);
     let mut without_one = three;
     without_one.set(1, false);
-    assert!(rt; three.has(1) && !without_one.has(1) && !three.has(3) && !three.has(200));
+    assert!(&rt; three.has(1) && !without_one.has(1) && !three.has(3) && !three.has(200));
     let sets: [(u32, DaemonSet, u32, &[u8]); 6] = [
         (0, three, 3, &[0, 1, 2]),
         (1, three, 3, &[1, 0, 2]),
@@ -58,25 +76,18 @@ fn acting_sets_of_groups(rt: HostRuntime) -> Result<(), Fail> {
         (1, three, 0, &[]),
         (1, DaemonSet::first(0), 3, &[]),
     ];
-    for (group, up, size, want) in sets {
-        let members = acting(rt.alloc(), "data", group, &up, size)?;
-        assert_eq!(rt; members.as_slice(), want);
-        let set = acting_set("data", group, &up, size);
-        assert_eq!(rt; set.as_slice(), want);
-        assert_eq!(rt; Some(set), ActingSet::from_slice(want));
-        assert_eq!(rt; set.has(2), want.contains(&2));
-        assert_eq!(rt;
-            set.equals(&acting_set("data", 1, &three, 3)),
-            want == [1, 0, 2].as_slice()
+    for (group, up, size, members) in sets {
+        assert!(&rt;
+            is_acting(&rt, rt.alloc(), (group, up, size), members),
+            "{members:?}"
         );
     }
-    let all = acting(rt.alloc(), "data", 7, &DaemonSet::first(255), 100)?;
-    assert_eq!(rt; all.len(), 16);
-    assert_eq!(rt;
+    let all = acting(rt.alloc(), "data", 7, &DaemonSet::first(255), 100).expect(&rt, "memory");
+    assert_eq!(&rt; all.len(), 16);
+    assert_eq!(&rt;
         Some(acting_set("data", 7, &DaemonSet::first(255), 100)),
         ActingSet::from_slice(&all[..5])
     );
-    assert_eq!(rt; ActingSet::from_slice(&all[..6]), None);
-    assert_eq!(rt; ActingSet::from_slice(&[3, 1, 3]), None);
-    Ok(())
+    assert_eq!(&rt; ActingSet::from_slice(&all[..6]), None);
+    assert_eq!(&rt; ActingSet::from_slice(&[3, 1, 3]), None);
 }

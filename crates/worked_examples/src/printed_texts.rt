@@ -1,14 +1,15 @@
 //! What is printed, once by each call. `sessions/` shows the texts.
 
-use common_types::{Name, OutOfMemory, Tags};
+use crate::pieces::{entities_of, is_printed, name};
+use common_types::Tags;
 use compare_core::{OwnedTarget, Registry};
 use gate_text::{
-    Asked, Comparison, Entity, Format, NamedEntities, Printed, TextFault, Times, answer,
-    compare_entities, compare_text, explain_text, list_by, point_at_fault, push_shown_text,
-    push_target, text_of, ticket_of_text, verdict_text, who_table, who_text,
+    Asked, Comparison, Entity, Format, NamedEntities, TextFault, Times, answer, compare_entities,
+    compare_text, explain_text, list_by, point_at_fault, push_shown_text, push_target, text_of,
+    ticket_of_text, verdict_text, who_table, who_text,
 };
 use std::alloc::Global;
-use std::test::Fail;
+use std::process::Abort;
 use verdict_core::Target;
 
 /// A text that may read and write a pool.
@@ -39,27 +40,28 @@ fn write<'a>(pool: &'a str, tags: &'a Tags, times: Times) -> Asked<'a> {
 }
 
 /// What a verdict on a write to this pool prints, where a ticket ends at the tick 10.
-fn verdict(alloc: Global, pool: &str, tick: u64) -> Result<String, OutOfMemory> {
+fn verdict<R: Abort>(rt: &R, alloc: Global, pool: &str, tick: u64) -> String {
     let tags = Tags::from_vec(Vec::new(alloc));
     let times = Times {
         until: Some(10),
         tick,
     };
-    verdict_text(alloc, CAPS, &write(pool, &tags, times))
+    verdict_text(alloc, CAPS, &write(pool, &tags, times)).expect(rt, "memory")
 }
+
+/// Pools that are written to, when, and the verdict.
+const VERDICTS: &[(&str, u64, &str); 3] = &[
+    ("data", 9, "allow\n"),
+    ("logs", 9, "deny\n1 pool\n"),
+    ("data", 10, "deny\n1 expired\n"),
+];
 
 #[test]
-fn verdicts_print(rt: HostRuntime) -> Result<(), Fail> {
-    let alloc = rt.alloc();
-    assert_eq!(rt; verdict(alloc, "data", 9)?.as_str(), "allow\n");
-    assert_eq!(rt; verdict(alloc, "logs", 9)?.as_str(), "deny\n1 pool\n");
-    assert_eq!(rt; verdict(alloc, "data", 10)?.as_str(), "deny\n1 expired\n");
-    Ok(())
-}
-
-/// Whether this was printed, by a command that fails or does not.
-fn is_printed(printed: Printed, text: &str, fails: bool) -> bool {
-    printed.text.as_str() == text && printed.fails == fails
+fn verdicts_print(rt: HostRuntime) {
+    for (pool, tick, want) in VERDICTS {
+        let verdict = verdict(&rt, rt.alloc(), pool, *tick);
+        assert_eq!(&rt; verdict.as_str(), *want, "{pool} at {tick}");
+    }
 }
 
 /// Whether what points at the fault of a text is this.
@@ -70,36 +72,19 @@ fn is_pointed_at(alloc: Global, caps: &str, below: &str) -> bool {
 }
 
 #[test]
-fn texts_print(rt: HostRuntime) -> Result<(), Fail> {
+fn texts_print(rt: HostRuntime) {
     let alloc = rt.alloc();
-    let explained = explain_text(alloc, CAPS, Format::Text)?;
-    assert!(rt;
-        is_printed(
-            explained,
-            "allow rw pool=data\n1 allow rw pool=data\n",
-            false
-        )
-    );
-    let compared = compare_text(
-        alloc,
-        CAPS,
-        "allow rw pool=data, allow r pool=data",
-        CHECKED,
-    )?;
-    assert!(rt; is_printed(compared, "same\n", false));
-    assert!(rt; is_pointed_at(alloc, "deny r", "deny r\n^\n"));
-    Ok(())
+    let explained = explain_text(alloc, CAPS, Format::Text).expect(&rt, "memory");
+    let lines = "allow rw pool=data\n1 allow rw pool=data\n";
+    assert!(&rt; is_printed(&explained, lines, false));
+    let more = "allow rw pool=data, allow r pool=data";
+    let compared = compare_text(alloc, CAPS, more, CHECKED).expect(&rt, "memory");
+    assert!(&rt; is_printed(&compared, "same\n", false));
+    assert!(&rt; is_pointed_at(alloc, "deny r", "deny r\n^\n"));
 }
 
-/// One entity, of this name.
-fn one(alloc: Global, name: &str) -> Result<Vec<Entity>, OutOfMemory> {
-    let mut entities = Vec::new(alloc);
-    entities.push(Entity {
-        name: String::from_str(alloc, name)?,
-        osd: String::from_str(alloc, CAPS)?,
-    })?;
-    Ok(entities)
-}
+/// One entity.
+const APP: &[(&str, &str); 1] = &[("client.app", CAPS)];
 
 /// For ever, and at once.
 const ALWAYS: Times = Times {
@@ -107,25 +92,18 @@ const ALWAYS: Times = Times {
     tick: 0,
 };
 
-/// Who of one entity may write to the pool data.
-fn who(alloc: Global, entities: &[Entity]) -> Result<Printed, OutOfMemory> {
-    let tags = Tags::from_vec(Vec::new(alloc));
-    let asked = write("data", &tags, ALWAYS);
-    who_text(alloc, entities, &asked, true, Format::Text)
-}
-
 /// What some entities may do of writes to the pools data and logs.
-fn table(alloc: Global, entities: &[Entity], format: Format) -> Result<String, OutOfMemory> {
+fn table<R: Abort>(rt: &R, alloc: Global, entities: &[Entity], format: Format) -> String {
     let tags = Tags::from_vec(Vec::new(alloc));
     let requests = [write("data", &tags, ALWAYS), write("logs", &tags, ALWAYS)];
-    who_table(alloc, entities, requests.as_slice(), format)
+    who_table(alloc, entities, requests.as_slice(), format).expect(rt, "memory")
 }
 
-/// The document of a verdict on a write to this pool.
-fn document(alloc: Global, pool: &str) -> Result<String, OutOfMemory> {
+/// The document of a verdict on a write to the pool data.
+fn document<R: Abort>(rt: &R, alloc: Global) -> String {
     let tags = Tags::from_vec(Vec::new(alloc));
-    let answer = answer(alloc, CAPS, &write(pool, &tags, ALWAYS))?;
-    text_of(alloc, &answer, Format::Json)
+    let answer = answer(alloc, CAPS, &write("data", &tags, ALWAYS)).expect(rt, "memory");
+    text_of(alloc, &answer, Format::Json).expect(rt, "memory")
 }
 
 /// The table of an entity as a document.
@@ -133,18 +111,15 @@ const TABLE: &str =
     "{\"entities\":[{\"answers\":[{\"verdict\":\"allow\"},{\"report\":[{\"condition\":\"pool\",\"path\":\"1\"}],\"verdict\":\"deny\"}],\"entity\":\"client.app\"}]}\n";
 
 #[test]
-fn tables_and_documents_print(rt: HostRuntime) -> Result<(), Fail> {
+fn tables_and_documents_print(rt: HostRuntime) {
     let alloc = rt.alloc();
-    let app = one(alloc, "client.app")?;
-    let text = table(alloc, app.as_slice(), Format::Text)?;
-    assert_eq!(rt; text.as_str(), "entity 1 2\nclient.app allow deny\n");
-    let text = table(alloc, app.as_slice(), Format::Json)?;
-    assert_eq!(rt; text.as_str(), TABLE);
-    assert_eq!(rt;
-        document(alloc, "data")?.as_str(),
-        "{\"verdict\":\"allow\"}\n"
-    );
-    Ok(())
+    let app = entities_of(&rt, alloc, APP);
+    let text = table(&rt, alloc, &app, Format::Text);
+    assert_eq!(&rt; text.as_str(), "entity 1 2\nclient.app allow deny\n");
+    let text = table(&rt, alloc, &app, Format::Json);
+    assert_eq!(&rt; text.as_str(), TABLE);
+    let text = document(&rt, alloc);
+    assert_eq!(&rt; text.as_str(), "{\"verdict\":\"allow\"}\n");
 }
 
 /// Whether an entity of this name and text is found.
@@ -156,50 +131,52 @@ fn is_found(named: &NamedEntities<'_>, name: &str) -> bool {
 }
 
 #[test]
-fn entities_print(rt: HostRuntime) -> Result<(), Fail> {
+fn entities_print(rt: HostRuntime) {
     let alloc = rt.alloc();
-    let app = one(alloc, "client.app")?;
-    assert!(rt; is_printed(who(alloc, app.as_slice())?, "client.app allow\n", false));
-    let none = compare_entities(alloc, app.as_slice(), app.as_slice(), CHECKED)?;
-    assert!(rt; is_printed(none, "", false));
-    let named = NamedEntities::of(alloc, app.as_slice())?;
-    assert!(rt; is_found(&named, "client.app"));
-    assert!(rt; !is_found(&named, "client"));
-    Ok(())
+    let app = entities_of(&rt, alloc, APP);
+    let tags = Tags::from_vec(Vec::new(alloc));
+    let asked = write("data", &tags, ALWAYS);
+    let who = who_text(alloc, &app, &asked, true, Format::Text).expect(&rt, "memory");
+    assert!(&rt; is_printed(&who, "client.app allow\n", false));
+    let none = compare_entities(alloc, &app, &app, CHECKED).expect(&rt, "memory");
+    assert!(&rt; is_printed(&none, "", false));
+    let named = NamedEntities::of(alloc, &app).expect(&rt, "memory");
+    assert!(&rt; is_found(&named, "client.app"));
+    assert!(&rt; !is_found(&named, "client"));
 }
 
-/// A name as it is shown, and then a target without tags of this pool.
-fn shown_at(alloc: Global, name: &str, pool: &str) -> Result<String, OutOfMemory> {
+/// A name as it is shown, and then a target without tags of the pool data.
+fn shown_at<R: Abort>(rt: &R, alloc: Global, shown: &str) -> String {
     let target = OwnedTarget {
-        pool: Name::new(alloc, pool)?,
+        pool: name(rt, alloc, "data"),
         tags: Tags::from_vec(Vec::new(alloc)),
-        namespace: Name::new(alloc, "")?,
-        object: Name::new(alloc, "it's")?,
+        namespace: name(rt, alloc, ""),
+        object: name(rt, alloc, "it's"),
     };
     let mut line = String::new(alloc);
-    push_shown_text(&mut line, name)?;
-    push_target(&mut line, &target)?;
-    Ok(line)
+    push_shown_text(&mut line, shown).expect(rt, "memory");
+    push_target(&mut line, &target).expect(rt, "memory");
+    line
 }
 
 /// Two pieces as a list.
-fn listed(alloc: Global, format: Format) -> Result<String, OutOfMemory> {
-    list_by(alloc, "names", String::from_str(alloc, ",1,2")?, format)
+fn listed<R: Abort>(rt: &R, alloc: Global, format: Format) -> String {
+    let pieces = String::from_str(alloc, ",1,2").expect(rt, "memory");
+    list_by(alloc, "names", pieces, format).expect(rt, "memory")
 }
 
 #[test]
-fn pieces_print(rt: HostRuntime) -> Result<(), Fail> {
+fn pieces_print(rt: HostRuntime) {
     let alloc = rt.alloc();
-    assert_eq!(rt;
-        shown_at(alloc, "a\u{7} ", "data")?.as_str(),
+    assert_eq!(&rt;
+        shown_at(&rt, alloc, "a\u{7} ").as_str(),
         "a\\x07 --pool data --object 'it'\\''s'"
     );
-    assert_eq!(rt; listed(alloc, Format::Text)?.as_str(), ",1,2");
-    assert_eq!(rt;
-        listed(alloc, Format::Json)?.as_str(),
+    assert_eq!(&rt; listed(&rt, alloc, Format::Text).as_str(), ",1,2");
+    assert_eq!(&rt;
+        listed(&rt, alloc, Format::Json).as_str(),
         "{\"names\":[1,2]}\n"
     );
-    Ok(())
 }
 
 /// How many grants a text comes to, or of which kind its fault is.
@@ -212,11 +189,16 @@ fn grants_of(alloc: Global, caps: &str) -> Result<usize, &'static str> {
     }
 }
 
+/// Texts, and what they come to.
+const TICKETS: &[(&str, Result<usize, &str>); 3] = &[
+    ("allow r, allow w", Ok(2)),
+    ("allow", Err("spelling")),
+    ("profile nobody", Err("expansion")),
+];
+
 #[test]
-fn texts_come_to_tickets(rt: HostRuntime) -> Result<(), Fail> {
-    let alloc = rt.alloc();
-    assert_eq!(rt; grants_of(alloc, "allow r, allow w"), Ok(2));
-    assert_eq!(rt; grants_of(alloc, "allow"), Err("spelling"));
-    assert_eq!(rt; grants_of(alloc, "profile nobody"), Err("expansion"));
-    Ok(())
+fn texts_come_to_tickets(rt: HostRuntime) {
+    for (caps, want) in TICKETS {
+        assert_eq!(&rt; grants_of(rt.alloc(), caps), *want, "{caps}");
+    }
 }

@@ -1,80 +1,74 @@
 //! Profiles that are added, and what their uses come to. `sessions/texts/expanded.console` shows those that are built in.
 
 use cap_text::{CapList, parse, push_allow};
-use common_types::OutOfMemory;
-use grant_core::{ExpandFault, GrantTree, Path, ProfileTable, expand};
+use grant_core::{ExpandFault, Path, ProfileTable, expand};
 use std::alloc::Global;
-use std::fmt::Write;
 use std::process::Abort;
-use std::test::Fail;
-
-// The paths and the grants of a tree.
-fn show(alloc: Global, tree: &GrantTree) -> Result<String, OutOfMemory> {
-    let mut shown = String::new(alloc);
-    for (path, grant) in &tree.flat(alloc)? {
-        if !shown.is_empty() {
-            write!(shown, "; ")?;
-        }
-        write!(shown, "{path} ")?;
-        push_allow(&mut shown, grant)?;
-    }
-    Ok(shown)
-}
 
 // A list of so many uses of the profile of this name.
-fn uses(alloc: Global, name: &str, count: usize) -> Result<String, OutOfMemory> {
+fn uses<R: Abort>(rt: &R, alloc: Global, name: &str, count: usize) -> String {
     let mut text = String::new(alloc);
     for _ in 0..count {
-        if !text.is_empty() {
-            write!(text, ", ")?;
-        }
-        write!(text, "profile {name}")?;
+        let between = if text.is_empty() { "" } else { ", " };
+        write!(text, "{between}profile {name}").expect(rt, "memory");
     }
-    Ok(text)
+    text
 }
 
-/// The tree that a text comes to.
-fn expanded(alloc: Global, table: &ProfileTable, text: &str) -> Result<GrantTree, Fail> {
-    let list = parse(alloc, text)?;
-    Ok(expand(alloc, table, &list)?)
+// The paths and the grants of the tree that a text comes to.
+fn shown<R: Abort>(rt: &R, alloc: Global, table: &ProfileTable, text: &str) -> String {
+    let list = parse(alloc, text).expect(rt, "a list");
+    let tree = expand(alloc, table, &list).expect(rt, "a tree");
+    let mut shown = String::new(alloc);
+    for (path, grant) in &tree.flat(alloc).expect(rt, "memory") {
+        let between = if shown.is_empty() { "" } else { "; " };
+        write!(shown, "{between}{path} ").expect(rt, "memory");
+        push_allow(&mut shown, grant).expect(rt, "memory");
+    }
+    shown
 }
 
-/// The same tree, as `show` writes it.
-fn shown(alloc: Global, table: &ProfileTable, text: &str) -> Result<String, Fail> {
-    let tree = expanded(alloc, table, text)?;
-    Ok(show(alloc, &tree)?)
+// How many grants a text comes to, or the refusal.
+fn count<R: Abort>(rt: &R, alloc: Global, table: &ProfileTable, text: &str) -> String {
+    let list = parse(alloc, text).expect(rt, "a list");
+    match expand(alloc, table, &list) {
+        Ok(tree) => {
+            let grants = tree.flat(alloc).expect(rt, "memory");
+            format!(in alloc; "{}", grants.len()).expect(rt, "memory")
+        }
+        Err(fault) => fault.to_string(alloc).expect(rt, "memory"),
+    }
 }
 
-/// Adds a profile, and says `added` or the refusal.
-fn added(alloc: Global, table: &mut ProfileTable, name: &str, body: &str) -> Result<String, Fail> {
-    let list = parse(alloc, body)?;
-    Ok(match table.add(name, list) {
-        Ok(()) => format!(in alloc; "added")?,
-        Err(fault) => fault.to_string(alloc)?,
-    })
-}
-
-/// Adds profiles, each of which must be answered as its row says.
-fn expect_added(
-    rt: &impl Abort,
+// Adds a profile, and says `added` or the refusal.
+fn added<R: Abort>(
+    rt: &R,
     alloc: Global,
     table: &mut ProfileTable,
-    rows: &[(&str, &str, &str)],
-) -> Result<(), Fail> {
-    for (name, body, want) in rows {
-        let answer = added(alloc, table, name, body)?;
-        assert_eq!(rt; answer.as_str(), *want, "{name} {body}");
-    }
-    Ok(())
+    name: &str,
+    body: &str,
+) -> String {
+    let list = parse(alloc, body).expect(rt, "a list");
+    let told = match table.add(name, list) {
+        Ok(()) => String::from_str(alloc, "added"),
+        Err(fault) => fault.to_string(alloc),
+    };
+    told.expect(rt, "memory")
 }
 
-/// How many grants a text comes to, or the refusal.
-fn count(alloc: Global, table: &ProfileTable, text: &str) -> Result<String, Fail> {
-    let list = parse(alloc, text)?;
-    Ok(match expand(alloc, table, &list) {
-        Ok(tree) => format!(in alloc; "{}", tree.flat(alloc)?.len())?,
-        Err(fault) => fault.to_string(alloc)?,
-    })
+// Adds profiles whose bodies begin with a text, each of which must be answered as its row says.
+fn expect_added<R: Abort>(
+    rt: &R,
+    alloc: Global,
+    table: &mut ProfileTable,
+    begin: &str,
+    rows: &[(&str, &str, &str)],
+) {
+    for (name, more, want) in rows {
+        let body = format!(in alloc; "{begin}{more}").expect(rt, "memory");
+        let answer = added(rt, alloc, table, name, body.as_str());
+        assert_eq!(rt; answer.as_str(), *want, "{name} {more}");
+    }
 }
 
 const OWN: &[(&str, &str, &str); 1] = &[(
@@ -95,19 +89,15 @@ const USES: &[(&str, &str); 3] = &[
     ),
 ];
 
-fn expect_uses(rt: &impl Abort, alloc: Global, table: &ProfileTable) -> Result<(), Fail> {
-    for (text, want) in USES {
-        let shown = shown(alloc, table, text)?;
-        assert_eq!(rt; shown.as_str(), *want, "{text}");
-    }
-    Ok(())
-}
-
 #[test]
-fn uses_are_replaced_by_filled_grants(rt: HostRuntime) -> Result<(), Fail> {
-    let mut table = ProfileTable::builtin(rt.alloc())?;
-    expect_added(&rt, rt.alloc(), &mut table, OWN)?;
-    expect_uses(&rt, rt.alloc(), &table)
+fn uses_are_replaced_by_filled_grants(rt: HostRuntime) {
+    let alloc = rt.alloc();
+    let mut table = ProfileTable::builtin(alloc).expect(&rt, "profiles");
+    expect_added(&rt, alloc, &mut table, "", OWN);
+    for (text, want) in USES {
+        let shown = shown(&rt, alloc, &table, text);
+        assert_eq!(&rt; shown.as_str(), *want, "{text}");
+    }
 }
 
 const REFUSALS: &[(&str, &str, &str); 7] = &[
@@ -132,7 +122,7 @@ const REFUSALS: &[(&str, &str, &str); 7] = &[
     ("five", "allow r", "G2 DuplicateProfile"),
 ];
 
-/// What stands behind 51 uses of a profile of five grants, and what that comes to.
+// What stands behind 51 uses of a profile of five grants, and what that comes to.
 const FULL: &[(&str, &str); 4] = &[
     ("", "255"),
     (", allow r", "256"),
@@ -140,64 +130,37 @@ const FULL: &[(&str, &str); 4] = &[
     (", profile five, profile osd", "G1 UnknownProfile 53"),
 ];
 
-fn expect_full(
-    rt: &impl Abort,
-    alloc: Global,
-    table: &ProfileTable,
-    many: &str,
-) -> Result<(), Fail> {
-    for (more, want) in FULL {
-        let text = format!(in alloc; "{many}{more}")?;
-        let count = count(alloc, table, text.as_str())?;
-        assert_eq!(rt; count.as_str(), *want, "{more}");
-    }
-    Ok(())
-}
-
-/// Profiles whose bodies are 51 uses and more, and how they are answered.
+// Profiles whose bodies are 51 uses and more, and how they are answered.
 const FULL_BODIES: &[(&str, &str, &str); 2] = &[
     ("most", ", allow r", "added"),
     ("more", ", profile five", "G5 TooLarge"),
 ];
 
-fn expect_full_bodies(
-    rt: &impl Abort,
-    alloc: Global,
-    table: &mut ProfileTable,
-    many: &str,
-) -> Result<(), Fail> {
-    for (name, more, want) in FULL_BODIES {
-        let body = format!(in alloc; "{many}{more}")?;
-        let answer = added(alloc, table, name, body.as_str())?;
-        assert_eq!(rt; answer.as_str(), *want, "{name}");
-    }
-    Ok(())
-}
-
 #[test]
-fn refusals_come_in_their_order(rt: HostRuntime) -> Result<(), Fail> {
-    let many = uses(rt.alloc(), "five", 51)?;
-    let mut table = ProfileTable::builtin(rt.alloc())?;
-    expect_added(&rt, rt.alloc(), &mut table, REFUSALS)?;
-    expect_full(&rt, rt.alloc(), &table, many.as_str())?;
-    expect_full_bodies(&rt, rt.alloc(), &mut table, many.as_str())
-}
-
-/// The profile `p0` is empty, and each of 27 more uses the one before 64 times.
-fn add_chain(alloc: Global, table: &mut ProfileTable) -> Result<(), Fail> {
-    table.add("p0", CapList::empty(alloc))?;
-    for i in 1..28_usize {
-        add_link(alloc, table, i)?;
+fn refusals_come_in_their_order(rt: HostRuntime) {
+    let alloc = rt.alloc();
+    let many = uses(&rt, alloc, "five", 51);
+    let mut table = ProfileTable::builtin(alloc).expect(&rt, "profiles");
+    expect_added(&rt, alloc, &mut table, "", REFUSALS);
+    for (more, want) in FULL {
+        let text = format!(in alloc; "{many}{more}").expect(&rt, "memory");
+        let count = count(&rt, alloc, &table, text.as_str());
+        assert_eq!(&rt; count.as_str(), *want, "{more}");
     }
-    Ok(())
+    expect_added(&rt, alloc, &mut table, many.as_str(), FULL_BODIES);
 }
 
-fn add_link(alloc: Global, table: &mut ProfileTable, number: usize) -> Result<(), Fail> {
-    let before = format!(in alloc; "p{}", number.saturating_sub(1))?;
-    let body = uses(alloc, before.as_str(), 64)?;
-    let name = format!(in alloc; "p{number}")?;
-    let list = parse(alloc, body.as_str())?;
-    Ok(table.add(name.as_str(), list)?)
+// The profile `p0` is empty, and each of 27 more uses the one before 64 times.
+fn add_chain<R: Abort>(rt: &R, alloc: Global, table: &mut ProfileTable) {
+    let empty = CapList::empty(alloc);
+    table.add("p0", empty).expect(rt, "a profile");
+    for i in 1..28_usize {
+        let before = format!(in alloc; "p{}", i.saturating_sub(1)).expect(rt, "memory");
+        let name = format!(in alloc; "p{i}").expect(rt, "memory");
+        let body = uses(rt, alloc, before.as_str(), 64);
+        let answer = added(rt, alloc, table, name.as_str(), body.as_str());
+        assert_eq!(rt; answer.as_str(), "added", "{name}");
+    }
 }
 
 const BEHIND_THE_CHAIN: &[(&str, &str, &str); 2] = &[
@@ -206,17 +169,18 @@ const BEHIND_THE_CHAIN: &[(&str, &str, &str); 2] = &[
 ];
 
 #[test]
-fn a_chain_of_empty_profiles_is_expanded_at_once(rt: HostRuntime) -> Result<(), Fail> {
-    let all = uses(rt.alloc(), "p27", 64)?;
-    let mut table = ProfileTable::builtin(rt.alloc())?;
-    add_chain(rt.alloc(), &mut table)?;
-    let grants = count(rt.alloc(), &table, all.as_str())?;
-    assert_eq!(rt; grants.as_str(), "0");
-    expect_added(&rt, rt.alloc(), &mut table, BEHIND_THE_CHAIN)
+fn a_chain_of_empty_profiles_is_expanded_at_once(rt: HostRuntime) {
+    let alloc = rt.alloc();
+    let mut table = ProfileTable::builtin(alloc).expect(&rt, "profiles");
+    add_chain(&rt, alloc, &mut table);
+    let all = uses(&rt, alloc, "p27", 64);
+    let grants = count(&rt, alloc, &table, all.as_str());
+    assert_eq!(&rt; grants.as_str(), "0");
+    expect_added(&rt, alloc, &mut table, "", BEHIND_THE_CHAIN);
 }
 
-/// All faults, in a line each.
-fn faults_shown(alloc: Global) -> Result<String, OutOfMemory> {
+// All faults, in a line each.
+fn faults_shown<R: Abort>(rt: &R, alloc: Global) -> String {
     let mut lines = String::new(alloc);
     for fault in [
         ExpandFault::UnknownProfile(1),
@@ -226,26 +190,26 @@ fn faults_shown(alloc: Global) -> Result<String, OutOfMemory> {
         ExpandFault::TooLarge,
         ExpandFault::OutOfMemory,
     ] {
-        writeln!(lines, "{fault}")?;
+        writeln!(lines, "{fault}").expect(rt, "memory");
     }
-    Ok(lines)
+    lines
 }
 
 const FAULTS: &str = "G1 UnknownProfile 1\nG2 DuplicateProfile\nG3 TagInProfile 64\n\
 G4 TooManyProfiles\nG5 TooLarge\nG6 OutOfMemory\n";
 
-/// A copy of a path, and that it has the same numbers.
-fn path_shown(alloc: Global, numbers: &[usize]) -> Result<(String, bool), OutOfMemory> {
-    let path = Path::of(alloc, numbers)?.copy()?;
-    Ok((path.to_string(alloc)?, path.as_slice() == numbers))
+// The text of a copy of a path, which must have these numbers.
+fn path_shown<R: Abort>(rt: &R, alloc: Global, numbers: &[usize]) -> String {
+    let path = Path::of(alloc, numbers).expect(rt, "memory");
+    let copy = path.copy().expect(rt, "memory");
+    assert!(rt; copy.as_slice() == numbers);
+    copy.to_string(alloc).expect(rt, "memory")
 }
 
 #[test]
-fn faults_and_paths_print_their_texts(rt: HostRuntime) -> Result<(), Fail> {
-    assert_eq!(rt; faults_shown(rt.alloc())?.as_str(), FAULTS);
-    let (text, same) = path_shown(rt.alloc(), &[2, 1, 10])?;
-    assert!(rt; same);
-    assert_eq!(rt; text.as_str(), "2.1.10");
-    assert_eq!(rt; path_shown(rt.alloc(), &[])?.0.as_str(), "");
-    Ok(())
+fn faults_and_paths_print_their_texts(rt: HostRuntime) {
+    let alloc = rt.alloc();
+    assert_eq!(&rt; faults_shown(&rt, alloc).as_str(), FAULTS);
+    assert_eq!(&rt; path_shown(&rt, alloc, &[2, 1, 10]).as_str(), "2.1.10");
+    assert_eq!(&rt; path_shown(&rt, alloc, &[]).as_str(), "");
 }

@@ -1,17 +1,14 @@
 //! Random pairs of texts, of which all targets over small alphabets tell whether they share something.
 
-use crate::comparisons_by_force::{
-    SETS, TARGET_NAMES, TagRow, all_needs, app_of, call_of, draw_text,
-};
-use crate::tickets::ticket;
-use common_types::{OutOfMemory, Tags};
+use crate::alphabets::{SETS, all_needs, all_targets, call_of};
+use crate::drawing::draw_text;
+use crate::pieces::{TagRow, entities_of, is_printed, tags_of_each, ticket};
 use compare_core::Registry;
-use gate_text::{Entity, Format, Printed};
+use gate_text::Format;
 use share_core::{Shared, Touch, share, sharing};
 use share_text::{Strictness, share_entities, share_texts};
 use std::alloc::Global;
 use std::process::Abort;
-use std::test::Fail;
 use verdict_core::{Needs, Target, Ticket, grants_allow};
 
 const TAGS: &[&str] = &[
@@ -42,27 +39,20 @@ const POOLS: &[&[TagRow]; 12] = &[
 /// The calls that are touches, by their numbers among the sets of calls.
 const CALLS: &[usize; 3] = &[2, 11, 18];
 
-fn pool_tags(alloc: Global, rows: &[TagRow]) -> Result<Tags, OutOfMemory> {
-    let mut tags = Vec::new(alloc);
-    for row in rows {
-        tags.push(app_of(alloc, row)?)?;
-    }
-    Ok(Tags::from_vec(tags))
-}
-
 /// The touches, each of which has a bit.
-fn all_touches(alloc: Global) -> Result<Vec<Touch>, OutOfMemory> {
+fn all_touches<R: Abort>(rt: &R, alloc: Global) -> Vec<Touch> {
     let mut touches = Vec::new(alloc);
-    touches.push(Touch::Read)?;
-    touches.push(Touch::Write)?;
-    touches.push(Touch::AnyRead)?;
-    touches.push(Touch::AnyWrite)?;
+    touches.push(Touch::Read).expect(rt, "memory");
+    touches.push(Touch::Write).expect(rt, "memory");
+    touches.push(Touch::AnyRead).expect(rt, "memory");
+    touches.push(Touch::AnyWrite).expect(rt, "memory");
     for number in CALLS {
         if let Some([row]) = SETS.get(*number) {
-            touches.push(Touch::Call(call_of(alloc, row)?))?;
+            let touch = Touch::Call(call_of(rt, alloc, row));
+            touches.push(touch).expect(rt, "memory");
         }
     }
-    Ok(touches)
+    touches
 }
 
 /// The bits of the touches that a request is of. The sets of calls without reads and writes come first.
@@ -111,24 +101,17 @@ fn add_shared(found: &mut [u8], ones: u8, others: u8) {
     }
 }
 
-/// What two tickets share over the alphabets, in pools with these tags.
-fn shared_in(found: &mut [u8], ones: &Ticket, others: &Ticket, tags: &Tags, needs: &[Needs]) {
-    for pool in TARGET_NAMES {
-        for namespace in TARGET_NAMES {
-            for object in TARGET_NAMES {
-                let target = Target {
-                    pool,
-                    tags,
-                    namespace,
-                    object,
-                };
-                let mine = touches_at(ones, &target, needs);
-                if mine != 0 {
-                    add_shared(found, mine, touches_at(others, &target, needs));
-                }
-            }
+/// What two tickets share over the alphabets.
+fn all_shared(ones: &Ticket, others: &Ticket, targets: &[Target<'_>], needs: &[Needs]) -> [u8; 7] {
+    let mut found = [0u8; 7];
+    for target in targets {
+        let mine = touches_at(ones, target, needs);
+        if mine != 0 {
+            let theirs = touches_at(others, target, needs);
+            add_shared(found.as_mut_slice(), mine, theirs);
         }
     }
+    found
 }
 
 /// Whether each example is of a target at which both may do so.
@@ -150,87 +133,95 @@ fn are_shared(
 }
 
 /// Whether the answers for two touches are those that looking finds.
-fn is_right(
+fn is_right<R: Abort>(
+    rt: &R,
     alloc: Global,
     tickets: (&Ticket, &Ticket),
     touches: (&Touch, &Touch),
     bits: (u8, u8),
     expected: bool,
     needs: &[Needs],
-) -> Result<bool, OutOfMemory> {
-    let examples = sharing(alloc, tickets.0, touches.0, tickets.1, touches.1)?;
-    Ok(
-        share(tickets.0, touches.0, tickets.1, touches.1) == expected
-            && examples.is_empty() != expected
-            && are_shared(examples.as_slice(), tickets, bits, needs),
-    )
+) -> bool {
+    let examples = sharing(alloc, tickets.0, touches.0, tickets.1, touches.1).expect(rt, "memory");
+    share(tickets.0, touches.0, tickets.1, touches.1) == expected
+        && examples.is_empty() != expected
+        && are_shared(examples.as_slice(), tickets, bits, needs)
 }
 
 /// Whether the answers for all touches are those that looking finds.
-fn are_right(
+fn are_right<R: Abort>(
+    rt: &R,
     alloc: Global,
     tickets: (&Ticket, &Ticket),
     touches: &[Touch],
     found: &[u8],
     needs: &[Needs],
-) -> Result<bool, OutOfMemory> {
+) -> bool {
     let mut one_bit = 1u8;
     for (one, row) in touches.iter().zip(found) {
         let mut other_bit = 1u8;
         for other in touches {
             let bits = (one_bit, other_bit);
             let expected = *row & other_bit != 0;
-            if !is_right(alloc, tickets, (one, other), bits, expected, needs)? {
-                return Ok(false);
+            if !is_right(rt, alloc, tickets, (one, other), bits, expected, needs) {
+                return false;
             }
             other_bit = other_bit.wrapping_mul(2);
         }
         one_bit = one_bit.wrapping_mul(2);
     }
-    Ok(true)
-}
-
-/// What two tickets share over the alphabets.
-fn all_shared(
-    alloc: Global,
-    ones: &Ticket,
-    others: &Ticket,
-    needs: &[Needs],
-) -> Result<[u8; 7], OutOfMemory> {
-    let mut found = [0u8; 7];
-    for rows in POOLS {
-        let tags = pool_tags(alloc, rows)?;
-        shared_in(found.as_mut_slice(), ones, others, &tags, needs);
-    }
-    Ok(found)
+    true
 }
 
 /// Whether two texts are told to share what looking finds.
-fn is_told(
+fn is_told<R: Abort>(
+    rt: &R,
     alloc: Global,
     texts: (&str, &str),
     touches: &[Touch],
+    targets: &[Target<'_>],
     needs: &[Needs],
-) -> Result<bool, Fail> {
-    let ones = ticket(alloc, texts.0, None)?;
-    let others = ticket(alloc, texts.1, None)?;
-    let found = all_shared(alloc, &ones, &others, needs)?;
-    Ok(are_right(alloc, (&ones, &others), touches, found.as_slice(), needs)?)
+) -> bool {
+    let ones = ticket(rt, alloc, texts.0, None);
+    let others = ticket(rt, alloc, texts.1, None);
+    let found = all_shared(&ones, &others, targets, needs);
+    are_right(
+        rt,
+        alloc,
+        (&ones, &others),
+        touches,
+        found.as_slice(),
+        needs,
+    )
+}
+
+fn expect_told<R: Abort>(
+    rt: &R,
+    alloc: Global,
+    touches: &[Touch],
+    targets: &[Target<'_>],
+    needs: &[Needs],
+) {
+    let mut row = 7u64;
+    for _ in 0..12u32 {
+        let first = draw_text(rt, alloc, &mut row, TAGS);
+        let second = draw_text(rt, alloc, &mut row, TAGS);
+        let texts = (first.as_str(), second.as_str());
+        assert!(rt;
+            is_told(rt, alloc, texts, touches, targets, needs),
+            "{first} and {second}"
+        );
+    }
 }
 
 #[test]
-fn sharing_finds_what_looking_finds(rt: HostRuntime) -> Result<(), Fail> {
+fn sharing_finds_what_looking_finds(rt: HostRuntime) {
     let alloc = rt.alloc();
-    let needs = all_needs(alloc, Registry::Every)?;
-    let touches = all_touches(alloc)?;
-    let mut row = 7u64;
-    for _ in 0..12u32 {
-        let first = draw_text(alloc, &mut row, TAGS)?;
-        let second = draw_text(alloc, &mut row, TAGS)?;
-        let told = is_told(alloc, (first.as_str(), second.as_str()), &touches, &needs)?;
-        assert!(rt; told, "{first} and {second}");
-    }
-    Ok(())
+    let tags = tags_of_each(&rt, alloc, POOLS);
+    let targets = all_targets(&rt, alloc, &tags);
+    let needs = all_needs(&rt, alloc, Registry::Every);
+    let touches = all_touches(&rt, alloc);
+    expect_told(&rt, alloc, &touches, &targets, &needs);
 }
 
 /// Two texts, and what is printed of them.
@@ -255,52 +246,36 @@ const PRINTED: &[(&str, &str, &str); 6] = &[
     ("allow r", "deny r", "refused second C3 UnknownWord at 0\n"),
 ];
 
-/// Whether this is printed of two texts without a check.
-fn is_printed(alloc: Global, row: &(&str, &str, &str)) -> Result<bool, OutOfMemory> {
-    let printed = share_texts(alloc, row.0, row.1, false)?;
-    Ok(printed.text.as_str() == row.2)
-}
-
 #[test]
-fn shared_texts_print(rt: HostRuntime) -> Result<(), Fail> {
-    for row in PRINTED {
-        assert!(rt; is_printed(rt.alloc(), row)?, "{}", row.0);
+fn shared_texts_print(rt: HostRuntime) {
+    for (first, second, want) in PRINTED {
+        let printed = share_texts(rt.alloc(), first, second, false).expect(&rt, "memory");
+        assert_eq!(&rt; printed.text.as_str(), *want, "{first}");
     }
-    Ok(())
 }
 
 /// Two entities, of which one writes what the other reads.
-fn two(alloc: Global) -> Result<Vec<Entity>, OutOfMemory> {
-    let mut entities = Vec::new(alloc);
-    for (name, osd) in [
-        ("client.backup", "allow r"),
-        ("client.web", "allow w pool=web"),
-    ] {
-        entities.push(Entity {
-            name: String::from_str(alloc, name)?,
-            osd: String::from_str(alloc, osd)?,
-        })?;
-    }
-    Ok(entities)
-}
+const TWO: &[(&str, &str); 2] = &[
+    ("client.backup", "allow r"),
+    ("client.web", "allow w pool=web"),
+];
 
-/// What is printed of them, where a check is asked for.
-fn told(alloc: Global) -> Result<Printed, OutOfMemory> {
+#[test]
+fn shared_entities_print(rt: HostRuntime) {
+    let two = entities_of(&rt, rt.alloc(), TWO);
     let strictness = Strictness {
         reads: true,
         check: true,
         format: Format::Text,
     };
-    share_entities(alloc, two(alloc)?.as_slice(), strictness, None)
-}
-
-#[test]
-fn shared_entities_print(rt: HostRuntime) -> Result<(), Fail> {
-    let printed = told(rt.alloc())?;
-    assert_eq!(rt;
-        printed.text.as_str(),
-        "client.web writes what client.backup reads --pool web --object a\n"
+    let printed = share_entities(rt.alloc(), &two, strictness, None).expect(&rt, "memory");
+    assert!(&rt;
+        is_printed(
+            &printed,
+            "client.web writes what client.backup reads --pool web --object a\n",
+            true
+        ),
+        "{}",
+        printed.text
     );
-    assert!(rt; printed.fails);
-    Ok(())
 }

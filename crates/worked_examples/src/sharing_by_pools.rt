@@ -1,14 +1,12 @@
 //! Random tickets and entities, of which those that name no common pool are not compared.
 
-use crate::comparisons_by_force::pick;
-use crate::tickets::ticket;
-use common_types::OutOfMemory;
+use crate::drawing::pick;
+use crate::pieces::ticket;
 use gate_text::{Entity, Format};
 use share_core::PoolIndex;
 use share_text::{Strictness, share_entities, share_texts};
 use std::alloc::Global;
 use std::process::Abort;
-use std::test::Fail;
 use verdict_core::Ticket;
 
 /// Grants of some pools, and now and then one without a pool.
@@ -30,24 +28,25 @@ const GRANTS: &[&str] = &[
 ];
 
 /// A text of one to three grants.
-fn draw_grants(alloc: Global, row: &mut u64) -> Result<String, OutOfMemory> {
-    let mut text = String::from_str(alloc, pick(row, GRANTS))?;
+fn draw_grants<R: Abort>(rt: &R, alloc: Global, row: &mut u64) -> String {
+    let mut text = String::from_str(alloc, pick(row, GRANTS)).expect(rt, "memory");
     for _ in 0..2u32 {
         if pick(row, ["stop", "go"].as_slice()) == "go" {
-            text.push_str(", ")?;
-            text.push_str(pick(row, GRANTS))?;
+            text.push_str(", ").expect(rt, "memory");
+            text.push_str(pick(row, GRANTS)).expect(rt, "memory");
         }
     }
-    Ok(text)
+    text
 }
 
-fn draw_tickets(alloc: Global, row: &mut u64, count: usize) -> Result<Vec<Ticket>, Fail> {
+fn draw_tickets<R: Abort>(rt: &R, alloc: Global, row: &mut u64, count: usize) -> Vec<Ticket> {
     let mut tickets = Vec::new(alloc);
     for _ in 0..count {
-        let text = draw_grants(alloc, row)?;
-        tickets.push(ticket(alloc, text.as_str(), None)?)?;
+        let text = draw_grants(rt, alloc, row);
+        let ticket = ticket(rt, alloc, text.as_str(), None);
+        tickets.push(ticket).expect(rt, "memory");
     }
-    Ok(tickets)
+    tickets
 }
 
 /// Whether some grants of two tickets name one pool, or one of them names none.
@@ -68,61 +67,62 @@ fn have_pools_in_common(ones: &Ticket, others: &Ticket) -> bool {
 }
 
 /// The places from one on of those that have pools in common with a ticket.
-fn looked_for(
+fn looked_for<R: Abort>(
+    rt: &R,
     alloc: Global,
     tickets: &[Ticket],
     ones: &Ticket,
     from: usize,
-) -> Result<Vec<usize>, OutOfMemory> {
+) -> Vec<usize> {
     let mut places = Vec::new(alloc);
     for (place, others) in tickets.iter().enumerate() {
         if place >= from && have_pools_in_common(ones, others) {
-            places.push(place)?;
+            places.push(place).expect(rt, "memory");
         }
     }
-    Ok(places)
+    places
 }
 
 /// Whether those that are near each of some tickets are those that looking finds.
-fn are_near_ones_found(alloc: Global, tickets: &[Ticket]) -> Result<bool, OutOfMemory> {
+fn are_near_ones_found<R: Abort>(rt: &R, alloc: Global, tickets: &[Ticket]) -> bool {
     let mut index = PoolIndex::new(alloc);
     for ticket in tickets {
-        index.add(ticket)?;
+        index.add(ticket).expect(rt, "memory");
     }
     for (place, ticket) in tickets.iter().enumerate() {
         for from in [0, place, place + 1, tickets.len()] {
-            let near = index.near(ticket, from)?;
-            let expected = looked_for(alloc, tickets, ticket, from)?;
+            let near = index.near(ticket, from).expect(rt, "memory");
+            let expected = looked_for(rt, alloc, tickets, ticket, from);
             if near.as_slice() != expected.as_slice() {
-                return Ok(false);
+                return false;
             }
         }
     }
-    Ok(true)
+    true
 }
 
 #[test]
-fn an_index_finds_who_has_pools_in_common(rt: HostRuntime) -> Result<(), Fail> {
+fn an_index_finds_who_has_pools_in_common(rt: HostRuntime) {
     let mut row = 11u64;
     for count in 0..24usize {
-        let tickets = draw_tickets(rt.alloc(), &mut row, count)?;
-        assert!(rt;
-            are_near_ones_found(rt.alloc(), tickets.as_slice())?,
+        let tickets = draw_tickets(&rt, rt.alloc(), &mut row, count);
+        assert!(&rt;
+            are_near_ones_found(&rt, rt.alloc(), tickets.as_slice()),
             "{count} tickets"
         );
     }
-    Ok(())
 }
 
-fn draw_entities(alloc: Global, row: &mut u64, count: u32) -> Result<Vec<Entity>, OutOfMemory> {
+fn draw_entities<R: Abort>(rt: &R, alloc: Global, row: &mut u64, count: u32) -> Vec<Entity> {
     let mut entities = Vec::new(alloc);
     for number in 0..count {
-        entities.push(Entity {
-            name: format!(in alloc; "client.{number}")?,
-            osd: draw_grants(alloc, row)?,
-        })?;
+        let entity = Entity {
+            name: format!(in alloc; "client.{number}").expect(rt, "memory"),
+            osd: draw_grants(rt, alloc, row),
+        };
+        entities.push(entity).expect(rt, "memory");
     }
-    Ok(entities)
+    entities
 }
 
 /// What stands behind so many blanks.
@@ -138,58 +138,58 @@ fn behind_blanks(text: &str, blanks: u32) -> &str {
 }
 
 /// Adds the line of two entities by the first example of their texts, which is of the strongest kind.
-fn push_line(text: &mut String, one: &Entity, other: &Entity) -> Result<(), OutOfMemory> {
+fn push_line<R: Abort>(rt: &R, text: &mut String, one: &Entity, other: &Entity) {
     let alloc = *text.allocator();
-    let printed = share_texts(alloc, one.osd.as_str(), other.osd.as_str(), false)?;
+    let (osd, other_osd) = (one.osd.as_str(), other.osd.as_str());
+    let printed = share_texts(alloc, osd, other_osd, false).expect(rt, "memory");
     let line = printed.text.as_str().lines().next().unwrap_or("");
     let (one, other) = (one.name.as_str(), other.name.as_str());
     let target = behind_blanks(line, 4);
-    let told = if line.starts_with("writes writes ") {
-        format!(in alloc; "{one} and {other} write {target}\n")?
+    let pushed = if line.starts_with("writes writes ") {
+        write!(text, "{one} and {other} write {target}\n")
     } else if line.starts_with("writes reads ") {
-        format!(in alloc; "{one} writes what {other} reads {target}\n")?
+        write!(text, "{one} writes what {other} reads {target}\n")
     } else if line.starts_with("reads writes ") {
-        format!(in alloc; "{other} writes what {one} reads {target}\n")?
+        write!(text, "{other} writes what {one} reads {target}\n")
     } else if line.starts_with("reads reads ") {
-        format!(in alloc; "{one} and {other} read {target}\n")?
+        write!(text, "{one} and {other} read {target}\n")
     } else {
-        String::new(alloc)
+        Ok(())
     };
-    text.push_str(told.as_str())
+    pushed.expect(rt, "memory");
 }
 
 /// The lines of each two entities.
-fn lines_of_all(alloc: Global, entities: &[Entity]) -> Result<String, OutOfMemory> {
+fn lines_of_all<R: Abort>(rt: &R, alloc: Global, entities: &[Entity]) -> String {
     let mut text = String::new(alloc);
     for (place, one) in entities.iter().enumerate() {
         for other in entities.iter().skip(place + 1) {
-            push_line(&mut text, one, other)?;
+            push_line(rt, &mut text, one, other);
         }
     }
-    Ok(text)
+    text
 }
 
 /// Whether what is told of some entities is what is told of each two of them.
-fn is_each_pair_told(alloc: Global, entities: &[Entity]) -> Result<bool, OutOfMemory> {
+fn is_each_pair_told<R: Abort>(rt: &R, alloc: Global, entities: &[Entity]) -> bool {
     let strictness = Strictness {
         reads: true,
         check: false,
         format: Format::Text,
     };
-    let told = share_entities(alloc, entities, strictness, None)?;
-    let lines = lines_of_all(alloc, entities)?;
-    Ok(told.text.as_str() == lines.as_str() && !lines.is_empty())
+    let told = share_entities(alloc, entities, strictness, None).expect(rt, "memory");
+    let lines = lines_of_all(rt, alloc, entities);
+    told.text.as_str() == lines.as_str() && !lines.is_empty()
 }
 
 #[test]
-fn each_two_entities_of_a_file_are_told(rt: HostRuntime) -> Result<(), Fail> {
+fn each_two_entities_of_a_file_are_told(rt: HostRuntime) {
     let mut row = 5u64;
     for count in [2u32, 3, 20, 60] {
-        let entities = draw_entities(rt.alloc(), &mut row, count)?;
-        assert!(rt;
-            is_each_pair_told(rt.alloc(), entities.as_slice())?,
+        let entities = draw_entities(&rt, rt.alloc(), &mut row, count);
+        assert!(&rt;
+            is_each_pair_told(&rt, rt.alloc(), entities.as_slice()),
             "{count} entities"
         );
     }
-    Ok(())
 }

@@ -1,13 +1,11 @@
 //! What two texts share in pools that are given, each by a call of its own.
 
+use crate::pieces::{TagRow, pools_of, ticket};
 use cap_text::AllowGrant;
-use common_types::{AppTags, Name, OutOfMemory, Pairs, Tags};
-use gate_text::{TextFault, ticket_of_text};
 use grant_core::Path;
 use share_core::{Pool, Touch, example_in, is_for, share_in};
-use std::alloc::{AllocError, Global};
-use std::test::Fail;
-use verdict_core::Ticket;
+use std::alloc::Global;
+use std::process::Abort;
 
 /// What the one writes, what the other reads, and of which pool the example is.
 type Row = (&'static str, &'static str, Option<&'static str>);
@@ -21,77 +19,29 @@ const ROWS: &[Row; 6] = &[
     ("allow w namespace=a", "allow r namespace=b", None),
 ];
 
-/// A pool, with this value of the key `data` of the application `cephfs` if there is one.
-fn pool(alloc: Global, name: &str, value: Option<&str>) -> Result<Pool, OutOfMemory> {
-    let mut tags = Vec::new(alloc);
-    if let Some(value) = value {
-        let mut pairs = Vec::new(alloc);
-        pairs.push((Name::new(alloc, "data")?, Name::new(alloc, value)?))?;
-        tags.push(AppTags {
-            application: Name::new(alloc, "cephfs")?,
-            pairs: Pairs::from_vec(pairs),
-        })?;
-    }
-    Ok(Pool {
-        name: Name::new(alloc, name)?,
-        tags: Tags::from_vec(tags),
-    })
-}
-
 /// The pool `logs` without tags, and the pool `web` of the file system `web`.
-fn pools(alloc: Global) -> Result<Vec<Pool>, OutOfMemory> {
-    let mut pools = Vec::new(alloc);
-    pools.push(pool(alloc, "logs", None)?)?;
-    pools.push(pool(alloc, "web", Some("web"))?)?;
-    Ok(pools)
-}
+const POOLS: &[(&str, &[TagRow]); 2] = &[("logs", &[]), ("web", &[("cephfs", "data", "web")])];
 
-fn ticket(alloc: Global, caps: &str) -> Result<Ticket, OutOfMemory> {
-    match ticket_of_text(alloc, caps) {
-        Ok(ticket) => Ok(ticket),
-        Err(TextFault::OutOfMemory) => Err(AllocError),
-        Err(_) => Ok(Ticket::empty(alloc, None)),
-    }
-}
-
-/// Whether both calls say of two tickets what a row says.
-fn is_shared(
-    alloc: Global,
-    ones: &Ticket,
-    others: &Ticket,
-    pools: &[Pool],
-    wanted: Option<&str>,
-) -> Result<bool, OutOfMemory> {
-    let found = example_in(
-        alloc,
-        ones,
-        &Touch::AnyWrite,
-        others,
-        &Touch::AnyRead,
-        pools,
-    )?;
-    let shares = share_in(ones, &Touch::AnyWrite, others, &Touch::AnyRead, pools);
-    Ok(match (found, wanted) {
+/// Whether both calls say of two texts what a row says.
+fn is_so<R: Abort>(rt: &R, alloc: Global, pools: &[Pool], (ones, others, wanted): Row) -> bool {
+    let ones = ticket(rt, alloc, ones, None);
+    let others = ticket(rt, alloc, others, None);
+    let (writes, reads) = (Touch::AnyWrite, Touch::AnyRead);
+    let shares = share_in(&ones, &writes, &others, &reads, pools);
+    let found = example_in(alloc, &ones, &writes, &others, &reads, pools).expect(rt, "memory");
+    match (found, wanted) {
         (Some(target), Some(pool)) => shares && target.pool.as_str() == pool,
         (None, None) => !shares,
         _ => false,
-    })
-}
-
-/// Whether a row is so.
-fn is_so(alloc: Global, pools: &[Pool], (ones, others, wanted): Row) -> Result<bool, OutOfMemory> {
-    let ones = ticket(alloc, ones)?;
-    let others = ticket(alloc, others)?;
-    is_shared(alloc, &ones, &others, pools, wanted)
+    }
 }
 
 #[test]
-fn pools_that_are_given_count_alone(rt: HostRuntime) -> Result<(), Fail> {
-    let pools = pools(rt.alloc())?;
+fn pools_that_are_given_count_alone(rt: HostRuntime) {
+    let pools = pools_of(&rt, rt.alloc(), POOLS);
     for (place, row) in ROWS.iter().enumerate() {
-        assert!(rt; is_so(rt.alloc(), pools.as_slice(), *row)?, "{place}");
+        assert!(&rt; is_so(&rt, rt.alloc(), &pools, *row), "{place}");
     }
-    Ok(())
 }
 
 /// For which of some pools the first grant is, as a sum of their powers of two.
@@ -107,18 +57,19 @@ fn first_is_for(grants: &[(Path, AllowGrant)], pools: &[Pool]) -> u32 {
     sum
 }
 
-/// For which of both pools the first grant of a text is.
-fn is_for_pools(alloc: Global, caps: &str) -> Result<u32, OutOfMemory> {
-    let pools = pools(alloc)?;
-    let ticket = ticket(alloc, caps)?;
-    Ok(first_is_for(ticket.grants(), pools.as_slice()))
-}
+/// Texts, and for which of both pools their first grant is.
+const FIRSTS: &[(&str, u32); 4] = &[
+    ("allow r object_prefix a", 3),
+    ("allow r pool=logs", 1),
+    ("allow r tag cephfs *=web", 2),
+    ("allow r tag rbd *=*", 0),
+];
 
 #[test]
-fn a_grant_is_for_pools_of_its_name_and_tag(rt: HostRuntime) -> Result<(), Fail> {
-    assert_eq!(rt; is_for_pools(rt.alloc(), "allow r object_prefix a")?, 3);
-    assert_eq!(rt; is_for_pools(rt.alloc(), "allow r pool=logs")?, 1);
-    assert_eq!(rt; is_for_pools(rt.alloc(), "allow r tag cephfs *=web")?, 2);
-    assert_eq!(rt; is_for_pools(rt.alloc(), "allow r tag rbd *=*")?, 0);
-    Ok(())
+fn a_grant_is_for_pools_of_its_name_and_tag(rt: HostRuntime) {
+    let pools = pools_of(&rt, rt.alloc(), POOLS);
+    for (text, want) in FIRSTS {
+        let ticket = ticket(&rt, rt.alloc(), text, None);
+        assert_eq!(&rt; first_is_for(ticket.grants(), &pools), *want, "{text}");
+    }
 }

@@ -3,7 +3,7 @@
 use std::alloc::{AllocError, Global};
 use std::cell::Cell;
 use std::io;
-use std::test::Fail;
+use std::process::Abort;
 use std::time::{Clock, Duration};
 use stopwatch::{MeasureFault, Mode, Table, Work};
 
@@ -50,15 +50,20 @@ impl Work for Nothing {
 }
 
 /// The table of this work alone. The first step of the clock takes five milliseconds, so one call is long enough.
-fn table(alloc: Global, is_broken: bool, mode: Mode) -> Result<String, MeasureFault> {
+fn table<R: Abort>(
+    rt: &R,
+    alloc: Global,
+    is_broken: bool,
+    mode: Mode,
+) -> Result<String, MeasureFault> {
     let clock = Steps {
         is_broken,
         now: Cell::new(0),
         step: Cell::new(5_000_000),
     };
-    let mut table = Table::new(alloc, &clock, mode)?;
+    let mut table = Table::new(alloc, &clock, mode).expect(rt, "memory");
     table.row("nothing", &Nothing)?;
-    Ok(table.into_text()?)
+    Ok(table.into_text().expect(rt, "memory"))
 }
 
 const ONCE: &str =
@@ -70,13 +75,12 @@ nothing                                               5003.6      5020.9
 ";
 
 #[test]
-fn a_clock_is_read_where_times_are_wanted(rt: HostRuntime) -> Result<(), Fail> {
+fn a_clock_is_read_where_times_are_wanted(rt: HostRuntime) {
     let alloc = rt.alloc();
-    let once = table(alloc, true, Mode::Once).map_err(|_| "no table")?;
+    let once = table(&rt, alloc, true, Mode::Once).expect(&rt, "a table");
     assert_eq!(&rt; once.as_str(), ONCE);
-    let timed = table(alloc, false, Mode::Timed).map_err(|_| "no times")?;
+    let timed = table(&rt, alloc, false, Mode::Timed).expect(&rt, "times");
     assert_eq!(&rt; timed.as_str(), TIMED);
-    let is_clock = matches!(table(alloc, true, Mode::Timed), Err(MeasureFault::Clock));
-    assert!(&rt; is_clock);
-    Ok(())
+    let broken = table(&rt, alloc, true, Mode::Timed);
+    assert!(&rt; matches!(broken, Err(MeasureFault::Clock)));
 }

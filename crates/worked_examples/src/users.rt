@@ -1,94 +1,85 @@
 //! Users that are made, found, changed and removed. `sessions/users` shows the refusals.
 
+use crate::pieces::name;
 use auth_db::{AuthDb, AuthFault, Caps, Creation};
-use common_types::{Name, OutOfMemory};
 use grant_core::ProfileTable;
 use std::alloc::Global;
 use std::process::Abort;
-use std::test::Fail;
 
 const NAME: &str = "client.a";
 
 /// Caps of a text of osd.
-fn osd(alloc: Global, text: &str) -> Result<Caps, OutOfMemory> {
-    Ok(Caps {
+fn osd<R: Abort>(rt: &R, alloc: Global, text: &str) -> Caps {
+    Caps {
         mon: None,
         mgr: None,
         mds: None,
-        osd: Some(Name::new(alloc, text)?),
-    })
+        osd: Some(name(rt, alloc, text)),
+    }
 }
 
-fn database(alloc: Global) -> Result<AuthDb, OutOfMemory> {
-    Ok(AuthDb::new(alloc, ProfileTable::builtin(alloc)?))
+fn database<R: Abort>(rt: &R, alloc: Global) -> AuthDb {
+    AuthDb::new(alloc, ProfileTable::builtin(alloc).expect(rt, "profiles"))
 }
 
-/// What is told where the user is asked for or made, with this text.
-fn made(alloc: Global, users: &mut AuthDb, text: &str) -> Result<Creation, AuthFault> {
-    users.get_or_create(NAME, osd(alloc, text)?)
-}
-
-fn changed(alloc: Global, users: &mut AuthDb, text: &str) -> Result<(), AuthFault> {
-    users.caps(NAME, osd(alloc, text)?)
-}
-
-fn added(alloc: Global, users: &mut AuthDb, text: &str) -> Result<(), AuthFault> {
-    users.add(NAME, osd(alloc, text)?)
-}
-
-/// Whether the user has this text, and whether a copy of its caps is the same.
-fn has_caps(alloc: Global, users: &AuthDb, text: &str) -> Result<(bool, bool), AuthFault> {
-    let caps = users.get(NAME)?;
-    Ok((caps.equals(&osd(alloc, text)?), caps.copy()?.equals(caps)))
+/// Whether the user has this text, and a copy of its caps is the same.
+fn has_caps<R: Abort>(rt: &R, alloc: Global, users: &AuthDb, text: &str) -> bool {
+    let caps = users.get(NAME).expect(rt, "a user");
+    let copy = caps.copy().expect(rt, "memory");
+    caps.equals(&osd(rt, alloc, text)) && copy.equals(caps)
 }
 
 /// How many grants the ticket of the user has, and whether it is expired at the time of its end.
-fn ticket(users: &AuthDb, until: u64) -> Result<(usize, bool), AuthFault> {
-    let ticket = users.ticket(NAME, Some(until))?;
-    Ok((ticket.grants().len(), ticket.is_expired(until)))
+fn ticket<R: Abort>(rt: &R, users: &AuthDb, until: u64) -> (usize, bool) {
+    let ticket = users.ticket(NAME, Some(until)).expect(rt, "a ticket");
+    (ticket.grants().len(), ticket.is_expired(until))
 }
 
-/// The first of the users' names.
-fn is_first(users: &AuthDb, name: &str) -> Result<bool, AuthFault> {
-    Ok(match users.list()?.as_slice() {
+/// Whether this is the first of the users' names.
+fn is_first<R: Abort>(rt: &R, users: &AuthDb, name: &str) -> bool {
+    match users.list().expect(rt, "memory").as_slice() {
         [first, ..] => first.as_str() == name,
         [] => false,
-    })
+    }
 }
 
+/// Texts with which the user is asked for or made, and what is told.
+const CREATIONS: &[(&str, Result<Creation, AuthFault>); 3] = &[
+    ("allow r", Ok(Creation::Made)),
+    ("allow r", Ok(Creation::There)),
+    ("allow rw", Err(AuthFault::CapsDiffer)),
+];
+
 #[test]
-fn a_user_is_made_found_and_changed(rt: HostRuntime) -> Result<(), Fail> {
+fn a_user_is_made_found_and_changed(rt: HostRuntime) {
     let alloc = rt.alloc();
-    let mut users = database(alloc)?;
-    assert!(rt; made(alloc, &mut users, "allow r") == Ok(Creation::Made));
-    assert!(rt; made(alloc, &mut users, "allow r") == Ok(Creation::There));
-    assert!(rt; made(alloc, &mut users, "allow rw") == Err(AuthFault::CapsDiffer));
-    assert!(rt; changed(alloc, &mut users, "allow w") == Ok(()));
-    assert!(rt; has_caps(alloc, &users, "allow w") == Ok((true, true)));
-    assert!(rt; ticket(&users, 7) == Ok((1, true)));
-    assert!(rt; is_first(&users, NAME) == Ok(true));
-    Ok(())
+    let mut users = database(&rt, alloc);
+    for (text, told) in CREATIONS {
+        let caps = osd(&rt, alloc, text);
+        assert!(&rt; users.get_or_create(NAME, caps) == *told, "{text}");
+    }
+    assert!(&rt; users.caps(NAME, osd(&rt, alloc, "allow w")) == Ok(()));
+    assert!(&rt; has_caps(&rt, alloc, &users, "allow w"));
+    assert_eq!(&rt; ticket(&rt, &users, 7), (1, true));
+    assert!(&rt; is_first(&rt, &users, NAME));
 }
 
 #[test]
-fn a_user_is_added_and_removed(rt: HostRuntime) -> Result<(), Fail> {
+fn a_user_is_added_and_removed(rt: HostRuntime) {
     let alloc = rt.alloc();
-    let mut users = database(alloc)?;
-    assert!(rt; added(alloc, &mut users, "allow r") == Ok(()));
-    assert!(rt; users.del(NAME) == Ok(()));
-    assert!(rt; users.del(NAME) == Err(AuthFault::NoEntity));
-    assert!(rt; is_first(&users, NAME) == Ok(false));
-    assert!(rt; users.add(NAME, Caps::none()) == Ok(()));
-    Ok(())
+    let mut users = database(&rt, alloc);
+    assert!(&rt; users.add(NAME, osd(&rt, alloc, "allow r")) == Ok(()));
+    assert!(&rt; users.del(NAME) == Ok(()));
+    assert!(&rt; users.del(NAME) == Err(AuthFault::NoEntity));
+    assert!(&rt; !is_first(&rt, &users, NAME));
+    assert!(&rt; users.add(NAME, Caps::none()) == Ok(()));
 }
 
-/// The text of a fault that no session shows.
-fn memory_text(alloc: Global) -> Result<String, OutOfMemory> {
-    AuthFault::OutOfMemory.to_string(alloc)
-}
-
+// A fault that no session shows.
 #[test]
-fn want_of_memory_has_its_text(rt: HostRuntime) -> Result<(), Fail> {
-    assert_eq!(rt; memory_text(rt.alloc())?.as_str(), "A7 OutOfMemory");
-    Ok(())
+fn want_of_memory_has_its_text(rt: HostRuntime) {
+    let text = AuthFault::OutOfMemory
+        .to_string(rt.alloc())
+        .expect(&rt, "memory");
+    assert_eq!(&rt; text.as_str(), "A7 OutOfMemory");
 }
