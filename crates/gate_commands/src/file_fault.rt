@@ -178,60 +178,78 @@ impl fmt::Display for Place {
 
 impl fmt::Display for Form {
     fn fmt<W: fmt::Write>(&self, f: &mut fmt::Formatter<W>) -> fmt::Result {
-        match self {
-            Form::Json => write!(f, "JSON"),
-            Form::Keyring => write!(f, "a keyring"),
-            Form::Listing => write!(f, "what `ceph auth ls` prints"),
-        }
+        f.write_str(match self {
+            Form::Json => "JSON",
+            Form::Keyring => "a keyring",
+            Form::Listing => "what `ceph auth ls` prints",
+        })
     }
 }
 
 impl fmt::Display for Likeness {
     fn fmt<W: fmt::Write>(&self, f: &mut fmt::Formatter<W>) -> fmt::Result {
+        f.write_str(match self {
+            Likeness::Xml => "looks like XML",
+            Likeness::Yaml => "looks like YAML",
+            Likeness::CapabilityText => "looks like a capability text",
+            Likeness::CephError => "looks like an error of ceph's",
+            Likeness::Nothing => "is in no form that is read",
+        })
+    }
+}
+
+impl FileFault {
+    /// What is said first of it.
+    fn words(&self) -> &'static str {
         match self {
-            Likeness::Xml => write!(f, "looks like XML"),
-            Likeness::Yaml => write!(f, "looks like YAML"),
-            Likeness::CapabilityText => write!(f, "looks like a capability text"),
-            Likeness::CephError => write!(f, "looks like an error of ceph's"),
-            Likeness::Nothing => write!(f, "is in no form that is read"),
+            FileFault::Unread(_) => "cannot be read: ",
+            FileFault::TooLong => "has more than 67108864 bytes",
+            FileFault::NotUtf8 => "cannot be read: stream did not contain valid UTF-8",
+            FileFault::Empty => "is empty",
+            FileFault::NotJson(_) => "is no JSON ",
+            FileFault::Looks { .. } => "",
+            FileFault::BadLine { .. } => "is not ",
+            FileFault::NoEntries => "has no list of entries",
+            FileFault::NoEntity(_) => "has no text `entity` in entry ",
+            FileFault::NoCaps(_) => "has no object `caps` in entry ",
+            FileFault::NoText(_) => "has an `osd` that is no text in entry ",
+            FileFault::Doubled(_) => "has the name of an earlier entry in entry ",
+            FileFault::NoPools => "has no list of pools",
+            FileFault::NoPoolName(_) => "has no text `pool_name` in pool ",
+            FileFault::NoApplications(_) => {
+                "has no object of objects of texts `application_metadata` in pool "
+            }
+            FileFault::DoubledPool(_) => "has the name of an earlier pool in pool ",
+            FileFault::OpenQuote(_) => "has an open quote in line ",
+            FileFault::NoRequest { .. } => "has no request in line ",
+            FileFault::OutOfMemory => "OutOfMemory",
         }
     }
 }
 
 impl fmt::Display for FileFault {
     fn fmt<W: fmt::Write>(&self, f: &mut fmt::Formatter<W>) -> fmt::Result {
+        f.write_str(self.words())?;
         match self {
-            FileFault::Unread(error) => write!(f, "cannot be read: {error}"),
-            FileFault::TooLong => write!(f, "has more than 67108864 bytes"),
-            FileFault::NotUtf8 => write!(f, "cannot be read: stream did not contain valid UTF-8"),
-            FileFault::Empty => write!(f, "is empty"),
-            FileFault::NotJson(at) => write!(f, "is no JSON {at}"),
+            FileFault::Unread(error) => write!(f, "{error}"),
+            FileFault::NotJson(at) => write!(f, "{at}"),
             FileFault::Looks { like, at } => write!(f, "{like} {at}"),
-            FileFault::BadLine { form, at } => write!(f, "is not {form} {at}"),
-            FileFault::NoEntries => write!(f, "has no list of entries"),
-            FileFault::NoEntity(number) => write!(f, "has no text `entity` in entry {number}"),
-            FileFault::NoCaps(number) => write!(f, "has no object `caps` in entry {number}"),
-            FileFault::NoText(number) => write!(
-                f,
-                "has an `osd` that is no text in entry {number}"
-            ),
-            FileFault::Doubled(number) => {
-                write!(f, "has the name of an earlier entry in entry {number}")
-            }
-            FileFault::NoPools => write!(f, "has no list of pools"),
-            FileFault::NoPoolName(number) => write!(f, "has no text `pool_name` in pool {number}"),
-            FileFault::NoApplications(number) => {
-                write!(
-                    f,
-                    "has no object of objects of texts `application_metadata` in pool {number}"
-                )
-            }
-            FileFault::DoubledPool(number) => {
-                write!(f, "has the name of an earlier pool in pool {number}")
-            }
-            FileFault::OpenQuote(line) => write!(f, "has an open quote in line {line}"),
-            FileFault::NoRequest { line, why } => write!(f, "has no request in line {line}: {why}"),
-            FileFault::OutOfMemory => write!(f, "OutOfMemory"),
+            FileFault::BadLine { form, at } => write!(f, "{form} {at}"),
+            FileFault::NoEntity(number)
+            | FileFault::NoCaps(number)
+            | FileFault::NoText(number)
+            | FileFault::Doubled(number)
+            | FileFault::NoPoolName(number)
+            | FileFault::NoApplications(number)
+            | FileFault::DoubledPool(number)
+            | FileFault::OpenQuote(number) => write!(f, "{number}"),
+            FileFault::NoRequest { line, why } => write!(f, "{line}: {why}"),
+            FileFault::TooLong
+            | FileFault::NotUtf8
+            | FileFault::Empty
+            | FileFault::NoEntries
+            | FileFault::NoPools
+            | FileFault::OutOfMemory => Ok(()),
         }
     }
 }
