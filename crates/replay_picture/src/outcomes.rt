@@ -8,6 +8,7 @@ use grant_core::Path;
 use object_core::Bytes;
 use script_text::push_quoted;
 use std::alloc::Global;
+use std::fmt::Write;
 use verdict_core::Condition;
 
 /// So many lines of a report, of outputs or of names stand in a picture, and so many bytes of each output or name.
@@ -96,25 +97,27 @@ pub(crate) fn decision(
     Ok(lines)
 }
 
+/// What is said first of an answer.
+fn answered(reply: &Reply) -> &'static str {
+    match reply {
+        Reply::Denied(_) => " answered: denied",
+        Reply::Done(_) => " answered: ok",
+        Reply::Failed { .. } => " answered: ",
+        Reply::Names(_) => " answered: names",
+    }
+}
+
 /// What is said of an answer.
 pub(crate) fn answer(alloc: Global, id: Id, reply: &Reply) -> Result<Vec<String>, OutOfMemory> {
-    let mut lines = Vec::new(alloc);
+    let mut head = headed(alloc, id, answered(reply))?;
+    if let Reply::Failed { place, number } = reply {
+        write!(head, "error {number} at {place}")?;
+    }
+    let mut lines = vec![in alloc; head]?;
     match reply {
-        Reply::Denied(_) => lines.push(headed(alloc, id, " answered: denied")?)?,
-        Reply::Done(outputs) => {
-            lines.push(headed(alloc, id, " answered: ok")?)?;
-            push_outputs(alloc, &mut lines, outputs.as_slice())?;
-        }
-        Reply::Failed { place, number } => {
-            let mut text = headed(alloc, id, " answered: ")?;
-            let rest = format!(in alloc; "error {number} at {place}")?;
-            text.push_str(rest.as_str())?;
-            lines.push(text)?;
-        }
-        Reply::Names(names) => {
-            lines.push(headed(alloc, id, " answered: names")?)?;
-            push_names(alloc, &mut lines, names.as_slice())?;
-        }
+        Reply::Done(outputs) => push_outputs(alloc, &mut lines, outputs.as_slice())?,
+        Reply::Names(names) => push_names(alloc, &mut lines, names.as_slice())?,
+        Reply::Denied(_) | Reply::Failed { .. } => (),
     }
     Ok(lines)
 }

@@ -50,6 +50,20 @@ fn last_rows(alloc: Global, script: &[u8], group: &Option<GroupId>) -> Result<St
     story_of(alloc, script, copy_group(group)?, first)
 }
 
+/// The picture of a group.
+fn drawn(
+    alloc: Global,
+    script: &[u8],
+    group: &Option<GroupId>,
+    format: Format,
+) -> Result<String, OutOfMemory> {
+    let story = last_rows(alloc, script, group)?;
+    match format {
+        Format::Svg => svg_of(alloc, &story),
+        Format::Mermaid => mermaid_of(alloc, &story),
+    }
+}
+
 /// Draws what a script does to a group: to the one that is named, or else to the one with most messages. The lines up to the first
 /// that is no command are drawn. Nothing is drawn where the group that is named is none of the script's.
 ///
@@ -66,10 +80,6 @@ pub fn draw_script(
         }
     }
     let group = chosen_group(alloc, script, named)?;
-    let story = last_rows(alloc, script, &group)?;
-    let text = match format {
-        Format::Svg => svg_of(alloc, &story)?,
-        Format::Mermaid => mermaid_of(alloc, &story)?,
-    };
+    let text = drawn(alloc, script, &group, format)?;
     Ok(Some(Picture { group, text }))
 }

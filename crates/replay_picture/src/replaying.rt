@@ -8,6 +8,7 @@ use picture_text::{Beginning, Happening, Row, ScriptLine, Story};
 use place_core::{ActingSet, DaemonSet};
 use script_text::{Line, Lines};
 use std::alloc::Global;
+use std::mem;
 use world_core::{Ask, Event, World};
 use world_script::{Command, read_line};
 
@@ -18,7 +19,7 @@ const MOST_DELIVERIES: u32 = u32::MAX;
 #[derive(Drop)]
 struct Replay {
     alloc: Global,
-    watched: Option<Watched>,
+    watched: Option<Box<Watched>>,
     group: Option<GroupId>,
     tick: u64,
     /// The line whose first row is still to come.
@@ -66,7 +67,7 @@ fn swept(sweep: Sweep, group: &GroupId) -> Result<Event, OutOfMemory> {
 }
 
 /// Where a picture begins whose first row is the next one.
-fn beginning_of(watched: &Option<Watched>) -> Beginning {
+fn beginning_of(watched: &Option<Box<Watched>>) -> Beginning {
     match watched {
         None => Beginning {
             up: DaemonSet::first(16),
@@ -78,14 +79,6 @@ fn beginning_of(watched: &Option<Watched>) -> Beginning {
             interval: watched.interval,
             acting: watched.acting,
         },
-    }
-}
-
-/// Where a picture begins: where its first row does, or at the end where it has none.
-fn begun(beginning: Option<Beginning>, watched: &Option<Watched>) -> Beginning {
-    match beginning {
-        None => beginning_of(watched),
-        Some(beginning) => beginning,
     }
 }
 
@@ -193,27 +186,32 @@ impl Replay {
         }
     }
 
-    /// Carries out a command, and says whether it is one at this place: the first has to be the number of daemons.
-    fn carry_out(&mut self, command: Command) -> Result<bool, OutOfMemory> {
-        if let Command::Osds(daemons) = command {
-            if self.watched.is_some() {
-                return Ok(false);
-            }
-            let group = match &self.group {
-                None => None,
-                Some(group) => Some(group.copy()?),
-            };
-            self.watched = Some(Watched::new(self.alloc, daemons, group)?);
-            return Ok(true);
-        }
-        if self.watched.is_none() {
+    /// Makes the world, and says whether there was none.
+    fn begin(&mut self, daemons: u8) -> Result<bool, OutOfMemory> {
+        if self.watched.is_some() {
             return Ok(false);
         }
-        self.go_on(command)?;
+        let group = match &self.group {
+            None => None,
+            Some(group) => Some(group.copy()?),
+        };
+        let watched = Watched::new(self.alloc, daemons, group)?;
+        self.watched = Some(Box::new(self.alloc, watched)?);
         Ok(true)
     }
 
-    /// Carries out a command that is not the first. A question does nothing.
+    /// Carries out a command, and says whether it is one at this place: the first has to be the number of daemons.
+    fn carry_out(&mut self, command: Command) -> Result<bool, OutOfMemory> {
+        match command {
+            Command::Osds(daemons) => self.begin(daemons),
+            command => {
+                self.go_on(command)?;
+                Ok(self.watched.is_some())
+            }
+        }
+    }
+
+    /// Carries out a command that is not the first. A question does nothing, and where there is no world nothing happens.
     fn go_on(&mut self, command: Command) -> Result<(), OutOfMemory> {
         match command {
             Command::Happens(event) => self.happen(event),
@@ -248,22 +246,21 @@ impl Replay {
 
     /// Replays a line that is not blank, and says whether it is a command at its place.
     fn replay_line(&mut self, line: &Line<'_>) -> Result<bool, OutOfMemory> {
-        let Some(command) = read_line(self.alloc, line.text)? else {
-            return Ok(false);
-        };
         self.line = Some(ScriptLine {
             number: line.number,
             text: Vec::from_slice(self.alloc, line.text)?,
         });
-        if !self.carry_out(command)? {
+        let is_command = match read_line(self.alloc, line.text)? {
+            None => false,
+            Some(command) => self.carry_out(command)?,
+        };
+        if !is_command {
             self.line = None;
-            return Ok(false);
-        }
-        if self.line.is_some() {
+        } else if self.line.is_some() {
             self.begin_row();
             self.push_row(Vec::new(self.alloc))?;
         }
-        Ok(true)
+        Ok(is_command)
     }
 
     /// Replays all lines up to the first that is no command.
@@ -277,32 +274,31 @@ impl Replay {
         Ok(())
     }
 
-    fn into_story(self) -> Result<Story, OutOfMemory> {
-        let Replay {
-            alloc,
-            watched,
-            group,
-            tick: _tick,
-            line: _line,
-            count,
-            first: _first,
-            beginning,
-            rows,
-        } = self;
-        let title = title_of(alloc, &group)?;
+    /// Where the picture begins: where its first row does, or at the end where it has none.
+    fn take_beginning(&mut self) -> Beginning {
+        match self.beginning.take() {
+            None => beginning_of(&self.watched),
+            Some(beginning) => beginning,
+        }
+    }
+
+    /// What was replayed, for good.
+    fn take_story(&mut self) -> Result<Story, OutOfMemory> {
+        let title = title_of(self.alloc, &self.group)?;
+        let rows = mem::replace(&mut self.rows, Vec::new(self.alloc));
         let mut story = Story {
             title,
-            left_out: count.saturating_sub(rows.len()),
-            beginning: begun(beginning, &watched),
+            left_out: self.count.saturating_sub(rows.len()),
+            beginning: self.take_beginning(),
             rows,
-            messages: Vec::new(alloc),
-            waiting: Vec::new(alloc),
+            messages: Vec::new(self.alloc),
+            waiting: Vec::new(self.alloc),
             daemons: DaemonSet::first(0),
         };
-        if let Some(watched) = watched {
+        if let Some(watched) = &mut self.watched {
             story.daemons = watched.daemons;
-            story.messages = watched.messages;
-            story.waiting = watched.waiting;
+            mem::swap(&mut story.messages, &mut watched.messages);
+            mem::swap(&mut story.waiting, &mut watched.waiting);
         }
         Ok(story)
     }
@@ -353,5 +349,5 @@ pub(crate) fn story_of(
 ) -> Result<Story, OutOfMemory> {
     let mut replay = Replay::new(alloc, group, first);
     replay.replay(script)?;
-    replay.into_story()
+    replay.take_story()
 }

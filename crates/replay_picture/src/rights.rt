@@ -10,7 +10,7 @@ use std::alloc::Global;
 use std::fmt::Write;
 use std::slice;
 use verdict_core::{Calls, ClassCall, Needs, SharedTicket, Target, grants_allow};
-use world_core::{Ask, Event, Told, World};
+use world_core::{Ask, Event, Told, World, WorldFault};
 
 /// A session's user and its ticket, where it could be made.
 #[derive(Drop)]
@@ -185,27 +185,36 @@ impl Rights {
         }
     }
 
-    /// Keeps what was noted of an event that was accepted.
-    pub(crate) fn keep(&mut self, noted: Noted, told: Told) -> Result<(), OutOfMemory> {
-        match (noted, told) {
-            (Noted::Opens(entity, ticket), _) => self.holders.push(Holder { entity, ticket })?,
-            (Noted::Renews(session, ticket), _) => self.renew(session, ticket),
-            (Noted::Asks(grants), Told::Request(first)) => {
-                self.granted.push(Granted {
-                    first,
-                    count: 1,
-                    grants,
-                })?;
-            }
-            (Noted::Asks(grants), Told::List { first, count }) => {
-                self.granted.push(Granted {
-                    first,
-                    count,
-                    grants,
-                })?;
-            }
-            _ => (),
+    /// Keeps what was noted of an event, where it was accepted.
+    pub(crate) fn keep(
+        &mut self,
+        noted: Noted,
+        told: Result<Told, WorldFault>,
+    ) -> Result<(), OutOfMemory> {
+        let Ok(told) = told else {
+            return Ok(());
+        };
+        match noted {
+            Noted::Opens(entity, ticket) => self.holders.push(Holder { entity, ticket })?,
+            Noted::Renews(session, ticket) => self.renew(session, ticket),
+            Noted::Asks(grants) => self.grant(grants, told)?,
+            Noted::Nothing => (),
         }
+        Ok(())
+    }
+
+    /// Keeps the grants that allow a question.
+    fn grant(&mut self, grants: String, told: Told) -> Result<(), OutOfMemory> {
+        let (first, count) = match told {
+            Told::Request(first) => (first, 1),
+            Told::List { first, count } => (first, count),
+            _ => return Ok(()),
+        };
+        self.granted.push(Granted {
+            first,
+            count,
+            grants,
+        })?;
         Ok(())
     }
 

@@ -60,8 +60,6 @@ struct Before {
     decided: usize,
     /// The request that the event may answer.
     open: Option<Id>,
-    /// The place of the group of which a message is taken.
-    counted: Option<usize>,
 }
 
 fn is_group(watched: &Option<GroupId>, group: &GroupId) -> bool {
@@ -194,22 +192,22 @@ impl Watched {
     ) -> Result<(), OutOfMemory> {
         let seen = see(&self.group, &event);
         let before = self.look(&event, &seen)?;
-        if before.counted.is_some() && seen.taken.is_none() {
-            // another group's message, which may decide something there
-            self.decided = None;
-        }
         let step = self.step(event)?;
-        self.tally.add(before.counted)?;
-        self.tell(told, &seen, before, step)
+        self.tell(told, &seen, before, &step)
     }
 
     /// What has to be known of the world before an event.
-    fn look(&self, event: &Event, seen: &Seen) -> Result<Before, OutOfMemory> {
+    fn look(&mut self, event: &Event, seen: &Seen) -> Result<Before, OutOfMemory> {
+        let counted = group_taken_from(&self.world, event);
+        self.tally.add(counted)?;
+        if counted.is_some() && seen.taken.is_none() {
+            // another group's message, which may decide something there
+            self.decided = None;
+        }
         Ok(Before {
             decided: self.decided_before(seen)?,
-            noted: self.rights.note(&self.world, event)?,
             open: self.opens(seen),
-            counted: group_taken_from(&self.world, event),
+            noted: self.rights.note(&self.world, event)?,
         })
     }
 
@@ -233,25 +231,19 @@ impl Watched {
         told: &mut Vec<Happening>,
         seen: &Seen,
         before: Before,
-        step: GroupStep,
+        step: &GroupStep,
     ) -> Result<(), OutOfMemory> {
-        let GroupStep { done, wire } = step;
-        let Before {
-            noted,
-            decided,
-            open,
-            counted: _counted,
-        } = before;
-        match done {
-            Ok(said) => {
-                self.rights.keep(noted, said)?;
-                self.tell_accepted(told, seen, &wire)?;
+        let (decided, open) = (before.decided, before.open);
+        self.rights.keep(before.noted, step.done)?;
+        match step.done {
+            Ok(_) => {
+                self.tell_accepted(told, seen, &step.wire)?;
                 self.tell_decided(told, seen, decided)?;
                 self.tell_answered(told, open)
             }
             Err(WorldFault::OutOfMemory) => Err(AllocError),
             Err(WorldFault::Group(GroupFault::Unreachable)) => {
-                self.tell_taken(told, seen, &wire, End::Unreachable)
+                self.tell_taken(told, seen, &step.wire, End::Unreachable)
             }
             Err(fault) => self.tell_refused(told, fault),
         }
