@@ -41,14 +41,25 @@ pub(crate) fn pools(
 /// The tree of a list by the built-in profiles.
 fn expanded(alloc: Global, list: &CapList) -> Result<GrantTree, Fault> {
     let profiles = ProfileTable::builtin(alloc)?;
-    Ok(expand(alloc, &profiles, list)?)
+    match expand(alloc, &profiles, list) {
+        Ok(tree) => Ok(tree),
+        Err(fault) => Err(Fault::from(fault)),
+    }
+}
+
+/// The ticket of a list.
+fn ticket_of_list(alloc: Global, list: &CapList) -> Result<Ticket, Fault> {
+    let tree = expanded(alloc, list)?;
+    match Ticket::of(alloc, &tree, None) {
+        Ok(ticket) => Ok(ticket),
+        Err(_) => Err(Fault::OutOfMemory),
+    }
 }
 
 /// The ticket of a text.
 pub(crate) fn ticket_of(alloc: Global, text: &str) -> Result<Ticket, Fault> {
     let list = parse(alloc, text)?;
-    let tree = expanded(alloc, &list)?;
-    Ok(Ticket::of(alloc, &tree, None)?)
+    ticket_of_list(alloc, &list)
 }
 
 /// The ticket with its index.

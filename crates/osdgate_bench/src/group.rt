@@ -40,16 +40,21 @@ impl Settling {
         }
         Ok(true)
     }
+
+    /// Submits the requests and settles, and answers whether all are decided.
+    fn settle_in(&self, group: &mut Group) -> Result<bool, OutOfMemory> {
+        Ok(
+            self.submit_to(group)?
+                && group.settle().is_ok()
+                && group.decided_count() == self.requests.len(),
+        )
+    }
 }
 
 impl Work for Settling {
     fn once(&self, _turn: usize) -> Result<bool, OutOfMemory> {
         let mut group = three_daemons(self.alloc, self.pool.copy()?)?;
-        Ok(
-            self.submit_to(&mut group)?
-                && group.settle().is_ok()
-                && group.decided_count() == self.requests.len(),
-        )
+        self.settle_in(&mut group)
     }
 
     fn size(&self) -> u64 {

@@ -18,7 +18,7 @@ const MOVES: u64 = 128;
 /// same group.
 #[derive(Drop)]
 struct Moves {
-    group: Group,
+    group: Box<Group>,
     rounds: u64,
     /// What is asked while it is away, a request each time.
     missed: Vec<Sealed>,
@@ -38,19 +38,26 @@ fn takes(group: &mut Group, request: Option<&Sealed>) -> Result<bool, OutOfMemor
     }
 }
 
-impl Work for Moves {
-    fn once(&self, _turn: usize) -> Result<bool, OutOfMemory> {
-        let mut group = self.group.copy()?;
+impl Moves {
+    /// Moves a group to the set of two and back so often.
+    fn go_and_return(&self, group: &mut Group) -> Result<bool, OutOfMemory> {
         for round in 0..self.rounds {
             let missed = self.missed.as_slice().get(round as usize);
-            let went = moves_to(&mut group, &[1, 2])
-                && takes(&mut group, missed)?
-                && moves_to(&mut group, &[0, 1, 2]);
+            let went = moves_to(group, &[1, 2])
+                && takes(group, missed)?
+                && moves_to(group, &[0, 1, 2]);
             if !went {
                 return Ok(false);
             }
         }
         Ok(true)
+    }
+}
+
+impl Work for Moves {
+    fn once(&self, _turn: usize) -> Result<bool, OutOfMemory> {
+        let mut group = self.group.copy()?;
+        self.go_and_return(&mut group)
     }
 
     fn size(&self) -> u64 {
@@ -77,9 +84,9 @@ fn decide(
 }
 
 /// A group that decided so many requests.
-fn decided(alloc: Global, count: u32, name: &str) -> Result<Group, Fault> {
+fn decided(alloc: Global, count: u32, name: &str) -> Result<Box<Group>, Fault> {
     let ticket = all(alloc)?;
-    let mut group = three_daemons(alloc, Name::new(alloc, name)?)?;
+    let mut group = Box::new(alloc, three_daemons(alloc, Name::new(alloc, name)?)?)?;
     decide(alloc, &mut group, 0, count, name, &ticket)?;
     Ok(group)
 }
@@ -155,7 +162,7 @@ fn add_return<C: Clock>(table: &mut Table<'_, C>, name: &str) -> Result<(), Faul
 /// The first of three daemons comes back into the set.
 #[derive(Drop)]
 struct Return {
-    group: Group,
+    group: Box<Group>,
 }
 
 impl Work for Return {
