@@ -16,8 +16,8 @@ use clap::ArgMatches;
 use common_types::OutOfMemory;
 use compare_core::Registry;
 use gate_text::{
-    Answer, Comparison, Entity, Format, Printed, Verdict, answer, compare_entities, compare_text,
-    explain_text, text_of,
+    Answer, Comparison, Entity, Format, Printed, Times, Verdict, answer, compare_entities,
+    compare_text, explain_text, text_of,
 };
 use share_core::Pool;
 use std::alloc::Global;
@@ -143,6 +143,39 @@ fn printed_verdict(
     })
 }
 
+/// What standard error tells of a verdict.
+fn verdict_note(
+    alloc: Global,
+    matches: &ArgMatches<'_>,
+    request: &RequestWords<'_>,
+    outcome: Outcome,
+    caps: &str,
+) -> Result<String, OutOfMemory> {
+    let mut note = tags_line(alloc, request)?;
+    note.push_str(note_of(alloc, matches, outcome)?.as_str())?;
+    note.push_str(profile_lines(alloc, caps)?.as_str())?;
+    note.push_str(refusal_line(alloc, caps)?.as_str())?;
+    Ok(note)
+}
+
+/// What is answered of a request at these times.
+fn answered_request<'a>(
+    alloc: Global,
+    matches: &ArgMatches<'a>,
+    request: &RequestWords<'_>,
+    times: Times,
+    format: Format,
+) -> Result<Answered<'a>, OutOfMemory> {
+    let caps = value_of(matches, "caps");
+    let answer = answer(alloc, caps, &request.asked(matches, times))?;
+    let outcome = Outcome::of(&answer);
+    Ok(Answered {
+        printed: printed_verdict(alloc, matches, &answer, format)?,
+        caps,
+        note: verdict_note(alloc, matches, request, outcome, caps)?,
+    })
+}
+
 /// The answer of `osdgate verdict`.
 pub(crate) fn answered_verdict<'a, F: InputFiles, R: Read>(
     alloc: Global,
@@ -156,18 +189,7 @@ pub(crate) fn answered_verdict<'a, F: InputFiles, R: Read>(
     let format = format_of(matches)?;
     let pools = pools_given(alloc, files, reader, matches)?;
     let request = RequestWords::of(alloc, matches, pools.as_ref().map(Vec::as_slice))?;
-    let caps = value_of(matches, "caps");
-    let answer = answer(alloc, caps, &request.asked(matches, times))?;
-    let printed = printed_verdict(alloc, matches, &answer, format)?;
-    let mut note = tags_line(alloc, &request)?;
-    note.push_str(note_of(alloc, matches, Outcome::of(&answer))?.as_str())?;
-    note.push_str(profile_lines(alloc, caps)?.as_str())?;
-    note.push_str(refusal_line(alloc, caps)?.as_str())?;
-    Ok(Answered {
-        printed,
-        caps,
-        note,
-    })
+    Ok(answered_request(alloc, matches, &request, times, format)?)
 }
 
 /// The answer of `osdgate explain`.
