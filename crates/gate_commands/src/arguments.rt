@@ -1,76 +1,513 @@
-//! The words that each command takes, as clap is told of them.
+//! The words that each command takes.
 
-use crate::options::{COMMANDS, CommandRow, OptionRow, REQUEST, Rule, Takes, VERDICT_EXAMPLE};
 use clap::{Arg, ArgAction, ArgMatches, Command, Error};
 use std::alloc::{AllocError, Global};
 use std::convert::AsStr;
 
 const VERSION: &str = "0.1.0";
 
-/// An option or an operand. An option's value is taken as it is, also where it begins with a dash.
-fn arg_of<'a>(alloc: Global, (name, takes, help): OptionRow) -> Arg<'a> {
-    let arg = Arg::new(alloc, name).help(help);
+const VERDICT_EXAMPLE: &str =
+    "Example: osdgate verdict --caps 'allow rw pool=data' --pool data --object x --read --write";
+
+const EXPLAIN_EXAMPLE: &str = "Example: osdgate explain --caps 'profile rbd pool=vms'";
+
+const COMPARE_EXAMPLE: &str = "\
+Example: osdgate compare --old 'allow r' --new 'allow rw'
+Example: osdgate compare --auth now.json --auth planned.json --check";
+
+const WHO_EXAMPLE: &str =
+    "Example: ceph auth ls --format json | osdgate who --auth - --pool data --object x --read";
+
+const SHARE_EXAMPLE: &str = "\
+Example: osdgate share --caps 'allow rw pool=data' --caps 'allow r'
+Example: ceph auth ls --format json | osdgate share --auth - --without client.admin --check";
+
+const LINT_EXAMPLE: &str = "\
+Example: osdgate lint --caps 'allow r, allow rw pool=data, allow r pool=data'
+Example: osdgate lint --caps 'allow rw, allow r' --tidy
+Example: ceph auth ls --format json | osdgate lint --auth - --check";
+
+const RUN_EXAMPLE: &str = "\
+Example: osdgate run incident.txt
+Example: osdgate run --picture incident.svg incident.txt";
+
+const THREADS_EXAMPLE: &str = "Example: osdgate threads 4";
+
+const COMPLETIONS_EXAMPLE: &str = "Example: source <(osdgate completions bash)";
+
+const WORKERS_HELP: &str = "How many workers there are, 1 to 8, each on a thread of its own";
+
+const SCRIPT_HELP: &str = "The script, standard input where it is `-` or not given";
+
+const PICTURE_HELP: &str =
+    "A file for a picture of what happens to a group: SVG, or a Mermaid sequence diagram where it ends in `.mmd`";
+
+const GROUP_HELP: &str = "The group of the picture, the one with most messages where none is given";
+
+const AUTH_HELP: &str =
+    "What `ceph auth ls`, `ceph auth export` or `ceph auth get NAME` prints, with or without `--format json`, or a keyring; `-` for standard input";
+
+const AUTHS_HELP: &str =
+    "A file of entities as `osdgate who` takes it, the present one and then the one that is to take its place, `-` for standard input";
+
+const POOLS_HELP: &str =
+    "What `ceph osd dump --format json` or `ceph osd pool ls detail --format json` prints, `-` for standard input: the pool must be one of these, and has its tags";
+
+const LINT_POOLS_HELP: &str =
+    "What `ceph osd dump --format json` or `ceph osd pool ls detail --format json` prints, `-` for standard input: tells also of grants that match none of these pools";
+
+const SHARED_POOLS_HELP: &str =
+    "What `ceph osd dump --format json` or `ceph osd pool ls detail --format json` prints, `-` for standard input: only what these pools have counts, each with its tags";
+
+const REQUESTS_HELP: &str =
+    "A file with a request a line, in the words of `osdgate verdict`, in the place of the options of one, `-` for standard input: prints a table of entities and requests";
+
+const FORMAT_HELP: &str =
+    "How the answer is printed: as `text`, as where none is given, or as a `json` document";
+
+const REGISTRY_HELP: &str =
+    "Whose class methods requests call: those of `all` class registries, as where none is given, or this program's `own`";
+
+/// What an option takes.
+#[derive(Clone, Copy)]
+enum Takes {
+    /// A value that must be given, under this name in help.
+    Needed(&'static str),
+    /// A value that may be given.
+    Value(&'static str),
+    /// Values that may be given, each with the option's name.
+    Values(&'static str),
+    /// A value that must be given, under this name in help, unless the words name a file of requests.
+    NeededOnce(&'static str),
+    /// Nothing.
+    Nothing,
+}
+
+use Takes::{Needed, NeededOnce, Nothing, Value, Values};
+
+/// An option's name, what it takes, and its help.
+type OptionRow = (&'static str, Takes, &'static str);
+
+const POOL: OptionRow = ("pool", Needed("POOL"), "The pool");
+
+const OBJECT: OptionRow = ("object", Needed("OBJECT"), "The object's name");
+
+const NAMESPACE: OptionRow = (
+    "namespace",
+    Value("NAMESPACE"),
+    "The object's namespace, the empty one where none is given",
+);
+
+const TAG: OptionRow = (
+    "tag",
+    Values("APP[:KEY=VALUE]"),
+    "An application of the pool, and a pair under it; it may be given more than once",
+);
+
+const READ: OptionRow = ("read", Nothing, "The request reads");
+
+const WRITE: OptionRow = ("write", Nothing, "The request writes");
+
+const CALL_HELP: &str =
+    "A call of a class that is not in the class registry: what its method does, r, w or rw, and then `:listed` where the class is on the default list";
+
+const CAPS: OptionRow = ("caps", Needed("TEXT"), "The capability text");
+
+const POOLS: OptionRow = ("pools", Value("FILE"), POOLS_HELP);
+
+const FORMAT: OptionRow = ("format", Value("text|json"), FORMAT_HELP);
+
+/// The options of `osdgate verdict`.
+const VERDICT: [OptionRow; 12] = [
+    CAPS,
+    POOL,
+    OBJECT,
+    NAMESPACE,
+    TAG,
+    POOLS,
+    (
+        "until",
+        Value("TICK"),
+        "The first tick at which the grants hold no more",
+    ),
+    (
+        "tick",
+        Value("TICK"),
+        "When the request comes, 0 where none is given",
+    ),
+    READ,
+    WRITE,
+    FORMAT,
+    (
+        "check",
+        Nothing,
+        "Ends with status 1 where the request is denied",
+    ),
+];
+
+/// The options of a line of a file of requests.
+const REQUEST: [OptionRow; 6] = [POOL, OBJECT, NAMESPACE, TAG, READ, WRITE];
+
+/// The options of `osdgate who`, but for the last two.
+const WHO: [OptionRow; 10] = [
+    ("auth", Needed("FILE"), AUTH_HELP),
+    ("pool", NeededOnce("POOL"), "The pool"),
+    ("object", NeededOnce("OBJECT"), "The object's name"),
+    NAMESPACE,
+    TAG,
+    POOLS,
+    READ,
+    WRITE,
+    FORMAT,
+    (
+        "known",
+        Nothing,
+        "Entities whose texts are refused are left out, and the status is 0",
+    ),
+];
+
+/// Whether this is an option's name.
+pub(crate) fn is_option(word: &str) -> bool {
+    VERDICT.iter().any(|row| row.0 == word)
+        || WHO.iter().any(|row| row.0 == word)
+        || word == "all"
+        || word == "requests"
+}
+
+/// An option whose value is taken as it is, also where it begins with a dash.
+fn text_option<'a>(alloc: Global, name: &'a str, value: &'a str, help: &'a str) -> Arg<'a> {
+    Arg::new(alloc, name)
+        .long(name)
+        .action(ArgAction::Set)
+        .allow_hyphen_values(true)
+        .value_name(value)
+        .help(help)
+}
+
+fn flag<'a>(alloc: Global, name: &'a str, help: &'a str) -> Arg<'a> {
+    Arg::new(alloc, name)
+        .long(name)
+        .action(ArgAction::SetTrue)
+        .help(help)
+}
+
+fn option<'a>(alloc: Global, (name, takes, help): OptionRow) -> Result<Arg<'a>, AllocError> {
     match takes {
-        Takes::Nothing => arg.long(name).action(ArgAction::SetTrue),
-        Takes::Operand(value) => arg.action(ArgAction::Set).value_name(value),
-        Takes::Operands(value) => arg.action(ArgAction::Append).value_name(value),
-        _ => valued(arg.long(name).allow_hyphen_values(true), takes),
+        Needed(value) => Ok(text_option(alloc, name, value, help).required(true)),
+        NeededOnce(value) => {
+            text_option(alloc, name, value, help).required_unless_present("requests")
+        }
+        Value(value) => Ok(text_option(alloc, name, value, help)),
+        Values(value) => Ok(text_option(alloc, name, value, help).action(ArgAction::Append)),
+        Nothing => Ok(flag(alloc, name, help)),
     }
 }
 
-/// An option with what it takes.
-fn valued<'a>(arg: Arg<'a>, takes: Takes) -> Arg<'a> {
-    match takes {
-        Takes::Value(value) => arg.action(ArgAction::Set).value_name(value),
-        Takes::Values(value) => arg.action(ArgAction::Append).value_name(value),
-        Takes::Pair(values) => arg.action(ArgAction::Set).num_args(2).value_names(values),
-        _ => arg,
-    }
-}
-
-fn ruled<'a>(arg: Arg<'a>, rule: Rule) -> Result<Arg<'a>, AllocError> {
-    match rule {
-        Rule::Needed => Ok(arg.required(true)),
-        Rule::Unless(other) => arg.required_unless_present(other),
-        Rule::NotBeside(others) => arg.conflicts_with_all(others),
-        Rule::With(other) => arg.requires_arg(other),
-    }
-}
-
-/// A command with what it takes.
 fn with_options<'a>(
     alloc: Global,
     command: Command<'a>,
-    row: &CommandRow,
+    options: &[OptionRow],
 ) -> Result<Command<'a>, AllocError> {
     let mut command = command;
-    for option in row.options {
-        let mut arg = arg_of(alloc, *option);
-        for (name, rule) in row.rules {
-            if *name == option.0 {
-                arg = ruled(arg, *rule)?;
-            }
-        }
-        command = command.arg(arg)?;
+    for row in options {
+        command = command.arg(option(alloc, *row)?)?;
     }
     Ok(command)
 }
 
-/// The words of a line of a file of requests.
-pub(crate) fn request_command<'a>(alloc: Global) -> Result<Command<'a>, AllocError> {
-    let command = Command::new(alloc, REQUEST.name)
-        .no_binary_name(true)
-        .disable_help_flag(true);
-    with_options(alloc, command, &REQUEST)
+/// The calls of a request, by their names or with what they do.
+fn with_calls<'a>(alloc: Global, command: Command<'a>) -> Result<Command<'a>, AllocError> {
+    let calls = Arg::new(alloc, "calls")
+        .action(ArgAction::Append)
+        .value_name("CLASS.METHOD")
+        .help("A class method that the request calls, of the class registry");
+    let stated = text_option(alloc, "call", "CLASS.METHOD:r", CALL_HELP).action(ArgAction::Append);
+    command.arg(stated)?.arg(calls)
 }
 
-fn command_of<'a>(alloc: Global, row: &CommandRow) -> Result<Command<'a>, AllocError> {
-    let command = Command::new(alloc, row.name).about(row.about);
-    let command = match row.examples {
-        Some(examples) => command.after_help(examples),
-        None => command,
-    };
-    with_options(alloc, command, row)
+/// The words of a line of a file of requests.
+pub(crate) fn request_command<'a>(alloc: Global) -> Result<Command<'a>, AllocError> {
+    let command = Command::new(alloc, "request")
+        .no_binary_name(true)
+        .disable_help_flag(true);
+    with_calls(alloc, with_options(alloc, command, &REQUEST)?)
+}
+
+fn verdict_command<'a>(alloc: Global) -> Result<Command<'a>, AllocError> {
+    let command = Command::new(alloc, "verdict")
+        .about("Tells whether a capability text allows a request, and why not")
+        .after_help(VERDICT_EXAMPLE);
+    with_calls(alloc, with_options(alloc, command, &VERDICT)?)
+}
+
+/// The words of one request, in whose place a file of requests is.
+const ONE_REQUEST: [&str; 8] = [
+    "pool",
+    "object",
+    "namespace",
+    "tag",
+    "read",
+    "write",
+    "call",
+    "calls",
+];
+
+/// A file of requests, in the place of the options of one.
+fn requests_option<'a>(alloc: Global) -> Result<Arg<'a>, AllocError> {
+    let mut file = text_option(alloc, "requests", "FILE", REQUESTS_HELP);
+    for name in ONE_REQUEST {
+        file = file.conflicts_with(name)?;
+    }
+    Ok(file)
+}
+
+fn who_command<'a>(alloc: Global) -> Result<Command<'a>, AllocError> {
+    let command = Command::new(alloc, "who")
+        .about("Tells which entities of a file may do what a request asks for")
+        .after_help(WHO_EXAMPLE);
+    let all = flag(alloc, "all", "Prints each entity with its answer");
+    with_calls(alloc, with_options(alloc, command, &WHO)?)?
+        .arg(requests_option(alloc)?)?
+        .arg(all)
+}
+
+fn explain_command<'a>(alloc: Global) -> Result<Command<'a>, AllocError> {
+    let command = Command::new(alloc, "explain")
+        .about("Prints the canonical form of a capability text, and the grants that it comes to")
+        .after_help(EXPLAIN_EXAMPLE);
+    with_options(alloc, command, &[CAPS, FORMAT])
+}
+
+/// The present text, which comes with the new one, or else files do.
+fn old_option<'a>(alloc: Global) -> Result<Arg<'a>, AllocError> {
+    text_option(alloc, "old", "TEXT", "The present capability text")
+        .required_unless_present("auth")?
+        .requires_arg("new")
+}
+
+/// The files, in the place of both texts.
+fn files_option<'a>(alloc: Global) -> Result<Arg<'a>, AllocError> {
+    text_option(alloc, "auth", "FILE", AUTHS_HELP)
+        .action(ArgAction::Append)
+        .conflicts_with("old")?
+        .conflicts_with("new")
+}
+
+/// The two texts of a comparison.
+fn with_texts<'a>(alloc: Global, command: Command<'a>) -> Result<Command<'a>, AllocError> {
+    let new = text_option(alloc, "new", "TEXT", "The text that is to take its place");
+    command
+        .arg(old_option(alloc)?)?
+        .arg(new.requires_arg("old")?)
+}
+
+fn compare_command<'a>(alloc: Global) -> Result<Command<'a>, AllocError> {
+    let check = flag(
+        alloc,
+        "check",
+        "Ends with status 1 where the new text allows more",
+    );
+    let command = Command::new(alloc, "compare")
+        .about(
+            "Tells what a new capability text allows that the old one denies, and the other way round",
+        )
+        .after_help(COMPARE_EXAMPLE);
+    let registry = text_option(alloc, "registry", "all|own", REGISTRY_HELP);
+    let command = with_texts(alloc, command)?
+        .arg(files_option(alloc)?)?
+        .arg(registry)?
+        .arg(check)?;
+    with_options(alloc, command, &[FORMAT])
+}
+
+/// What only the entities of a file are asked with.
+const OF_FILE: [&str; 7] = [
+    "auth", "pools", "without", "reads", "flows", "known", "format",
+];
+
+/// The two texts, in whose place a file of entities may be.
+fn two_texts_option<'a>(alloc: Global) -> Result<Arg<'a>, AllocError> {
+    let help = "A capability text; it is given twice, once for each of two tenants";
+    let mut texts = text_option(alloc, "caps", "TEXT", help)
+        .action(ArgAction::Append)
+        .required_unless_present("auth")?;
+    for name in OF_FILE {
+        texts = texts.conflicts_with(name)?;
+    }
+    Ok(texts)
+}
+
+/// The entities that are left out.
+fn without_option<'a>(alloc: Global) -> Arg<'a> {
+    let help =
+        "An entity of the file that is left out, as `client.admin`; it may be given more than once";
+    text_option(alloc, "without", "ENTITY", help).action(ArgAction::Append)
+}
+
+/// Where what each entity writes may come to, in the place of what each two of them share.
+fn flows_option<'a>(alloc: Global) -> Result<Arg<'a>, AllocError> {
+    let help =
+        "Tells instead which entities may come to know what another one writes, and through whom";
+    flag(alloc, "flows", help)
+        .conflicts_with("reads")?
+        .conflicts_with("format")
+}
+
+fn share_command<'a>(alloc: Global) -> Result<Command<'a>, AllocError> {
+    let reads = flag(alloc, "reads", "Tells also of two that read the same");
+    let known = flag(
+        alloc,
+        "known",
+        "Entities whose texts are refused are left out, and the status is 0",
+    );
+    let check = flag(
+        alloc,
+        "check",
+        "Ends with status 1 where one writes what another reads or writes, with `--flows` where there is a line",
+    );
+    Command::new(alloc, "share")
+        .about("Tells what two capability texts, or the entities of a file, both reach")
+        .after_help(SHARE_EXAMPLE)
+        .arg(two_texts_option(alloc)?)?
+        .arg(text_option(alloc, "auth", "FILE", AUTH_HELP))?
+        .arg(text_option(alloc, "pools", "FILE", SHARED_POOLS_HELP))?
+        .arg(without_option(alloc))?
+        .arg(reads)?
+        .arg(flows_option(alloc)?)?
+        .arg(known)?
+        .arg(check)?
+        .arg(option(alloc, FORMAT)?)
+}
+
+/// One text, in whose place a file of entities may be.
+fn one_text_option<'a>(alloc: Global) -> Result<Arg<'a>, AllocError> {
+    text_option(alloc, "caps", "TEXT", "The capability text")
+        .required_unless_present("auth")?
+        .conflicts_with("auth")?
+        .conflicts_with("known")
+}
+
+fn lint_command<'a>(alloc: Global) -> Result<Command<'a>, AllocError> {
+    let tidy = flag(
+        alloc,
+        "tidy",
+        "Prints the text without grants that nobody needs",
+    );
+    let known = flag(
+        alloc,
+        "known",
+        "Entities whose texts are refused are left out, and the status is 0",
+    );
+    let check = flag(
+        alloc,
+        "check",
+        "Ends with status 1 where a grant is needless or matches no pool",
+    );
+    let pools = text_option(alloc, "pools", "FILE", LINT_POOLS_HELP).conflicts_with("tidy")?;
+    Command::new(alloc, "lint")
+        .about("Tells which grants of a capability text nobody needs, and the text without them")
+        .after_help(LINT_EXAMPLE)
+        .arg(one_text_option(alloc)?)?
+        .arg(text_option(alloc, "auth", "FILE", AUTH_HELP))?
+        .arg(tidy.conflicts_with("auth")?)?
+        .arg(pools)?
+        .arg(known)?
+        .arg(check)
+}
+
+fn run_command<'a>(alloc: Global) -> Result<Command<'a>, AllocError> {
+    let script = Arg::new(alloc, "script")
+        .action(ArgAction::Set)
+        .value_name("FILE")
+        .help(SCRIPT_HELP);
+    let picture = text_option(alloc, "picture", "FILE", PICTURE_HELP);
+    let group = text_option(alloc, "group", "POOL", GROUP_HELP)
+        .num_args(2)
+        .value_names(&["POOL", "GROUP"])
+        .requires_arg("picture")?;
+    Command::new(alloc, "run")
+        .about("Runs a script of events in a world of its own, and prints what happens")
+        .after_help(RUN_EXAMPLE)
+        .arg(picture)?
+        .arg(group)?
+        .arg(script)
+}
+
+fn threads_command<'a>(alloc: Global) -> Result<Command<'a>, AllocError> {
+    let workers = Arg::new(alloc, "workers")
+        .action(ArgAction::Set)
+        .value_name("N")
+        .required(true)
+        .help(WORKERS_HELP);
+    let moves = flag(
+        alloc,
+        "moves",
+        "A daemon goes down and comes up 20 times meanwhile",
+    );
+    Command::new(alloc, "threads")
+        .about("Runs workers on threads over one cluster, and prints what became of their requests")
+        .after_help(THREADS_EXAMPLE)
+        .arg(workers)?
+        .arg(moves)
+}
+
+fn completions_command<'a>(alloc: Global) -> Result<Command<'a>, AllocError> {
+    let shell = Arg::new(alloc, "shell")
+        .action(ArgAction::Set)
+        .value_name("SHELL")
+        .required(true)
+        .help("The shell: bash, zsh or fish");
+    Command::new(alloc, "completions")
+        .about("Prints completions for a shell")
+        .after_help(COMPLETIONS_EXAMPLE)
+        .arg(shell)
+}
+
+fn man_command<'a>(alloc: Global) -> Command<'a> {
+    Command::new(alloc, "man").about("Prints the man page")
+}
+
+/// The commands, in the order of help.
+#[derive(Clone, Copy)]
+enum Kind {
+    Verdict,
+    Explain,
+    Compare,
+    Who,
+    Share,
+    Lint,
+    Run,
+    Threads,
+    Completions,
+    Man,
+}
+
+const KINDS: [Kind; 10] = [
+    Kind::Verdict,
+    Kind::Explain,
+    Kind::Compare,
+    Kind::Who,
+    Kind::Share,
+    Kind::Lint,
+    Kind::Run,
+    Kind::Threads,
+    Kind::Completions,
+    Kind::Man,
+];
+
+fn command_of<'a>(alloc: Global, kind: Kind) -> Result<Command<'a>, AllocError> {
+    match kind {
+        Kind::Verdict => verdict_command(alloc),
+        Kind::Explain => explain_command(alloc),
+        Kind::Compare => compare_command(alloc),
+        Kind::Who => who_command(alloc),
+        Kind::Share => share_command(alloc),
+        Kind::Lint => lint_command(alloc),
+        Kind::Run => run_command(alloc),
+        Kind::Threads => threads_command(alloc),
+        Kind::Completions => completions_command(alloc),
+        Kind::Man => Ok(man_command(alloc)),
+    }
 }
 
 /// The program's command line.
@@ -80,8 +517,8 @@ pub(crate) fn whole_command<'a>(alloc: Global) -> Result<Command<'a>, AllocError
         .version(VERSION)
         .after_help(VERDICT_EXAMPLE)
         .subcommand_required(true);
-    for row in COMMANDS {
-        command = command.subcommand(command_of(alloc, row)?)?;
+    for kind in KINDS {
+        command = command.subcommand(command_of(alloc, kind)?)?;
     }
     Ok(command)
 }

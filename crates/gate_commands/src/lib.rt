@@ -17,7 +17,6 @@ mod listing;
 mod man_page;
 mod no_answer;
 mod notes;
-mod options;
 mod pasted;
 mod pools_file;
 mod profile_notes;

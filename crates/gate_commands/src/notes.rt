@@ -1,6 +1,6 @@
 //! What standard error tells beside an answer.
 
-use crate::options::is_option;
+use crate::arguments::is_option;
 use crate::profile_notes::push_name;
 use crate::request_words::{asks_nothing, call_of};
 use crate::who::ALWAYS;
