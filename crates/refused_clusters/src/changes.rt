@@ -130,20 +130,29 @@ fn changed_and_closed<R: Wait>(
     }
 }
 
-// What happened to the cluster, as events of a world.
-fn events(alloc: Global) -> Result<Vec<Event>, OutOfMemory> {
-    let create = MapCommand::PoolCreate {
+// The cluster's pool.
+fn creation(alloc: Global) -> Result<Event, OutOfMemory> {
+    Ok(Event::Map(MapCommand::PoolCreate {
         name: Name::new(alloc, POOL)?,
         pg_num: GROUPS,
         size: 3,
         min_size: 2,
-    };
+    }))
+}
+
+// The cluster's user.
+fn addition(alloc: Global) -> Result<Event, OutOfMemory> {
     let mut caps = Caps::none();
     caps.osd = Some(Name::new(alloc, TEXT)?);
     let name = Name::new(alloc, USER)?;
+    Ok(Event::Auth(AuthCommand::Add { name, caps }))
+}
+
+// What happened to the cluster, as events of a world.
+fn events(alloc: Global) -> Result<Vec<Event>, OutOfMemory> {
     let mut events = Vec::with_capacity(alloc, 3)?;
-    events.push(Event::Map(create))?;
-    events.push(Event::Auth(AuthCommand::Add { name, caps }))?;
+    events.push(creation(alloc)?)?;
+    events.push(addition(alloc)?)?;
     events.push(Event::Map(MapCommand::OsdDown(1)))?;
     Ok(events)
 }

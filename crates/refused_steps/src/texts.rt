@@ -97,13 +97,18 @@ fn reported_again(alloc: Global, ticket: &Ticket) -> Result<String, OutOfMemory>
     }
 }
 
+// The report of a list.
+fn reported_of(alloc: Global, list: &CapList) -> Result<String, Fail> {
+    let tree = expanded(alloc, list)?;
+    let ticket = ticket(alloc, &tree)?;
+    Ok(reported_again(alloc, &ticket)?)
+}
+
 // Whether a text is printed and reported as its row says.
 fn is_so(alloc: Global, row: &Row) -> Result<bool, Fail> {
     let list = parsed(alloc, row.0)?;
+    let lines = reported_of(alloc, &list)?;
     let text = printed(alloc, &list)?;
-    let tree = expanded(alloc, &list)?;
-    let ticket = ticket(alloc, &tree)?;
-    let lines = reported_again(alloc, &ticket)?;
     Ok(text.as_str() == row.1 && lines.as_str() == row.2)
 }
 
