@@ -9,7 +9,7 @@ use common_types::{Name, OutOfMemory, copy_name};
 const LONGEST: usize = 4096;
 
 /// A user's texts, one for each type of daemon. Only the osd text is read here; the others are kept as they are.
-#[derive(Debug, Drop)]
+#[derive(Debug)]
 pub struct Caps {
     /// What the user may ask of monitors.
     pub mon: Option<Name>,
@@ -19,6 +19,17 @@ pub struct Caps {
     pub mds: Option<Name>,
     /// What the user may ask of object storage daemons.
     pub osd: Option<Name>,
+}
+
+impl Drop for Caps {
+    fn drop(self) {
+        let Caps {
+            mon: _,
+            mgr: _,
+            mds: _,
+            osd: _,
+        } = self;
+    }
 }
 
 impl Caps {

@@ -45,11 +45,20 @@ pub enum Creation {
 /// Contracts see the table of profiles and the list of the users by their names' bytes. Each name is a user's name, no
 /// text has more than 4,096 bytes, and the osd text of each user spells a list of grants that is expanded with the
 /// table. Names are found by search.
-#[derive(Drop)]
 pub struct AuthDb {
     alloc: Global,
     table: ProfileTable,
     users: Users,
+}
+
+impl Drop for AuthDb {
+    fn drop(self) {
+        let AuthDb {
+            alloc: _,
+            table: _,
+            users: _,
+        } = self;
+    }
 }
 
 impl Model for AuthDb {

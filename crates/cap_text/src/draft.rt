@@ -70,7 +70,7 @@ const NO_FLAGS: Flags = Flags {
 /// that may still come, the flags that were read, and what the next value is for. Its access counts only where the kind says so.
 ///
 /// A text has one, which is filled in place and emptied into the list at the end of each grant.
-#[derive(Debug, Drop)]
+#[derive(Debug)]
 pub struct Sheet {
     kind: Kind,
     profile: Name,
@@ -80,6 +80,22 @@ pub struct Sheet {
     may: ClauseSet,
     flags: Flags,
     slot: Slot,
+}
+
+impl Drop for Sheet {
+    #[inline(always)]
+    fn drop(self) {
+        let Sheet {
+            kind: _,
+            profile: _,
+            grant: _,
+            word: _,
+            key: _,
+            may: _,
+            flags: _,
+            slot: _,
+        } = self;
+    }
 }
 
 impl Model for Sheet {

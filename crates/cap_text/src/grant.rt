@@ -7,7 +7,7 @@ ghost use Rattle.std.specs.Prelude.{◌≡◌, IfOk};
 use common_types::{Name, OutOfMemory, copy_name};
 
 /// One grant of a capability text.
-#[derive(Debug, Drop)]
+#[derive(Debug)]
 pub enum Grant {
     /// `allow ..`
     Allow(AllowGrant),
@@ -15,8 +15,17 @@ pub enum Grant {
     Profile(ProfileUse),
 }
 
+impl Drop for Grant {
+    #[inline(always)]
+    fn drop(self) {
+        match self {
+            Grant::Allow(_) | Grant::Profile(_) => (),
+        }
+    }
+}
+
 /// What is allowed, and where. A part that is `None` asks for nothing.
-#[derive(Debug, Drop)]
+#[derive(Debug)]
 pub struct AllowGrant {
     pub access: Access,
     pub pool: Option<Name>,
@@ -26,16 +35,40 @@ pub struct AllowGrant {
     pub tag: Option<Tag>,
 }
 
+impl Drop for AllowGrant {
+    #[inline(always)]
+    fn drop(self) {
+        let AllowGrant {
+            access: _,
+            pool: _,
+            namespace: _,
+            prefix: _,
+            tag: _,
+        } = self;
+    }
+}
+
 /// The use of a named list of grants, narrowed to a pool and a namespace where these are given.
-#[derive(Debug, Drop)]
+#[derive(Debug)]
 pub struct ProfileUse {
     pub name: Name,
     pub pool: Option<Name>,
     pub namespace: Option<NsMatch>,
 }
 
+impl Drop for ProfileUse {
+    #[inline(always)]
+    fn drop(self) {
+        let ProfileUse {
+            name: _,
+            pool: _,
+            namespace: _,
+        } = self;
+    }
+}
+
 /// What a grant gives.
-#[derive(Debug, Drop)]
+#[derive(Debug)]
 pub enum Access {
     /// `*` or `all`
     All,
@@ -43,6 +76,20 @@ pub enum Access {
     Flags(Flags),
     /// `class C [M]`: calls of a class, or of one method of it.
     Class { class: Name, method: Option<Name> },
+}
+
+impl Drop for Access {
+    #[inline(always)]
+    fn drop(self) {
+        match self {
+            Access::All
+            | Access::Flags(_)
+            | Access::Class {
+                class: _,
+                method: _,
+            } => (),
+        }
+    }
 }
 
 /// `r`, `w`, and the two kinds of class methods; the letter `x` is both of the latter.
@@ -55,19 +102,39 @@ pub struct Flags {
 }
 
 /// The namespaces that a grant is for.
-#[derive(Debug, Drop)]
+#[derive(Debug)]
 pub enum NsMatch {
     Exact(Name),
     /// All namespaces that begin with these bytes.
     Prefix(Name),
 }
 
+impl Drop for NsMatch {
+    #[inline(always)]
+    fn drop(self) {
+        match self {
+            NsMatch::Exact(_) | NsMatch::Prefix(_) => (),
+        }
+    }
+}
+
 /// The application tag that a grant's pool must have.
-#[derive(Debug, Drop)]
+#[derive(Debug)]
 pub struct Tag {
     pub application: Name,
     pub key: Part,
     pub value: Part,
+}
+
+impl Drop for Tag {
+    #[inline(always)]
+    fn drop(self) {
+        let Tag {
+            application: _,
+            key: _,
+            value: _,
+        } = self;
+    }
 }
 
 /// One side of a tag's pair.

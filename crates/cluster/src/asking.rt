@@ -43,10 +43,16 @@ pub struct Asking {
 }
 
 /// A request that was submitted: its id, and the group that has it.
-#[derive(Debug, Drop)]
+#[derive(Debug)]
 pub struct Asked {
     pub id: Id,
     pub group: GroupId,
+}
+
+impl Drop for Asked {
+    fn drop(self) {
+        let Asked { id: _, group: _ } = self;
+    }
 }
 
 // Where the session of a number stands.

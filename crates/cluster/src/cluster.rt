@@ -16,13 +16,23 @@ use std::sync::Wait;
 use turn_lock::{Seat, Step, TurnLock};
 
 /// Groups and users, each under a turn lock of its own. Threads share it by `&`, each with a pass.
-#[derive(Drop)]
 pub struct Cluster {
     groups: Vec<TurnLock<LockedGroup>>,
     users: TurnLock<UserTable>,
     /// The map that it began with, which has all its pools.
     pub(crate) start: ClusterMap,
     passes: usize,
+}
+
+impl Drop for Cluster {
+    fn drop(self) {
+        let Cluster {
+            groups: _,
+            users: _,
+            start: _,
+            passes: _,
+        } = self;
+    }
 }
 
 /// A seat of each lock: of each group's, in order, and of the users'. They know what they have seen.

@@ -15,12 +15,22 @@ use std::alloc::Global;
 use verdict_core::{Needs, Ticket};
 
 /// A request that a grant of the new ticket allows by itself, and that the old ticket denies.
-#[derive(Debug, Drop)]
+#[derive(Debug)]
 pub struct Example {
     /// The grant's path.
     pub path: Path,
     pub target: OwnedTarget,
     pub needs: Needs,
+}
+
+impl Drop for Example {
+    fn drop(self) {
+        let Example {
+            path: _,
+            target: _,
+            needs: _,
+        } = self;
+    }
 }
 
 /// One grant alone.

@@ -9,12 +9,23 @@ use verdict_core::Target;
 /// Where a request goes: an object of a namespace in a pool, and the pool's application tags.
 ///
 /// A listing has the empty object name.
-#[derive(Debug, Drop)]
+#[derive(Debug)]
 pub struct OwnedTarget {
     pub pool: Name,
     pub tags: Tags,
     pub namespace: Name,
     pub object: Name,
+}
+
+impl Drop for OwnedTarget {
+    fn drop(self) {
+        let OwnedTarget {
+            pool: _,
+            tags: _,
+            namespace: _,
+            object: _,
+        } = self;
+    }
 }
 
 impl Model for OwnedTarget {

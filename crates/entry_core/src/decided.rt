@@ -42,10 +42,15 @@ pub(crate) struct NamedChange {
 }
 
 /// An entry, and what becomes of its object.
-#[derive(Drop)]
 pub struct Decided {
     entry: Entry,
     left: ObjectChange,
+}
+
+impl Drop for Decided {
+    fn drop(self) {
+        let Decided { entry: _, left: _ } = self;
+    }
 }
 
 impl Model for Decided {

@@ -19,12 +19,22 @@ use std::alloc::Global;
 /// Entries that are to come behind the first ones of a log, and what becomes of the log's objects.
 ///
 /// They are decided on some of the objects, which are changed with each. What undoes the last entry is kept beside them.
-#[derive(Drop)]
 pub(crate) struct Draft {
     objects: Objects,
     changes: Vec<NamedChange>,
     entries: Vec<Entry>,
     back: Option<ObjectChange>,
+}
+
+impl Drop for Draft {
+    fn drop(self) {
+        let Draft {
+            objects: _,
+            changes: _,
+            entries: _,
+            back: _,
+        } = self;
+    }
 }
 
 impl Draft {

@@ -6,10 +6,18 @@ use common_types::TryCopy;
 use std::alloc::AllocError;
 
 /// A request and the reply that was decided.
-#[derive(Drop)]
 pub struct Entry {
     pub sealed: Sealed,
     pub reply: Reply,
+}
+
+impl Drop for Entry {
+    fn drop(self) {
+        let Entry {
+            sealed: _,
+            reply: _,
+        } = self;
+    }
 }
 
 impl TryCopy for Entry {

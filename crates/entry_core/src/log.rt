@@ -28,12 +28,22 @@ use std::marker::Model;
 ///
 /// Entries are found by their ids' hash, and objects by the hash of their names. Beside them the log keeps what the
 /// last entry's object was before that entry. This is missing after a fit that dropped an entry and decided none.
-#[derive(Drop)]
 pub struct Log {
     entries: Vec<Entry>,
     index: HashMap<Id, usize, IdHash>,
     objects: Objects,
     back: Option<ObjectChange>,
+}
+
+impl Drop for Log {
+    fn drop(self) {
+        let Log {
+            entries: _,
+            index: _,
+            objects: _,
+            back: _,
+        } = self;
+    }
 }
 
 impl Model for Log {

@@ -10,11 +10,20 @@ use std::hash::{Hash, Hasher};
 use std::marker::Model;
 
 /// Where an object is: its pool, its namespace, and its name there.
-#[derive(Drop)]
 pub(crate) struct ObjectName {
     pub(crate) pool: Name,
     pub(crate) namespace: Name,
     pub(crate) name: Name,
+}
+
+impl Drop for ObjectName {
+    fn drop(self) {
+        let ObjectName {
+            pool: _,
+            namespace: _,
+            name: _,
+        } = self;
+    }
 }
 
 impl Model for ObjectName {

@@ -9,7 +9,6 @@ use std::alloc::AllocError;
 use verdict_core::Report;
 
 /// What a request is answered.
-#[derive(Drop)]
 pub enum Reply {
     /// The ticket does not allow it: for each grant the first condition that fails.
     Denied(Report),
@@ -19,6 +18,20 @@ pub enum Reply {
     Failed { place: usize, number: u32 },
     /// The names of a listing piece, in the order of their bytes.
     Names(Items<Name>),
+}
+
+impl Drop for Reply {
+    fn drop(self) {
+        match self {
+            Reply::Denied(_)
+            | Reply::Done(_)
+            | Reply::Failed {
+                place: _,
+                number: _,
+            }
+            | Reply::Names(_) => (),
+        }
+    }
 }
 
 impl TryCopy for Reply {

@@ -10,7 +10,6 @@ use object_core::Op;
 use verdict_core::{Needs, SharedTicket, Target};
 
 /// What is asked.
-#[derive(Drop)]
 pub(crate) enum Task {
     /// These operations on the object of the name.
     Vector(Vec<Op>),
@@ -18,8 +17,15 @@ pub(crate) enum Task {
     Listing,
 }
 
+impl Drop for Task {
+    fn drop(self) {
+        match self {
+            Task::Vector(_) | Task::Listing => (),
+        }
+    }
+}
+
 /// A request with all that it is decided by, and with what it needs.
-#[derive(Drop)]
 pub(crate) struct Parts {
     pub(crate) id: Id,
     pub(crate) ticket: SharedTicket,
@@ -29,6 +35,21 @@ pub(crate) struct Parts {
     pub(crate) name: ObjectName,
     pub(crate) task: Task,
     pub(crate) needs: Needs,
+}
+
+impl Drop for Parts {
+    fn drop(self) {
+        let Parts {
+            id: _,
+            ticket: _,
+            tick: _,
+            view: _,
+            group: _,
+            name: _,
+            task: _,
+            needs: _,
+        } = self;
+    }
 }
 
 /// Where a request goes, as a verdict looks at it.

@@ -24,13 +24,22 @@ use std::alloc::Global;
 use std::io::Read;
 
 /// What a command prints, and beside it what standard error tells.
-#[derive(Drop)]
 pub(crate) struct Answered<'a> {
     pub(crate) printed: Printed,
     /// The capability text in which a fault is shown.
     pub(crate) caps: &'a str,
     /// What else is told, or nothing.
     pub(crate) note: String,
+}
+
+impl Drop for Answered<'_> {
+    fn drop(self) {
+        let Answered {
+            printed: _,
+            caps: _,
+            note: _,
+        } = self;
+    }
 }
 
 /// The answer of a command that prints a text and tells nothing.

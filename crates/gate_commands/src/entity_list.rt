@@ -6,10 +6,18 @@ use indexmap::IndexSet;
 use std::alloc::Global;
 
 /// Entities in the order of a file, and their names, so that one that stands twice is found at once.
-#[derive(Drop)]
 pub(crate) struct EntityList {
     entities: Vec<Entity>,
     names: IndexSet<String>,
+}
+
+impl Drop for EntityList {
+    fn drop(self) {
+        let EntityList {
+            entities: _,
+            names: _,
+        } = self;
+    }
 }
 
 impl EntityList {
@@ -50,6 +58,7 @@ impl EntityList {
     }
 
     pub(crate) fn into_vec(self) -> Vec<Entity> {
-        self.entities
+        let EntityList { entities, names: _ } = self;
+        entities
     }
 }

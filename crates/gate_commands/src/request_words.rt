@@ -93,13 +93,23 @@ impl<T: Drop> From<AllocFailed<T>> for NoRequest {
 }
 
 /// What a request's words have to own.
-#[derive(Drop)]
 pub(crate) struct RequestWords<'p> {
     tags: Tags,
     /// The pool of a file, whose own tags take the place of these.
     pool: Option<&'p Pool>,
     calls: Vec<Op>,
     stated: Vec<ClassCall>,
+}
+
+impl Drop for RequestWords<'_> {
+    fn drop(self) {
+        let RequestWords {
+            tags: _,
+            pool: _,
+            calls: _,
+            stated: _,
+        } = self;
+    }
 }
 
 impl<'p> RequestWords<'p> {

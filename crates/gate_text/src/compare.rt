@@ -46,12 +46,17 @@ pub enum TextFault {
 }
 
 /// What changes between two tickets.
-#[derive(Drop)]
 pub(crate) struct Change {
     /// An example for each new grant that allows what the old ones deny.
     pub(crate) gained: Vec<Example>,
     /// An example for each old grant that allows what the new ones deny.
     pub(crate) lost: Vec<Example>,
+}
+
+impl Drop for Change {
+    fn drop(self) {
+        let Change { gained: _, lost: _ } = self;
+    }
 }
 
 impl From<AllocError> for TextFault {

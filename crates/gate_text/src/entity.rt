@@ -4,11 +4,17 @@ ghost use Rattle.std.specs.Prelude.{◌≡◌, option_copied};
 ghost use Rattle.gate_text.specs.Entities.{entity_in};
 
 /// An entity of a cluster. Its key is not kept.
-#[derive(Debug, Drop)]
+#[derive(Debug)]
 pub struct Entity {
     pub name: String,
     /// Its capability text for object stores, empty where it has none, which comes to no grants.
     pub osd: String,
+}
+
+impl Drop for Entity {
+    fn drop(self) {
+        let Entity { name: _, osd: _ } = self;
+    }
 }
 
 /// The entity of this name, the first where there are more. It looks at each, and takes no memory.

@@ -13,10 +13,18 @@ use std::alloc::Global;
 use std::marker::Model;
 
 /// Entities, and where each name stands first among them. Contracts see the entities.
-#[derive(Drop)]
 pub struct NamedEntities<'a> {
     entities: &'a [Entity],
     places: IndexMap<String, usize>,
+}
+
+impl Drop for NamedEntities<'_> {
+    fn drop(self) {
+        let NamedEntities {
+            entities: _,
+            places: _,
+        } = self;
+    }
 }
 
 impl<'a> Model for NamedEntities<'a> {

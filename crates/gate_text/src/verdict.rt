@@ -23,10 +23,18 @@ use verdict_core::{Needs, Report, Target, Ticket, judge, report};
 
 /// What a request gets. It prints `allow`, or `deny` and a line `PATH CONDITION` for each grant; every line ends
 /// with a line feed.
-#[derive(Debug, Drop)]
+#[derive(Debug)]
 pub enum Verdict {
     Allowed,
     Denied(Report),
+}
+
+impl Drop for Verdict {
+    fn drop(self) {
+        match self {
+            Verdict::Allowed | Verdict::Denied(_) => (),
+        }
+    }
 }
 
 /// Why there is no verdict. It prints as the fault that it is.

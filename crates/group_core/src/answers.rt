@@ -10,10 +10,15 @@ use std::alloc::Global;
 use std::marker::Model;
 
 /// The first reply to the request of an id.
-#[derive(Drop)]
 pub(crate) struct Answer {
     pub id: Id,
     pub reply: Reply,
+}
+
+impl Drop for Answer {
+    fn drop(self) {
+        let Answer { id: _, reply: _ } = self;
+    }
 }
 
 impl Model for Answer {
@@ -34,10 +39,15 @@ impl TryCopy for Answer {
 }
 
 /// Answers in the order in which they came, and their ids, so that one is found without a search.
-#[derive(Drop)]
 pub(crate) struct Answers {
     all: Vec<Answer>,
     ids: IndexSet<Id, IdHash>,
+}
+
+impl Drop for Answers {
+    fn drop(self) {
+        let Answers { all: _, ids: _ } = self;
+    }
 }
 
 impl Model for Answers {

@@ -13,11 +13,20 @@ use std::marker::Model;
 
 /// Requests in order of submission, the answers to them, and the places of the requests that have no answer, in order: so
 /// these are found without a look at the others.
-#[derive(Drop)]
 pub(crate) struct Ledger {
     requests: Requests,
     answers: Answers,
     unanswered: Vec<usize>,
+}
+
+impl Drop for Ledger {
+    fn drop(self) {
+        let Ledger {
+            requests: _,
+            answers: _,
+            unanswered: _,
+        } = self;
+    }
 }
 
 impl Model for Ledger {

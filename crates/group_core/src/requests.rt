@@ -10,10 +10,15 @@ use std::alloc::Global;
 use std::marker::Model;
 
 /// Requests in order of submission, and their ids, so that one is found without a search.
-#[derive(Drop)]
 pub(crate) struct Requests {
     all: Vec<Sealed>,
     ids: IndexSet<Id, IdHash>,
+}
+
+impl Drop for Requests {
+    fn drop(self) {
+        let Requests { all: _, ids: _ } = self;
+    }
 }
 
 impl Model for Requests {

@@ -8,7 +8,6 @@ use peer_core::Daemon;
 use place_core::DaemonSet;
 
 /// The copies of one group, the messages among them, its intervals, its requests and its answers.
-#[derive(Drop)]
 pub(crate) struct GroupState {
     pub group: GroupId,
     pub min_size: usize,
@@ -18,4 +17,19 @@ pub(crate) struct GroupState {
     pub up: DaemonSet,
     pub ledger: Ledger,
     pub decided: usize,
+}
+
+impl Drop for GroupState {
+    fn drop(self) {
+        let GroupState {
+            group: _,
+            min_size: _,
+            copies: _,
+            wire: _,
+            sets: _,
+            up: _,
+            ledger: _,
+            decided: _,
+        } = self;
+    }
 }

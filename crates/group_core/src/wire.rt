@@ -11,10 +11,15 @@ use std::marker::Model;
 const MOST_PASSED: usize = 32;
 
 /// Messages in order of sending. The first is taken away at once: it stays in front, and is dropped later with others.
-#[derive(Drop)]
 pub(crate) struct Wire {
     sent: Vec<Sent>,
     passed: usize,
+}
+
+impl Drop for Wire {
+    fn drop(self) {
+        let Wire { sent: _, passed: _ } = self;
+    }
 }
 
 impl Model for Wire {

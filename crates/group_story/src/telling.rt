@@ -13,13 +13,18 @@ use wire_steps::{WireStep, hold_wire, tell_step};
 use world_core::{Event, Told, World, WorldFault};
 
 /// What an event came to.
-#[derive(Drop)]
 pub struct GroupStep {
     /// What the world told, or why it refused the event.
     pub done: Result<Told, WorldFault>,
     /// The message that the event took from the group, and those that it sent. They are told where the event happened; a refused one
     /// has done nothing, whatever stands here.
     pub wire: WireStep,
+}
+
+impl Drop for GroupStep {
+    fn drop(self) {
+        let GroupStep { done: _, wire: _ } = self;
+    }
 }
 
 /// Whether an event of this group is one of that.

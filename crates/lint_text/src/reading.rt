@@ -16,7 +16,6 @@ use lint_core::{Pool, Standing, needless, poolless, tidied};
 use std::alloc::{AllocError, Global};
 
 /// The grants of a text, and how each stands to the others.
-#[derive(Drop)]
 pub(crate) struct Judged {
     pub(crate) list: CapList,
     pub(crate) standings: Vec<Standing>,
@@ -24,11 +23,26 @@ pub(crate) struct Judged {
     pub(crate) without: Vec<bool>,
 }
 
+impl Drop for Judged {
+    fn drop(self) {
+        let Judged {
+            list: _,
+            standings: _,
+            without: _,
+        } = self;
+    }
+}
+
 /// The grants of a text, and those that are kept.
-#[derive(Drop)]
 pub(crate) struct Kept {
     pub(crate) list: CapList,
     pub(crate) kept: CapList,
+}
+
+impl Drop for Kept {
+    fn drop(self) {
+        let Kept { list: _, kept: _ } = self;
+    }
 }
 
 /// The grants that a text spells.

@@ -10,7 +10,7 @@ use std::alloc::Global;
 /// A change of the map. An accepted one raises the epoch by 1.
 ///
 /// Names of pools and applications, keys and values are 1 to 64 bytes of `A-Z a-z 0-9 _ . / -`.
-#[derive(Debug, Drop)]
+#[derive(Debug)]
 pub enum MapCommand {
     /// A new pool of 1 to 64 groups, whose acting sets have at most `size` daemons, 1 to 5, of which `min_size` are needed.
     PoolCreate {
@@ -43,6 +43,34 @@ pub enum MapCommand {
     OsdDown(u8),
     /// A daemon that is up begins anew. The map stays, but for its epoch.
     OsdRestart(u8),
+}
+
+impl Drop for MapCommand {
+    fn drop(self) {
+        match self {
+            MapCommand::PoolCreate {
+                name: _,
+                pg_num: _,
+                size: _,
+                min_size: _,
+            }
+            | MapCommand::AppEnable { pool: _, app: _ }
+            | MapCommand::AppSet {
+                pool: _,
+                app: _,
+                key: _,
+                value: _,
+            }
+            | MapCommand::AppRm {
+                pool: _,
+                app: _,
+                key: _,
+            }
+            | MapCommand::OsdUp(_)
+            | MapCommand::OsdDown(_)
+            | MapCommand::OsdRestart(_) => (),
+        }
+    }
 }
 
 impl MapCommand {

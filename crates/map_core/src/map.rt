@@ -27,12 +27,23 @@ use std::marker::Model;
 /// The cluster map, which contracts see as the number of its daemons and the commands that it accepted.
 ///
 /// It keeps those commands, and beside them the pools and the daemons as they are now. A refused command leaves it as it was.
-#[derive(Debug, Drop)]
+#[derive(Debug)]
 pub struct ClusterMap {
     daemons: u8,
     commands: Vec<MapCommand>,
     pools: Vec<Pool>,
     up: DaemonSet,
+}
+
+impl Drop for ClusterMap {
+    fn drop(self) {
+        let ClusterMap {
+            daemons: _,
+            commands: _,
+            pools: _,
+            up: _,
+        } = self;
+    }
 }
 
 impl Model for ClusterMap {

@@ -9,7 +9,7 @@ use std::alloc::Global;
 pub type Epoch = u32;
 
 /// A pool: its name, how many groups it has, and how large their acting sets are.
-#[derive(Debug, Drop)]
+#[derive(Debug)]
 pub struct Pool {
     pub name: Name,
     /// Its groups are numbered from 0.
@@ -22,8 +22,20 @@ pub struct Pool {
     pub tags: Tags,
 }
 
+impl Drop for Pool {
+    fn drop(self) {
+        let Pool {
+            name: _,
+            pg_num: _,
+            size: _,
+            min_size: _,
+            tags: _,
+        } = self;
+    }
+}
+
 /// A pool as it was at an epoch.
-#[derive(Debug, Drop)]
+#[derive(Debug)]
 pub struct PoolView {
     pub epoch: Epoch,
     /// The pool's name.
@@ -32,6 +44,19 @@ pub struct PoolView {
     pub size: u32,
     pub min_size: u32,
     pub tags: Tags,
+}
+
+impl Drop for PoolView {
+    fn drop(self) {
+        let PoolView {
+            epoch: _,
+            pool: _,
+            pg_num: _,
+            size: _,
+            min_size: _,
+            tags: _,
+        } = self;
+    }
 }
 
 impl PoolView {

@@ -13,10 +13,19 @@ use std::marker::Model;
 pub(crate) const BYTE_LIMIT: usize = 65536;
 
 /// An object: at most 65,536 bytes, and its attributes.
-#[derive(Debug, Drop)]
+#[derive(Debug)]
 pub struct Object {
     bytes: Bytes,
     attributes: Attributes,
+}
+
+impl Drop for Object {
+    fn drop(self) {
+        let Object {
+            bytes: _,
+            attributes: _,
+        } = self;
+    }
 }
 
 impl Model for Object {

@@ -4,7 +4,7 @@ use crate::bytes::Bytes;
 use common_types::{Name, OutOfMemory, TryCopy};
 
 /// An operation on an object. Places, lengths and sizes are in bytes.
-#[derive(Debug, Drop)]
+#[derive(Debug)]
 pub enum Op {
     /// Gives the bytes from a place on, at most so many, or all of them where the length is 0.
     Read {
@@ -45,6 +45,35 @@ pub enum Op {
         method: Name,
         input: Bytes,
     },
+}
+
+impl Drop for Op {
+    fn drop(self) {
+        match self {
+            Op::Read {
+                offset: _,
+                length: _,
+            }
+            | Op::Stat
+            | Op::Write {
+                offset: _,
+                bytes: _,
+            }
+            | Op::WriteFull(_)
+            | Op::Append(_)
+            | Op::Truncate(_)
+            | Op::Remove
+            | Op::Create { exclusive: _ }
+            | Op::GetAttribute(_)
+            | Op::SetAttribute { name: _, value: _ }
+            | Op::RemoveAttribute(_)
+            | Op::Call {
+                class: _,
+                method: _,
+                input: _,
+            } => (),
+        }
+    }
 }
 
 impl TryCopy for Op {

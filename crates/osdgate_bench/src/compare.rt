@@ -12,11 +12,20 @@ use stopwatch::{Table, Work};
 use verdict_core::Ticket;
 
 /// Two tickets, and whether the new one allows what the old one denies. The examples are let go.
-#[derive(Drop)]
 struct Widening {
     alloc: Global,
     old: Ticket,
     new: Ticket,
+}
+
+impl Drop for Widening {
+    fn drop(self) {
+        let Widening {
+            alloc: _,
+            old: _,
+            new: _,
+        } = self;
+    }
 }
 
 impl Work for Widening {

@@ -16,11 +16,20 @@ use stopwatch::{Table, Work};
 use verdict_core::SharedTicket;
 
 /// Requests that a new group takes and answers.
-#[derive(Drop)]
 struct Settling {
     alloc: Global,
     pool: Name,
     requests: Vec<Sealed>,
+}
+
+impl Drop for Settling {
+    fn drop(self) {
+        let Settling {
+            alloc: _,
+            pool: _,
+            requests: _,
+        } = self;
+    }
 }
 
 /// A group of three daemons, which are all up.

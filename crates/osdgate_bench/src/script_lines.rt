@@ -5,10 +5,15 @@ use std::alloc::Global;
 use std::fmt::Write;
 
 /// A script, and the bytes that end what it prints where no line is refused.
-#[derive(Drop)]
 pub(crate) struct Script {
     pub(crate) text: String,
     pub(crate) ending: String,
+}
+
+impl Drop for Script {
+    fn drop(self) {
+        let Script { text: _, ending: _ } = self;
+    }
 }
 
 /// So many comments, and the command that makes a cluster, which comes last.

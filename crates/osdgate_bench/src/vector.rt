@@ -10,11 +10,20 @@ use std::time::Clock;
 use stopwatch::{Table, Work};
 
 /// A vector on an object, which is run and its outcome let go.
-#[derive(Drop)]
 struct Run {
     alloc: Global,
     object: Object,
     ops: Vec<Op>,
+}
+
+impl Drop for Run {
+    fn drop(self) {
+        let Run {
+            alloc: _,
+            object: _,
+            ops: _,
+        } = self;
+    }
 }
 
 impl Work for Run {

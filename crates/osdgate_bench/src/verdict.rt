@@ -109,11 +109,20 @@ fn tags_of(alloc: Global, value: String) -> Result<Tags, OutOfMemory> {
 }
 
 /// Where a request goes.
-#[derive(Drop)]
 struct OwnedTarget {
     pool: String,
     tags: Tags,
     object: String,
+}
+
+impl Drop for OwnedTarget {
+    fn drop(self) {
+        let OwnedTarget {
+            pool: _,
+            tags: _,
+            object: _,
+        } = self;
+    }
 }
 
 impl OwnedTarget {
@@ -157,12 +166,22 @@ fn owned_targets(
 }
 
 /// A ticket, and requests of it that all have one verdict, four objects in turn.
-#[derive(Drop)]
 struct Asked {
     ticket: Ticket,
     indexed: IndexedTicket,
     owned: Vec<OwnedTarget>,
     needs: Needs,
+}
+
+impl Drop for Asked {
+    fn drop(self) {
+        let Asked {
+            ticket: _,
+            indexed: _,
+            owned: _,
+            needs: _,
+        } = self;
+    }
 }
 
 /// The ticket of so many grants.

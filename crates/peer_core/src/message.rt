@@ -61,11 +61,20 @@ pub struct Message {
 }
 
 /// What was sent.
-#[derive(Drop)]
 pub struct Sent {
     pub from: Party,
     pub to: Party,
     pub body: Body,
+}
+
+impl Drop for Sent {
+    fn drop(self) {
+        let Sent {
+            from: _,
+            to: _,
+            body: _,
+        } = self;
+    }
 }
 
 impl TryCopy for Body {

@@ -11,11 +11,19 @@ use std::marker::Model;
 /// Requests in their order, which contracts see as a list.
 ///
 /// Of an id that never waited it is known at once that it does not wait.
-#[derive(Drop)]
 pub struct Queue {
     requests: VecDeque<Sealed>,
     // the ids that wait, and some that waited
     seen: HashSet<Id, IdHash>,
+}
+
+impl Drop for Queue {
+    fn drop(self) {
+        let Queue {
+            requests: _,
+            seen: _,
+        } = self;
+    }
 }
 
 impl Model for Queue {

@@ -23,7 +23,6 @@ pub struct Common {
 }
 
 /// What a daemon does for its group in the interval that it promised (Ceph Peering, by this project's profile).
-#[derive(Drop)]
 pub enum Role {
     Idle,
     /// It asks for copies: the others that told of theirs.
@@ -35,6 +34,17 @@ pub enum Role {
     },
     /// It takes requests. Where its last entry is in flight: the other members that have that entry.
     Active(Option<ActingSet>),
+}
+
+impl Drop for Role {
+    fn drop(self) {
+        match self {
+            Role::Idle
+            | Role::Peering(_)
+            | Role::Installing { done: _, common: _ }
+            | Role::Active(_) => (),
+        }
+    }
 }
 
 impl TryCopy for PeerInfo {

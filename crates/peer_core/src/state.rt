@@ -9,7 +9,6 @@ use group_types::IntervalSets;
 use std::alloc::Global;
 
 /// A daemon's copy of a group: the promise, the base and the log, which a restart keeps, and what it does at present.
-#[derive(Drop)]
 pub struct State {
     pub number: u8,
     pub min_size: usize,
@@ -19,6 +18,21 @@ pub struct State {
     pub known: IntervalSets,
     pub role: Role,
     pub waiting: Queue,
+}
+
+impl Drop for State {
+    fn drop(self) {
+        let State {
+            number: _,
+            min_size: _,
+            promise: _,
+            base: _,
+            log: _,
+            known: _,
+            role: _,
+            waiting: _,
+        } = self;
+    }
 }
 
 impl State {

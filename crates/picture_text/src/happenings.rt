@@ -56,7 +56,6 @@ pub enum Change {
 }
 
 /// One thing that happened. A message is named by its number among the picture's messages, counted from 0.
-#[derive(Drop)]
 pub enum Happening {
     /// An interval of the group began, with this number, counted from 1, and this acting set.
     Interval { number: usize, acting: ActingSet },
@@ -74,6 +73,26 @@ pub enum Happening {
     Refused(String),
 }
 
+impl Drop for Happening {
+    fn drop(self) {
+        match self {
+            Happening::Interval {
+                number: _,
+                acting: _,
+            }
+            | Happening::Daemon {
+                daemon: _,
+                change: _,
+            }
+            | Happening::Ended { message: _, end: _ }
+            | Happening::Sent { message: _ }
+            | Happening::Decided(_)
+            | Happening::Answered(_)
+            | Happening::Refused(_) => (),
+        }
+    }
+}
+
 /// A line of a script.
 #[derive(Drop)]
 pub struct ScriptLine {
@@ -84,11 +103,19 @@ pub struct ScriptLine {
 }
 
 /// What one event did, or a line that did nothing to the group.
-#[derive(Drop)]
 pub struct Row {
     /// The line of the script, beside the first of its rows.
     pub line: Option<ScriptLine>,
     pub happenings: Vec<Happening>,
+}
+
+impl Drop for Row {
+    fn drop(self) {
+        let Row {
+            line: _,
+            happenings: _,
+        } = self;
+    }
 }
 
 /// Where a picture begins.
@@ -103,7 +130,6 @@ pub struct Beginning {
 }
 
 /// All that a picture tells of one group.
-#[derive(Drop)]
 pub struct Story {
     /// What it is about, at the picture's head.
     pub title: String,
@@ -117,4 +143,18 @@ pub struct Story {
     pub waiting: Vec<usize>,
     /// The daemons of all acting sets of the group.
     pub daemons: DaemonSet,
+}
+
+impl Drop for Story {
+    fn drop(self) {
+        let Story {
+            title: _,
+            left_out: _,
+            beginning: _,
+            rows: _,
+            messages: _,
+            waiting: _,
+            daemons: _,
+        } = self;
+    }
 }

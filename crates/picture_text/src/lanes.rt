@@ -55,7 +55,6 @@ pub(crate) struct Place {
 }
 
 /// All that is drawn, with its places.
-#[derive(Drop)]
 pub(crate) struct Layout {
     pub(crate) lanes: Vec<Lane>,
     pub(crate) flights: Vec<Flight>,
@@ -69,6 +68,21 @@ pub(crate) struct Layout {
     /// Where the last row ends.
     pub(crate) bottom: Px,
     pub(crate) height: Px,
+}
+
+impl Drop for Layout {
+    fn drop(self) {
+        let Layout {
+            lanes: _,
+            flights: _,
+            notes: _,
+            places: _,
+            notes_x: _,
+            width: _,
+            bottom: _,
+            height: _,
+        } = self;
+    }
 }
 
 /// The lane of a party, or the client's where it has none.

@@ -18,10 +18,15 @@ pub enum Format {
 }
 
 /// A picture, and the group that it shows: none where the script makes no group.
-#[derive(Drop)]
 pub struct Picture {
     pub group: Option<GroupId>,
     pub text: String,
+}
+
+impl Drop for Picture {
+    fn drop(self) {
+        let Picture { group: _, text: _ } = self;
+    }
 }
 
 /// The group that is named, where the script makes it, or else the one with most messages.

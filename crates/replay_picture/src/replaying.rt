@@ -16,7 +16,6 @@ use world_script::{Command, read_line};
 const MOST_DELIVERIES: u32 = u32::MAX;
 
 /// The rows of a picture as they are made, and the world that they are made of.
-#[derive(Drop)]
 struct Replay {
     alloc: Global,
     watched: Option<Box<Watched>>,
@@ -30,6 +29,22 @@ struct Replay {
     first: usize,
     beginning: Option<Beginning>,
     rows: Vec<Row>,
+}
+
+impl Drop for Replay {
+    fn drop(self) {
+        let Replay {
+            alloc: _,
+            watched: _,
+            group: _,
+            tick: _,
+            line: _,
+            count: _,
+            first: _,
+            beginning: _,
+            rows: _,
+        } = self;
+    }
 }
 
 /// What a sweep does to the messages of each group.

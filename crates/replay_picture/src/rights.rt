@@ -13,10 +13,18 @@ use verdict_core::{Calls, ClassCall, Needs, SharedTicket, Target, grants_allow};
 use world_core::{Ask, Event, Told, World, WorldFault};
 
 /// A session's user and its ticket, where it could be made.
-#[derive(Drop)]
 struct Holder {
     entity: Name,
     ticket: Option<SharedTicket>,
+}
+
+impl Drop for Holder {
+    fn drop(self) {
+        let Holder {
+            entity: _,
+            ticket: _,
+        } = self;
+    }
 }
 
 /// What an event needs to have noted of it before it happens.
@@ -32,20 +40,38 @@ pub(crate) enum Noted {
 }
 
 /// The grants by which a request is allowed.
-#[derive(Drop)]
 struct Granted {
     first: Id,
     count: u32,
     grants: String,
 }
 
+impl Drop for Granted {
+    fn drop(self) {
+        let Granted {
+            first: _,
+            count: _,
+            grants: _,
+        } = self;
+    }
+}
+
 /// What is known of sessions and requests.
-#[derive(Drop)]
 pub(crate) struct Rights {
     alloc: Global,
     // session N stands at place N - 1
     holders: Vec<Holder>,
     granted: Vec<Granted>,
+}
+
+impl Drop for Rights {
+    fn drop(self) {
+        let Rights {
+            alloc: _,
+            holders: _,
+            granted: _,
+        } = self;
+    }
 }
 
 /// A grant with its path.

@@ -18,7 +18,6 @@ use wire_steps::WireStep;
 use world_core::{Event, World, WorldFault};
 
 /// A world, and what is known of the group that is watched.
-#[derive(Drop)]
 pub(crate) struct Watched {
     alloc: Global,
     world: World,
@@ -36,6 +35,25 @@ pub(crate) struct Watched {
     pub(crate) acting: ActingSet,
     /// The daemons of all acting sets so far.
     pub(crate) daemons: DaemonSet,
+}
+
+impl Drop for Watched {
+    fn drop(self) {
+        let Watched {
+            alloc: _,
+            world: _,
+            rights: _,
+            tally: _,
+            group: _,
+            tells_decisions: _,
+            decided: _,
+            messages: _,
+            waiting: _,
+            interval: _,
+            acting: _,
+            daemons: _,
+        } = self;
+    }
 }
 
 /// What an event is to the group that is watched, before it happens.

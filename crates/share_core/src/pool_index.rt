@@ -19,10 +19,18 @@ use verdict_core::Ticket;
 /// that name two pools never meet. Contracts see it as the lists of their grants.
 ///
 /// It borrows the tickets, and keeps a place for each pool that a ticket names.
-#[derive(Drop)]
 pub struct PoolIndex<'a> {
     tickets: Vec<&'a Ticket>,
     places: PoolPlaces,
+}
+
+impl Drop for PoolIndex<'_> {
+    fn drop(self) {
+        let PoolIndex {
+            tickets: _,
+            places: _,
+        } = self;
+    }
 }
 
 impl<'a> Model for PoolIndex<'a> {

@@ -12,10 +12,18 @@ use std::alloc::Global;
 
 /// The places at which some grant names a pool, by the pool's name, and those at which some grant names none. More may be
 /// noted: where memory ran out, the place of a list that was not noted to its end.
-#[derive(Drop)]
 pub(crate) struct PoolPlaces {
     named: IndexMap<String, Vec<usize>>,
     unnamed: Vec<usize>,
+}
+
+impl Drop for PoolPlaces {
+    fn drop(self) {
+        let PoolPlaces {
+            named: _,
+            unnamed: _,
+        } = self;
+    }
 }
 
 /// Whether a place is the last one of some.

@@ -20,10 +20,16 @@ use std::alloc::Global;
 use verdict_core::Ticket;
 
 /// A pool of a cluster, and the applications that it is tagged with.
-#[derive(Debug, Drop)]
+#[derive(Debug)]
 pub struct Pool {
     pub name: Name,
     pub tags: Tags,
+}
+
+impl Drop for Pool {
+    fn drop(self) {
+        let Pool { name: _, tags: _ } = self;
+    }
 }
 
 fn matches_part(part: &Part, name: &Name) -> bool

@@ -17,13 +17,23 @@ use std::alloc::Global;
 use verdict_core::Ticket;
 
 /// Two grants, one of each ticket, and a target at which each gives its touch. The target is an object, and no listing.
-#[derive(Debug, Drop)]
+#[derive(Debug)]
 pub struct Shared {
     /// The path of the first ticket's grant.
     pub path: Path,
     /// The path of the other ticket's grant.
     pub other_path: Path,
     pub target: OwnedTarget,
+}
+
+impl Drop for Shared {
+    fn drop(self) {
+        let Shared {
+            path: _,
+            other_path: _,
+            target: _,
+        } = self;
+    }
 }
 
 /// Whether two grants give the touches at a common target.

@@ -3,7 +3,7 @@
 use verdict_core::ClassCall;
 
 /// One way in which a request touches an object (this project's profile).
-#[derive(Debug, Drop)]
+#[derive(Debug)]
 pub enum Touch {
     /// It asks to read, and for nothing else.
     Read,
@@ -17,4 +17,12 @@ pub enum Touch {
     /// It writes in any way: it asks to write, or has a call whose method writes, of any class and any method. It may ask for
     /// more.
     AnyWrite,
+}
+
+impl Drop for Touch {
+    fn drop(self) {
+        match self {
+            Touch::Read | Touch::Write | Touch::Call(_) | Touch::AnyRead | Touch::AnyWrite => (),
+        }
+    }
 }

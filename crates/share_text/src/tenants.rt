@@ -35,10 +35,15 @@ pub struct Strictness {
 }
 
 /// An entity whose capability text comes to grants.
-#[derive(Drop)]
 pub(crate) struct Tenant {
     pub(crate) name: String,
     pub(crate) ticket: Ticket,
+}
+
+impl Drop for Tenant {
+    fn drop(self) {
+        let Tenant { name: _, ticket: _ } = self;
+    }
 }
 
 /// The tenant that an entity is, or nothing where its text has no grants.

@@ -15,12 +15,22 @@ use std::fmt::Write;
 use verdict_core::Ticket;
 
 /// The examples of each kind.
-#[derive(Drop)]
 pub(crate) struct Examples {
     writes_writes: Vec<Shared>,
     writes_reads: Vec<Shared>,
     reads_writes: Vec<Shared>,
     reads_reads: Vec<Shared>,
+}
+
+impl Drop for Examples {
+    fn drop(self) {
+        let Examples {
+            writes_writes: _,
+            writes_reads: _,
+            reads_writes: _,
+            reads_reads: _,
+        } = self;
+    }
 }
 
 /// The examples of one kind.

@@ -30,7 +30,7 @@ const A_CALL: u8 = 1;
 
 /// The grants of a ticket in chains, each in the ticket's order. Those of a kind whose parts are hashed alike share a chain, and
 /// those that are of no kind.
-#[derive(Debug, Drop)]
+#[derive(Debug)]
 pub(crate) struct Chains {
     /// By which parts grants are found.
     kinds: Vec<Kind>,
@@ -38,6 +38,16 @@ pub(crate) struct Chains {
     first: Vec<u16>,
     /// Behind each place the next one of its chain, or the number of grants.
     next: Vec<u16>,
+}
+
+impl Drop for Chains {
+    fn drop(self) {
+        let Chains {
+            kinds: _,
+            first: _,
+            next: _,
+        } = self;
+    }
 }
 
 /// Whether all grants are in one chain, so that a walk along it looks at each. No verdict depends on the answer.

@@ -27,7 +27,7 @@ impl<'a> Model for Target<'a> {
 }
 
 /// A call of a class's method, with what the class registry says of the method.
-#[derive(Debug, Drop)]
+#[derive(Debug)]
 pub struct ClassCall {
     pub class: Name,
     pub method: Name,
@@ -35,6 +35,18 @@ pub struct ClassCall {
     pub class_writes: bool,
     /// Whether flags alone may cover the class: it is on the default list.
     pub listed: bool,
+}
+
+impl Drop for ClassCall {
+    fn drop(self) {
+        let ClassCall {
+            class: _,
+            method: _,
+            class_reads: _,
+            class_writes: _,
+            listed: _,
+        } = self;
+    }
 }
 
 /// What a request asks for.

@@ -18,12 +18,22 @@ use std::marker::Model;
 ///
 /// It is expired at each tick from `until` on, and never where there is none. What a tick is its user
 /// decides: this project's profile has numbers that the caller hands in.
-#[derive(Debug, Drop)]
+#[derive(Debug)]
 pub struct Ticket {
     grants: Vec<(Path, AllowGrant)>,
     until: Option<u64>,
     /// The chains of its grants, where it was made an indexed ticket of. Both kinds are judged by one function.
     chains: Option<Chains>,
+}
+
+impl Drop for Ticket {
+    fn drop(self) {
+        let Ticket {
+            grants: _,
+            until: _,
+            chains: _,
+        } = self;
+    }
 }
 
 impl Model for Ticket {
@@ -81,12 +91,15 @@ impl Ticket {
     }
 
     /// The same ticket, with the chains of its grants, unless all are in one. Where a growth is refused, it is given back as it was.
-    pub(crate) fn with_chains(self) -> Result<Ticket, (Ticket, OutOfMemory)>
+    pub(crate) fn with_chains(mut self) -> Result<Ticket, (Ticket, OutOfMemory)>
         ensures made { IfOk result (λ ticket. ticket ≡ self) }
         ensures given_back { IfErr result (λ refused. refused.0 ≡ self) }
     {
         match Chains::of(self.allocator(), self.grants()) {
-            Ok(chains) => Ok(Ticket { chains, ..self }),
+            Ok(chains) => {
+                self.chains = chains;
+                Ok(self)
+            }
             Err(error) => Err((self, error)),
         }
     }
@@ -133,14 +146,11 @@ impl Ticket {
     pub fn copy(&self) -> Result<Ticket, OutOfMemory>
         ensures { IfOk result (λ ticket. ticket ≡ self.now) }
     {
-        let ticket = self.copy_without_chains()?;
-        match &self.chains {
-            None => Ok(ticket),
-            Some(chains) => {
-                let chains = Some(chains.copy()?);
-                Ok(Ticket { chains, ..ticket })
-            }
+        let mut ticket = self.copy_without_chains()?;
+        if let Some(chains) = &self.chains {
+            ticket.chains = Some(chains.copy()?);
         }
+        Ok(ticket)
     }
 
     /// An equal ticket, which has no chains.

@@ -18,12 +18,17 @@ pub struct HeldWire {
 }
 
 /// What a step did to a wire: each message that it took or sent, once and in order.
-#[derive(Drop)]
 pub struct WireStep {
     /// The message that it took.
     pub taken: Option<Sent>,
     /// The messages that it sent, behind those that stayed.
     pub sent: Vec<Sent>,
+}
+
+impl Drop for WireStep {
+    fn drop(self) {
+        let WireStep { taken: _, sent: _ } = self;
+    }
 }
 
 /// The message at a place, if one is there.

@@ -93,7 +93,7 @@ fn is_done<R: Wait>(
             break;
         }
     }
-    Ok(matches!(cluster.answer(rt, pass, &asked)?, Some(Reply::Done(_))))
+    Ok(matches!(cluster.answer(rt, pass, &asked)?, Some(Reply::Done(..))))
 }
 
 // So many additions to a counter of the group with this number, of those that the pool has: how many are done.

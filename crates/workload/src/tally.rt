@@ -7,7 +7,7 @@ use std::fmt;
 use world_core::{World, WorldFault};
 
 /// What became of the requests of a workload.
-#[derive(Debug, Drop)]
+#[derive(Debug)]
 pub struct Tally {
     /// How many there are.
     pub requests: u32,
@@ -19,6 +19,18 @@ pub struct Tally {
     pub counter: Bytes,
     /// How many changes of the map there were, where they were asked for.
     pub moves: Option<u32>,
+}
+
+impl Drop for Tally {
+    fn drop(self) {
+        let Tally {
+            requests: _,
+            answered: _,
+            denied: _,
+            counter: _,
+            moves: _,
+        } = self;
+    }
 }
 
 /// The lines that the program prints.

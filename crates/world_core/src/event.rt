@@ -22,7 +22,7 @@ pub enum AuthCommand {
 }
 
 /// Who asks, by which map, when, and where.
-#[derive(Debug, Drop)]
+#[derive(Debug)]
 pub struct Ask {
     /// The session's number, from 1 on.
     pub session: u32,
@@ -34,6 +34,18 @@ pub struct Ask {
     pub pool: Name,
     /// The namespace, at most 64 bytes of 33 to 126; empty for the default one.
     pub namespace: Name,
+}
+
+impl Drop for Ask {
+    fn drop(self) {
+        let Ask {
+            session: _,
+            epoch: _,
+            tick: _,
+            pool: _,
+            namespace: _,
+        } = self;
+    }
 }
 
 /// What happens to a world. One event is one atomic step.

@@ -33,7 +33,6 @@ use std::marker::Model;
 const MOST_SESSIONS: usize = 1024;
 
 /// Users, map, sessions, submissions and lists. Contracts see it as the definitions' front.
-#[derive(Drop)]
 pub(crate) struct Front {
     alloc: Global,
     users: AuthDb,
@@ -41,6 +40,19 @@ pub(crate) struct Front {
     sessions: Sessions,
     submissions: Submissions,
     lists: Lists,
+}
+
+impl Drop for Front {
+    fn drop(self) {
+        let Front {
+            alloc: _,
+            users: _,
+            map: _,
+            sessions: _,
+            submissions: _,
+            lists: _,
+        } = self;
+    }
 }
 
 impl Model for Front {
@@ -100,7 +112,15 @@ impl Front {
     pub fn into_parts(self) -> (AuthDb, ClusterMap, Vec<Session>)
         ensures { (result.0 ≡ self.database) × (result.1 ≡ self.history) × (result.2.items ≡ self.sessions) }
     {
-        (self.users, self.map, self.sessions.into_vec())
+        let Front {
+            alloc: _,
+            users,
+            map,
+            sessions,
+            submissions: _,
+            lists: _,
+        } = self;
+        (users, map, sessions.into_vec())
     }
 
     /// The users.

@@ -12,10 +12,18 @@ use entry_core::{Id, OutOfMemory, Reply, TryCopy};
 use std::alloc::Global;
 
 /// What the answers of some pieces come to: the first denial, and all names.
-#[derive(Drop)]
 pub(crate) struct Joined {
     denial: Option<Reply>,
     names: NameSet,
+}
+
+impl Drop for Joined {
+    fn drop(self) {
+        let Joined {
+            denial: _,
+            names: _,
+        } = self;
+    }
 }
 
 impl Joined {

@@ -16,7 +16,6 @@ use std::marker::Model;
 use verdict_core::SharedTicket;
 
 /// Who asks, with the ticket of the last opening or renewal. Its requests count from 1.
-#[derive(Drop)]
 pub struct Session {
     /// The user's name.
     pub entity: Name,
@@ -28,6 +27,19 @@ pub struct Session {
     /// The number of its next request.
     pub next: u32,
     pub is_closed: bool,
+}
+
+impl Drop for Session {
+    fn drop(self) {
+        let Session {
+            entity: _,
+            ticket: _,
+            epoch: _,
+            tick: _,
+            next: _,
+            is_closed: _,
+        } = self;
+    }
 }
 
 /// The requests of one list: consecutive numbers.

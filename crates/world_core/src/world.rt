@@ -43,11 +43,20 @@ use std::slice;
 ///
 /// Each world was made by `new` and some events. Contracts see the front, the groups in order of creation, and the decided
 /// entries of all groups in the order in which they were decided.
-#[derive(Drop)]
 pub struct World {
     front: Front,
     groups: Vec<Group>,
     runs: Vec<Run>,
+}
+
+impl Drop for World {
+    fn drop(self) {
+        let World {
+            front: _,
+            groups: _,
+            runs: _,
+        } = self;
+    }
 }
 
 impl Model for World {
