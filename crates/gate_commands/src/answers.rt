@@ -1,12 +1,11 @@
 //! What `osdgate verdict`, `explain` and `compare` answer.
 
-use crate::arguments::whole_command;
 use crate::auth_file::entities_of;
 use crate::completions::{Shell, completions};
 use crate::file_fault::{FileFault, Purpose};
 use crate::input_files::{InputFiles, read_text};
 use crate::man_page::man_page;
-use crate::no_answer::{BadFile, NoAnswer};
+use crate::no_answer::NoAnswer;
 use crate::notes::{Outcome, note_of};
 use crate::pasted::refusal_line;
 use crate::pools_file::{pools_of, taken_line};
@@ -42,13 +41,38 @@ impl Drop for Answered<'_> {
     }
 }
 
+impl<'a> Answered<'a> {
+    /// An answer that tells nothing.
+    pub(crate) fn of(alloc: Global, printed: Printed) -> Answered<'a> {
+        Answered {
+            printed,
+            caps: "",
+            note: String::new(alloc),
+        }
+    }
+
+    /// The answer with one more line told, or none.
+    pub(crate) fn with_note(
+        mut self,
+        line: Result<String, OutOfMemory>,
+    ) -> Result<Answered<'a>, OutOfMemory> {
+        self.note.push_str(line?.as_str())?;
+        Ok(self)
+    }
+}
+
+/// A text with one more line behind it, or none.
+pub(crate) fn with_line(
+    mut text: String,
+    line: Result<String, OutOfMemory>,
+) -> Result<String, OutOfMemory> {
+    text.push_str(line?.as_str())?;
+    Ok(text)
+}
+
 /// The answer of a command that prints a text and tells nothing.
 fn answered_text<'a>(alloc: Global, text: String) -> Answered<'a> {
-    Answered {
-        printed: Printed { text, fails: false },
-        caps: "",
-        note: String::new(alloc),
-    }
+    Answered::of(alloc, Printed { text, fails: false })
 }
 
 /// The answer of `osdgate completions`.
@@ -56,25 +80,21 @@ pub(crate) fn answered_completions<'a>(
     alloc: Global,
     matches: &ArgMatches<'_>,
 ) -> Result<Answered<'a>, NoAnswer> {
-    let Some(shell) = Shell::of(value_of(matches, "shell")) else {
-        return Err(NoAnswer::Words(BadWords::Shell));
-    };
-    let text = completions(alloc, &whole_command(alloc)?, shell)?;
-    Ok(answered_text(alloc, text))
+    let shell = Shell::of(value_of(matches, "shell")).ok_or(BadWords::Shell)?;
+    Ok(answered_text(alloc, completions(alloc, shell)?))
 }
 
 /// The answer of `osdgate man`.
 pub(crate) fn answered_man<'a>(alloc: Global) -> Result<Answered<'a>, NoAnswer> {
-    let text = man_page(alloc, &whole_command(alloc)?)?;
-    Ok(answered_text(alloc, text))
+    Ok(answered_text(alloc, man_page(alloc)?))
 }
 
 /// The format that the words ask for, a text where none is given.
-pub(crate) fn format_of(matches: &ArgMatches<'_>) -> Result<Format, NoAnswer> {
+pub(crate) fn format_of(matches: &ArgMatches<'_>) -> Result<Format, BadWords> {
     match matches.get_str("format") {
         None | Some("text") => Ok(Format::Text),
         Some("json") => Ok(Format::Json),
-        Some(_) => Err(NoAnswer::Words(BadWords::Format)),
+        Some(_) => Err(BadWords::Format),
     }
 }
 
@@ -87,8 +107,7 @@ pub(crate) fn or_bad_file<T: Drop>(
 ) -> Result<T, NoAnswer> {
     match read {
         Ok(value) => Ok(value),
-        Err(FileFault::OutOfMemory) => Err(NoAnswer::OutOfMemory),
-        Err(fault) => Err(NoAnswer::File(BadFile::of(alloc, purpose, path, fault)?)),
+        Err(fault) => Err(NoAnswer::of_file(alloc, purpose, path, fault)),
     }
 }
 
@@ -138,18 +157,19 @@ pub(crate) fn tags_line(alloc: Global, request: &RequestWords<'_>) -> Result<Str
     }
 }
 
-/// What `osdgate verdict` prints. With a check a denial fails.
+/// What `osdgate verdict` prints, and what came of the request. With a check a denial fails.
 fn printed_verdict(
     alloc: Global,
     matches: &ArgMatches<'_>,
     answer: &Answer,
     format: Format,
-) -> Result<Printed, OutOfMemory> {
+) -> Result<(Printed, Outcome), OutOfMemory> {
     let denied = matches!(answer, Ok(Verdict::Denied(_)));
-    Ok(Printed {
+    let printed = Printed {
         text: text_of(alloc, answer, format)?,
         fails: answer.is_err() || (denied && matches.get_flag("check")),
-    })
+    };
+    Ok((printed, Outcome::of(answer)))
 }
 
 /// What standard error tells of a verdict.
@@ -160,11 +180,23 @@ fn verdict_note(
     outcome: Outcome,
     caps: &str,
 ) -> Result<String, OutOfMemory> {
-    let mut note = tags_line(alloc, request)?;
-    note.push_str(note_of(alloc, matches, outcome)?.as_str())?;
-    note.push_str(profile_lines(alloc, caps)?.as_str())?;
-    note.push_str(refusal_line(alloc, caps)?.as_str())?;
-    Ok(note)
+    let note = tags_line(alloc, request)?;
+    let note = with_line(note, note_of(alloc, matches, outcome))?;
+    let note = with_line(note, profile_lines(alloc, caps))?;
+    with_line(note, refusal_line(alloc, caps))
+}
+
+/// What is printed of a request at these times, and what came of it.
+fn judged_request(
+    alloc: Global,
+    matches: &ArgMatches<'_>,
+    request: &RequestWords<'_>,
+    times: Times,
+    format: Format,
+) -> Result<(Printed, Outcome), OutOfMemory> {
+    let caps = value_of(matches, "caps");
+    let answer = answer(alloc, caps, &request.asked(matches, times))?;
+    printed_verdict(alloc, matches, &answer, format)
 }
 
 /// What is answered of a request at these times.
@@ -175,14 +207,25 @@ fn answered_request<'a>(
     times: Times,
     format: Format,
 ) -> Result<Answered<'a>, OutOfMemory> {
+    let (printed, outcome) = judged_request(alloc, matches, request, times, format)?;
     let caps = value_of(matches, "caps");
-    let answer = answer(alloc, caps, &request.asked(matches, times))?;
-    let outcome = Outcome::of(&answer);
     Ok(Answered {
-        printed: printed_verdict(alloc, matches, &answer, format)?,
-        caps,
         note: verdict_note(alloc, matches, request, outcome, caps)?,
+        printed,
+        caps,
     })
+}
+
+/// What is answered of the request of the words, on these pools where they are given.
+fn answered_on<'a>(
+    alloc: Global,
+    matches: &ArgMatches<'a>,
+    pools: Option<&[Pool]>,
+    times: Times,
+    format: Format,
+) -> Result<Answered<'a>, NoAnswer> {
+    let request = RequestWords::of(alloc, matches, pools)?;
+    answered_request(alloc, matches, &request, times, format).map_err(NoAnswer::from)
 }
 
 /// The answer of `osdgate verdict`.
@@ -192,13 +235,24 @@ pub(crate) fn answered_verdict<'a, F: InputFiles, R: Read>(
     reader: &mut R,
     matches: &ArgMatches<'a>,
 ) -> Result<Answered<'a>, NoAnswer> {
-    let Some(times) = times_of(matches) else {
-        return Err(NoAnswer::Words(BadWords::Time));
-    };
+    let times = times_of(matches).ok_or(BadWords::Time)?;
     let format = format_of(matches)?;
     let pools = pools_given(alloc, files, reader, matches)?;
-    let request = RequestWords::of(alloc, matches, pools.as_ref().map(Vec::as_slice))?;
-    Ok(answered_request(alloc, matches, &request, times, format)?)
+    let pools = pools.as_ref().map(Vec::as_slice);
+    answered_on(alloc, matches, pools, times, format)
+}
+
+/// What `osdgate explain` answers of a text.
+fn explained<'a>(
+    alloc: Global,
+    caps: &'a str,
+    format: Format,
+) -> Result<Answered<'a>, OutOfMemory> {
+    Ok(Answered {
+        printed: explain_text(alloc, caps, format)?,
+        caps,
+        note: refusal_line(alloc, caps)?,
+    })
 }
 
 /// The answer of `osdgate explain`.
@@ -206,20 +260,33 @@ pub(crate) fn answered_explain<'a>(
     alloc: Global,
     matches: &ArgMatches<'a>,
 ) -> Result<Answered<'a>, NoAnswer> {
-    let caps = value_of(matches, "caps");
-    Ok(Answered {
-        printed: explain_text(alloc, caps, format_of(matches)?)?,
-        caps,
-        note: refusal_line(alloc, caps)?,
+    let format = format_of(matches)?;
+    explained(alloc, value_of(matches, "caps"), format).map_err(NoAnswer::from)
+}
+
+/// The class registry of a comparison, every one where none is given.
+fn registry_of(matches: &ArgMatches<'_>) -> Result<Registry, BadWords> {
+    match matches.get_str("registry") {
+        None | Some("all") => Ok(Registry::Every),
+        Some("own") => Ok(Registry::Own),
+        Some(_) => Err(BadWords::Registry),
+    }
+}
+
+/// How texts or files are compared.
+fn comparison_of(matches: &ArgMatches<'_>) -> Result<Comparison, BadWords> {
+    Ok(Comparison {
+        registry: registry_of(matches)?,
+        check: matches.get_flag("check"),
+        format: format_of(matches)?,
     })
 }
 
-/// The class registry of a comparison, every one where none is given, or nothing where there is none of this name.
-fn registry_of(matches: &ArgMatches<'_>) -> Option<Registry> {
-    match matches.get_str("registry") {
-        None | Some("all") => Some(Registry::Every),
-        Some("own") => Some(Registry::Own),
-        Some(_) => None,
+/// The two files of a comparison.
+fn two_files<'a>(paths: &[&'a str]) -> Result<(&'a str, &'a str), BadWords> {
+    match paths {
+        [old, new] if *old != "-" || *new != "-" => Ok((*old, *new)),
+        _ => Err(BadWords::Files),
     }
 }
 
@@ -231,13 +298,10 @@ fn printed_files<F: InputFiles, R: Read>(
     paths: &[&str],
     how: Comparison,
 ) -> Result<Printed, NoAnswer> {
-    let (old, new) = match paths {
-        [old, new] if *old != "-" || *new != "-" => (*old, *new),
-        _ => return Err(NoAnswer::Words(BadWords::Files)),
-    };
+    let (old, new) = two_files(paths)?;
     let old = entities_in(alloc, files, reader, Purpose::OldEntities, old)?;
     let new = entities_in(alloc, files, reader, Purpose::NewEntities, new)?;
-    Ok(compare_entities(alloc, old.as_slice(), new.as_slice(), how)?)
+    compare_entities(alloc, old.as_slice(), new.as_slice(), how).map_err(NoAnswer::from)
 }
 
 /// The text that is refused where an answer on two texts is, which is the first one where both are.
@@ -250,30 +314,13 @@ pub(crate) fn refused_caps<'a>(
     Ok(if first_is_refused { first } else { second })
 }
 
-/// The answer of `osdgate compare`.
-pub(crate) fn answered_compare<'a, F: InputFiles, R: Read>(
+/// What `osdgate compare` answers of two texts.
+fn compared_texts<'a>(
     alloc: Global,
-    files: &F,
-    reader: &mut R,
-    matches: &ArgMatches<'a>,
-) -> Result<Answered<'a>, NoAnswer> {
-    let Some(registry) = registry_of(matches) else {
-        return Err(NoAnswer::Words(BadWords::Registry));
-    };
-    let check = matches.get_flag("check");
-    let how = Comparison {
-        registry,
-        check,
-        format: format_of(matches)?,
-    };
-    if let Some(paths) = matches.get_strs("auth") {
-        return Ok(Answered {
-            printed: printed_files(alloc, files, reader, paths, how)?,
-            caps: "",
-            note: String::new(alloc),
-        });
-    }
-    let (old, new) = (value_of(matches, "old"), value_of(matches, "new"));
+    old: &'a str,
+    new: &'a str,
+    how: Comparison,
+) -> Result<Answered<'a>, OutOfMemory> {
     let printed = compare_text(alloc, old, new, how)?;
     let caps = refused_caps(alloc, old, new)?;
     Ok(Answered {
@@ -281,4 +328,20 @@ pub(crate) fn answered_compare<'a, F: InputFiles, R: Read>(
         printed,
         caps,
     })
+}
+
+/// The answer of `osdgate compare`.
+pub(crate) fn answered_compare<'a, F: InputFiles, R: Read>(
+    alloc: Global,
+    files: &F,
+    reader: &mut R,
+    matches: &ArgMatches<'a>,
+) -> Result<Answered<'a>, NoAnswer> {
+    let how = comparison_of(matches)?;
+    if let Some(paths) = matches.get_strs("auth") {
+        let printed = printed_files(alloc, files, reader, paths, how)?;
+        return Ok(Answered::of(alloc, printed));
+    }
+    let (old, new) = (value_of(matches, "old"), value_of(matches, "new"));
+    compared_texts(alloc, old, new, how).map_err(NoAnswer::from)
 }

@@ -117,8 +117,14 @@ const POOLS: OptionRow = ("pools", Value("FILE"), POOLS_HELP);
 
 const FORMAT: OptionRow = ("format", Value("text|json"), FORMAT_HELP);
 
+const KNOWN: OptionRow = (
+    "known",
+    Nothing,
+    "Entities whose texts are refused are left out, and the status is 0",
+);
+
 /// The options of `osdgate verdict`.
-const VERDICT: [OptionRow; 12] = [
+const VERDICT: &[OptionRow; 12] = &[
     CAPS,
     POOL,
     OBJECT,
@@ -146,10 +152,10 @@ const VERDICT: [OptionRow; 12] = [
 ];
 
 /// The options of a line of a file of requests.
-const REQUEST: [OptionRow; 6] = [POOL, OBJECT, NAMESPACE, TAG, READ, WRITE];
+const REQUEST: &[OptionRow; 6] = &[POOL, OBJECT, NAMESPACE, TAG, READ, WRITE];
 
 /// The options of `osdgate who`, but for the last two.
-const WHO: [OptionRow; 10] = [
+const WHO: &[OptionRow; 10] = &[
     ("auth", Needed("FILE"), AUTH_HELP),
     ("pool", NeededOnce("POOL"), "The pool"),
     ("object", NeededOnce("OBJECT"), "The object's name"),
@@ -159,10 +165,53 @@ const WHO: [OptionRow; 10] = [
     READ,
     WRITE,
     FORMAT,
+    KNOWN,
+];
+
+/// The options of `osdgate explain`.
+const EXPLAIN: &[OptionRow; 2] = &[CAPS, FORMAT];
+
+/// The last options of `osdgate compare`.
+const COMPARE_HOW: &[OptionRow; 3] = &[
+    ("registry", Value("all|own"), REGISTRY_HELP),
     (
-        "known",
+        "check",
         Nothing,
-        "Entities whose texts are refused are left out, and the status is 0",
+        "Ends with status 1 where the new text allows more",
+    ),
+    FORMAT,
+];
+
+/// The options of `osdgate share` that only the entities of a file are asked with, but for `flows`.
+const SHARE_FILE: &[OptionRow; 4] = &[
+    ("auth", Value("FILE"), AUTH_HELP),
+    ("pools", Value("FILE"), SHARED_POOLS_HELP),
+    (
+        "without",
+        Values("ENTITY"),
+        "An entity of the file that is left out, as `client.admin`; it may be given more than once",
+    ),
+    ("reads", Nothing, "Tells also of two that read the same"),
+];
+
+/// The last options of `osdgate share`.
+const SHARE_HOW: &[OptionRow; 3] = &[
+    KNOWN,
+    (
+        "check",
+        Nothing,
+        "Ends with status 1 where one writes what another reads or writes, with `--flows` where there is a line",
+    ),
+    FORMAT,
+];
+
+/// The last options of `osdgate lint`.
+const LINT_HOW: &[OptionRow; 2] = &[
+    KNOWN,
+    (
+        "check",
+        Nothing,
+        "Ends with status 1 where a grant is needless or matches no pool",
     ),
 ];
 
@@ -203,6 +252,22 @@ fn option<'a>(alloc: Global, (name, takes, help): OptionRow) -> Result<Arg<'a>, 
     }
 }
 
+/// A value without an option's name in front.
+fn operand<'a>(alloc: Global, name: &'a str, value: &'a str, help: &'a str) -> Arg<'a> {
+    Arg::new(alloc, name)
+        .action(ArgAction::Set)
+        .value_name(value)
+        .help(help)
+}
+
+/// A command with one more argument, which may not have been made.
+fn with_arg<'a>(
+    command: Command<'a>,
+    arg: Result<Arg<'a>, AllocError>,
+) -> Result<Command<'a>, AllocError> {
+    command.arg(arg?)
+}
+
 fn with_options<'a>(
     alloc: Global,
     command: Command<'a>,
@@ -210,19 +275,31 @@ fn with_options<'a>(
 ) -> Result<Command<'a>, AllocError> {
     let mut command = command;
     for row in options {
-        command = command.arg(option(alloc, *row)?)?;
+        command = with_arg(command, option(alloc, *row))?;
     }
     Ok(command)
 }
 
-/// The calls of a request, by their names or with what they do.
-fn with_calls<'a>(alloc: Global, command: Command<'a>) -> Result<Command<'a>, AllocError> {
-    let calls = Arg::new(alloc, "calls")
-        .action(ArgAction::Append)
-        .value_name("CLASS.METHOD")
-        .help("A class method that the request calls, of the class registry");
-    let stated = text_option(alloc, "call", "CLASS.METHOD:r", CALL_HELP).action(ArgAction::Append);
-    command.arg(stated)?.arg(calls)
+/// A call of a request with what it does.
+fn stated_option<'a>(alloc: Global) -> Arg<'a> {
+    text_option(alloc, "call", "CLASS.METHOD:r", CALL_HELP).action(ArgAction::Append)
+}
+
+/// The calls of a request by their names.
+fn calls_operand<'a>(alloc: Global) -> Arg<'a> {
+    let help = "A class method that the request calls, of the class registry";
+    operand(alloc, "calls", "CLASS.METHOD", help).action(ArgAction::Append)
+}
+
+/// The words of a request: these options and its calls, by their names or with what they do.
+fn with_request<'a>(
+    alloc: Global,
+    command: Command<'a>,
+    options: &[OptionRow],
+) -> Result<Command<'a>, AllocError> {
+    let command = with_options(alloc, command, options)?;
+    let command = command.arg(stated_option(alloc))?;
+    command.arg(calls_operand(alloc))
 }
 
 /// The words of a line of a file of requests.
@@ -230,18 +307,18 @@ pub(crate) fn request_command<'a>(alloc: Global) -> Result<Command<'a>, AllocErr
     let command = Command::new(alloc, "request")
         .no_binary_name(true)
         .disable_help_flag(true);
-    with_calls(alloc, with_options(alloc, command, &REQUEST)?)
+    with_request(alloc, command, REQUEST)
 }
 
 fn verdict_command<'a>(alloc: Global) -> Result<Command<'a>, AllocError> {
     let command = Command::new(alloc, "verdict")
         .about("Tells whether a capability text allows a request, and why not")
         .after_help(VERDICT_EXAMPLE);
-    with_calls(alloc, with_options(alloc, command, &VERDICT)?)
+    with_request(alloc, command, VERDICT)
 }
 
 /// The words of one request, in whose place a file of requests is.
-const ONE_REQUEST: [&str; 8] = [
+const ONE_REQUEST: &[&str; 8] = &[
     "pool",
     "object",
     "namespace",
@@ -254,28 +331,23 @@ const ONE_REQUEST: [&str; 8] = [
 
 /// A file of requests, in the place of the options of one.
 fn requests_option<'a>(alloc: Global) -> Result<Arg<'a>, AllocError> {
-    let mut file = text_option(alloc, "requests", "FILE", REQUESTS_HELP);
-    for name in ONE_REQUEST {
-        file = file.conflicts_with(name)?;
-    }
-    Ok(file)
+    text_option(alloc, "requests", "FILE", REQUESTS_HELP).conflicts_with_all(ONE_REQUEST)
 }
 
 fn who_command<'a>(alloc: Global) -> Result<Command<'a>, AllocError> {
     let command = Command::new(alloc, "who")
         .about("Tells which entities of a file may do what a request asks for")
         .after_help(WHO_EXAMPLE);
-    let all = flag(alloc, "all", "Prints each entity with its answer");
-    with_calls(alloc, with_options(alloc, command, &WHO)?)?
-        .arg(requests_option(alloc)?)?
-        .arg(all)
+    let command = with_request(alloc, command, WHO)?;
+    let command = with_arg(command, requests_option(alloc))?;
+    command.arg(flag(alloc, "all", "Prints each entity with its answer"))
 }
 
 fn explain_command<'a>(alloc: Global) -> Result<Command<'a>, AllocError> {
     let command = Command::new(alloc, "explain")
         .about("Prints the canonical form of a capability text, and the grants that it comes to")
         .after_help(EXPLAIN_EXAMPLE);
-    with_options(alloc, command, &[CAPS, FORMAT])
+    with_options(alloc, command, EXPLAIN)
 }
 
 /// The present text, which comes with the new one, or else files do.
@@ -285,182 +357,126 @@ fn old_option<'a>(alloc: Global) -> Result<Arg<'a>, AllocError> {
         .requires_arg("new")
 }
 
+/// The new text, which comes with the present one.
+fn new_option<'a>(alloc: Global) -> Result<Arg<'a>, AllocError> {
+    text_option(alloc, "new", "TEXT", "The text that is to take its place").requires_arg("old")
+}
+
 /// The files, in the place of both texts.
 fn files_option<'a>(alloc: Global) -> Result<Arg<'a>, AllocError> {
     text_option(alloc, "auth", "FILE", AUTHS_HELP)
         .action(ArgAction::Append)
-        .conflicts_with("old")?
-        .conflicts_with("new")
-}
-
-/// The two texts of a comparison.
-fn with_texts<'a>(alloc: Global, command: Command<'a>) -> Result<Command<'a>, AllocError> {
-    let new = text_option(alloc, "new", "TEXT", "The text that is to take its place");
-    command
-        .arg(old_option(alloc)?)?
-        .arg(new.requires_arg("old")?)
+        .conflicts_with_all(&["old", "new"])
 }
 
 fn compare_command<'a>(alloc: Global) -> Result<Command<'a>, AllocError> {
-    let check = flag(
-        alloc,
-        "check",
-        "Ends with status 1 where the new text allows more",
-    );
     let command = Command::new(alloc, "compare")
         .about(
             "Tells what a new capability text allows that the old one denies, and the other way round",
         )
         .after_help(COMPARE_EXAMPLE);
-    let registry = text_option(alloc, "registry", "all|own", REGISTRY_HELP);
-    let command = with_texts(alloc, command)?
-        .arg(files_option(alloc)?)?
-        .arg(registry)?
-        .arg(check)?;
-    with_options(alloc, command, &[FORMAT])
+    let command = with_arg(command, old_option(alloc))?;
+    let command = with_arg(command, new_option(alloc))?;
+    let command = with_arg(command, files_option(alloc))?;
+    with_options(alloc, command, COMPARE_HOW)
 }
 
 /// What only the entities of a file are asked with.
-const OF_FILE: [&str; 7] = [
+const OF_FILE: &[&str; 7] = &[
     "auth", "pools", "without", "reads", "flows", "known", "format",
 ];
 
 /// The two texts, in whose place a file of entities may be.
 fn two_texts_option<'a>(alloc: Global) -> Result<Arg<'a>, AllocError> {
     let help = "A capability text; it is given twice, once for each of two tenants";
-    let mut texts = text_option(alloc, "caps", "TEXT", help)
+    text_option(alloc, "caps", "TEXT", help)
         .action(ArgAction::Append)
-        .required_unless_present("auth")?;
-    for name in OF_FILE {
-        texts = texts.conflicts_with(name)?;
-    }
-    Ok(texts)
-}
-
-/// The entities that are left out.
-fn without_option<'a>(alloc: Global) -> Arg<'a> {
-    let help =
-        "An entity of the file that is left out, as `client.admin`; it may be given more than once";
-    text_option(alloc, "without", "ENTITY", help).action(ArgAction::Append)
+        .required_unless_present("auth")?
+        .conflicts_with_all(OF_FILE)
 }
 
 /// Where what each entity writes may come to, in the place of what each two of them share.
 fn flows_option<'a>(alloc: Global) -> Result<Arg<'a>, AllocError> {
     let help =
         "Tells instead which entities may come to know what another one writes, and through whom";
-    flag(alloc, "flows", help)
-        .conflicts_with("reads")?
-        .conflicts_with("format")
+    flag(alloc, "flows", help).conflicts_with_all(&["reads", "format"])
 }
 
 fn share_command<'a>(alloc: Global) -> Result<Command<'a>, AllocError> {
-    let reads = flag(alloc, "reads", "Tells also of two that read the same");
-    let known = flag(
-        alloc,
-        "known",
-        "Entities whose texts are refused are left out, and the status is 0",
-    );
-    let check = flag(
-        alloc,
-        "check",
-        "Ends with status 1 where one writes what another reads or writes, with `--flows` where there is a line",
-    );
-    Command::new(alloc, "share")
+    let command = Command::new(alloc, "share")
         .about("Tells what two capability texts, or the entities of a file, both reach")
-        .after_help(SHARE_EXAMPLE)
-        .arg(two_texts_option(alloc)?)?
-        .arg(text_option(alloc, "auth", "FILE", AUTH_HELP))?
-        .arg(text_option(alloc, "pools", "FILE", SHARED_POOLS_HELP))?
-        .arg(without_option(alloc))?
-        .arg(reads)?
-        .arg(flows_option(alloc)?)?
-        .arg(known)?
-        .arg(check)?
-        .arg(option(alloc, FORMAT)?)
+        .after_help(SHARE_EXAMPLE);
+    let command = with_arg(command, two_texts_option(alloc))?;
+    let command = with_options(alloc, command, SHARE_FILE)?;
+    let command = with_arg(command, flows_option(alloc))?;
+    with_options(alloc, command, SHARE_HOW)
 }
 
 /// One text, in whose place a file of entities may be.
 fn one_text_option<'a>(alloc: Global) -> Result<Arg<'a>, AllocError> {
     text_option(alloc, "caps", "TEXT", "The capability text")
         .required_unless_present("auth")?
-        .conflicts_with("auth")?
-        .conflicts_with("known")
+        .conflicts_with_all(&["auth", "known"])
 }
 
-fn lint_command<'a>(alloc: Global) -> Result<Command<'a>, AllocError> {
-    let tidy = flag(
+/// The text without needless grants, which is made of a text alone.
+fn tidy_option<'a>(alloc: Global) -> Result<Arg<'a>, AllocError> {
+    flag(
         alloc,
         "tidy",
         "Prints the text without grants that nobody needs",
-    );
-    let known = flag(
-        alloc,
-        "known",
-        "Entities whose texts are refused are left out, and the status is 0",
-    );
-    let check = flag(
-        alloc,
-        "check",
-        "Ends with status 1 where a grant is needless or matches no pool",
-    );
-    let pools = text_option(alloc, "pools", "FILE", LINT_POOLS_HELP).conflicts_with("tidy")?;
-    Command::new(alloc, "lint")
+    )
+    .conflicts_with("auth")
+}
+
+/// The pools that grants may match.
+fn lint_pools_option<'a>(alloc: Global) -> Result<Arg<'a>, AllocError> {
+    text_option(alloc, "pools", "FILE", LINT_POOLS_HELP).conflicts_with("tidy")
+}
+
+fn lint_command<'a>(alloc: Global) -> Result<Command<'a>, AllocError> {
+    let command = Command::new(alloc, "lint")
         .about("Tells which grants of a capability text nobody needs, and the text without them")
-        .after_help(LINT_EXAMPLE)
-        .arg(one_text_option(alloc)?)?
-        .arg(text_option(alloc, "auth", "FILE", AUTH_HELP))?
-        .arg(tidy.conflicts_with("auth")?)?
-        .arg(pools)?
-        .arg(known)?
-        .arg(check)
+        .after_help(LINT_EXAMPLE);
+    let command = with_arg(command, one_text_option(alloc))?;
+    let command = command.arg(text_option(alloc, "auth", "FILE", AUTH_HELP))?;
+    let command = with_arg(command, tidy_option(alloc))?;
+    let command = with_arg(command, lint_pools_option(alloc))?;
+    with_options(alloc, command, LINT_HOW)
+}
+
+/// The group of a picture.
+fn group_option<'a>(alloc: Global) -> Result<Arg<'a>, AllocError> {
+    text_option(alloc, "group", "POOL", GROUP_HELP)
+        .num_args(2)
+        .value_names(&["POOL", "GROUP"])
+        .requires_arg("picture")
 }
 
 fn run_command<'a>(alloc: Global) -> Result<Command<'a>, AllocError> {
-    let script = Arg::new(alloc, "script")
-        .action(ArgAction::Set)
-        .value_name("FILE")
-        .help(SCRIPT_HELP);
-    let picture = text_option(alloc, "picture", "FILE", PICTURE_HELP);
-    let group = text_option(alloc, "group", "POOL", GROUP_HELP)
-        .num_args(2)
-        .value_names(&["POOL", "GROUP"])
-        .requires_arg("picture")?;
-    Command::new(alloc, "run")
+    let command = Command::new(alloc, "run")
         .about("Runs a script of events in a world of its own, and prints what happens")
         .after_help(RUN_EXAMPLE)
-        .arg(picture)?
-        .arg(group)?
-        .arg(script)
+        .arg(text_option(alloc, "picture", "FILE", PICTURE_HELP))?;
+    let command = with_arg(command, group_option(alloc))?;
+    command.arg(operand(alloc, "script", "FILE", SCRIPT_HELP))
 }
 
 fn threads_command<'a>(alloc: Global) -> Result<Command<'a>, AllocError> {
-    let workers = Arg::new(alloc, "workers")
-        .action(ArgAction::Set)
-        .value_name("N")
-        .required(true)
-        .help(WORKERS_HELP);
-    let moves = flag(
-        alloc,
-        "moves",
-        "A daemon goes down and comes up 20 times meanwhile",
-    );
+    let help = "A daemon goes down and comes up 20 times meanwhile";
     Command::new(alloc, "threads")
         .about("Runs workers on threads over one cluster, and prints what became of their requests")
         .after_help(THREADS_EXAMPLE)
-        .arg(workers)?
-        .arg(moves)
+        .arg(operand(alloc, "workers", "N", WORKERS_HELP).required(true))?
+        .arg(flag(alloc, "moves", help))
 }
 
 fn completions_command<'a>(alloc: Global) -> Result<Command<'a>, AllocError> {
-    let shell = Arg::new(alloc, "shell")
-        .action(ArgAction::Set)
-        .value_name("SHELL")
-        .required(true)
-        .help("The shell: bash, zsh or fish");
+    let help = "The shell: bash, zsh or fish";
     Command::new(alloc, "completions")
         .about("Prints completions for a shell")
         .after_help(COMPLETIONS_EXAMPLE)
-        .arg(shell)
+        .arg(operand(alloc, "shell", "SHELL", help).required(true))
 }
 
 fn man_command<'a>(alloc: Global) -> Command<'a> {
@@ -482,7 +498,7 @@ enum Kind {
     Man,
 }
 
-const KINDS: [Kind; 10] = [
+const KINDS: &[Kind; 10] = &[
     Kind::Verdict,
     Kind::Explain,
     Kind::Compare,
@@ -518,7 +534,7 @@ pub(crate) fn whole_command<'a>(alloc: Global) -> Result<Command<'a>, AllocError
         .after_help(VERDICT_EXAMPLE)
         .subcommand_required(true);
     for kind in KINDS {
-        command = command.subcommand(command_of(alloc, kind)?)?;
+        command = command.subcommand(command_of(alloc, *kind)?)?;
     }
     Ok(command)
 }

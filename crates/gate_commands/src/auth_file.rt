@@ -8,6 +8,7 @@ use crate::listing::{HEAD, is_entity_name, listed_entities};
 use gate_text::Entity;
 use serde_json::Value;
 use std::alloc::Global;
+use std::slice;
 
 /// The osd text of an entry's `caps`, empty where there is none.
 fn osd_text(caps: &Value, number: usize) -> Result<&str, FileFault> {
@@ -17,43 +18,40 @@ fn osd_text(caps: &Value, number: usize) -> Result<&str, FileFault> {
     }
 }
 
-/// The entity of an entry with this number.
-fn entity_of(alloc: Global, entry: &Value, number: usize) -> Result<Entity, FileFault> {
+/// The name and the osd text of an entry with this number.
+fn texts_of(entry: &Value, number: usize) -> Result<(&str, &str), FileFault> {
     let Some(name) = entry.get("entity").and_then(Value::as_str) else {
         return Err(FileFault::NoEntity(number));
     };
     let Some(caps) = entry.get("caps").filter(|caps| caps.is_object()) else {
         return Err(FileFault::NoCaps(number));
     };
-    Ok(Entity {
-        name: String::from_str(alloc, name)?,
-        osd: String::from_str(alloc, osd_text(caps, number)?)?,
-    })
+    Ok((name, osd_text(caps, number)?))
 }
 
 fn entities_of_list(alloc: Global, entries: &[Value]) -> Result<Vec<Entity>, FileFault> {
     let mut entities = EntityList::new(alloc);
     for entry in entries {
-        let entity = entity_of(alloc, entry, entities.next_number())?;
-        entities.push(alloc, entity)?;
+        let (name, osd) = texts_of(entry, entities.next_number())?;
+        entities.push(alloc, name, osd)?;
     }
     Ok(entities.into_vec())
 }
 
-/// The entities of a JSON text: of an object with a list under `auth_dump`, as `ceph auth ls` prints it, of a list, as
+/// The entities of a JSON value: of an object with a list under `auth_dump`, as `ceph auth ls` prints it, of a list, as
 /// `ceph auth get` prints it, or of one entry.
-fn json_entities(alloc: Global, text: &str) -> Result<Vec<Entity>, FileFault> {
-    let value = Value::from_str(alloc, text)?;
-    let entries = value.get("auth_dump").unwrap_or(&value);
+fn value_entities(alloc: Global, value: &Value) -> Result<Vec<Entity>, FileFault> {
+    let entries = value.get("auth_dump").unwrap_or(value);
     match entries.as_array() {
         Some(list) => entities_of_list(alloc, list.as_slice()),
-        None if value.get("entity").is_some() => {
-            let mut entities = Vec::new(alloc);
-            entities.push(entity_of(alloc, &value, 1)?)?;
-            Ok(entities)
-        }
+        None if value.get("entity").is_some() => entities_of_list(alloc, slice::from_ref(value)),
         None => Err(FileFault::NoEntries),
     }
+}
+
+fn json_entities(alloc: Global, text: &str) -> Result<Vec<Entity>, FileFault> {
+    let value = Value::from_str(alloc, text)?;
+    value_entities(alloc, &value)
 }
 
 /// Whether a line says nothing: it is blank, or a comment as keyrings have them.

@@ -1,5 +1,6 @@
 //! Completions of the command line for shells, made of its commands and options.
 
+use crate::arguments::whole_command;
 use clap::{Arg, Command};
 use common_types::OutOfMemory;
 use std::alloc::Global;
@@ -14,13 +15,13 @@ pub(crate) enum Shell {
 }
 
 /// The options whose values are files.
-const FILES: [&str; 4] = ["auth", "pools", "requests", "picture"];
+const FILES: &[&str; 4] = &["auth", "pools", "requests", "picture"];
 
 /// The options whose values are some words.
-const CHOICES: [(&str, &str); 2] = [("format", "text json"), ("registry", "all own")];
+const CHOICES: &[(&str, &str); 2] = &[("format", "text json"), ("registry", "all own")];
 
 /// What the words behind a command may be, where they are no options.
-const OPERANDS: [(&str, &str); 2] = [("completions", "bash zsh fish"), ("help", "")];
+const OPERANDS: &[(&str, &str); 2] = &[("completions", "bash zsh fish"), ("help", "")];
 
 const BASH_HEAD: &str = "\
 # Completions of osdgate for bash.
@@ -109,19 +110,18 @@ fn push_bash_command(text: &mut String, command: &Command<'_>) -> Result<(), Out
     text.push_str("' -- \"$current\")) ;;\n")
 }
 
-/// The completions for bash.
-fn bash(alloc: Global, command: &Command<'_>) -> Result<String, OutOfMemory> {
-    let mut text = String::from_str(alloc, BASH_HEAD)?;
-    push_bash_values(&mut text, alloc)?;
+/// Adds the completions for bash.
+fn push_bash(text: &mut String, alloc: Global, command: &Command<'_>) -> Result<(), OutOfMemory> {
+    text.push_str(BASH_HEAD)?;
+    push_bash_values(text, alloc)?;
     text.push_str(BASH_COMMANDS)?;
     text.push_str("        commands | help) COMPREPLY=($(compgen -W '")?;
-    push_commands(&mut text, command)?;
+    push_commands(text, command)?;
     text.push_str("' -- \"$current\")) ;;\n")?;
     for inner in command.get_subcommands() {
-        push_bash_command(&mut text, inner)?;
+        push_bash_command(text, inner)?;
     }
-    text.push_str(BASH_END)?;
-    Ok(text)
+    text.push_str(BASH_END)
 }
 
 /// Adds a help text as it stands between single quotes of a shell, without what zsh or fish would read otherwise.
@@ -168,37 +168,52 @@ fn push_zsh_option(text: &mut String, arg: &Arg<'_>) -> Result<(), OutOfMemory> 
     text.push_str("'")
 }
 
+/// Adds what may follow a command.
+fn push_zsh_operands(text: &mut String, name: &str) -> Result<(), OutOfMemory> {
+    match operands_of(name) {
+        "" if name == "run" => text.push_str(" \\\n            '*:script:_files'"),
+        "" => Ok(()),
+        operands => write!(text, " \\\n            '*:{name}:({operands})'"),
+    }
+}
+
 fn push_zsh_command(text: &mut String, command: &Command<'_>) -> Result<(), OutOfMemory> {
     let name = command.get_name();
     write!(text, "        {name}) _arguments")?;
     for arg in command.get_arguments() {
         push_zsh_option(text, arg)?;
     }
-    match operands_of(name) {
-        "" if name == "run" => text.push_str(" \\\n            '*:script:_files'")?,
-        "" => (),
-        operands => write!(text, " \\\n            '*:{name}:({operands})'")?,
-    }
+    push_zsh_operands(text, name)?;
     text.push_str(" ;;\n")
 }
 
-/// The completions for zsh.
-fn zsh(alloc: Global, command: &Command<'_>) -> Result<String, OutOfMemory> {
-    let mut text = String::from_str(
-        alloc,
+/// Adds the completions for zsh.
+fn push_zsh(text: &mut String, command: &Command<'_>) -> Result<(), OutOfMemory> {
+    text.push_str(
         "#compdef osdgate\n# Completions of osdgate for zsh.\n_osdgate() {\n    if (( CURRENT == 2 )); then\n        compadd -- ",
     )?;
-    push_commands(&mut text, command)?;
+    push_commands(text, command)?;
     text.push_str(
         "\n        return\n    fi\n    local name=$words[2]\n    shift words\n    (( CURRENT-- ))\n    case $name in\n        help) compadd -- ",
     )?;
-    push_commands(&mut text, command)?;
+    push_commands(text, command)?;
     text.push_str(" ;;\n")?;
     for inner in command.get_subcommands() {
-        push_zsh_command(&mut text, inner)?;
+        push_zsh_command(text, inner)?;
     }
-    text.push_str("    esac\n}\n_osdgate \"$@\"\n")?;
-    Ok(text)
+    text.push_str("    esac\n}\n_osdgate \"$@\"\n")
+}
+
+/// Adds what fish is told of an option's value.
+fn push_fish_value(text: &mut String, name: &str, arg: &Arg<'_>) -> Result<(), OutOfMemory> {
+    if FILES.iter().any(|file| *file == name) {
+        return text.push_str(" -r -F");
+    }
+    match CHOICES.iter().find(|row| row.0 == name) {
+        Some(row) => write!(text, " -x -a '{}'", row.1),
+        None if has_value(arg) => text.push_str(" -x"),
+        None => Ok(()),
+    }
 }
 
 fn push_fish_option(text: &mut String, command: &str, arg: &Arg<'_>) -> Result<(), OutOfMemory> {
@@ -209,29 +224,14 @@ fn push_fish_option(text: &mut String, command: &str, arg: &Arg<'_>) -> Result<(
         text,
         "complete -c osdgate -n '__fish_seen_subcommand_from {command}' -l {name}"
     )?;
-    if FILES.iter().any(|file| *file == name) {
-        text.push_str(" -r -F")?;
-    } else if let Some(row) = CHOICES.iter().find(|row| row.0 == name) {
-        write!(text, " -x -a '{}'", row.1)?;
-    } else if has_value(arg) {
-        text.push_str(" -x")?;
-    }
+    push_fish_value(text, name, arg)?;
     text.push_str(" -d '")?;
     push_help(text, arg.get_help().unwrap_or(""))?;
     text.push_str("'\n")
 }
 
-fn push_fish_command(text: &mut String, command: &Command<'_>) -> Result<(), OutOfMemory> {
-    let name = command.get_name();
-    write!(
-        text,
-        "complete -c osdgate -n __fish_use_subcommand -a {name} -d '"
-    )?;
-    push_help(text, command.get_about().unwrap_or(""))?;
-    text.push_str("'\n")?;
-    for arg in command.get_arguments() {
-        push_fish_option(text, name, arg)?;
-    }
+/// Adds what may follow a command.
+fn push_fish_operands(text: &mut String, name: &str) -> Result<(), OutOfMemory> {
     match operands_of(name) {
         "" if name == "run" => write!(
             text,
@@ -245,32 +245,50 @@ fn push_fish_command(text: &mut String, command: &Command<'_>) -> Result<(), Out
     }
 }
 
-/// The completions for fish.
-fn fish(alloc: Global, command: &Command<'_>) -> Result<String, OutOfMemory> {
-    let mut text = String::from_str(
-        alloc,
-        "# Completions of osdgate for fish.\ncomplete -c osdgate -f\n",
+fn push_fish_command(text: &mut String, command: &Command<'_>) -> Result<(), OutOfMemory> {
+    let name = command.get_name();
+    write!(
+        text,
+        "complete -c osdgate -n __fish_use_subcommand -a {name} -d '"
     )?;
+    push_help(text, command.get_about().unwrap_or(""))?;
+    text.push_str("'\n")?;
+    for arg in command.get_arguments() {
+        push_fish_option(text, name, arg)?;
+    }
+    push_fish_operands(text, name)
+}
+
+/// Adds the completions for fish.
+fn push_fish(text: &mut String, command: &Command<'_>) -> Result<(), OutOfMemory> {
+    text.push_str("# Completions of osdgate for fish.\ncomplete -c osdgate -f\n")?;
     for inner in command.get_subcommands() {
-        push_fish_command(&mut text, inner)?;
+        push_fish_command(text, inner)?;
     }
     text.push_str(
         "complete -c osdgate -n __fish_use_subcommand -a help -d 'Prints the help of a command'\ncomplete -c osdgate -n '__fish_seen_subcommand_from help' -a '",
     )?;
-    push_commands(&mut text, command)?;
-    text.push_str("'\n")?;
-    Ok(text)
+    push_commands(text, command)?;
+    text.push_str("'\n")
 }
 
 /// The completions for a shell.
-pub(crate) fn completions(
+fn completions_of(
     alloc: Global,
     command: &Command<'_>,
     shell: Shell,
 ) -> Result<String, OutOfMemory> {
+    let mut text = String::new(alloc);
     match shell {
-        Shell::Bash => bash(alloc, command),
-        Shell::Zsh => zsh(alloc, command),
-        Shell::Fish => fish(alloc, command),
+        Shell::Bash => push_bash(&mut text, alloc, command)?,
+        Shell::Zsh => push_zsh(&mut text, command)?,
+        Shell::Fish => push_fish(&mut text, command)?,
     }
+    Ok(text)
+}
+
+/// The completions of this program for a shell.
+pub(crate) fn completions(alloc: Global, shell: Shell) -> Result<String, OutOfMemory> {
+    let command = whole_command(alloc)?;
+    completions_of(alloc, &command, shell)
 }

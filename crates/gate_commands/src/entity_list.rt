@@ -1,6 +1,7 @@
 //! The entities of a file, one after another.
 
 use crate::file_fault::FileFault;
+use common_types::OutOfMemory;
 use gate_text::Entity;
 use indexmap::IndexSet;
 use std::alloc::Global;
@@ -18,6 +19,13 @@ impl Drop for EntityList {
             names: _,
         } = self;
     }
+}
+
+fn new_entity(alloc: Global, name: &str, osd: &str) -> Result<Entity, OutOfMemory> {
+    Ok(Entity {
+        name: String::from_str(alloc, name)?,
+        osd: String::from_str(alloc, osd)?,
+    })
 }
 
 impl EntityList {
@@ -38,12 +46,11 @@ impl EntityList {
     }
 
     /// Adds an entity to those before it, none of which may have its name.
-    pub(crate) fn push(&mut self, alloc: Global, entity: Entity) -> Result<(), FileFault> {
-        let name = String::from_str(alloc, entity.name.as_str())?;
-        if !self.names.insert(name)? {
+    pub(crate) fn push(&mut self, alloc: Global, name: &str, osd: &str) -> Result<(), FileFault> {
+        if !self.names.insert(String::from_str(alloc, name)?)? {
             return Err(FileFault::Doubled(self.next_number()));
         }
-        Ok(self.entities.push(entity)?)
+        Ok(self.entities.push(new_entity(alloc, name, osd)?)?)
     }
 
     /// Gives the last entity its text; whether there is one, which had none before.

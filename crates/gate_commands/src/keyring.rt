@@ -97,11 +97,7 @@ fn take_line(alloc: Global, entities: &mut EntityList, words: &str) -> Result<bo
     match line_of(words) {
         None => Ok(false),
         Some(Line::Entity(name)) => {
-            let entity = Entity {
-                name: String::from_str(alloc, name)?,
-                osd: String::new(alloc),
-            };
-            entities.push(alloc, entity)?;
+            entities.push(alloc, name, "")?;
             Ok(true)
         }
         Some(Line::Osd(value)) => match text_of(alloc, value)? {

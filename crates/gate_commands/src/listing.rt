@@ -48,11 +48,7 @@ fn take_line(alloc: Global, entities: &mut EntityList, line: &str) -> Result<boo
     if !is_entity_name(name) {
         return Ok(false);
     }
-    let entity = Entity {
-        name: String::from_str(alloc, name)?,
-        osd: String::new(alloc),
-    };
-    entities.push(alloc, entity)?;
+    entities.push(alloc, name, "")?;
     Ok(true)
 }
 

@@ -1,9 +1,9 @@
 //! The man page, made of the commands and options of the command line.
 
+use crate::arguments::whole_command;
 use clap::{Arg, Command};
 use common_types::OutOfMemory;
 use std::alloc::Global;
-use std::fmt::Write;
 
 const STATUS: &str = "\
 .SH EXIT STATUS
@@ -62,17 +62,29 @@ fn push_command(text: &mut String, command: &Command<'_>) -> Result<(), OutOfMem
     Ok(())
 }
 
-/// The man page of the program.
-pub(crate) fn man_page(alloc: Global, command: &Command<'_>) -> Result<String, OutOfMemory> {
-    let mut text = String::from_str(alloc, ".TH OSDGATE 1\n.SH NAME\nosdgate \\- ")?;
-    push_roff(&mut text, command.get_about().unwrap_or(""))?;
+/// Adds the page: what the program is, its commands, and the status.
+fn push_page(text: &mut String, command: &Command<'_>) -> Result<(), OutOfMemory> {
+    text.push_str(".TH OSDGATE 1\n.SH NAME\nosdgate \\- ")?;
+    push_roff(text, command.get_about().unwrap_or(""))?;
     text.push_str(
         "\n.SH SYNOPSIS\n.B osdgate\n.I COMMAND\n.RI [ OPTIONS ]\n.br\n.B osdgate help\n.RI [ COMMAND ]\n.SH COMMANDS\n",
     )?;
     for inner in command.get_subcommands() {
-        push_command(&mut text, inner)?;
+        push_command(text, inner)?;
     }
     text.push_str(STATUS)?;
-    write!(text, ".SH SEE ALSO\n.BR ceph (8)\n")?;
+    text.push_str(".SH SEE ALSO\n.BR ceph (8)\n")
+}
+
+/// The man page of a program with this command line.
+fn page_of(alloc: Global, command: &Command<'_>) -> Result<String, OutOfMemory> {
+    let mut text = String::new(alloc);
+    push_page(&mut text, command)?;
     Ok(text)
+}
+
+/// The man page of this program.
+pub(crate) fn man_page(alloc: Global) -> Result<String, OutOfMemory> {
+    let command = whole_command(alloc)?;
+    page_of(alloc, &command)
 }

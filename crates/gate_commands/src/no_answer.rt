@@ -33,7 +33,7 @@ pub(crate) enum NoAnswer {
 }
 
 impl BadFile {
-    pub(crate) fn of(
+    fn of(
         alloc: Global,
         purpose: Purpose,
         path: &str,
@@ -46,6 +46,24 @@ impl BadFile {
             path: shown,
             fault,
         })
+    }
+}
+
+impl NoAnswer {
+    /// That a file is not what it is read for, or want of memory.
+    pub(crate) fn of_file(
+        alloc: Global,
+        purpose: Purpose,
+        path: &str,
+        fault: FileFault,
+    ) -> NoAnswer {
+        match fault {
+            FileFault::OutOfMemory => NoAnswer::OutOfMemory,
+            fault => match BadFile::of(alloc, purpose, path, fault) {
+                Ok(bad) => NoAnswer::File(bad),
+                Err(_) => NoAnswer::OutOfMemory,
+            },
+        }
     }
 }
 
@@ -69,6 +87,12 @@ impl fmt::Display for BadFile {
 impl From<Error> for NoAnswer {
     fn from(error: Error) -> NoAnswer {
         NoAnswer::Clap(error)
+    }
+}
+
+impl From<BadWords> for NoAnswer {
+    fn from(bad: BadWords) -> NoAnswer {
+        NoAnswer::Words(bad)
     }
 }
 

@@ -24,21 +24,33 @@ fn is_unknown(alloc: Global, word: &str) -> Result<bool, OutOfMemory> {
     }
 }
 
-/// The line that tells which call the class registry does not have, which it has, and what to do. A word that is an option
-/// without its dashes is told so.
+/// Adds the calls that the class registry has.
+fn push_registry(line: &mut String, alloc: Global) -> Result<(), OutOfMemory> {
+    for call in registry(alloc)?.as_slice() {
+        write!(line, " {}.{}", call.class.as_str(), call.method.as_str())?;
+    }
+    Ok(())
+}
+
+/// Adds which call the class registry does not have, which it has, and what to do.
+fn push_unknown(line: &mut String, alloc: Global, word: &str) -> Result<(), OutOfMemory> {
+    line.push_str("osdgate: the class registry has no ")?;
+    push_name(line, word)?;
+    line.push_str(", only")?;
+    push_registry(line, alloc)?;
+    line.push_str(
+        "; a call of another one says what it does: --call CLASS.METHOD:r, :w or :rw, and :listed behind it where the class is on the default list\n",
+    )
+}
+
+/// The line that tells of a call that the class registry does not have. A word that is an option without its dashes is
+/// told so.
 fn unknown_line(alloc: Global, word: &str) -> Result<String, OutOfMemory> {
     if is_option(word) {
         return format!(in alloc; "osdgate: {word} is no call; the option is --{word}\n");
     }
-    let mut line = String::from_str(alloc, "osdgate: the class registry has no ")?;
-    push_name(&mut line, word)?;
-    line.push_str(", only")?;
-    for call in registry(alloc)?.as_slice() {
-        write!(line, " {}.{}", call.class.as_str(), call.method.as_str())?;
-    }
-    line.push_str(
-        "; a call of another one says what it does: --call CLASS.METHOD:r, :w or :rw, and :listed behind it where the class is on the default list\n",
-    )?;
+    let mut line = String::new(alloc);
+    push_unknown(&mut line, alloc, word)?;
     Ok(line)
 }
 
@@ -88,6 +100,18 @@ pub(crate) fn note_of(
     }
 }
 
+/// The fault for which an entity has no verdict, if it has none.
+fn fault_of(
+    alloc: Global,
+    entity: &Entity,
+    asked: &Asked<'_>,
+) -> Result<Option<String>, OutOfMemory> {
+    match answer(alloc, entity.osd.as_str(), asked)? {
+        Ok(_) => Ok(None),
+        Err(fault) => Ok(Some(format!(in alloc; "{fault}")?)),
+    }
+}
+
 /// Adds an entity and the number of the fault for which it has no verdict; answers whether it has none.
 fn push_unjudged(
     line: &mut String,
@@ -95,10 +119,9 @@ fn push_unjudged(
     entity: &Entity,
     asked: &Asked<'_>,
 ) -> Result<bool, OutOfMemory> {
-    let Err(fault) = answer(alloc, entity.osd.as_str(), asked)? else {
+    let Some(fault) = fault_of(alloc, entity, asked)? else {
         return Ok(false);
     };
-    let fault = format!(in alloc; "{fault}")?;
     let number = fault.as_str().split(' ').next().unwrap_or("");
     if !line.is_empty() {
         line.push_str(", ")?;

@@ -5,7 +5,7 @@ use common_types::OutOfMemory;
 use std::alloc::{AllocError, Global};
 
 /// The built-in profiles.
-const PROFILES: [&str; 4] = ["read-only", "read-write", "rbd-read-only", "rbd"];
+const PROFILES: &[&str; 4] = &["read-only", "read-write", "rbd-read-only", "rbd"];
 
 const KNOWN_PROFILES: &str =
     "osdgate: the profiles here are read-only, read-write, rbd-read-only and rbd; Ceph has others, and one that it does not know grants nothing there\n";
@@ -22,7 +22,7 @@ const OF_METADATA: &str =
 /// A kind of fault, the word that stands there, and what is told.
 type Row = (FaultKind, &'static str, &'static str);
 
-const PASTED: [Row; 9] = [
+const PASTED: &[Row; 9] = &[
     (FaultKind::BadAccess, "profile", OF_MONITORS),
     (FaultKind::BadAccess, "command", COMMANDS),
     (FaultKind::BadAccess, "service", COMMANDS),
@@ -37,12 +37,10 @@ const PASTED: [Row; 9] = [
 /// What is told of a fault of a text, or the empty text.
 fn way_out(caps: &str, fault: CapFault) -> &'static str {
     let behind = caps.get(fault.at..).unwrap_or("");
-    for (kind, word, told) in PASTED {
-        if fault.kind == kind && behind.starts_with(word) {
-            return told;
-        }
-    }
-    ""
+    PASTED
+        .iter()
+        .find(|row| fault.kind == row.0 && behind.starts_with(row.1))
+        .map_or("", |row| row.2)
 }
 
 /// Whether a list uses a profile that is not built in.

@@ -9,7 +9,7 @@ use std::fmt::Write;
 /// A profile, and how Ceph's own differs.
 type Difference = (&'static str, &'static str);
 
-const DIFFERENCES: [Difference; 2] = [
+const DIFFERENCES: &[Difference; 2] = &[
     (
         "rbd",
         "Ceph's own also reads rbd_info in every pool and namespace, and calls rbd.get_children on rbd_children of other pools",

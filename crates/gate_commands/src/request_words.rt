@@ -158,24 +158,31 @@ impl<'p> RequestWords<'p> {
     }
 }
 
+/// The pairs of a tag that has one.
+fn one_pair(alloc: Global, key: &str, value: &str) -> Result<Pairs, OutOfMemory> {
+    let mut pairs = Vec::new(alloc);
+    pairs.push((Name::new(alloc, key)?, Name::new(alloc, value)?))?;
+    Ok(Pairs::from_vec(pairs))
+}
+
+fn app_tags(alloc: Global, application: &str, pairs: Pairs) -> Result<AppTags, OutOfMemory> {
+    Ok(AppTags {
+        application: Name::new(alloc, application)?,
+        pairs,
+    })
+}
+
 /// An application tag: a text is cut at its first `:`, and what is behind it at its first `=`. A text with a
 /// `:` and no `=` behind it is none.
 fn tag_of(alloc: Global, text: &str) -> Result<Option<AppTags>, OutOfMemory> {
-    let mut pairs = Vec::new(alloc);
-    let application = match text.split_once(':') {
-        None => text,
+    let (application, pairs) = match text.split_once(':') {
+        None => (text, Pairs::from_vec(Vec::new(alloc))),
         Some((application, pair)) => match pair.split_once('=') {
             None => return Ok(None),
-            Some((key, value)) => {
-                pairs.push((Name::new(alloc, key)?, Name::new(alloc, value)?))?;
-                application
-            }
+            Some((key, value)) => (application, one_pair(alloc, key, value)?),
         },
     };
-    Ok(Some(AppTags {
-        application: Name::new(alloc, application)?,
-        pairs: Pairs::from_vec(pairs),
-    }))
+    Ok(Some(app_tags(alloc, application, pairs)?))
 }
 
 /// A call without input: a word is cut at its first `.`, and one without it is a class with an empty method.
@@ -213,29 +220,42 @@ fn names_of(text: &str) -> Option<(&str, &str)> {
     Some((class, method))
 }
 
-/// A call as `--call` takes it, or nothing where the text is none: `CLASS.METHOD`, what the method does, and whether the
-/// class is on the default list.
-fn stated_call(alloc: Global, text: &str) -> Result<Option<ClassCall>, OutOfMemory> {
+/// What `--call` says: `CLASS.METHOD`, what the method does, and whether the class is on the default list.
+#[derive(Clone, Copy)]
+struct StatedWords<'a> {
+    class: &'a str,
+    method: &'a str,
+    reads: bool,
+    writes: bool,
+    listed: bool,
+}
+
+/// What a text says as `--call` takes it, or nothing where it does not.
+fn stated_words(text: &str) -> Option<StatedWords<'_>> {
     let (front, listed) = match text.strip_suffix(":listed") {
         Some(front) => (front, true),
         None => (text, false),
     };
-    let Some((names, kind)) = front.rsplit_once(':') else {
-        return Ok(None);
-    };
-    let Some((class_reads, class_writes)) = kind_of(kind) else {
-        return Ok(None);
-    };
-    let Some((class, method)) = names_of(names) else {
-        return Ok(None);
-    };
-    Ok(Some(ClassCall {
-        class: Name::new(alloc, class)?,
-        method: Name::new(alloc, method)?,
-        class_reads,
-        class_writes,
+    let (names, kind) = front.rsplit_once(':')?;
+    let (reads, writes) = kind_of(kind)?;
+    let (class, method) = names_of(names)?;
+    Some(StatedWords {
+        class,
+        method,
+        reads,
+        writes,
         listed,
-    }))
+    })
+}
+
+fn stated_call(alloc: Global, words: StatedWords<'_>) -> Result<ClassCall, OutOfMemory> {
+    Ok(ClassCall {
+        class: Name::new(alloc, words.class)?,
+        method: Name::new(alloc, words.method)?,
+        class_reads: words.reads,
+        class_writes: words.writes,
+        listed: words.listed,
+    })
 }
 
 /// A number in decimal digits alone.
@@ -280,8 +300,8 @@ fn stated_of(alloc: Global, matches: &ArgMatches<'_>) -> Result<Vec<ClassCall>, 
     let mut calls = Vec::new(alloc);
     if let Some(texts) = matches.get_strs("call") {
         for text in texts {
-            match stated_call(alloc, text)? {
-                Some(call) => calls.push(call)?,
+            match stated_words(text) {
+                Some(words) => calls.push(stated_call(alloc, words)?)?,
                 None => return Err(NoRequest::Words(BadWords::Call)),
             }
         }

@@ -90,6 +90,18 @@ impl Splitter {
             _ => self.push(letter),
         }
     }
+
+    /// Takes a line; whether no quote is open behind it, nor a backslash ends it.
+    fn take_line(&mut self, line: &str) -> Result<bool, OutOfMemory> {
+        for letter in line.chars() {
+            self.take(letter)?;
+        }
+        if self.escaped || self.inside != Inside::Nothing {
+            return Ok(false);
+        }
+        self.end_word()?;
+        Ok(true)
+    }
 }
 
 /// The words of a line, or nothing where a quote is not closed or a backslash ends the line.
@@ -101,12 +113,8 @@ pub(crate) fn words_of(alloc: Global, line: &str) -> Result<Option<Vec<String>>,
         inside: Inside::Nothing,
         escaped: false,
     };
-    for letter in line.chars() {
-        splitter.take(letter)?;
-    }
-    if splitter.escaped || splitter.inside != Inside::Nothing {
+    if !splitter.take_line(line)? {
         return Ok(None);
     }
-    splitter.end_word()?;
     Ok(Some(splitter.words))
 }
