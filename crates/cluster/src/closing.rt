@@ -91,7 +91,7 @@ fn gather(cluster: &Cluster, mut all: Seats, passes: Vec<Pass>) -> Seats
     ensures heard { Gathers all (each seats_of passes.items) result }
 {
     for pass in passes {
-        cluster.absorb(&mut all, pass.into_seats());
+        cluster.absorb(&mut all, pass.seats);
     }
     all
 }

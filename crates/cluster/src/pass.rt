@@ -8,35 +8,18 @@ use published_map::MapReader;
 use world_core::Session;
 
 /// A session, with its number, which counts over all passes from 1.
+#[derive(Drop)]
 pub struct OwnSession {
     pub(crate) number: u32,
     pub(crate) session: Session,
 }
 
-impl Drop for OwnSession {
-    fn drop(self) {
-        let OwnSession {
-            number: _,
-            session: _,
-        } = self;
-    }
-}
-
 /// The right of one thread to call a cluster: a seat of each lock, a reader of the published map, and the sessions that it has opened.
+#[derive(Drop)]
 pub struct Pass {
     pub(crate) seats: Seats,
     pub(crate) reader: MapReader,
     pub(crate) sessions: Vec<OwnSession>,
-}
-
-impl Drop for Pass {
-    fn drop(self) {
-        let Pass {
-            seats: _,
-            reader: _,
-            sessions: _,
-        } = self;
-    }
 }
 
 impl Pass {

@@ -329,9 +329,19 @@ const ONE_REQUEST: &[&str; 8] = &[
     "calls",
 ];
 
+/// An argument with which none of these others may come.
+fn in_place_of<'a>(arg: Arg<'a>, others: &[&'static str]) -> Result<Arg<'a>, AllocError> {
+    let mut arg = arg;
+    for other in others {
+        arg = arg.conflicts_with(*other)?;
+    }
+    Ok(arg)
+}
+
 /// A file of requests, in the place of the options of one.
 fn requests_option<'a>(alloc: Global) -> Result<Arg<'a>, AllocError> {
-    text_option(alloc, "requests", "FILE", REQUESTS_HELP).conflicts_with_all(ONE_REQUEST)
+    let file = text_option(alloc, "requests", "FILE", REQUESTS_HELP);
+    in_place_of(file, ONE_REQUEST)
 }
 
 fn who_command<'a>(alloc: Global) -> Result<Command<'a>, AllocError> {
@@ -366,7 +376,8 @@ fn new_option<'a>(alloc: Global) -> Result<Arg<'a>, AllocError> {
 fn files_option<'a>(alloc: Global) -> Result<Arg<'a>, AllocError> {
     text_option(alloc, "auth", "FILE", AUTHS_HELP)
         .action(ArgAction::Append)
-        .conflicts_with_all(&["old", "new"])
+        .conflicts_with("old")?
+        .conflicts_with("new")
 }
 
 fn compare_command<'a>(alloc: Global) -> Result<Command<'a>, AllocError> {
@@ -389,17 +400,19 @@ const OF_FILE: &[&str; 7] = &[
 /// The two texts, in whose place a file of entities may be.
 fn two_texts_option<'a>(alloc: Global) -> Result<Arg<'a>, AllocError> {
     let help = "A capability text; it is given twice, once for each of two tenants";
-    text_option(alloc, "caps", "TEXT", help)
+    let texts = text_option(alloc, "caps", "TEXT", help)
         .action(ArgAction::Append)
-        .required_unless_present("auth")?
-        .conflicts_with_all(OF_FILE)
+        .required_unless_present("auth")?;
+    in_place_of(texts, OF_FILE)
 }
 
 /// Where what each entity writes may come to, in the place of what each two of them share.
 fn flows_option<'a>(alloc: Global) -> Result<Arg<'a>, AllocError> {
     let help =
         "Tells instead which entities may come to know what another one writes, and through whom";
-    flag(alloc, "flows", help).conflicts_with_all(&["reads", "format"])
+    flag(alloc, "flows", help)
+        .conflicts_with("reads")?
+        .conflicts_with("format")
 }
 
 fn share_command<'a>(alloc: Global) -> Result<Command<'a>, AllocError> {
@@ -416,7 +429,8 @@ fn share_command<'a>(alloc: Global) -> Result<Command<'a>, AllocError> {
 fn one_text_option<'a>(alloc: Global) -> Result<Arg<'a>, AllocError> {
     text_option(alloc, "caps", "TEXT", "The capability text")
         .required_unless_present("auth")?
-        .conflicts_with_all(&["auth", "known"])
+        .conflicts_with("auth")?
+        .conflicts_with("known")
 }
 
 /// The text without needless grants, which is made of a text alone.
