@@ -17,7 +17,7 @@ use std::marker::Model;
 use std::mem;
 
 /// What a draft is of.
-#[derive(Clone, Copy, Debug, PartialEq, Eq)]
+#[derive(Clone, Copy)]
 pub enum Kind {
     /// An `allow` whose access is still due.
     Open,
@@ -70,7 +70,6 @@ const NO_FLAGS: Flags = Flags {
 /// that may still come, the flags that were read, and what the next value is for. Its access counts only where the kind says so.
 ///
 /// A text has one, which is filled in place and emptied into the list at the end of each grant.
-#[derive(Debug)]
 pub struct Sheet {
     kind: Kind,
     profile: Name,

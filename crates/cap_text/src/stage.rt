@@ -3,7 +3,7 @@
 use crate::grant::Flags;
 
 /// The clauses that may still come in a grant.
-#[derive(Clone, Copy, Debug, PartialEq, Eq)]
+#[derive(Clone, Copy)]
 pub struct ClauseSet {
     pub pool: bool,
     pub namespace: bool,
@@ -12,7 +12,7 @@ pub struct ClauseSet {
 }
 
 /// What a value is for.
-#[derive(Clone, Copy, Debug, PartialEq, Eq)]
+#[derive(Clone, Copy)]
 pub enum Slot {
     Profile,
     Class,
@@ -22,7 +22,7 @@ pub enum Slot {
 }
 
 /// What may come next. It is a number alone, which a step hands on in a register; all else stays in the sheet.
-#[derive(Clone, Copy, Debug, PartialEq, Eq)]
+#[derive(Clone, Copy)]
 pub enum Next {
     /// The first grant, or the end of an empty text.
     Start,

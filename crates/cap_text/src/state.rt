@@ -16,7 +16,7 @@ use std::alloc::Global;
 use std::marker::Model;
 
 /// Grants one after the other, which contracts see as the list of them.
-#[derive(Debug, Drop)]
+#[derive(Drop)]
 pub struct Grants {
     items: Vec<Grant>,
 }
@@ -64,7 +64,7 @@ impl Grants {
 }
 
 /// The grants that are whole, what was read of the next one, and what may come next.
-#[derive(Debug, Drop)]
+#[derive(Drop)]
 pub struct Reading {
     done: Grants,
     sheet: Sheet,

@@ -1,6 +1,6 @@
 -- Statement: contracts of public calls use it.
 -- The profiles that every table begins with. The names are those of Ceph User Management; what they grant is this project's profile.
-use Rattle.std.specs.Prelude.{[], ◌∷◌, Bool, true, false, None, codes}
+use Rattle.std.specs.Prelude.{List, [], ◌∷◌, Bool, true, false, None, codes}
 use Rattle.cap_text.specs.declared.grant.Access.TheVariants.{Flags}
 use Rattle.cap_text.specs.declared.grant.Grant.{Grant}
 use Rattle.cap_text.specs.declared.grant.Grant.TheVariants.{Allow, Profile}
@@ -17,10 +17,14 @@ allow_flags read write class_read class_write =
       tag = None;
     })
 
--- allow r; allow rw; allow r class-read; and profile rbd-read-only, allow rwx
+-- profile rbd-read-only, allow rwx
+abbrev pub rbd_body : List Grant
+rbd_body = Profile (record { name = codes "rbd-read-only"; pool = None; namespace = None }) ∷ allow_flags true true true true ∷ []
+
+-- allow r; allow rw; allow r class-read; and the body of rbd
 abbrev pub built_in : Table
 built_in =
     (codes "read-only", allow_flags true false false false ∷ [])
     ∷ (codes "read-write", allow_flags true true false false ∷ [])
     ∷ (codes "rbd-read-only", allow_flags true false true false ∷ [])
-    ∷ (codes "rbd", Profile (record { name = codes "rbd-read-only"; pool = None; namespace = None }) ∷ allow_flags true true true true ∷ []) ∷ []
+    ∷ (codes "rbd", rbd_body) ∷ []

@@ -1,8 +1,10 @@
 //! The profiles that every table begins with.
 
-ghost use Rattle.std.specs.Prelude.{◌≡◌, ◌++◌, [], ◌∷◌, IfOk, OnOk, None};
+ghost use Rattle.std.specs.Prelude.{◌≡◌, ◌++◌, [], ◌∷◌, true, IfOk, OnOk, None};
+ghost use Rattle.std.specs.List.{list_all};
+ghost use Rattle.cap_text.specs.Spellable.{is_spellable};
 ghost use Rattle.cap_text.specs.declared.grant.Grant.TheVariants.{Profile};
-ghost use Rattle.grant_core.specs.BuiltIn.{allow_flags, built_in};
+ghost use Rattle.grant_core.specs.BuiltIn.{allow_flags, built_in, rbd_body};
 ghost use Rattle.grant_core.specs.Refusal.{add_refusal};
 
 use crate::fault::ExpandFault;
@@ -17,21 +19,14 @@ impl ProfileTable {
         ensures { IfOk result (λ table. table ≡ built_in) }
     {
         let mut table = ProfileTable::empty(alloc);
-        let read_only = vec![in alloc; allow_flags(true, false, false, false)]?;
-        add_free(&mut table, "read-only", CapList::from_vec(read_only))?;
-        let read_write = vec![in alloc; allow_flags(true, true, false, false)]?;
-        add_free(&mut table, "read-write", CapList::from_vec(read_write))?;
-        let rbd_read_only = vec![in alloc; allow_flags(true, false, true, false)]?;
-        add_free(
-            &mut table,
-            "rbd-read-only",
-            CapList::from_vec(rbd_read_only),
-        )?;
-        let rbd = vec![in alloc;
-            use_of(Name::new(alloc, "rbd-read-only")?),
-            allow_flags(true, true, true, true),
-        ]?;
-        add_free(&mut table, "rbd", CapList::from_vec(rbd))?;
+        let read_only = body_of(alloc, allow_flags(true, false, false, false))?;
+        add_free(&mut table, "read-only", read_only)?;
+        let read_write = body_of(alloc, allow_flags(true, true, false, false))?;
+        add_free(&mut table, "read-write", read_write)?;
+        let rbd_read_only = body_of(alloc, allow_flags(true, false, true, false))?;
+        add_free(&mut table, "rbd-read-only", rbd_read_only)?;
+        let rbd = rbd_body(alloc)?;
+        add_free(&mut table, "rbd", rbd)?;
         Ok(table)
     }
 }
@@ -46,6 +41,26 @@ fn add_free(table: &mut ProfileTable, name: &str, body: CapList) -> Result<(), O
         Err(ExpandFault::OutOfMemory) => Err(AllocError),
         Err(_) => unreachable!(),
     }
+}
+
+// A body of one grant.
+fn body_of(alloc: Global, grant: Grant) -> Result<CapList, OutOfMemory>
+    requires { list_all is_spellable (grant ∷ []) ≡ true }
+    ensures { IfOk result (λ body. body ≡ grant ∷ []) }
+{
+    let mut grants = Vec::new(alloc);
+    grants.push(grant)?;
+    Ok(CapList::from_vec(grants))
+}
+
+// The body of `rbd`.
+fn rbd_body(alloc: Global) -> Result<CapList, OutOfMemory>
+    ensures { IfOk result (λ body. body ≡ rbd_body) }
+{
+    let mut grants = Vec::new(alloc);
+    grants.push(use_of(Name::new(alloc, "rbd-read-only")?))?;
+    grants.push(allow_flags(true, true, true, true))?;
+    Ok(CapList::from_vec(grants))
 }
 
 // An allow with these flags, everywhere.

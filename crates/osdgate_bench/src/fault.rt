@@ -9,7 +9,7 @@ use stopwatch::MeasureFault;
 use world_script::ScriptFault;
 
 /// Why a table is not made. No part of it is printed then.
-#[derive(Drop)]
+#[derive(Clone, Copy)]
 pub(crate) enum Fault {
     /// A growth was refused.
     OutOfMemory,

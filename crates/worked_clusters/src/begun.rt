@@ -28,6 +28,11 @@ const MOST_DELIVERIES: u32 = 256;
 /// The user who opens sessions.
 pub(crate) const USER: &str = "client.a";
 
+// Ends the test where something is not so, and names it.
+pub(crate) fn expect_so<R: Abort>(rt: &R, is_so: bool, what: &str) {
+    assert!(rt; is_so, "{what}");
+}
+
 // The name that a text is.
 pub(crate) fn name_of<R: Abort>(rt: &R, alloc: Global, text: &str) -> Name {
     Name::new(alloc, text).expect(rt, "memory")

@@ -3,7 +3,7 @@
 ghost use Rattle.cluster.specs.Asks.{IsPassOf};
 ghost use Rattle.cluster.specs.Monitors.{IsMonitorOf};
 
-use crate::begun::{begun, name_of, take_pass};
+use crate::begun::{begun, expect_so, name_of, take_pass};
 use cluster::{ChangeFault, Cluster, Monitor, Pass};
 use map_core::{MapCommand, MapFault};
 use std::alloc::Global;
@@ -47,11 +47,15 @@ fn learns<R: Abort>(
     ensures monitor { IsMonitorOf cluster.now monitor.new }
 {
     let news = monitor.tell(cluster).expect(rt, "news");
-    assert!(rt; pass.learn(news).is_ok());
+    expect_so(rt, pass.learn(news).is_ok(), "news that are learned");
     let pool = name_of(rt, alloc, "data");
     let first = cluster.view(pass, &pool).expect(rt, "a view");
     let second = cluster.view(pass, &pool).expect(rt, "a second view");
-    assert!(rt; first.epoch == 3 && second.epoch >= first.epoch);
+    expect_so(
+        rt,
+        first.epoch == 3 && second.epoch >= first.epoch,
+        "epochs",
+    );
 }
 
 #[test]
@@ -59,7 +63,8 @@ fn a_change_moves_the_groups_and_is_told(rt: HostRuntime) {
     let alloc = rt.alloc();
     let (cluster, mut monitor, mut passes) = begun(&rt, alloc, 1, "client.w", "allow rwx", 1);
     let mut pass = take_pass(&cluster, &mut passes).expect(&rt, "a pass");
-    assert!(rt; changes(&rt, &cluster, &mut monitor, creation(&rt, alloc)));
+    let are_right = changes(&rt, &cluster, &mut monitor, creation(&rt, alloc));
+    expect_so(&rt, are_right, "changes");
     learns(&rt, alloc, &cluster, &mut monitor, &mut pass);
     monitor.end(&rt);
 }

@@ -4,7 +4,7 @@ ghost use Rattle.std.specs.Prelude.{All};
 ghost use Rattle.cluster.specs.Asks.{IsBegun, IsPassOf};
 ghost use Rattle.cluster.specs.Monitors.{IsMonitorOf, FollowsStart};
 
-use crate::begun::{begun, put_pass, take_pass};
+use crate::begun::{begun, expect_so, put_pass, take_pass};
 use cluster::{CloseFault, Cluster, Monitor, Pass};
 use std::alloc::Global;
 use std::process::Abort;
@@ -44,7 +44,11 @@ fn close_late<R: Wait + Abort>(
     let last = take_pass(&cluster, &mut passes).expect(rt, "a pass");
     match cluster.close(rt, alloc, monitor, passes) {
         Err((CloseFault::MissingPass, cluster, monitor, mut passes)) => {
-            assert!(rt; put_pass(&cluster, &mut passes, last));
+            expect_so(
+                rt,
+                put_pass(&cluster, &mut passes, last),
+                "a pass that is put back",
+            );
             close_whole(rt, alloc, cluster, monitor, passes)
         }
         _ => panic!(rt; "it is not told that a pass is missing"),
@@ -56,5 +60,5 @@ fn a_cluster_is_closed_with_all_its_passes(rt: HostRuntime) {
     let alloc = rt.alloc();
     let (cluster, monitor, passes) = begun(&rt, alloc, 1, "client.w", "allow rwx", 2);
     let world = close_late(&rt, alloc, cluster, monitor, passes);
-    assert_eq!(rt; world.map().epoch(), 2);
+    expect_so(&rt, world.map().epoch() == 2, "the epoch");
 }

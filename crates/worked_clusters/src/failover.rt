@@ -6,8 +6,8 @@ ghost use Rattle.cluster.specs.Asks.{IsPassOf};
 ghost use Rattle.cluster.specs.Monitors.{IsMonitorOf};
 
 use crate::begun::{
-    USER, Wish, answered, begun, is_denied, is_output, learn, name_of, open, reply_to, submit,
-    tell, two_passes,
+    USER, Wish, answered, begun, expect_so, is_denied, is_output, learn, name_of, open, reply_to,
+    submit, tell, two_passes,
 };
 use auth_db::{AuthFault, Caps};
 use cluster::{Asked, Cluster, ClusterFault, Monitor, Pass};
@@ -118,7 +118,7 @@ pub(crate) fn catch_up<R: Abort>(
     let note = second.note(cluster, alloc).expect(rt, "a note");
     first.hear(cluster, note);
     let news = tell(cluster, monitor).expect(rt, "news");
-    assert!(rt; learn(cluster, first, news));
+    expect_so(rt, learn(cluster, first, news), "news that are learned");
 }
 
 // The renewal is refused, since the user is gone, and a second request is denied by the tag of grant 1, which is gone.
@@ -136,9 +136,9 @@ pub(crate) fn goes_on<R: Wait + Abort>(
         cluster.renew(rt, first, session, None),
         Err(ClusterFault::World(WorldFault::Auth(AuthFault::NoEntity)))
     );
-    assert!(rt; gone);
+    expect_so(rt, gone, "a user who is gone");
     let reply = reply_to(rt, alloc, cluster, first, session, "x", Wish::Add);
-    assert!(rt; is_denied(&reply, Condition::Tag));
+    expect_so(rt, is_denied(&reply, Condition::Tag), "a denial");
 }
 
 // The request is answered `1`.
@@ -152,7 +152,7 @@ pub(crate) fn expect_one<R: Wait + Abort>(
     ensures { IsPassOf cluster.now first.new }
 {
     let reply = answered(rt, cluster, first, asked);
-    assert!(rt; is_output(&reply, "1"));
+    expect_so(rt, is_output(&reply, "1"), "an output");
 }
 
 // The first pass asks, and all else happens before its request is decided.

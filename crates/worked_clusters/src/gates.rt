@@ -1,6 +1,8 @@
 //! Two workers on threads of their own.
 
-use crate::begun::{Wish, begun, is_output, open, put_pass, reply_of, submit, take_pass};
+use crate::begun::{
+    Wish, begun, expect_so, is_output, open, put_pass, reply_of, submit, take_pass,
+};
 use cluster::{Gate, run_workers};
 use std::sync::atomic::{AtomicU64, Ordering};
 
@@ -48,16 +50,24 @@ fn two_workers_run(rt: HostRuntime) {
     let mut last = take_pass(&cluster, &mut passes).expect(&rt, "a pass");
     let session = open(&rt, alloc, &cluster, &mut last, None);
     let asked = submit(&rt, alloc, &cluster, &mut last, session, "x", Wish::Append);
-    assert!(rt; put_pass(&cluster, &mut passes, last));
+    expect_so(
+        &rt,
+        put_pass(&cluster, &mut passes, last),
+        "a pass that is put back",
+    );
     let meeting = Meeting {
         came: AtomicU64::new(0),
         seen: AtomicU64::new(0),
     };
     let (mut passes, fault) = run_workers(&rt, alloc, &cluster, passes, &meeting, ROUNDS);
-    assert!(rt; fault.is_none());
-    assert!(rt; meeting.seen.load(Ordering::SeqCst) == 1);
+    expect_so(&rt, fault.is_none(), "no fault");
+    expect_so(
+        &rt,
+        meeting.seen.load(Ordering::SeqCst) == 1,
+        "that worker 1 came",
+    );
     let mut last = take_pass(&cluster, &mut passes).expect(&rt, "a pass");
     let reply = reply_of(&rt, &cluster, &mut last, &asked);
-    assert!(rt; is_output(&reply, ""));
+    expect_so(&rt, is_output(&reply, ""), "an output");
     monitor.end(&rt);
 }

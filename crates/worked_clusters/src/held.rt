@@ -4,7 +4,7 @@ ghost use Rattle.std.specs.Prelude.{All, ◌<◌};
 ghost use Rattle.cluster.specs.Asks.{IsPassOf};
 ghost use Rattle.cluster.specs.Passes.{AreSeatsOf, group_count};
 
-use crate::begun::{MOST_TRIES, begun, name_of, open, two_passes};
+use crate::begun::{MOST_TRIES, begun, expect_so, name_of, open, two_passes};
 use cluster::{Cluster, ClusterFault, Located, LockedGroup, Pass, Seats, Worked};
 use common_types::Name;
 use entry_core::GroupId;
@@ -111,19 +111,19 @@ fn look<R: Wait + Abort>(rt: &R, alloc: Global, cluster: &Cluster, pass: &mut Pa
     let namespace = name_of(rt, alloc, "");
     let object = name_of(rt, alloc, "x");
     let view = view(cluster, pass, &pool).expect(rt, "a view");
-    assert!(rt; view.pg_num == 2);
+    expect_so(rt, view.pg_num == 2, "the groups of the pool");
     let located = locate(cluster, pass, &pool, &namespace, &object).expect(rt, "a place");
-    assert!(rt; located.group < 2);
+    expect_so(rt, located.group < 2, "a group of the pool");
     let needs = Needs {
         reads: true,
         writes: false,
         calls: Calls::new(alloc),
     };
     let allowed = cluster.judge(pass, session, &view, "", "x", &needs, 0);
-    assert!(rt; allowed.expect(rt, "a session"));
+    expect_so(rt, allowed.expect(rt, "a session"), "a verdict");
     let group = GroupId { pool, number: 1 };
     let worked = cluster.work(rt, pass, &group).expect(rt, "a delivery");
-    assert!(rt; worked == Worked::Delivered);
+    expect_so(rt, worked == Worked::Delivered, "a delivery");
 }
 
 // The same once the lock is held, and tells that it is answered.
@@ -137,7 +137,7 @@ fn look_meanwhile<R: Wait + Abort>(
 )
     requires { IsPassOf cluster.now pass.old }
 {
-    assert!(rt; progress.has_come(1));
+    expect_so(rt, progress.has_come(1), "that the lock is held");
     look(rt, alloc, cluster, pass, session);
     progress.stage.store(2, Ordering::SeqCst);
 }
@@ -163,7 +163,7 @@ fn hold_and_look<R: Threads + Wait + Abort + Sync>(
         &mut || hold_group(rt, cluster, &mut seats, &progress),
         &mut || look_meanwhile(rt, alloc, cluster, &mut looker, session, &progress),
     );
-    assert!(rt; held);
+    expect_so(rt, held, "that all was answered");
 }
 
 #[test]

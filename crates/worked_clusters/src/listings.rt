@@ -2,7 +2,7 @@
 
 ghost use Rattle.cluster.specs.Asks.{IsPassOf};
 
-use crate::begun::{answered, asking, begun, open, take_pass};
+use crate::begun::{answered, asking, begun, expect_so, open, take_pass};
 use cluster::{Asked, Cluster, Pass};
 use entry_core::Reply;
 use std::alloc::Global;
@@ -44,7 +44,7 @@ fn are_answered<R: Wait + Abort>(
 {
     for piece in pieces {
         let reply = answered(rt, cluster, pass, piece);
-        assert!(rt; is_expected(&reply, expected));
+        expect_so(rt, is_expected(&reply, expected), "a piece");
     }
 }
 
@@ -55,7 +55,7 @@ fn check<R: Wait + Abort>(rt: &R, alloc: Global, osd: &str, namespace: &str, exp
     let session = open(rt, alloc, &cluster, &mut pass, None);
     let asking = asking(rt, alloc, session, namespace, 0);
     let pieces = cluster.list(rt, &mut pass, asking).expect(rt, "a list");
-    assert!(rt; pieces.len() == 4);
+    expect_so(rt, pieces.len() == 4, "four pieces");
     are_answered(rt, &cluster, &mut pass, pieces.as_slice(), expected);
     monitor.end(rt);
 }

@@ -1,5 +1,6 @@
 //! Workers on threads. `sessions/command_line/workers.console` shows what became of their requests.
 
+use crate::begun::expect_so;
 use entry_core::{Entry, Reply};
 use workload::world_of_workload;
 
@@ -33,5 +34,5 @@ fn count_up_to(entries: &[Entry], last: u32) -> bool {
 fn additions_are_decided_once_each(rt: HostRuntime) {
     let (world, _moves) = world_of_workload(&rt, rt.alloc(), 4, true).expect(&rt, "a workload");
     let audit = world.audit().expect(&rt, "memory");
-    assert!(rt; count_up_to(audit.as_slice(), 200));
+    expect_so(&rt, count_up_to(audit.as_slice(), 200), "additions");
 }

@@ -191,57 +191,32 @@ fn two_seats<R: Abort>(rt: &R, alloc: Global) -> (TurnLock<Tally>, Seat<Tally>, 
     (lock, zero, one)
 }
 
+// Ends the test where this is not the number after so many turns.
+fn expect_tally<R: Abort>(rt: &R, found: Tally, number: u64, turns: u64) {
+    assert_eq!(rt; found, Tally { number, turns });
+}
+
 #[test]
 fn the_list_is_add_idle_look(rt: HostRuntime) {
     let (lock, mut zero, mut one) = two_seats(&rt, rt.alloc());
     let found = add_idle_look(&rt, &lock, &mut zero, &mut one);
-    assert_eq!(rt;
-        found,
-        Tally {
-            number: 5,
-            turns: 2
-        }
-    );
-    assert_eq!(rt;
-        lock.close(&rt, one),
-        Tally {
-            number: 5,
-            turns: 3
-        }
-    );
+    expect_tally(&rt, found, 5, 2);
+    expect_tally(&rt, lock.close(&rt, one), 5, 3);
 }
 
 #[test]
 fn two_threads_add_a_thousand_each(rt: HostRuntime) {
     let (lock, first, second) = two_seats(&rt, rt.alloc());
     let both = add_in_two_threads(&rt, &lock, first, second, 1000);
-    assert_eq!(rt;
-        lock.close(&rt, both),
-        Tally {
-            number: 2000,
-            turns: 2000
-        }
-    );
+    expect_tally(&rt, lock.close(&rt, both), 2000, 2000);
 }
 
 #[test]
 fn a_join_has_seen_what_both_had(rt: HostRuntime) {
     let (lock, mut first, _second) = two_seats(&rt, rt.alloc());
     let (by_third, by_first) = split_and_join(&rt, &lock, &mut first);
-    assert_eq!(rt;
-        by_third,
-        Tally {
-            number: 1,
-            turns: 1
-        }
-    );
-    assert_eq!(rt;
-        by_first,
-        Tally {
-            number: 3,
-            turns: 3
-        }
-    );
+    expect_tally(&rt, by_third, 1, 1);
+    expect_tally(&rt, by_first, 3, 3);
 }
 
 #[test]
@@ -253,5 +228,5 @@ fn the_value_comes_back_where_there_is_no_memory(rt: HostRuntime) {
     let Err((back, _)) = TurnLock::new(rt.alloc(), value, usize::MAX) else {
         panic!(rt; "so many seats fit no memory");
     };
-    assert_eq!(rt; back, value);
+    expect_tally(&rt, back, 7, 0);
 }

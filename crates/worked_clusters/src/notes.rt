@@ -2,7 +2,7 @@
 
 ghost use Rattle.cluster.specs.Asks.{IsPassOf};
 
-use crate::begun::{Wish, begun, is_output, open, reply_to, two_passes};
+use crate::begun::{Wish, begun, expect_so, is_output, open, reply_to, two_passes};
 use cluster::{Cluster, Pass};
 use std::alloc::Global;
 use std::process::Abort;
@@ -24,7 +24,7 @@ fn ask_once<R: Wait + Abort>(
 {
     let session = open(rt, alloc, cluster, pass, None);
     let reply = reply_to(rt, alloc, cluster, pass, session, object, wish);
-    assert!(rt; is_output(&reply, output));
+    expect_so(rt, is_output(&reply, output), "an output");
     session
 }
 
@@ -88,6 +88,6 @@ fn a_pass_hears_what_another_did(rt: HostRuntime) {
     let note = first.note(&cluster, alloc).expect(&rt, "a note");
     second.hear(&cluster, note);
     let other = ask_once(&rt, alloc, &cluster, &mut second, "x", Wish::Read, "a");
-    assert!(rt; session == 1 && other == 2);
+    expect_so(&rt, session == 1 && other == 2, "numbers of sessions");
     monitor.end(&rt);
 }

@@ -2,7 +2,9 @@
 
 ghost use Rattle.cluster.specs.Asks.{IsPassOf};
 
-use crate::begun::{Wish, answered, begun, is_denied, is_output, open, submit_at, take_pass};
+use crate::begun::{
+    Wish, answered, begun, expect_so, is_denied, is_output, open, submit_at, take_pass,
+};
 use Expected::{Expired, Output, Stale};
 use cluster::{Cluster, ClusterFault, Pass};
 use entry_core::Reply;
@@ -78,7 +80,7 @@ fn are_so<R: Wait + Abort>(
 {
     for row in rows {
         let right = is_so(rt, alloc, cluster, pass, session, row);
-        assert!(rt; right, "at {}", row.0);
+        expect_so(rt, right, "a row");
     }
 }
 

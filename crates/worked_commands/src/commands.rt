@@ -1,10 +1,10 @@
 //! Each command once, on files and workers of the tests.
 
 use super::files::TestFiles;
+use crate::expecting::expect_so;
 use command_line::run_command;
 use std::alloc::Global;
 use std::process::Abort;
-use std::test::Fail;
 
 /// What a command writes on standard output and standard error, and its status.
 #[derive(Drop)]
@@ -140,12 +140,11 @@ fn goes(alloc: Global, row: &Row) -> bool {
 
 fn expect(rt: &impl Abort, alloc: Global, rows: &[Row]) {
     for row in rows {
-        assert!(rt; goes(alloc, row), "{:?}", row.0);
+        expect_so(rt, goes(alloc, row), row.1);
     }
 }
 
 #[test]
-fn commands_write_and_end(rt: HostRuntime) -> Result<(), Fail> {
+fn commands_write_and_end(rt: HostRuntime) {
     expect(&rt, rt.alloc(), ROWS);
-    Ok(())
 }

@@ -6,6 +6,8 @@
 #[cfg(test)]
 mod commands;
 #[cfg(test)]
+mod expecting;
+#[cfg(test)]
 mod files;
 #[cfg(test)]
 mod no_texts;

@@ -1,9 +1,9 @@
 //! Words that are no text.
 
+use crate::expecting::expect_so;
 use gate_commands::{refuse_words, words};
 use std::alloc::Global;
 use std::env::{Env, FillError};
-use std::test::Fail;
 
 /// Words that end in one which is not UTF-8, or for which there is no room.
 #[derive(Drop)]
@@ -49,15 +49,18 @@ fn are_refused(alloc: Global, bad: usize, line: &str) -> bool {
     }
 }
 
+/// Which word is no text, and the line that says so.
+const REFUSED: &[(usize, &str); 2] = &[
+    (0, "osdgate: word 0 of the command line is not UTF-8\n"),
+    (1, "osdgate: word 1 of the command line is not UTF-8\n"),
+];
+
 #[test]
-fn words_that_are_no_text(rt: HostRuntime) -> Result<(), Fail> {
+fn words_that_are_no_text(rt: HostRuntime) {
     let alloc = rt.alloc();
-    assert!(rt; words(&Words { bad: 7 }, alloc).is_ok());
-    for (bad, line) in [
-        (0, "osdgate: word 0 of the command line is not UTF-8\n"),
-        (1, "osdgate: word 1 of the command line is not UTF-8\n"),
-    ] {
-        assert!(rt; are_refused(alloc, bad, line), "{line}");
+    let are_taken = words(&Words { bad: 7 }, alloc).is_ok();
+    expect_so(&rt, are_taken, "empty words");
+    for (bad, line) in REFUSED {
+        expect_so(&rt, are_refused(alloc, *bad, line), line);
     }
-    Ok(())
 }

@@ -1,8 +1,8 @@
 //! A script's group as a picture, in both forms.
 
+use crate::expecting::expect_so;
 use replay_picture::{Format, draw_script};
 use std::alloc::{AllocError, Global};
-use std::test::Fail;
 
 const SCRIPT: &[u8] = b"osds 1
 osd pool create data 1 1 1
@@ -38,9 +38,9 @@ fn is_drawn(alloc: Global, row: &(Format, &str, &str)) -> Result<bool, AllocErro
 }
 
 #[test]
-fn a_script_is_drawn(rt: HostRuntime) -> Result<(), Fail> {
+fn a_script_is_drawn(rt: HostRuntime) {
     for row in ROWS {
-        assert!(rt; is_drawn(rt.alloc(), row)?, "{}", row.1);
+        let is_drawn = is_drawn(rt.alloc(), row).expect(&rt, "memory");
+        expect_so(&rt, is_drawn, row.1);
     }
-    Ok(())
 }

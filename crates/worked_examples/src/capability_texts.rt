@@ -1,5 +1,6 @@
 //! Texts that are read and printed again. `sessions/texts` shows what texts spell, and their faults.
 
+use crate::pieces::{expect_so, expect_text};
 use cap_text::{
     Access, AllowGrant, CapList, Grant, parse, print, spellable_is_spelled, spelled_is_spellable,
     spells_at_most_one,
@@ -26,7 +27,7 @@ fn uses_of_profiles_are_read_and_printed(rt: HostRuntime) {
     for (text, want) in USES {
         let list = parse(rt.alloc(), text).expect(&rt, "a list");
         let printed = print(rt.alloc(), &list).expect(&rt, "memory");
-        assert_eq!(&rt; printed.as_str(), *want, "{text}");
+        expect_text(&rt, printed.as_str(), want, text);
     }
 }
 
@@ -41,7 +42,7 @@ fn all<R: Abort>(rt: &R, alloc: Global) -> CapList {
         tag: None,
     });
     grants.push(grant).expect(rt, "memory");
-    assert!(rt; CapList::can_hold(grants.as_slice()));
+    expect_so(rt, CapList::can_hold(grants.as_slice()), "a list of all");
     CapList::from_vec(grants)
 }
 
@@ -52,7 +53,7 @@ fn lists_are_made_and_printed(rt: HostRuntime) {
     spellable_is_spelled();
     let copy = all(&rt, alloc).copy().expect(&rt, "memory");
     let printed = print(alloc, &copy).expect(&rt, "memory");
-    assert_eq!(&rt; printed.as_str(), "allow *");
+    expect_text(&rt, printed.as_str(), "allow *", "all");
     let nothing = print(alloc, &CapList::empty(alloc)).expect(&rt, "memory");
-    assert_eq!(&rt; nothing.as_str(), "");
+    expect_text(&rt, nothing.as_str(), "", "nothing");
 }

@@ -2,7 +2,7 @@
 
 use crate::alphabets::{ALL_TAGS, all_needs, all_targets};
 use crate::drawing::draw_text;
-use crate::pieces::{tags_of_each, ticket};
+use crate::pieces::{expect_so, tags_of_each, ticket};
 use cap_text::AllowGrant;
 use compare_core::{Example, Registry, widening_by};
 use grant_core::Path;
@@ -108,10 +108,8 @@ fn expect_pairs<R: Abort>(
         let old = draw_text(rt, alloc, &mut row, TAGS);
         let new = draw_text(rt, alloc, &mut row, TAGS);
         let texts = (old.as_str(), new.as_str());
-        assert!(rt;
-            is_the_same(rt, alloc, registry, texts, targets, needs),
-            "{old} to {new}"
-        );
+        let is_the_same = is_the_same(rt, alloc, registry, texts, targets, needs);
+        expect_so(rt, is_the_same, new.as_str());
     }
 }
 

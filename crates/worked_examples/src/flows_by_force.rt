@@ -1,7 +1,7 @@
 //! Flows of small clusters, compared with the distances that stepping through each place in turn comes to.
 
 use crate::drawing::{draw, pick};
-use crate::pieces::{TagRow, entities_of, is_printed, pools_of};
+use crate::pieces::{TagRow, entities_of, expect_printed, expect_so, pools_of};
 use flow_core::{Found, chains_from};
 use gate_text::{Entity, ticket_of_text};
 use share_core::{Pool, Touch, share, share_in};
@@ -212,8 +212,9 @@ fn flows_are_those_of_distances(rt: HostRuntime) {
     let mut row = 11u64;
     for _ in 0..24u32 {
         let entities = draw_entities(&rt, alloc, &mut row);
-        assert!(&rt; are_flows_right(&rt, alloc, &entities, None));
-        assert!(&rt; are_flows_right(&rt, alloc, &entities, Some(&pools)));
+        let in_any = are_flows_right(&rt, alloc, &entities, None);
+        let in_pools = are_flows_right(&rt, alloc, &entities, Some(&pools));
+        expect_so(&rt, in_any && in_pools, "flows");
     }
 }
 
@@ -272,7 +273,7 @@ fn chains_are_those_of_distances(rt: HostRuntime) {
         let steps = draw_steps(&rt, rt.alloc(), &mut row, &mut found);
         for start in 0..9usize {
             let chains = chains_from(rt.alloc(), &steps, start).expect(&rt, "memory");
-            assert!(&rt; are_chains_right(&chains, start, &found));
+            expect_so(&rt, are_chains_right(&chains, start, &found), "chains");
         }
     }
 }
@@ -300,5 +301,5 @@ client.report reaches client.reader
 fn flows_print(rt: HostRuntime) {
     let entities = entities_of(&rt, rt.alloc(), CLUSTER);
     let printed = flow_entities(rt.alloc(), &entities, None, false).expect(&rt, "memory");
-    assert!(&rt; is_printed(&printed, FLOWS, false), "{}", printed.text);
+    expect_printed(&rt, &printed, FLOWS, false);
 }

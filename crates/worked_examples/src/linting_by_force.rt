@@ -3,7 +3,9 @@
 use crate::alphabets::{ALL_TAGS, all_needs, all_targets};
 use crate::comparisons_by_force::{TAGS, gains};
 use crate::drawing::draw_text;
-use crate::pieces::{entities_of, is_printed, pools_of, tags_of_each, ticket};
+use crate::pieces::{
+    entities_of, expect_printed, expect_so, expect_text, pools_of, tags_of_each, ticket,
+};
 use cap_text::{CapList, parse, print};
 use compare_core::Registry;
 use grant_core::ProfileTable;
@@ -99,10 +101,8 @@ fn expect_texts<R: Abort>(
     let mut row = 11u64;
     for _ in 0..texts {
         let text = draw_text(rt, alloc, &mut row, TAGS);
-        assert!(rt;
-            is_right(rt, alloc, text.as_str(), targets, needs),
-            "{text}"
-        );
+        let is_right = is_right(rt, alloc, text.as_str(), targets, needs);
+        expect_so(rt, is_right, text.as_str());
     }
 }
 
@@ -123,25 +123,28 @@ fn table_of_both<R: Abort>(rt: &R, alloc: Global) -> ProfileTable {
     table
 }
 
+/// Whether the first grant is needless, and covers the two others.
+fn are_covered(told: &[Standing]) -> bool {
+    matches!(
+        told,
+        [
+            Standing::Needless,
+            Standing::Covered(1),
+            Standing::Covered(1)
+        ]
+    )
+}
+
 #[test]
 fn two_grants_cover_one(rt: HostRuntime) {
     let alloc = rt.alloc();
     let table = table_of_both(&rt, alloc);
     let list = parse(alloc, "profile both, allow r pool=a, allow w pool=b").expect(&rt, "a list");
     let told = needless(alloc, &table, &list).expect(&rt, "memory");
-    assert!(&rt;
-        matches!(
-            told.as_slice(),
-            [
-                Standing::Needless,
-                Standing::Covered(1),
-                Standing::Covered(1)
-            ]
-        )
-    );
+    expect_so(&rt, are_covered(&told), "two grants that one covers");
     let kept = tidied(alloc, &table, &list).expect(&rt, "memory");
     let printed = print(alloc, &kept).expect(&rt, "memory");
-    assert_eq!(&rt; printed.as_str(), "profile both");
+    expect_text(&rt, printed.as_str(), "profile both", "what is kept");
 }
 
 const CAPS: &str = "allow rw, allow r pool=data";
@@ -150,15 +153,15 @@ const CAPS: &str = "allow rw, allow r pool=data";
 fn lines_are_printed(rt: HostRuntime) {
     let alloc = rt.alloc();
     let linted = lint_caps(alloc, CAPS, None, true).expect(&rt, "memory");
-    assert!(&rt; is_printed(&linted, "1 every pool\n2 needless, by 1\n", true));
+    expect_printed(&rt, &linted, "1 every pool\n2 needless, by 1\n", true);
     let tidied = tidy_caps(alloc, CAPS, false).expect(&rt, "memory");
-    assert!(&rt; is_printed(&tidied, "allow rw\n", false));
+    expect_printed(&rt, &tidied, "allow rw\n", false);
     let pools = pools_of(&rt, alloc, &[("logs", &[])]);
     let linted = lint_caps(alloc, CAPS, Some(&pools), true).expect(&rt, "memory");
     let lines = "1 every pool\n2 needless, by 1\n2 matches no pool\n";
-    assert!(&rt; is_printed(&linted, lines, true));
+    expect_printed(&rt, &linted, lines, true);
     let entities = entities_of(&rt, alloc, &[("client.a", CAPS)]);
     let linted = lint_entities(alloc, &entities, None, true).expect(&rt, "memory");
     let lines = "client.a 1 every pool\nclient.a 2 needless, by 1\n";
-    assert!(&rt; is_printed(&linted, lines, true));
+    expect_printed(&rt, &linted, lines, true);
 }

@@ -1,6 +1,6 @@
 //! Maps by each call: old epochs, what a command will lead to, and copies. `sessions/maps` shows commands, refusals and limits.
 
-use crate::pieces::name;
+use crate::pieces::{expect_so, expect_text, name};
 use common_types::Name;
 use map_core::{ClusterMap, Epoch, MapCommand, MapFault};
 use place_core::ActingSet;
@@ -112,11 +112,11 @@ fn pools_are_seen_at_old_epochs(rt: HostRuntime) {
     let alloc = rt.alloc();
     let data = name(&rt, alloc, "data");
     let map = map_behind(&rt, alloc, COMMANDS);
-    assert_eq!(&rt; (map.epoch(), map.daemons(), map.pools().len()), (9, 3, 1));
-    assert!(&rt; map.pool(&data).is_some());
+    let is_whole = map.epoch() == 9 && map.daemons() == 3 && map.pools().len() == 1;
+    expect_so(&rt, is_whole && map.pool(&data).is_some(), "the map");
     for (epoch, want) in VIEWS {
         let shown = view_shown(&rt, alloc, &map, &data, *epoch);
-        assert_eq!(&rt; shown.as_str(), *want, "at {epoch}");
+        expect_text(&rt, shown.as_str(), want, "a pool");
     }
 }
 
@@ -167,11 +167,12 @@ fn acting_sets_as_daemons_come_and_go(rt: HostRuntime) {
     let data = name(&rt, alloc, "data");
     let mut map = map_behind(&rt, alloc, &["create 4"]);
     for (group, members, fault) in ACTING {
-        assert!(&rt; has_acting(&map, &data, *group, members, *fault), "{group}");
+        let has_acting = has_acting(&map, &data, *group, members, *fault);
+        expect_so(&rt, has_acting, "an acting set");
     }
     for (line, members) in STEPS {
         let command = command(&rt, alloc, line);
-        assert!(&rt; leads_to(&mut map, command, &data, members), "{line}");
+        expect_so(&rt, leads_to(&mut map, command, &data, members), line);
     }
 }
 
@@ -186,20 +187,22 @@ fn goes_on<R: Abort>(rt: &R, map: &ClusterMap) -> bool {
 #[test]
 fn a_map_goes_on_from_its_copy(rt: HostRuntime) {
     let map = map_behind(&rt, rt.alloc(), &["create 2"]);
-    assert!(&rt; goes_on(&rt, &map));
+    expect_so(&rt, goes_on(&rt, &map), "a copy");
 }
 
 #[test]
 fn a_map_of_other_daemons_does_not_go_on(rt: HostRuntime) {
     let three = ClusterMap::new(rt.alloc(), 3).expect(&rt, "memory");
     let four = ClusterMap::new(rt.alloc(), 4).expect(&rt, "memory");
-    assert!(&rt; three.goes_on_from(&three));
-    assert!(&rt; !three.goes_on_from(&four) && !four.goes_on_from(&three));
+    expect_so(&rt, three.goes_on_from(&three), "itself");
+    let is_apart = !three.goes_on_from(&four) && !four.goes_on_from(&three);
+    expect_so(&rt, is_apart, "other daemons");
 }
 
 #[test]
 fn commands_are_copied(rt: HostRuntime) {
     let command = set(&rt, rt.alloc(), "v");
     let copy = command.copy().expect(&rt, "memory");
-    assert!(&rt; copy.equals(&command) && !copy.equals(&MapCommand::OsdUp(0)));
+    let is_alike = copy.equals(&command) && !copy.equals(&MapCommand::OsdUp(0));
+    expect_so(&rt, is_alike, "a copy");
 }

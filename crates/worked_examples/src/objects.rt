@@ -2,7 +2,7 @@
 
 ghost use Rattle.std.specs.Prelude.{◌≤◌, length};
 
-use crate::pieces::name;
+use crate::pieces::{expect_so, expect_text, name};
 use common_types::{Name, TryCopy};
 use object_core::{
     Attributes, Bytes, Change, NeedsFault, Object, Op, Outcome, Outputs, needs_of, removed_is_gone,
@@ -120,12 +120,12 @@ fn needs_shown<R: Abort>(rt: &R, alloc: Global, words: &str) -> String {
 fn needs_follow_the_vector_and_refusals_their_order(rt: HostRuntime) {
     for (words, want) in NEEDS {
         let needs = needs_shown(&rt, rt.alloc(), words);
-        assert_eq!(&rt; needs.as_str(), *want, "{words}");
+        expect_text(&rt, needs.as_str(), want, words);
     }
     let memory = NeedsFault::OutOfMemory
         .to_string(rt.alloc())
         .expect(&rt, "memory");
-    assert_eq!(&rt; memory.as_str(), "N4 OutOfMemory");
+    expect_text(&rt, memory.as_str(), "N4 OutOfMemory", "want of memory");
 }
 
 /// An object of these bytes.
@@ -137,7 +137,7 @@ fn object<R: Abort>(rt: &R, alloc: Global, bytes: &[u8]) -> Object
 }
 
 /// What becomes of the object: it stays as it was, is another, or is gone; or the place and the number of what failed.
-#[derive(Debug, Clone, Copy, PartialEq)]
+#[derive(Clone, Copy, PartialEq)]
 enum Becomes {
     Kept,
     Another,
@@ -186,7 +186,7 @@ fn run<R: Abort>(rt: &R, alloc: Global, given: Option<&Object>, words: &str) -> 
 
 fn expect<R: Abort>(rt: &R, alloc: Global, given: Option<&Object>, rows: &[(&str, Becomes)]) {
     for (words, want) in rows {
-        assert_eq!(rt; run(rt, alloc, given, words), *want, "{words}");
+        expect_so(rt, run(rt, alloc, given, words) == *want, words);
     }
 }
 
@@ -242,7 +242,8 @@ fn is_right<R: Abort>(rt: &R, outcome: Outcome, k: &Name) -> bool {
 #[test]
 fn outcomes_hand_out_the_object(rt: HostRuntime) {
     let k = name(&rt, rt.alloc(), "k");
-    assert!(&rt; is_right(&rt, makes(&rt, rt.alloc()), &k));
+    let is_right = is_right(&rt, makes(&rt, rt.alloc()), &k);
+    expect_so(&rt, is_right, "an outcome");
 }
 
 /// How many bytes and attributes copies of an object and of its attributes have.
@@ -255,7 +256,9 @@ fn lengths<R: Abort>(rt: &R, object: &Object) -> (usize, usize) {
 #[test]
 fn objects_are_made_of_their_parts(rt: HostRuntime) {
     let alloc = rt.alloc();
-    assert_eq!(&rt; lengths(&rt, &object(&rt, alloc, b"a")), (1, 0));
-    assert_eq!(&rt; lengths(&rt, &Object::empty(alloc)), (0, 0));
-    assert!(&rt; Bytes::new(alloc).as_slice().is_empty());
+    let made = lengths(&rt, &object(&rt, alloc, b"a"));
+    expect_so(&rt, made == (1, 0), "an object of a byte");
+    let empty = lengths(&rt, &Object::empty(alloc));
+    expect_so(&rt, empty == (0, 0), "an empty object");
+    expect_so(&rt, Bytes::new(alloc).as_slice().is_empty(), "no bytes");
 }

@@ -82,7 +82,18 @@ pub(crate) fn entities_of<R: Abort>(rt: &R, alloc: Global, rows: &[(&str, &str)]
     entities
 }
 
-/// Whether this was printed, by a command that fails or does not.
-pub(crate) fn is_printed(printed: &Printed, text: &str, fails: bool) -> bool {
-    printed.text.as_str() == text && printed.fails == fails
+/// Ends the test where something is not so, and names it.
+pub(crate) fn expect_so<R: Abort>(rt: &R, is_so: bool, what: &str) {
+    assert!(rt; is_so, "{what}");
+}
+
+/// Ends the test where a text is not the one that is wanted, and names it.
+pub(crate) fn expect_text<R: Abort>(rt: &R, found: &str, want: &str, what: &str) {
+    assert_eq!(rt; found, want, "{what}");
+}
+
+/// Ends the test where this was not printed, or by a command that fails where it is not to, or does not where it is.
+pub(crate) fn expect_printed<R: Abort>(rt: &R, printed: &Printed, want: &str, fails: bool) {
+    expect_text(rt, printed.text.as_str(), want, "what is printed");
+    expect_so(rt, printed.fails == fails, "whether it fails");
 }

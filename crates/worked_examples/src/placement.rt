@@ -1,5 +1,6 @@
 //! Hashes, groups of objects, and the daemons that serve a group.
 
+use crate::pieces::expect_so;
 use place_core::{ActingSet, DaemonSet, acting, acting_set, group_of, hash};
 use std::alloc::Global;
 use std::process::Abort;
@@ -17,7 +18,7 @@ fn hashes_of_texts(rt: HostRuntime) {
         ("\x1fx", 1470816610),
     ];
     for (text, want) in vectors {
-        assert_eq!(rt; hash(text.as_bytes()), want, "of {text}");
+        expect_so(&rt, hash(text.as_bytes()) == want, text);
     }
 }
 
@@ -37,11 +38,7 @@ fn groups_of_objects(rt: HostRuntime) {
     ];
     for (namespace, name, pg_num, want) in objects {
         assert!(rt; pg_num >= 1);
-        assert_eq!(rt;
-            group_of(namespace, name, pg_num),
-            want,
-            "of {name} in {namespace}"
-        );
+        expect_so(&rt, group_of(namespace, name, pg_num) == want, name);
     }
 }
 
@@ -67,7 +64,8 @@ fn acting_sets_of_groups(rt: HostRuntime) {
     let three = DaemonSet::first(3);
     let mut without_one = three;
     without_one.set(1, false);
-    assert!(&rt; three.has(1) && !without_one.has(1) && !three.has(3) && !three.has(200));
+    let has_its_own = three.has(1) && !without_one.has(1) && !three.has(3) && !three.has(200);
+    expect_so(&rt, has_its_own, "sets of daemons");
     let sets: [(u32, DaemonSet, u32, &[u8]); 6] = [
         (0, three, 3, &[0, 1, 2]),
         (1, three, 3, &[1, 0, 2]),
@@ -77,17 +75,16 @@ fn acting_sets_of_groups(rt: HostRuntime) {
         (1, DaemonSet::first(0), 3, &[]),
     ];
     for (group, up, size, members) in sets {
-        assert!(&rt;
-            is_acting(&rt, rt.alloc(), (group, up, size), members),
-            "{members:?}"
-        );
+        let is_acting = is_acting(&rt, rt.alloc(), (group, up, size), members);
+        expect_so(&rt, is_acting, "an acting set");
     }
     let all = acting(rt.alloc(), "data", 7, &DaemonSet::first(255), 100).expect(&rt, "memory");
-    assert_eq!(&rt; all.len(), 16);
-    assert_eq!(&rt;
-        Some(acting_set("data", 7, &DaemonSet::first(255), 100)),
-        ActingSet::from_slice(&all[..5])
-    );
-    assert_eq!(&rt; ActingSet::from_slice(&all[..6]), None);
-    assert_eq!(&rt; ActingSet::from_slice(&[3, 1, 3]), None);
+    assert!(&rt; all.len() == 16);
+    let set = acting_set("data", 7, &DaemonSet::first(255), 100);
+    let is_cut = ActingSet::from_slice(&all[..5]) == Some(set);
+    expect_so(&rt, is_cut, "the first five");
+    let is_set = ActingSet::from_slice(&all[..6]).is_some();
+    expect_so(&rt, !is_set, "six");
+    let is_set = ActingSet::from_slice(&[3, 1, 3]).is_some();
+    expect_so(&rt, !is_set, "one twice");
 }

@@ -1,6 +1,6 @@
 //! What is printed, once by each call. `sessions/` shows the texts.
 
-use crate::pieces::{entities_of, is_printed, name};
+use crate::pieces::{entities_of, expect_printed, expect_so, expect_text, name};
 use common_types::Tags;
 use compare_core::{OwnedTarget, Registry};
 use gate_text::{
@@ -60,7 +60,7 @@ const VERDICTS: &[(&str, u64, &str); 3] = &[
 fn verdicts_print(rt: HostRuntime) {
     for (pool, tick, want) in VERDICTS {
         let verdict = verdict(&rt, rt.alloc(), pool, *tick);
-        assert_eq!(&rt; verdict.as_str(), *want, "{pool} at {tick}");
+        expect_text(&rt, verdict.as_str(), want, pool);
     }
 }
 
@@ -76,11 +76,12 @@ fn texts_print(rt: HostRuntime) {
     let alloc = rt.alloc();
     let explained = explain_text(alloc, CAPS, Format::Text).expect(&rt, "memory");
     let lines = "allow rw pool=data\n1 allow rw pool=data\n";
-    assert!(&rt; is_printed(&explained, lines, false));
+    expect_printed(&rt, &explained, lines, false);
     let more = "allow rw pool=data, allow r pool=data";
     let compared = compare_text(alloc, CAPS, more, CHECKED).expect(&rt, "memory");
-    assert!(&rt; is_printed(&compared, "same\n", false));
-    assert!(&rt; is_pointed_at(alloc, "deny r", "deny r\n^\n"));
+    expect_printed(&rt, &compared, "same\n", false);
+    let is_pointed_at = is_pointed_at(alloc, "deny r", "deny r\n^\n");
+    expect_so(&rt, is_pointed_at, "a fault");
 }
 
 /// One entity.
@@ -115,11 +116,21 @@ fn tables_and_documents_print(rt: HostRuntime) {
     let alloc = rt.alloc();
     let app = entities_of(&rt, alloc, APP);
     let text = table(&rt, alloc, &app, Format::Text);
-    assert_eq!(&rt; text.as_str(), "entity 1 2\nclient.app allow deny\n");
+    expect_text(
+        &rt,
+        text.as_str(),
+        "entity 1 2\nclient.app allow deny\n",
+        "a table",
+    );
     let text = table(&rt, alloc, &app, Format::Json);
-    assert_eq!(&rt; text.as_str(), TABLE);
+    expect_text(&rt, text.as_str(), TABLE, "a document of a table");
     let text = document(&rt, alloc);
-    assert_eq!(&rt; text.as_str(), "{\"verdict\":\"allow\"}\n");
+    expect_text(
+        &rt,
+        text.as_str(),
+        "{\"verdict\":\"allow\"}\n",
+        "a document",
+    );
 }
 
 /// Whether an entity of this name and text is found.
@@ -137,12 +148,12 @@ fn entities_print(rt: HostRuntime) {
     let tags = Tags::from_vec(Vec::new(alloc));
     let asked = write("data", &tags, ALWAYS);
     let who = who_text(alloc, &app, &asked, true, Format::Text).expect(&rt, "memory");
-    assert!(&rt; is_printed(&who, "client.app allow\n", false));
+    expect_printed(&rt, &who, "client.app allow\n", false);
     let none = compare_entities(alloc, &app, &app, CHECKED).expect(&rt, "memory");
-    assert!(&rt; is_printed(&none, "", false));
+    expect_printed(&rt, &none, "", false);
     let named = NamedEntities::of(alloc, &app).expect(&rt, "memory");
-    assert!(&rt; is_found(&named, "client.app"));
-    assert!(&rt; !is_found(&named, "client"));
+    expect_so(&rt, is_found(&named, "client.app"), "an entity");
+    expect_so(&rt, !is_found(&named, "client"), "no entity");
 }
 
 /// A name as it is shown, and then a target without tags of the pool data.
@@ -168,14 +179,17 @@ fn listed<R: Abort>(rt: &R, alloc: Global, format: Format) -> String {
 #[test]
 fn pieces_print(rt: HostRuntime) {
     let alloc = rt.alloc();
-    assert_eq!(&rt;
-        shown_at(&rt, alloc, "a\u{7} ").as_str(),
-        "a\\x07 --pool data --object 'it'\\''s'"
-    );
-    assert_eq!(&rt; listed(&rt, alloc, Format::Text).as_str(), ",1,2");
-    assert_eq!(&rt;
-        listed(&rt, alloc, Format::Json).as_str(),
-        "{\"names\":[1,2]}\n"
+    let shown = shown_at(&rt, alloc, "a\u{7} ");
+    let line = "a\\x07 --pool data --object 'it'\\''s'";
+    expect_text(&rt, shown.as_str(), line, "a target");
+    let text = listed(&rt, alloc, Format::Text);
+    expect_text(&rt, text.as_str(), ",1,2", "a list");
+    let text = listed(&rt, alloc, Format::Json);
+    expect_text(
+        &rt,
+        text.as_str(),
+        "{\"names\":[1,2]}\n",
+        "a document of a list",
     );
 }
 
@@ -199,6 +213,6 @@ const TICKETS: &[(&str, Result<usize, &str>); 3] = &[
 #[test]
 fn texts_come_to_tickets(rt: HostRuntime) {
     for (caps, want) in TICKETS {
-        assert_eq!(&rt; grants_of(rt.alloc(), caps), *want, "{caps}");
+        expect_so(&rt, grants_of(rt.alloc(), caps) == *want, caps);
     }
 }

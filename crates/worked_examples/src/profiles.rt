@@ -1,5 +1,6 @@
 //! Profiles that are added, and what their uses come to. `sessions/texts/expanded.console` shows those that are built in.
 
+use crate::pieces::{expect_so, expect_text};
 use cap_text::{CapList, parse, push_allow};
 use grant_core::{ExpandFault, Path, ProfileTable, expand};
 use std::alloc::Global;
@@ -67,7 +68,7 @@ fn expect_added<R: Abort>(
     for (name, more, want) in rows {
         let body = format!(in alloc; "{begin}{more}").expect(rt, "memory");
         let answer = added(rt, alloc, table, name, body.as_str());
-        assert_eq!(rt; answer.as_str(), *want, "{name} {more}");
+        expect_text(rt, answer.as_str(), want, name);
     }
 }
 
@@ -96,7 +97,7 @@ fn uses_are_replaced_by_filled_grants(rt: HostRuntime) {
     expect_added(&rt, alloc, &mut table, "", OWN);
     for (text, want) in USES {
         let shown = shown(&rt, alloc, &table, text);
-        assert_eq!(&rt; shown.as_str(), *want, "{text}");
+        expect_text(&rt, shown.as_str(), want, text);
     }
 }
 
@@ -145,7 +146,7 @@ fn refusals_come_in_their_order(rt: HostRuntime) {
     for (more, want) in FULL {
         let text = format!(in alloc; "{many}{more}").expect(&rt, "memory");
         let count = count(&rt, alloc, &table, text.as_str());
-        assert_eq!(&rt; count.as_str(), *want, "{more}");
+        expect_text(&rt, count.as_str(), want, more);
     }
     expect_added(&rt, alloc, &mut table, many.as_str(), FULL_BODIES);
 }
@@ -159,7 +160,7 @@ fn add_chain<R: Abort>(rt: &R, alloc: Global, table: &mut ProfileTable) {
         let name = format!(in alloc; "p{i}").expect(rt, "memory");
         let body = uses(rt, alloc, before.as_str(), 64);
         let answer = added(rt, alloc, table, name.as_str(), body.as_str());
-        assert_eq!(rt; answer.as_str(), "added", "{name}");
+        expect_text(rt, answer.as_str(), "added", name.as_str());
     }
 }
 
@@ -175,7 +176,7 @@ fn a_chain_of_empty_profiles_is_expanded_at_once(rt: HostRuntime) {
     add_chain(&rt, alloc, &mut table);
     let all = uses(&rt, alloc, "p27", 64);
     let grants = count(&rt, alloc, &table, all.as_str());
-    assert_eq!(&rt; grants.as_str(), "0");
+    expect_text(&rt, grants.as_str(), "0", "the end of the chain");
     expect_added(&rt, alloc, &mut table, "", BEHIND_THE_CHAIN);
 }
 
@@ -202,14 +203,17 @@ G4 TooManyProfiles\nG5 TooLarge\nG6 OutOfMemory\n";
 fn path_shown<R: Abort>(rt: &R, alloc: Global, numbers: &[usize]) -> String {
     let path = Path::of(alloc, numbers).expect(rt, "memory");
     let copy = path.copy().expect(rt, "memory");
-    assert!(rt; copy.as_slice() == numbers);
+    expect_so(rt, copy.as_slice() == numbers, "a copy of a path");
     copy.to_string(alloc).expect(rt, "memory")
 }
 
 #[test]
 fn faults_and_paths_print_their_texts(rt: HostRuntime) {
     let alloc = rt.alloc();
-    assert_eq!(&rt; faults_shown(&rt, alloc).as_str(), FAULTS);
-    assert_eq!(&rt; path_shown(&rt, alloc, &[2, 1, 10]).as_str(), "2.1.10");
-    assert_eq!(&rt; path_shown(&rt, alloc, &[]).as_str(), "");
+    let shown = faults_shown(&rt, alloc);
+    expect_text(&rt, shown.as_str(), FAULTS, "faults");
+    let shown = path_shown(&rt, alloc, &[2, 1, 10]);
+    expect_text(&rt, shown.as_str(), "2.1.10", "a path");
+    let shown = path_shown(&rt, alloc, &[]);
+    expect_text(&rt, shown.as_str(), "", "an empty path");
 }

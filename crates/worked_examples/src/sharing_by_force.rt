@@ -2,7 +2,9 @@
 
 use crate::alphabets::{SETS, all_needs, all_targets, call_of};
 use crate::drawing::draw_text;
-use crate::pieces::{TagRow, entities_of, is_printed, tags_of_each, ticket};
+use crate::pieces::{
+    TagRow, entities_of, expect_printed, expect_so, expect_text, tags_of_each, ticket,
+};
 use compare_core::Registry;
 use gate_text::Format;
 use share_core::{Shared, Touch, share, sharing};
@@ -207,10 +209,8 @@ fn expect_told<R: Abort>(
         let first = draw_text(rt, alloc, &mut row, TAGS);
         let second = draw_text(rt, alloc, &mut row, TAGS);
         let texts = (first.as_str(), second.as_str());
-        assert!(rt;
-            is_told(rt, alloc, texts, touches, targets, needs),
-            "{first} and {second}"
-        );
+        let is_told = is_told(rt, alloc, texts, touches, targets, needs);
+        expect_so(rt, is_told, second.as_str());
     }
 }
 
@@ -250,7 +250,7 @@ const PRINTED: &[(&str, &str, &str); 6] = &[
 fn shared_texts_print(rt: HostRuntime) {
     for (first, second, want) in PRINTED {
         let printed = share_texts(rt.alloc(), first, second, false).expect(&rt, "memory");
-        assert_eq!(&rt; printed.text.as_str(), *want, "{first}");
+        expect_text(&rt, printed.text.as_str(), want, first);
     }
 }
 
@@ -269,13 +269,6 @@ fn shared_entities_print(rt: HostRuntime) {
         format: Format::Text,
     };
     let printed = share_entities(rt.alloc(), &two, strictness, None).expect(&rt, "memory");
-    assert!(&rt;
-        is_printed(
-            &printed,
-            "client.web writes what client.backup reads --pool web --object a\n",
-            true
-        ),
-        "{}",
-        printed.text
-    );
+    let line = "client.web writes what client.backup reads --pool web --object a\n";
+    expect_printed(&rt, &printed, line, true);
 }

@@ -1,7 +1,7 @@
 //! Random tickets and entities, of which those that name no common pool are not compared.
 
 use crate::drawing::pick;
-use crate::pieces::ticket;
+use crate::pieces::{expect_so, ticket};
 use gate_text::{Entity, Format};
 use share_core::PoolIndex;
 use share_text::{Strictness, share_entities, share_texts};
@@ -106,10 +106,8 @@ fn an_index_finds_who_has_pools_in_common(rt: HostRuntime) {
     let mut row = 11u64;
     for count in 0..24usize {
         let tickets = draw_tickets(&rt, rt.alloc(), &mut row, count);
-        assert!(&rt;
-            are_near_ones_found(&rt, rt.alloc(), tickets.as_slice()),
-            "{count} tickets"
-        );
+        let are_found = are_near_ones_found(&rt, rt.alloc(), tickets.as_slice());
+        expect_so(&rt, are_found, "tickets");
     }
 }
 
@@ -187,9 +185,7 @@ fn each_two_entities_of_a_file_are_told(rt: HostRuntime) {
     let mut row = 5u64;
     for count in [2u32, 3, 20, 60] {
         let entities = draw_entities(&rt, rt.alloc(), &mut row, count);
-        assert!(&rt;
-            is_each_pair_told(&rt, rt.alloc(), entities.as_slice()),
-            "{count} entities"
-        );
+        let is_each_told = is_each_pair_told(&rt, rt.alloc(), entities.as_slice());
+        expect_so(&rt, is_each_told, "entities");
     }
 }

@@ -1,6 +1,6 @@
 //! What two texts share in pools that are given, each by a call of its own.
 
-use crate::pieces::{TagRow, pools_of, ticket};
+use crate::pieces::{TagRow, expect_so, pools_of, ticket};
 use cap_text::AllowGrant;
 use grant_core::Path;
 use share_core::{Pool, Touch, example_in, is_for, share_in};
@@ -39,8 +39,8 @@ fn is_so<R: Abort>(rt: &R, alloc: Global, pools: &[Pool], (ones, others, wanted)
 #[test]
 fn pools_that_are_given_count_alone(rt: HostRuntime) {
     let pools = pools_of(&rt, rt.alloc(), POOLS);
-    for (place, row) in ROWS.iter().enumerate() {
-        assert!(&rt; is_so(&rt, rt.alloc(), &pools, *row), "{place}");
+    for row in ROWS {
+        expect_so(&rt, is_so(&rt, rt.alloc(), &pools, *row), row.0);
     }
 }
 
@@ -70,6 +70,6 @@ fn a_grant_is_for_pools_of_its_name_and_tag(rt: HostRuntime) {
     let pools = pools_of(&rt, rt.alloc(), POOLS);
     for (text, want) in FIRSTS {
         let ticket = ticket(&rt, rt.alloc(), text, None);
-        assert_eq!(&rt; first_is_for(ticket.grants(), &pools), *want, "{text}");
+        expect_so(&rt, first_is_for(ticket.grants(), &pools) == *want, text);
     }
 }

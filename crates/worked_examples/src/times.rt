@@ -1,5 +1,6 @@
 //! Tables of times, by a clock of the test's own.
 
+use crate::pieces::{expect_so, expect_text};
 use std::alloc::{AllocError, Global};
 use std::cell::Cell;
 use std::io;
@@ -78,9 +79,10 @@ nothing                                               5003.6      5020.9
 fn a_clock_is_read_where_times_are_wanted(rt: HostRuntime) {
     let alloc = rt.alloc();
     let once = table(&rt, alloc, true, Mode::Once).expect(&rt, "a table");
-    assert_eq!(&rt; once.as_str(), ONCE);
+    expect_text(&rt, once.as_str(), ONCE, "once");
     let timed = table(&rt, alloc, false, Mode::Timed).expect(&rt, "times");
-    assert_eq!(&rt; timed.as_str(), TIMED);
+    expect_text(&rt, timed.as_str(), TIMED, "timed");
     let broken = table(&rt, alloc, true, Mode::Timed);
-    assert!(&rt; matches!(broken, Err(MeasureFault::Clock)));
+    let is_refused = matches!(broken, Err(MeasureFault::Clock));
+    expect_so(&rt, is_refused, "a broken clock");
 }

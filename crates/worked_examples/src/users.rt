@@ -1,6 +1,6 @@
 //! Users that are made, found, changed and removed. `sessions/users` shows the refusals.
 
-use crate::pieces::name;
+use crate::pieces::{expect_so, expect_text, name};
 use auth_db::{AuthDb, AuthFault, Caps, Creation};
 use grant_core::ProfileTable;
 use std::alloc::Global;
@@ -56,23 +56,27 @@ fn a_user_is_made_found_and_changed(rt: HostRuntime) {
     let mut users = database(&rt, alloc);
     for (text, told) in CREATIONS {
         let caps = osd(&rt, alloc, text);
-        assert!(&rt; users.get_or_create(NAME, caps) == *told, "{text}");
+        expect_so(&rt, users.get_or_create(NAME, caps) == *told, text);
     }
-    assert!(&rt; users.caps(NAME, osd(&rt, alloc, "allow w")) == Ok(()));
-    assert!(&rt; has_caps(&rt, alloc, &users, "allow w"));
-    assert_eq!(&rt; ticket(&rt, &users, 7), (1, true));
-    assert!(&rt; is_first(&rt, &users, NAME));
+    let told = users.caps(NAME, osd(&rt, alloc, "allow w"));
+    expect_so(&rt, told == Ok(()), "other texts");
+    expect_so(&rt, has_caps(&rt, alloc, &users, "allow w"), "its texts");
+    expect_so(&rt, ticket(&rt, &users, 7) == (1, true), "its ticket");
+    expect_so(&rt, is_first(&rt, &users, NAME), "its name");
 }
 
 #[test]
 fn a_user_is_added_and_removed(rt: HostRuntime) {
     let alloc = rt.alloc();
     let mut users = database(&rt, alloc);
-    assert!(&rt; users.add(NAME, osd(&rt, alloc, "allow r")) == Ok(()));
-    assert!(&rt; users.del(NAME) == Ok(()));
-    assert!(&rt; users.del(NAME) == Err(AuthFault::NoEntity));
-    assert!(&rt; !is_first(&rt, &users, NAME));
-    assert!(&rt; users.add(NAME, Caps::none()) == Ok(()));
+    let told = users.add(NAME, osd(&rt, alloc, "allow r"));
+    expect_so(&rt, told == Ok(()), "an addition");
+    expect_so(&rt, users.del(NAME) == Ok(()), "a removal");
+    let told = users.del(NAME);
+    expect_so(&rt, told == Err(AuthFault::NoEntity), "another removal");
+    expect_so(&rt, !is_first(&rt, &users, NAME), "no name");
+    let told = users.add(NAME, Caps::none());
+    expect_so(&rt, told == Ok(()), "another addition");
 }
 
 // A fault that no session shows.
@@ -81,5 +85,5 @@ fn want_of_memory_has_its_text(rt: HostRuntime) {
     let text = AuthFault::OutOfMemory
         .to_string(rt.alloc())
         .expect(&rt, "memory");
-    assert_eq!(&rt; text.as_str(), "A7 OutOfMemory");
+    expect_text(&rt, text.as_str(), "A7 OutOfMemory", "want of memory");
 }

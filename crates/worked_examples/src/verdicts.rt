@@ -1,6 +1,6 @@
 //! What tickets answer, by each call: with an index, and without one. `sessions/verdicts` shows verdicts on many requests.
 
-use crate::pieces::ticket;
+use crate::pieces::{expect_so, expect_text, ticket};
 use common_types::Tags;
 use std::alloc::Global;
 use std::process::Abort;
@@ -66,14 +66,11 @@ fn tickets_judge_and_report(rt: HostRuntime) {
     let alloc = rt.alloc();
     for (text, until, tick, want) in ROWS {
         let plain = ticket(&rt, alloc, text, *until);
-        assert_eq!(&rt;
-            plain_answer(&rt, alloc, &plain, *tick).as_str(),
-            *want,
-            "{text}"
-        );
+        let answer = plain_answer(&rt, alloc, &plain, *tick);
+        expect_text(&rt, answer.as_str(), want, text);
         let shared = SharedTicket::of(plain).expect(&rt, "memory");
         let answer = indexed_answer(&rt, alloc, shared.as_ticket(), *tick);
-        assert_eq!(&rt; answer.as_str(), *want, "{text}");
+        expect_text(&rt, answer.as_str(), want, text);
     }
 }
 
@@ -93,8 +90,10 @@ fn is_as_expanded(ticket: &Ticket) -> bool {
 #[test]
 fn tickets_of_expanded_lists(rt: HostRuntime) {
     let both = ticket(&rt, rt.alloc(), "allow r, profile rbd pool=vms", Some(7));
-    assert!(&rt; is_as_expanded(&both.copy().expect(&rt, "memory")));
-    assert!(&rt; both.is_expired(7) && !both.is_expired(6));
+    let copy = both.copy().expect(&rt, "memory");
+    expect_so(&rt, is_as_expanded(&copy), "a copy");
+    let ends = both.is_expired(7) && !both.is_expired(6);
+    expect_so(&rt, ends, "its end");
 }
 
 /// How many grants a copy of a ticket with an index has, and when it ends.
@@ -107,6 +106,7 @@ fn copied<R: Abort>(rt: &R, ticket: Ticket) -> (usize, Option<u64>) {
 #[test]
 fn tickets_without_grants(rt: HostRuntime) {
     let none = Ticket::empty(rt.alloc(), Some(0));
-    assert_eq!(&rt; plain_answer(&rt, rt.alloc(), &none, 0).as_str(), "deny\n");
-    assert_eq!(&rt; copied(&rt, none), (0, Some(0)));
+    let answer = plain_answer(&rt, rt.alloc(), &none, 0);
+    expect_text(&rt, answer.as_str(), "deny\n", "no grants");
+    expect_so(&rt, copied(&rt, none) == (0, Some(0)), "a copy");
 }

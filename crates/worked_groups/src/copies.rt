@@ -1,5 +1,6 @@
 //! Copies that are fed by hand: what each message makes them send.
 
+use crate::expecting::{expect_row, expect_so};
 use crate::looks::are;
 use crate::operations::{name, view};
 use crate::sets::set;
@@ -239,7 +240,7 @@ fn goes<R: Abort>(rt: &R, alloc: Global, daemon: &mut Daemon, line: Line) -> boo
 fn play<R: Abort>(rt: &R, alloc: Global, (name, number, min_size, lines): Story) -> Daemon {
     let mut daemon = Daemon::new(alloc, number, min_size);
     for (place, line) in lines.iter().enumerate() {
-        assert!(rt; goes(rt, alloc, &mut daemon, *line), "{name}: line {place}");
+        expect_row(rt, goes(rt, alloc, &mut daemon, *line), name, place);
     }
     daemon
 }
@@ -544,5 +545,5 @@ fn is_copied<R: Abort>(rt: &R, alloc: Global, leader: &mut Daemon) -> bool {
 #[test]
 fn copies_are_equal(rt: HostRuntime) {
     let mut leader = play(&rt, rt.alloc(), ("leading", 0, 2, LEADING));
-    assert!(&rt; is_copied(&rt, rt.alloc(), &mut leader));
+    expect_so(&rt, is_copied(&rt, rt.alloc(), &mut leader), "a copy");
 }

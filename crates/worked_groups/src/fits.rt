@@ -1,6 +1,7 @@
 //! Logs that are fitted to a part of another one. Every request appends a letter to one object, so what is read of it tells
 //! how many entries the log's own store has performed.
 
+use crate::expecting::{expect_row, expect_so};
 use crate::logs::{Row, Says, add, decides, sealed};
 use crate::looks::are;
 use crate::operations::Work;
@@ -89,7 +90,8 @@ fn is_fitted<R: Abort>(rt: &R, alloc: Global, log: &mut Log, fit: &Fit) -> bool 
 fn a_log_is_fitted_or_stays(rt: HostRuntime) {
     for (place, (numbers, fit)) in FITS.iter().enumerate() {
         let mut log = log_of(&rt, rt.alloc(), numbers);
-        assert!(&rt; is_fitted(&rt, rt.alloc(), &mut log, fit), "{place}");
+        let is_fitted = is_fitted(&rt, rt.alloc(), &mut log, fit);
+        expect_row(&rt, is_fitted, "fit", place);
     }
 }
 
@@ -101,7 +103,8 @@ const BACK_TWICE: &[Fit; 2] = &[(2, &[], true, &[1, 2]), (1, &[4, 5], true, &[1,
 fn what_undoes_the_last_entry_is_found_again(rt: HostRuntime) {
     let mut log = log_of(&rt, rt.alloc(), &[1, 2, 3]);
     for fit in BACK_TWICE {
-        assert!(&rt; is_fitted(&rt, rt.alloc(), &mut log, fit), "{}", fit.0);
+        let is_fitted = is_fitted(&rt, rt.alloc(), &mut log, fit);
+        expect_row(&rt, is_fitted, "fit from", fit.0);
     }
 }
 
@@ -113,5 +116,6 @@ fn a_part_is_the_rest(rt: HostRuntime) {
     let rest = whole.part(1).expect(&rt, "memory");
     let mut log = log_of(&rt, rt.alloc(), &[1]);
     let fits = log.fit(1, rest.as_slice()).expect(&rt, "memory");
-    assert!(&rt; fits && holds(&rt, rt.alloc(), &log, &[1, 2, 3]));
+    let is_whole = fits && holds(&rt, rt.alloc(), &log, &[1, 2, 3]);
+    expect_so(&rt, is_whole, "the whole");
 }

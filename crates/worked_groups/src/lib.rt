@@ -6,6 +6,8 @@
 #[cfg(test)]
 mod copies;
 #[cfg(test)]
+mod expecting;
+#[cfg(test)]
 mod fits;
 #[cfg(test)]
 mod groups;

@@ -1,5 +1,6 @@
 //! Logs by each call: what is sealed, decided, found and copied. `sessions/logs` shows what requests are answered, one after another.
 
+use crate::expecting::{expect_row, expect_so};
 use crate::looks::gives;
 use crate::operations::Work::{self, Append, List, Read};
 use crate::operations::{name, ops, view};
@@ -152,15 +153,16 @@ fn is_last(log: &Log, id: Id) -> bool {
 }
 
 fn expect_two<R: Abort>(rt: &R, log: &Log) {
-    assert!(rt; log.len() == 2 && log.entries().len() == 2 && is_last(log, Id::new(1, 2)));
+    let are_two = log.len() == 2 && log.entries().len() == 2;
+    expect_so(rt, are_two && is_last(log, Id::new(1, 2)), "two entries");
     for (place, row) in FOUND.iter().enumerate() {
-        assert!(rt; is_found(log, row), "{place}");
+        expect_row(rt, is_found(log, row), "row", place);
     }
 }
 
 fn expect_third<R: Abort>(rt: &R, alloc: Global, log: &Log) {
     for (place, row) in THIRD.iter().enumerate() {
-        assert!(rt; decides(rt, alloc, log, row), "{place}");
+        expect_row(rt, decides(rt, alloc, log, row), "row", place);
     }
 }
 
@@ -181,8 +183,9 @@ fn lengths<R: Abort>(rt: &R, boxed: BoxedLog) -> (usize, usize) {
 #[test]
 fn a_log_goes_to_the_heap_and_back(rt: HostRuntime) {
     let boxed = BoxedLog::new(of_two(&rt, rt.alloc())).expect(&rt, "memory");
-    assert!(&rt; boxed.as_log().contains(Id::new(1, 1)));
-    assert!(&rt; lengths(&rt, boxed) == (2, 2));
+    let is_there = boxed.as_log().contains(Id::new(1, 1));
+    expect_so(&rt, is_there, "an entry");
+    expect_so(&rt, lengths(&rt, boxed) == (2, 2), "lengths");
 }
 
 /// Whether a request is in the first group of the pool data, also in a copy of that group.
@@ -212,6 +215,15 @@ fn copied_number<R: Abort>(rt: &R, sealed: Sealed) -> u32 {
     reply_number(&copy.reply)
 }
 
+/// Whether it is request 7 of session 1, of a pool of four groups, in no namespace, and allowed.
+fn is_as_sealed(sealed: &Sealed) -> bool {
+    sealed.id().session() == 1
+        && sealed.id().number() == 7
+        && sealed.view().pg_num == 4
+        && sealed.namespace().is_empty()
+        && sealed.is_allowed()
+}
+
 #[test]
 fn what_is_sealed_is_kept(rt: HostRuntime) {
     let sealed = sealed(
@@ -219,23 +231,25 @@ fn what_is_sealed_is_kept(rt: HostRuntime) {
         rt.alloc(),
         &(7, "allow rw", "x", Append("a"), Gives("")),
     );
-    assert!(&rt; sealed.id().session() == 1 && sealed.id().number() == 7);
-    assert!(&rt; sealed.view().pg_num == 4 && sealed.namespace().is_empty() && sealed.is_allowed());
-    assert!(&rt; sealed.group_number() == 0 && is_in_the_first_group(&rt, &sealed));
-    assert!(&rt; operations(&rt, &sealed) == Some(1));
-    assert!(&rt; copied_number(&rt, sealed) == 17);
+    expect_so(&rt, is_as_sealed(&sealed), "what is sealed");
+    let is_first = sealed.group_number() == 0 && is_in_the_first_group(&rt, &sealed);
+    expect_so(&rt, is_first, "its group");
+    expect_so(&rt, operations(&rt, &sealed) == Some(1), "its operation");
+    expect_so(&rt, copied_number(&rt, sealed) == 17, "its number");
 }
 
 #[test]
 fn a_listing_has_no_operations(rt: HostRuntime) {
     let listing = sealed(&rt, rt.alloc(), &(0, "allow w", "", List(0), Lists("")));
-    assert!(&rt; !listing.is_allowed() && operations(&rt, &listing) == None);
+    let is_denied = !listing.is_allowed() && operations(&rt, &listing).is_none();
+    expect_so(&rt, is_denied, "a listing");
 }
 
 #[test]
 fn faults_of_needs_are_not_sealed(rt: HostRuntime) {
     let sealed = vector(&rt, rt.alloc(), 1, "allow rwx", "x", Vec::new(rt.alloc()));
-    assert!(&rt; matches!(sealed, Err(NeedsFault::EmptyVector)));
+    let is_refused = matches!(sealed, Err(NeedsFault::EmptyVector));
+    expect_so(&rt, is_refused, "an empty vector");
 }
 
 /// Three numbers.
@@ -252,6 +266,9 @@ fn items_are_a_list(rt: HostRuntime) {
     let mut items = three(&rt, rt.alloc());
     let copy = items.copy().expect(&rt, "memory");
     items.truncate(1);
-    assert!(&rt; items.as_slice() == [4u64].as_slice() && items.len() == 1);
-    assert!(&rt; copy.into_vec().as_slice() == [4u64, 5, 6].as_slice());
+    let is_cut = items.as_slice() == [4u64].as_slice() && items.len() == 1;
+    expect_so(&rt, is_cut, "the first item");
+    let copied = copy.into_vec();
+    let are_all = copied.as_slice() == [4u64, 5, 6].as_slice();
+    expect_so(&rt, are_all, "all items");
 }

@@ -1,6 +1,7 @@
 //! A group moves while a tag and a user go, as a list of events. `sessions/answers` shows them one after another.
 
 use super::lines::{event_of, expect_on};
+use crate::expecting::{expect_row, expect_so};
 use grant_core::ProfileTable;
 use script_commands::push_refused;
 use std::alloc::Global;
@@ -86,7 +87,7 @@ fn made<R: Abort>(rt: &R, alloc: Global, events: &[Event]) -> Result<World, (usi
 #[test]
 fn a_list_of_events(rt: HostRuntime) {
     let events = events_of(&rt, rt.alloc(), EVENTS, "");
-    assert_eq!(&rt; events.len(), 29);
+    expect_row(&rt, events.len() == 29, "events", events.len());
     match made(&rt, rt.alloc(), events.as_slice()) {
         Ok(mut world) => expect_on(&rt, rt.alloc(), &mut world, SEEN),
         Err(_) => panic!(&rt; "an event is refused"),
@@ -120,7 +121,9 @@ fn stops<R: Abort>(rt: &R, alloc: Global, changes: &str, place: usize, wanted: &
 #[test]
 fn a_list_stops_at_the_first_refusal(rt: HostRuntime) {
     for (changes, place, wanted) in CHANGES {
-        assert!(&rt; stops(&rt, rt.alloc(), changes, place, wanted), "{changes}");
+        let stops = stops(&rt, rt.alloc(), changes, place, wanted);
+        expect_so(&rt, stops, changes);
     }
-    assert!(&rt; made(&rt, rt.alloc(), &[]).is_ok());
+    let is_made = made(&rt, rt.alloc(), &[]).is_ok();
+    expect_so(&rt, is_made, "no events");
 }

@@ -6,6 +6,8 @@
 #[cfg(test)]
 mod answers;
 #[cfg(test)]
+mod expecting;
+#[cfg(test)]
 mod failover;
 #[cfg(test)]
 mod group_refusals;

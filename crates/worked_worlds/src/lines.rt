@@ -173,12 +173,17 @@ fn are_lines(text: &str, wanted: &str) -> bool {
     lines.next().is_none()
 }
 
+// Ends the test where a line does not say what is wanted.
+fn expect_said<R: Abort>(rt: &R, line: &str, said: &str, wanted: &str) {
+    assert!(rt; are_lines(said, wanted), "{line} -> {said}");
+}
+
 // A world takes the lines of a text, one after another, and prints what they say.
 pub(super) fn expect_on<R: Abort>(rt: &R, alloc: Global, world: &mut World, text: &str) {
     for line in text.lines() {
         let (line, wanted) = line.split_once(" -> ").expect(rt, "an arrow");
         let said = printed(rt, alloc, world, line);
-        assert!(rt; are_lines(said.as_str(), wanted), "{line} -> {said}");
+        expect_said(rt, line, said.as_str(), wanted);
     }
 }
 

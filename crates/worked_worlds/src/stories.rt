@@ -1,6 +1,7 @@
 //! What an event takes from the messages of a group and what it sends, each by a call of its own.
 
 use super::lines::{begun, event_of, group_of};
+use crate::expecting::expect_so;
 use entry_core::GroupId;
 use group_story::step_and_tell;
 use std::alloc::Global;
@@ -46,11 +47,8 @@ fn each_event_takes_and_sends_what_is_told(rt: HostRuntime) {
     let mut world = begun(&rt, rt.alloc(), 1);
     let group = group_of(&rt, rt.alloc(), "data 0");
     for row in ROWS {
-        assert!(&rt;
-            is_so(&rt, rt.alloc(), &mut world, &group, *row),
-            "{}",
-            row.0
-        );
+        let is_so = is_so(&rt, rt.alloc(), &mut world, &group, *row);
+        expect_so(&rt, is_so, row.0);
     }
 }
 
@@ -70,5 +68,5 @@ fn first_taken<R: Abort>(rt: &R, alloc: Global) -> WireStep {
 #[test]
 fn a_held_wire_tells_the_step(rt: HostRuntime) {
     let step = first_taken(&rt, rt.alloc());
-    assert!(&rt; tells(&step, true, 0));
+    expect_so(&rt, tells(&step, true, 0), "a held wire");
 }

@@ -1,12 +1,12 @@
 //! Commands on the users by a call of their own, one after another on the same users.
 
+use crate::expecting::expect_row;
 use Command::{Add, Delete, Make, Set};
 use auth_db::{AuthDb, AuthFault, Caps};
 use common_types::{Name, OutOfMemory};
 use grant_core::ProfileTable;
 use std::alloc::Global;
 use std::process::Abort;
-use std::test::Fail;
 use world_core::{AuthCommand, Told, change_users};
 
 /// A command on the user `client.a`.
@@ -93,10 +93,11 @@ fn is_so(alloc: Global, users: &mut AuthDb, row: &Row) -> Result<bool, OutOfMemo
 }
 
 #[test]
-fn commands_on_users_come_to_what_they_tell(rt: HostRuntime) -> Result<(), Fail> {
-    let mut users = AuthDb::new(rt.alloc(), ProfileTable::builtin(rt.alloc())?);
+fn commands_on_users_come_to_what_they_tell(rt: HostRuntime) {
+    let table = ProfileTable::builtin(rt.alloc()).expect(&rt, "profiles");
+    let mut users = AuthDb::new(rt.alloc(), table);
     for (place, row) in ROWS.iter().enumerate() {
-        assert!(rt; is_so(rt.alloc(), &mut users, row)?, "{place}");
+        let is_so = is_so(rt.alloc(), &mut users, row).expect(&rt, "memory");
+        expect_row(&rt, is_so, "row", place);
     }
-    Ok(())
 }

@@ -1,10 +1,10 @@
 //! Lines, words, numbers and printed texts.
 
+use crate::expecting::{expect_so, expect_text};
 use script_text::{
     Lines, ScriptFault, Words, number_of, pair_of, push_item, push_number, push_quoted,
 };
 use std::alloc::{AllocError, Global};
-use std::test::Fail;
 
 /// The lines of a script with their numbers, and `-` behind the number of a blank one.
 fn numbered(alloc: Global, script: &[u8]) -> Result<String, AllocError> {
@@ -23,25 +23,25 @@ fn numbered(alloc: Global, script: &[u8]) -> Result<String, AllocError> {
     Ok(shown)
 }
 
+const LINES: &[(&[u8], &str); 10] = &[
+    (b"", ""),
+    (b"a", "1\"a\""),
+    (b"a\n", "1\"a\""),
+    (b"\n\n", "1-\"\"2-\"\""),
+    (b"a\n\nb", "1\"a\"2-\"\"3\"b\""),
+    (b"a\r\nb\r", "1\"a\"2\"b\""),
+    (b"a\r\r\n", "1\"a\\x0d\""),
+    (b"\r\n\r", "1-\"\"2-\"\""),
+    (b"a\rb\n", "1\"a\\x0db\""),
+    (b"# \xff '\n #\n", "1-\"# \\xff '\"2\" #\""),
+];
+
 #[test]
-fn lines_end_at_a_line_feed_or_at_the_end(rt: HostRuntime) -> Result<(), Fail> {
-    let cases: [(&[u8], &str); 10] = [
-        (b"", ""),
-        (b"a", "1\"a\""),
-        (b"a\n", "1\"a\""),
-        (b"\n\n", "1-\"\"2-\"\""),
-        (b"a\n\nb", "1\"a\"2-\"\"3\"b\""),
-        (b"a\r\nb\r", "1\"a\"2\"b\""),
-        (b"a\r\r\n", "1\"a\\x0d\""),
-        (b"\r\n\r", "1-\"\"2-\"\""),
-        (b"a\rb\n", "1\"a\\x0db\""),
-        (b"# \xff '\n #\n", "1-\"# \\xff '\"2\" #\""),
-    ];
-    for (script, wanted) in cases {
-        let shown = numbered(rt.alloc(), script)?;
-        assert_eq!(rt; shown.as_str(), wanted);
+fn lines_end_at_a_line_feed_or_at_the_end(rt: HostRuntime) {
+    for (script, wanted) in LINES {
+        let shown = numbered(rt.alloc(), script).expect(&rt, "memory");
+        expect_text(&rt, shown.as_str(), wanted);
     }
-    Ok(())
 }
 
 /// The words of a line between brackets, or `bad`.
@@ -64,38 +64,38 @@ fn words_shown(alloc: Global, line: &[u8]) -> Result<String, AllocError> {
     Ok(shown)
 }
 
+const WORDS: &[(&[u8], &str); 20] = &[
+    (b"", ""),
+    (b"   ", ""),
+    (b"osds 3", "[osds][3]"),
+    (b"  a   b  ", "[a][b]"),
+    (b"osd map data '' x", "[osd][map][data][][x]"),
+    (b"\"\"", "[]"),
+    (
+        b"auth add c.a osd 'allow rw pool=data'",
+        "[auth][add][c.a][osd][allow rw pool=data]",
+    ),
+    (b"\"it's\" 'a\"b'", "[it's][a\"b]"),
+    (b"a# \\ ~!", "[a#][\\][~!]"),
+    (b"'a", "bad"),
+    (b"a 'b c", "bad"),
+    (b"'", "bad"),
+    (b"a'b", "bad"),
+    (b"a'", "bad"),
+    (b"'a'b", "bad"),
+    (b"'a''b'", "bad"),
+    (b"a\tb", "bad"),
+    (b"a \x1f", "bad"),
+    (b"'\x7f'", "bad"),
+    (b"a\xc3\xa9", "bad"),
+];
+
 #[test]
-fn words_are_bare_or_quoted_whole(rt: HostRuntime) -> Result<(), Fail> {
-    let cases: [(&[u8], &str); 20] = [
-        (b"", ""),
-        (b"   ", ""),
-        (b"osds 3", "[osds][3]"),
-        (b"  a   b  ", "[a][b]"),
-        (b"osd map data '' x", "[osd][map][data][][x]"),
-        (b"\"\"", "[]"),
-        (
-            b"auth add c.a osd 'allow rw pool=data'",
-            "[auth][add][c.a][osd][allow rw pool=data]",
-        ),
-        (b"\"it's\" 'a\"b'", "[it's][a\"b]"),
-        (b"a# \\ ~!", "[a#][\\][~!]"),
-        (b"'a", "bad"),
-        (b"a 'b c", "bad"),
-        (b"'", "bad"),
-        (b"a'b", "bad"),
-        (b"a'", "bad"),
-        (b"'a'b", "bad"),
-        (b"'a''b'", "bad"),
-        (b"a\tb", "bad"),
-        (b"a \x1f", "bad"),
-        (b"'\x7f'", "bad"),
-        (b"a\xc3\xa9", "bad"),
-    ];
-    for (line, wanted) in cases {
-        let shown = words_shown(rt.alloc(), line)?;
-        assert_eq!(rt; shown.as_str(), wanted);
+fn words_are_bare_or_quoted_whole(rt: HostRuntime) {
+    for (line, wanted) in WORDS {
+        let shown = words_shown(rt.alloc(), line).expect(&rt, "memory");
+        expect_text(&rt, shown.as_str(), wanted);
     }
-    Ok(())
 }
 
 /// Whether a line has just the first one, two, three and four of the words `a`, `b`, the empty one and `d`.
@@ -108,85 +108,99 @@ fn counted(line: &[u8]) -> (bool, bool, bool, bool) {
     )
 }
 
+/// Lines, and which of the four they have.
+const COUNTED: &[(&str, (bool, bool, bool, bool)); 6] = &[
+    ("", (false, false, false, false)),
+    (" a ", (true, false, false, false)),
+    ("a b", (false, true, false, false)),
+    ("a b ''", (false, false, true, false)),
+    ("a b '' d", (false, false, false, true)),
+    ("a b '' d e", (false, false, false, false)),
+];
+
 #[test]
 fn so_many_words_and_no_more(rt: HostRuntime) {
-    assert!(rt; counted(b"") == (false, false, false, false));
-    assert!(rt; counted(b" a ") == (true, false, false, false));
-    assert!(rt; counted(b"a b") == (false, true, false, false));
-    assert!(rt; counted(b"a b ''") == (false, false, true, false));
-    assert!(rt; counted(b"a b '' d") == (false, false, false, true));
-    assert!(rt; counted(b"a b '' d e") == (false, false, false, false));
+    for (line, wanted) in COUNTED {
+        expect_so(&rt, counted(line.as_bytes()) == *wanted, line);
+    }
 }
 
 #[test]
-fn a_line_has_8192_bytes_at_most(rt: HostRuntime) -> Result<(), Fail> {
-    let mut line = vec![in rt.alloc(); b'a'; 8_192]?;
-    assert!(rt; Words::of(line.as_slice()).is_some());
-    line.push(b' ')?;
-    assert!(rt; Words::of(line.as_slice()).is_none());
-    Ok(())
+fn a_line_has_8192_bytes_at_most(rt: HostRuntime) {
+    let line = vec![in rt.alloc(); b'a'; 8_193].expect(&rt, "memory");
+    let has_words = Words::of(&line[..8_192]).is_some();
+    expect_so(&rt, has_words, "8192 bytes");
+    let has_words = Words::of(line.as_slice()).is_some();
+    expect_so(&rt, !has_words, "8193 bytes");
 }
+
+const NUMBERS: &[(&str, Option<u32>); 12] = &[
+    ("0", Some(0)),
+    ("7", Some(7)),
+    ("0000000007", Some(7)),
+    ("4294967295", Some(4_294_967_295)),
+    ("4294967296", None),
+    ("9999999999", None),
+    ("00000000007", None),
+    ("", None),
+    ("+7", None),
+    ("-7", None),
+    ("7 ", None),
+    ("0x7", None),
+];
 
 #[test]
 fn numbers_have_ten_digits_at_most(rt: HostRuntime) {
-    let cases = [
-        ("0", Some(0)),
-        ("7", Some(7)),
-        ("0000000007", Some(7)),
-        ("4294967295", Some(4_294_967_295)),
-        ("4294967296", None),
-        ("9999999999", None),
-        ("00000000007", None),
-        ("", None),
-        ("+7", None),
-        ("-7", None),
-        ("7 ", None),
-        ("0x7", None),
-    ];
-    for (word, wanted) in cases {
-        assert!(rt; number_of(word) == wanted);
+    for (word, wanted) in NUMBERS {
+        expect_so(&rt, number_of(word) == *wanted, word);
     }
 }
+
+const PAIRS: &[(&str, Option<(u32, u32)>); 7] = &[
+    ("1.2", Some((1, 2))),
+    ("007.4294967295", Some((7, 4_294_967_295))),
+    ("12", None),
+    ("1.", None),
+    (".2", None),
+    ("1.2.3", None),
+    ("1.4294967296", None),
+];
 
 #[test]
 fn pairs_have_one_dot(rt: HostRuntime) {
-    let cases = [
-        ("1.2", Some((1, 2))),
-        ("007.4294967295", Some((7, 4_294_967_295))),
-        ("12", None),
-        ("1.", None),
-        (".2", None),
-        ("1.2.3", None),
-        ("1.4294967296", None),
-    ];
-    for (word, wanted) in cases {
-        assert!(rt; pair_of(word) == wanted);
+    for (word, wanted) in PAIRS {
+        expect_so(&rt, pair_of(word) == *wanted, word);
     }
 }
 
-#[test]
-fn other_bytes_are_printed_as_digits(rt: HostRuntime) -> Result<(), Fail> {
-    let mut text = String::from_str(rt.alloc(), "x")?;
+/// A text, a line's item and a number, behind a byte.
+fn printed(alloc: Global) -> Result<String, AllocError> {
+    let mut text = String::from_str(alloc, "x")?;
     push_quoted(&mut text, b" a~\"\\\n\x00\x1f\x7f\xff'")?;
     push_item(&mut text, b"hello")?;
     push_number(&mut text, 18_446_744_073_709_551_615)?;
-    let wanted = "x\" a~\\x22\\x5c\\x0a\\x00\\x1f\\x7f\\xff'\"- \"hello\"\n18446744073709551615";
-    assert_eq!(rt; text.as_str(), wanted);
-    Ok(())
+    Ok(text)
 }
 
 #[test]
-fn faults_print_their_line(rt: HostRuntime) -> Result<(), Fail> {
-    let cases = [
-        (ScriptFault::Read, "S1 Read"),
-        (ScriptFault::TooMuch, "S2 TooMuch"),
-        (ScriptFault::BadLine(2), "S3 BadLine 2"),
-        (ScriptFault::Write, "S4 Write"),
-        (ScriptFault::OutOfMemory(0), "S5 OutOfMemory 0"),
-    ];
-    for (fault, wanted) in cases {
-        let shown = fault.to_string(rt.alloc())?;
-        assert_eq!(rt; shown.as_str(), wanted);
+fn other_bytes_are_printed_as_digits(rt: HostRuntime) {
+    let text = printed(rt.alloc()).expect(&rt, "memory");
+    let wanted = "x\" a~\\x22\\x5c\\x0a\\x00\\x1f\\x7f\\xff'\"- \"hello\"\n18446744073709551615";
+    expect_text(&rt, text.as_str(), wanted);
+}
+
+const FAULTS: &[(ScriptFault, &str); 5] = &[
+    (ScriptFault::Read, "S1 Read"),
+    (ScriptFault::TooMuch, "S2 TooMuch"),
+    (ScriptFault::BadLine(2), "S3 BadLine 2"),
+    (ScriptFault::Write, "S4 Write"),
+    (ScriptFault::OutOfMemory(0), "S5 OutOfMemory 0"),
+];
+
+#[test]
+fn faults_print_their_line(rt: HostRuntime) {
+    for (fault, wanted) in FAULTS {
+        let shown = fault.to_string(rt.alloc()).expect(&rt, "memory");
+        expect_text(&rt, shown.as_str(), wanted);
     }
-    Ok(())
 }

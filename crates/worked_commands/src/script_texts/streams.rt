@@ -1,10 +1,11 @@
 //! Readers and writers, also such that fail.
 
+use crate::expecting::expect_so;
 use script_text::{ScriptFault, read_script, write_text};
 use std::alloc::Global;
 use std::io;
 use std::io::{Error, ErrorKind, Read, Write};
-use std::test::Fail;
+use std::process::Abort;
 
 /// Gives one byte at a time, and then fails, where it is to.
 #[derive(Drop)]
@@ -54,29 +55,40 @@ impl Write for Narrow {
     }
 }
 
-fn read_len(alloc: Global, len: usize) -> Result<Result<usize, ScriptFault>, Fail> {
-    let bytes = vec![in alloc; b'#'; len]?;
+/// How many bytes a script has that has so many, or the refusal.
+fn read_len<R: Abort>(rt: &R, alloc: Global, len: usize) -> Result<usize, ScriptFault> {
+    let bytes = vec![in alloc; b'#'; len].expect(rt, "memory");
     let mut reader = bytes.as_slice();
-    Ok(read_script(alloc, &mut reader).map(|script| script.len()))
+    match read_script(alloc, &mut reader) {
+        Ok(script) => Ok(script.len()),
+        Err(fault) => Err(fault),
+    }
+}
+
+/// Lengths of scripts, and how they are read.
+const LENGTHS: &[(usize, Result<usize, ScriptFault>); 3] = &[
+    (0, Ok(0)),
+    (1_048_576, Ok(1_048_576)),
+    (1_048_577, Err(ScriptFault::TooMuch)),
+];
+
+#[test]
+fn a_script_has_a_mebibyte_at_most(rt: HostRuntime) {
+    for (len, wanted) in LENGTHS {
+        let read = read_len(&rt, rt.alloc(), *len);
+        expect_so(&rt, read == *wanted, "a length");
+    }
 }
 
 #[test]
-fn a_script_has_a_mebibyte_at_most(rt: HostRuntime) -> Result<(), Fail> {
-    assert!(rt; read_len(rt.alloc(), 0)? == Ok(0));
-    assert!(rt; read_len(rt.alloc(), 1_048_576)? == Ok(1_048_576));
-    assert!(rt; read_len(rt.alloc(), 1_048_577)? == Err(ScriptFault::TooMuch));
-    Ok(())
-}
-
-#[test]
-fn a_slow_reader_is_read_to_its_end(rt: HostRuntime) -> Result<(), Fail> {
+fn a_slow_reader_is_read_to_its_end(rt: HostRuntime) {
     let mut reader = Slow {
         rest: b"osds 3\n",
         fails: None,
     };
-    let script = read_script(rt.alloc(), &mut reader)?;
-    assert!(rt; script.as_slice() == b"osds 3\n".as_slice());
-    Ok(())
+    let script = read_script(rt.alloc(), &mut reader).expect(&rt, "a script");
+    let is_whole = script.as_slice() == b"osds 3\n".as_slice();
+    expect_so(&rt, is_whole, "a script");
 }
 
 #[test]
@@ -86,35 +98,38 @@ fn a_reader_that_fails_is_not_read(rt: HostRuntime) {
             rest: b"osds 3\n",
             fails: Some(kind),
         };
-        assert!(rt; read_script(rt.alloc(), &mut reader).err() == Some(ScriptFault::Read));
+        let refused = read_script(rt.alloc(), &mut reader).err();
+        expect_so(&rt, refused == Some(ScriptFault::Read), "a refusal");
     }
 }
 
+/// For how many bytes a writer has room, whether it fails then, whether it takes all, and what it takes.
+const WRITTEN: &[(usize, bool, bool, &str); 5] = &[
+    (9, false, true, "epoch 1"),
+    (7, true, true, "epoch 1"),
+    (5, true, false, "epoch"),
+    (5, false, false, "epoch"),
+    (0, false, false, ""),
+];
+
+/// Whether such a writer takes this of a text of seven bytes, and all of it or not.
+fn is_written(alloc: Global, room: usize, fails: bool, whole: bool, wanted: &str) -> bool {
+    let mut writer = Narrow {
+        taken: Vec::new(alloc),
+        room,
+        fails,
+    };
+    let as_expected = match write_text(&mut writer, "epoch 1") {
+        Ok(()) => whole,
+        Err(fault) => !whole && fault == ScriptFault::Write,
+    };
+    as_expected && writer.taken.as_slice() == wanted.as_bytes()
+}
+
 #[test]
-fn a_writer_takes_all_or_a_beginning(rt: HostRuntime) -> Result<(), Fail> {
-    let cases = [
-        (9, false, true, "epoch 1"),
-        (7, true, true, "epoch 1"),
-        (5, true, false, "epoch"),
-        (5, false, false, "epoch"),
-        (0, false, false, ""),
-    ];
-    for (room, fails, whole, wanted) in cases {
-        let mut writer = Narrow {
-            taken: Vec::new(rt.alloc()),
-            room,
-            fails,
-        };
-        let written = write_text(&mut writer, "epoch 1");
-        assert!(rt;
-            written
-                == if whole {
-                    Ok(())
-                } else {
-                    Err(ScriptFault::Write)
-                }
-        );
-        assert!(rt; writer.taken.as_slice() == wanted.as_bytes());
+fn a_writer_takes_all_or_a_beginning(rt: HostRuntime) {
+    for (room, fails, whole, wanted) in WRITTEN {
+        let is_written = is_written(rt.alloc(), *room, *fails, *whole, wanted);
+        expect_so(&rt, is_written, wanted);
     }
-    Ok(())
 }

@@ -6,6 +6,7 @@ use super::steps::Step::{
     SettleAll, Stuck, TakeBack, Wire,
 };
 use super::steps::{Step, begun, expect, expect_from};
+use crate::expecting::expect_so;
 use crate::operations::Work;
 use entry_core::TryCopy;
 use group_core::Group;
@@ -119,6 +120,6 @@ const PRINTED: [(GroupFault, &str); 2] = [
 fn faults_print(rt: HostRuntime) {
     for (fault, text) in PRINTED {
         let printed = format!(in rt.alloc(); "{fault}").expect(&rt, "memory");
-        assert!(&rt; printed.as_str() == text, "{printed}");
+        expect_so(&rt, printed.as_str() == text, text);
     }
 }

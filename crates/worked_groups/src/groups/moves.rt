@@ -1,6 +1,7 @@
 //! Moves in two steps: given up, and made.
 
 use super::steps::begun;
+use crate::expecting::expect_row;
 use crate::sets::{set, up};
 use group_core::PreparedGroup;
 use group_types::GroupMove;
@@ -48,6 +49,7 @@ const MOVES: &[(To, usize); 4] = &[
 #[test]
 fn moves_in_two_steps(rt: HostRuntime) {
     for (place, (to, sent)) in MOVES.iter().enumerate() {
-        assert!(&rt; on_the_way(&rt, rt.alloc(), *to) == (3, *sent), "{place}");
+        let is_right = on_the_way(&rt, rt.alloc(), *to) == (3, *sent);
+        expect_row(&rt, is_right, "move", place);
     }
 }

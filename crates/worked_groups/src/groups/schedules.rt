@@ -3,6 +3,7 @@
 
 use super::requests::request;
 use super::steps::{begun, has_decided, is_answered};
+use crate::expecting::expect_row;
 use crate::operations::Work;
 use crate::sets::{set, up};
 use Event::{Deliver, Lose, LoseAll, Move, Settle, Submit};
@@ -338,10 +339,11 @@ fn played<R: Abort>(rt: &R, alloc: Global, example: Example, mishap: Mishap, at:
         passed_over: 0,
     };
     for event in example.events {
-        assert!(rt;
+        expect_row(
+            rt,
             stage.plays(rt, alloc, *event),
-            "refused, {at} of {}",
-            example.count
+            "refused where it goes wrong at",
+            at,
         );
     }
     stage
@@ -359,7 +361,8 @@ fn goes_as_told<R: Abort>(rt: &R, alloc: Global, example: Example) -> bool {
 #[test]
 fn nothing_goes_wrong(rt: HostRuntime) {
     for example in EXAMPLES {
-        assert!(&rt; goes_as_told(&rt, rt.alloc(), example), "{}", example.count);
+        let goes = goes_as_told(&rt, rt.alloc(), example);
+        expect_row(&rt, goes, "the example of messages", example.count);
     }
 }
 
@@ -376,11 +379,8 @@ fn ends_well<R: Abort>(rt: &R, alloc: Global, example: Example, mishap: Mishap, 
 // An example ends well, where this goes wrong at one place after another.
 fn expect_well<R: Abort>(rt: &R, alloc: Global, example: Example, mishap: Mishap) {
     for at in 0..example.count {
-        assert!(rt;
-            ends_well(rt, alloc, example, mishap, at),
-            "{at} of {}",
-            example.count
-        );
+        let is_well = ends_well(rt, alloc, example, mishap, at);
+        expect_row(rt, is_well, "it goes wrong at", at);
     }
 }
 

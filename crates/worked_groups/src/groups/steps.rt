@@ -4,6 +4,7 @@ ghost use Rattle.std.specs.Prelude.{◌≤◌};
 
 use super::requests::request;
 use crate::copies::{Says, is_said};
+use crate::expecting::expect_row;
 use crate::looks::{are, gives};
 use crate::operations::{Work, name};
 use crate::sets::{set, up};
@@ -156,11 +157,7 @@ fn goes<R: Abort>(rt: &R, alloc: Global, group: &mut Group, step: Step) -> bool 
 // A group takes these steps, one after another, each of which must go as it says.
 pub(super) fn expect<R: Abort>(rt: &R, alloc: Global, group: &mut Group, steps: &[Step]) {
     for (place, step) in steps.iter().enumerate() {
-        assert!(rt;
-            goes(rt, alloc, group, *step),
-            "step {place} of {}",
-            steps.len()
-        );
+        expect_row(rt, goes(rt, alloc, group, *step), "step", place);
     }
 }
 
