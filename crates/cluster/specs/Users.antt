@@ -9,7 +9,7 @@ use Rattle.auth_db.specs.Users.{after, HasTicket}
 use Rattle.auth_db.specs.Refusals.{known_refusal, auth_refusal, RefusedOrMemory}
 use Rattle.world_core.specs.declared.event.AuthCommand.{AuthCommand}
 use Rattle.world_core.specs.declared.event.Told.{Told}
-use Rattle.world_core.specs.Front.{command_of, told_auth}
+use Rattle.world_core.specs.Front.{command_of, most_sessions, told_auth}
 use Rattle.cluster.specs.declared.users.UserTable.{UserTable}
 use Rattle.cluster.specs.declared.users.UserEntry.{UserEntry}
 use Rattle.cluster.specs.declared.users.UserEntry.TheVariants.{Changed, Opened, Looked, Idle}
@@ -35,7 +35,7 @@ open_entry s t (Err fault) = Idle
 -- the first reason to refuse a session
 abbrev pub refusal_after : UserTable → Option AuthFault → Option OpenFault
 refusal_after t (Some fault) = Some (opening.User fault)
-refusal_after t None = if nat_le 1024 t.sessions then Some opening.Limit else None
+refusal_after t None = if nat_le most_sessions t.sessions then Some opening.Limit else None
 
 abbrev pub open_refusal : UserTable → List ℕ → Option OpenFault
 open_refusal t name = refusal_after t (known_refusal t.db.users name)

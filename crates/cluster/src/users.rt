@@ -11,10 +11,7 @@ use common_types::Name;
 use std::marker::Model;
 use turn_lock::{Recorded, Step};
 use verdict_core::SharedTicket;
-use world_core::{AuthCommand, Told, change_users};
-
-/// The most sessions that are opened, closed ones counted.
-const MOST_SESSIONS: u32 = 1024;
+use world_core::{AuthCommand, MOST_SESSIONS, Told, change_users};
 
 /// The users, and how many sessions were opened.
 #[derive(Drop)]

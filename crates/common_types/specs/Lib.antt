@@ -1,2 +1,3 @@
 pub mod WordBytes
 pub mod Refused
+pub mod Escapes

@@ -1,15 +1,12 @@
 -- Statement: contracts of public calls use it.
 -- How the position of a fault is shown under its text (this project's profile). Every line ends with byte 10.
-use Rattle.std.specs.Prelude.{ℕ, ◌+◌, ◌/◌, ◌%◌, ◌&&◌, List, [], ◌∷◌, ◌++◌, codes, length, take, replicate, flat_map, nat_le, nat_lt, if◌then◌else◌}
-
--- 0 to 9 and a to f
-abbrev pub hex_digit : ℕ → ℕ
-hex_digit n = if nat_lt n 10 then 48 + n else 87 + n
+use Rattle.std.specs.Prelude.{ℕ, ◌&&◌, List, [], ◌∷◌, ◌++◌, codes, length, take, replicate, flat_map, nat_le, if◌then◌else◌}
+use Rattle.common_types.specs.Escapes.{escape}
 
 -- bytes 32 to 126 as they are; any other as \x and its two hexadecimal digits
 abbrev pub shown_byte : ℕ → List ℕ
 shown_byte b =
-    if nat_le 32 b && nat_le b 126 then b ∷ [] else codes "\\x" ++ (hex_digit (b / 16) ∷ hex_digit (b % 16) ∷ [])
+    if nat_le 32 b && nat_le b 126 then b ∷ [] else escape b
 
 -- a text as it is shown
 abbrev pub shown : List ℕ → List ℕ

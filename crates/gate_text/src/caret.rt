@@ -1,25 +1,12 @@
 //! Where the fault of a capability text stands.
 
-ghost use Rattle.std.specs.Prelude.{◌≡◌, ◌++◌, ◌&&◌, [], ◌∷◌, IfOk, IsTrue, OnOk, codes, nat_le, replicate, string_bytes, take, ◌<◌, ◌/◌, ◌%◌};
-ghost use Rattle.gate_text.specs.Caret.{hex_digit, pointed_text, shown, shown_byte};
+ghost use Rattle.std.specs.Prelude.{◌≡◌, ◌++◌, ◌&&◌, IfOk, IsTrue, OnOk, nat_le, replicate, string_bytes, take, ◌<◌};
+ghost use Rattle.gate_text.specs.Caret.{pointed_text, shown, shown_byte};
 
 use cap_text::{CapFault, FaultKind, parse};
-use common_types::OutOfMemory;
+use common_types::{OutOfMemory, push_escape};
 use std::alloc::Global;
 use std::io::Write;
-
-/// The hexadecimal digit of a number below 16.
-fn hex_digit(number: u8) -> u8
-    requires { number < 16 }
-    ensures digit { result ≡ hex_digit number }
-    ensures ascii { result < 128 }
-{
-    if number < 10 {
-        48 + number
-    } else {
-        87 + number
-    }
-}
 
 /// Whether a byte is shown as it is.
 fn is_plain(byte: u8) -> bool
@@ -30,59 +17,22 @@ fn is_plain(byte: u8) -> bool
 }
 
 /// Adds a byte as it is shown: 32 to 126 as they are, any other as `\x` and two hexadecimal digits.
-fn push_shown_byte(line: &mut Vec<u8>, byte: u8) -> Result<(), OutOfMemory>
-    ensures { OnOk result (line.new.items ≡ line.old.items ++ shown_byte byte) }
-{
-    if is_plain(byte) {
-        return line.extend_from_slice([byte].as_slice());
-    }
-    let digits = [b'\\', b'x', hex_digit(byte / 16), hex_digit(byte % 16)];
-    line.extend_from_slice(digits.as_slice())
-}
-
-/// Adds bytes as they are shown.
-fn push_shown(line: &mut Vec<u8>, bytes: &[u8]) -> Result<(), OutOfMemory>
-    ensures { OnOk result (line.new.items ≡ line.old.items ++ shown bytes.now) }
-{
-    for byte in bytes {
-        push_shown_byte(line, *byte)?;
-    }
-    Ok(())
-}
-
-/// Adds a byte of ASCII.
-fn push_ascii(text: &mut String, byte: u8) -> Result<(), OutOfMemory>
-    requires { byte < 128 }
-    ensures { OnOk result (string_bytes text.new ≡ string_bytes text.old ++ byte ∷ []) }
-{
-    text.push(char::from(byte))
-}
-
-/// Adds `\x` and the two hexadecimal digits of a byte.
-fn push_escaped(text: &mut String, byte: u8) -> Result<(), OutOfMemory>
-    ensures { OnOk result (string_bytes text.new ≡ string_bytes text.old ++ (codes "\\x" ++ (hex_digit (byte / 16) ∷ hex_digit (byte % 16) ∷ []))) }
-{
-    text.push_str("\\x")?;
-    push_ascii(text, hex_digit(byte / 16))?;
-    push_ascii(text, hex_digit(byte % 16))
-}
-
-/// Adds a byte to a text as it is shown.
-fn push_shown_char(text: &mut String, byte: u8) -> Result<(), OutOfMemory>
+fn push_shown_byte(text: &mut String, byte: u8) -> Result<(), OutOfMemory>
     ensures { OnOk result (string_bytes text.new ≡ string_bytes text.old ++ shown_byte byte) }
 {
     if is_plain(byte) {
-        push_ascii(text, byte)
+        text.push(char::from(byte))
     } else {
-        push_escaped(text, byte)
+        push_escape(text, byte)
     }
 }
 
-fn push_shown_bytes(text: &mut String, bytes: &[u8]) -> Result<(), OutOfMemory>
+/// Adds bytes as they are shown.
+fn push_shown(text: &mut String, bytes: &[u8]) -> Result<(), OutOfMemory>
     ensures { OnOk result (string_bytes text.new ≡ string_bytes text.old ++ shown bytes.now) }
 {
     for byte in bytes {
-        push_shown_char(text, *byte)?;
+        push_shown_byte(text, *byte)?;
     }
     Ok(())
 }
@@ -92,7 +42,7 @@ fn push_shown_bytes(text: &mut String, bytes: &[u8]) -> Result<(), OutOfMemory>
 pub fn push_shown_text(text: &mut String, more: &str) -> Result<(), OutOfMemory>
     ensures { OnOk result (string_bytes text.new ≡ string_bytes text.old ++ shown more.now) }
 {
-    push_shown_bytes(text, more.as_bytes())
+    push_shown(text, more.as_bytes())
 }
 
 /// Adds so many blanks.
@@ -109,10 +59,11 @@ pub fn pointed_text(alloc: Global, text: &str, position: usize) -> Result<Vec<u8
     ensures { IfOk result (λ lines. lines.items ≡ pointed_text text.now position) }
 {
     let (before, behind) = cut(text.as_bytes(), position);
-    let mut lines = Vec::new(alloc);
-    push_shown(&mut lines, before)?;
-    let columns = lines.len();
-    push_shown(&mut lines, behind)?;
+    let mut shown = String::new(alloc);
+    push_shown(&mut shown, before)?;
+    let columns = shown.len();
+    push_shown(&mut shown, behind)?;
+    let mut lines = shown.into_bytes();
     lines.extend_from_slice(b"\n")?;
     push_blanks(&mut lines, columns)?;
     lines.extend_from_slice(b"^\n")?;

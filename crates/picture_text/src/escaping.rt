@@ -1,5 +1,6 @@
 //! Bytes of a script as text of a picture.
 
+use common_types::push_escape;
 use place_core::OutOfMemory;
 use std::fmt::Write;
 
@@ -13,7 +14,7 @@ fn push_xml_byte(out: &mut String, byte: u8) -> Result<(), OutOfMemory> {
         b'"' => out.push_str("&quot;"),
         b'\'' => out.push_str("&#39;"),
         32..=126 => out.push(char::from(byte)),
-        _ => write!(out, "\\x{byte:02x}"),
+        _ => push_escape(out, byte),
     }
 }
 

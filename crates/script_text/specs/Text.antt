@@ -3,6 +3,7 @@
 use Prim.Native.Nat.{zero, suc}
 use Rattle.std.specs.Prelude.{ℕ, ◌+◌, ◌/◌, ◌%◌, List, [], ◌∷◌, ◌++◌, Bool, ◌||◌, ◌&&◌, not, if◌then◌else◌, ◌==◌, nat_lt, codes}
 use Rattle.std.specs.List.{flat_map}
+use Rattle.common_types.specs.Escapes.{escape}
 use Rattle.script_text.specs.Words.{is_printable}
 
 -- each line ends with byte 10
@@ -13,16 +14,13 @@ line text = text ++ 10 ∷ []
 abbrev pub item : List ℕ → List ℕ
 item text = line (codes "- " ++ text)
 
-abbrev pub hex_digit : ℕ → ℕ
-hex_digit d = if nat_lt d 10 then 48 + d else 87 + d
-
 -- printable, and neither a double quote nor a backslash
 abbrev pub stands_for_itself : ℕ → Bool
 stands_for_itself b = is_printable b && not (b == 34 || b == 92)
 
 -- a byte between double quotes: itself, or \x and two hexadecimal digits
 abbrev pub glyph : ℕ → List ℕ
-glyph b = if stands_for_itself b then b ∷ [] else 92 ∷ 120 ∷ hex_digit (b / 16) ∷ hex_digit (b % 16) ∷ []
+glyph b = if stands_for_itself b then b ∷ [] else escape b
 
 abbrev pub quoted : List ℕ → List ℕ
 quoted text = 34 ∷ (flat_map glyph text ++ 34 ∷ [])

@@ -1,9 +1,10 @@
 //! Printed texts.
 
-ghost use Rattle.std.specs.Prelude.{◌≡◌, ◌++◌, ◌∷◌, [], ◌<◌, OnOk, string_bytes, decimal};
+ghost use Rattle.std.specs.Prelude.{◌≡◌, ◌++◌, OnOk, string_bytes, decimal};
 ghost use Rattle.script_text.specs.Text as spec;
 ghost use Rattle.script_text.specs.Text.{glyph, quoted, item};
 
+use common_types::push_escape;
 use std::alloc::AllocError;
 use std::fmt::Write;
 
@@ -13,26 +14,13 @@ fn stands_for_itself(byte: u8) -> bool
     32 <= byte && byte <= 126 && !(byte == b'"' || byte == b'\\')
 }
 
-fn hex_digit(value: u8) -> char
-    requires { value < 16 }
-    ensures { result ≡ spec.hex_digit value }
-{
-    if value < 10 {
-        char::from(b'0' + value)
-    } else {
-        char::from(b'a' + (value - 10))
-    }
-}
-
 fn push_glyph(text: &mut String, byte: u8) -> Result<(), AllocError>
     ensures { OnOk result (string_bytes text.new ≡ string_bytes text.old ++ glyph byte) }
 {
     if stands_for_itself(byte) {
         return text.push(char::from(byte));
     }
-    text.push_str("\\x")?;
-    text.push(hex_digit(byte / 16))?;
-    text.push(hex_digit(byte % 16))
+    push_escape(text, byte)
 }
 
 /// Adds bytes between double quotes: bytes 32 to 126 other than `"` and `\` as they are, others as `\x` and two lower

@@ -167,9 +167,13 @@ abbrev pub asking_refusal : Front → Result (List Sealed) Fault → Option Faul
 asking_refusal front (Ok requests) = full_refusal front requests
 asking_refusal front (Err fault) = Some fault
 
+-- so many sessions there may be, closed ones counted
+abbrev pub most_sessions : ℕ
+most_sessions = 1024
+
 -- an unknown user, or one session too many
 abbrev pub opening_refusal : Users → List Session → List ℕ → Option Fault
-opening_refusal users sessions entity = option_or (option_map OfUsers (known_refusal users entity)) (if nat_le 1024 (length sessions) then Some Limit else None)
+opening_refusal users sessions entity = option_or (option_map OfUsers (known_refusal users entity)) (if nat_le most_sessions (length sessions) then Some Limit else None)
 
 -- no such session, or its user is gone
 abbrev pub renewal_refusal : Users → Result Session Fault → Option Fault

@@ -29,8 +29,8 @@ use map_core::{ClusterMap, MapCommand};
 use std::alloc::Global;
 use std::marker::Model;
 
-/// The most sessions that there may be, closed ones counted.
-const MOST_SESSIONS: usize = 1024;
+/// The most sessions that there may be, closed ones counted (W6).
+pub const MOST_SESSIONS: u32 = 1024;
 
 /// Users, map, sessions, submissions and lists. Contracts see it as the definitions' front.
 pub(crate) struct Front {
@@ -167,7 +167,7 @@ impl Front {
         ensures unchanged { OnErr result (self.new ≡ self.old) }
     {
         check_user(&self.users, &entity)?;
-        if self.sessions.len() >= MOST_SESSIONS {
+        if self.sessions.len() >= MOST_SESSIONS as usize {
             return Err(WorldFault::Limit);
         }
         let number = self.sessions.len() as u32 + 1;

@@ -30,6 +30,7 @@ mod world;
 pub use asking::{are_names, is_namespace};
 pub use event::{Ask, AuthCommand, Event, Told};
 pub use fault::WorldFault;
+pub use front::MOST_SESSIONS;
 pub use group_places::place_of;
 pub use ops::Ops;
 pub use running::run;

@@ -1,6 +1,5 @@
 use Rattle.std.proofs.Common.{◌≡◌, ◌∙◌, ◌++◌, ◌<◌, length, sym, ap, subst, arith, OnOk, string_bytes}
 use Rattle.std.proofs.lemmas.Bool.Decides.{nat_tests}
-use Rattle.script_text.specs.Text.{numeral}
 use Rattle.script_text.specs.Inside.{IsCount, digits_text}
 use Rattle.script_text.proofs.Numerals.{are_digits, printed_count}
 use Rattle.script_text.proofs.counts.push_count.Goals as goal

@@ -1,4 +1,4 @@
-use Rattle.std.proofs.Common.{◌≡◌, ◌∙◌, ◌+◌, sym, ap, subst}
+use Rattle.std.proofs.Common.{◌∙◌, ◌+◌, sym, ap, subst}
 use Rattle.script_text.specs.Inside.{count_of, IsCount, one_more}
 use Rattle.script_text.proofs.Numerals.{adds}
 use Rattle.script_text.proofs.counts.Count.add_one.Goals as goal
