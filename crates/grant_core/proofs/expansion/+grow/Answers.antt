@@ -1,4 +1,4 @@
-use Rattle.std.proofs.Common.{◌≡◌, [], ◌++◌, ap, map, sym}
+use Rattle.std.proofs.Common.{◌≡◌, [], ◌++◌, ap, map, sym, rules}
 use Rattle.grant_core.specs.Flat.{filled_use, under}
 use Rattle.grant_core.specs.Found.{parts_before}
 use Rattle.grant_core.specs.Tree.{flat_branches}
@@ -10,3 +10,6 @@ grow_use-returns-then-profile-eq0 t c =
     let none : parts_before c.args.profiles.now.entries c.args.before (filled_use c.args.used.now c.args.inner.now) ≡ [] =
     nothing_found c.args.profiles.now.entries c.args.before c.args.used.now c.args.inner.now _ _ c.requires.sized c.in-Some.ensures c.if-profile-eq0.true in
     ap (λ es. map (under c.args.number) es ++ flat_branches c.args.rest) (sym none)
+
+pub grow_use-returns : goal.grow_use-returns
+grow_use-returns t c = search rules

@@ -1,0 +1,6 @@
+use Rattle.std.proofs.Common.{arith}
+use Rattle.std.proofs.lemmas.Grind.{common_steps}
+use Rattle.grant_core.proofs.refusal.accepted_size.Goals as goal
+
+pub returns-then-len-ge32-clause-refused : goal.returns-then-len-ge32-clause-refused
+returns-then-len-ge32-clause-refused c = grind (arith, common_steps)
