@@ -1,6 +1,7 @@
-use Rattle.std.proofs.Common.{subst}
+use Rattle.std.proofs.Common.{subst, arith}
 use Rattle.suffix_core.specs.Reached.{IsReached}
 use Rattle.group_core.proofs.Reached.{decided_few}
+use Rattle.std.proofs.lemmas.Grind.{common_steps}
 use Rattle.group_core.proofs.group.Group.audit.Goals as goal
 
 pub returns-in_err-copy-clause-few : goal.returns-in_err-copy-clause-few
@@ -11,3 +12,6 @@ returns-in_err-push-clause-few c = decided_few c.args.self.now (subst IsReached 
 
 pub returns-clause-few : goal.returns-clause-few
 returns-clause-few c = decided_few c.args.self.now (subst IsReached c.self.view_is c.self.invariant.reached)
+
+pub returns-clause-items : goal.returns-clause-items
+returns-clause-items c = grind (arith, common_steps)

@@ -1,0 +1,5 @@
+use Rattle.std.proofs.Common.{rules}
+use Rattle.peer_core.proofs.state.State.query_for.Goals as goal
+
+pub returns : goal.returns
+returns c = search rules
