@@ -1,6 +1,7 @@
-use Rattle.std.proofs.Common.{◌≡◌, take, subst}
+use Rattle.std.proofs.Common.{◌≡◌, take, subst, arith}
 use Rattle.std.proofs.lemmas.List.{take_all}
 use Rattle.world_core.proofs.RunsOfEvents.{IsAfter, after_next, after_none, run_serves}
+use Rattle.std.proofs.lemmas.Grind.{elements}
 use Rattle.world_core.proofs.running.run.Goals as goal
 
 pub loop-place-init : goal.loop-place-init
@@ -16,3 +17,6 @@ returns c =
     let all : take c.loop-place.place c.args.events.now ≡ c.args.events.now = take_all c.loop-place.place c.args.events.now c.loop-place-test.false in
     let h : IsAfter c.args.table c.args.daemons c.args.events.now c.loop-place.world = subst (λ l. IsAfter c.args.table c.args.daemons l c.loop-place.world) all c.loop-place.invariant in
     record { holds = h.holds; accepted = h.accepted; unrefused = h.unrefused; serves = run_serves c.args.table c.args.daemons c.args.events.now c.loop-place.world h; refused = tt }
+
+pub returns-in-Err-apply-clause-refused : goal.returns-in-Err-apply-clause-refused
+returns-in-Err-apply-clause-refused c = grind (arith, elements)
