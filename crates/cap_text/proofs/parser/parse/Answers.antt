@@ -7,6 +7,7 @@ use Rattle.cap_text.proofs.Reading.{one_utf8, one_shorter, skips_all, skips_some
 use Rattle.cap_text.proofs.Stars.{nil_of, not_nil_of}
 use Rattle.cap_text.proofs.Loop.{goes_on, no_list_at, first_at, no_list_unread, first_unread, no_list_past, past_found, no_list_end, first_end, spelled, told_none, told_first}
 use Rattle.cap_text.proofs.SpelledGrants.{text_is_spellable}
+use Rattle.std.proofs.lemmas.Grind.{common_steps}
 use Rattle.cap_text.proofs.parser.parse.Goals as goal
 
 pub from_vec-requires-clause-spellable : goal.from_vec-requires-clause-spellable
@@ -104,3 +105,6 @@ tokens-smaller c =
     let one = rw c.in-Some.is at c.look-found.ensures.token in
     let shorter = one_shorter c.tokens.behind_word c.tokens.rest.now c.in-Some.token c.in-Some.after.now one in
     omega (arith, shorter)
+
+pub from_vec-requires-clause-few : goal.from_vec-requires-clause-few
+from_vec-requires-clause-few c = grind (arith, common_steps)

@@ -1,10 +1,11 @@
-use Rattle.std.proofs.Common.{◌≡◌, ◌++◌, ap, sym, ◌∙◌}
+use Rattle.std.proofs.Common.{◌≡◌, ◌++◌, ap, sym, ◌∙◌, arith}
 use Rattle.std.specs.Prelude.{Some, slice_get}
 use Rattle.std.specs.List.{remove}
 use Rattle.peer_core.specs.Steps.{Stepped}
 use Rattle.peer_core.specs.Copy.{copy_step}
 use Rattle.suffix_core.specs.Types.{Sent, Message}
 use Rattle.whole_logs.proofs.Removed.{remove_before}
+use Rattle.std.proofs.lemmas.Grind.{common_steps, elements}
 use Rattle.group_core.proofs.effects.reach.Goals as goal
 
 pub returns-clause-wire_ok : goal.returns-clause-wire_ok
@@ -18,3 +19,9 @@ returns-clause-wire_ok c = λ m here. (
     let whole : c.append.new.self.sent ≡ c.args.wire.now.sent ++ (copy_step c.args.copy.now a).sent =
     c.append.ensures ∙ ap (λ l. l ++ c.into_vec.result.items) c.reserve.ensures.same ∙ ap (λ l. c.args.wire.now.sent ++ l) (c.into_vec.ensures ∙ sym step) in
     c.remove.ensures ∙ ap (λ l. remove l c.args.k) whole ∙ remove_before c.args.wire.now.sent (copy_step c.args.copy.now a).sent c.args.k c.requires.here)
+
+pub unreachable-requires : goal.unreachable-requires
+unreachable-requires c = grind (arith, elements)
+
+pub remove-requires : goal.remove-requires
+remove-requires c = grind (arith, common_steps)

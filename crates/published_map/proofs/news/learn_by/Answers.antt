@@ -1,10 +1,11 @@
-use Rattle.std.proofs.Common.{ap, ◌∙◌, subst}
+use Rattle.std.proofs.Common.{ap, ◌∙◌, subst, arith}
 use Rattle.left_right.specs.Sides.{view as known}
 use Rattle.map_core.specs.State.{GoesOn}
 use Rattle.published_map.specs.declared.published.PublishedMap.{PublishedMap}
 use Rattle.published_map.specs.declared.published.Knowledge.{Knowledge}
 use Rattle.published_map.specs.Published.{Sees}
 use Rattle.published_map.proofs.Grows.{grows, goes_on_itself, covers_on}
+use Rattle.std.proofs.lemmas.Grind.{common_steps}
 use Rattle.published_map.proofs.news.learn_by.Goals as goal
 
 pub enter_as-requires : goal.enter_as-requires
@@ -24,3 +25,12 @@ returns-then-fits-clause-ok c = let own = c.in-Ok-enter_as.own in let told = c.i
       (p.0, p.1),
       covers_on own.part.value.map told.part.value.map (known c.args.news.reader.place) (known told.place) up q,
     )
+
+pub returns-else-fits-clause-own : goal.returns-else-fits-clause-own
+returns-else-fits-clause-own c = grind (arith, common_steps)
+
+pub returns-else-fits-clause-news : goal.returns-else-fits-clause-news
+returns-else-fits-clause-news c = grind (arith, common_steps)
+
+pub returns-in-Err-enter_as-clause-news : goal.returns-in-Err-enter_as-clause-news
+returns-in-Err-enter_as-clause-news c = grind (arith, common_steps)

@@ -3,6 +3,7 @@ use Rattle.std.proofs.Math.Seq.{take-add}
 use Rattle.std.proofs.lemmas.List.{take_rest}
 use Rattle.std.specs.Io.KnownBytes.{Appends}
 use Rattle.script_text.proofs.Known.{appends_more, appends_kept}
+use Rattle.std.proofs.lemmas.Grind.{common_steps}
 use Rattle.script_text.proofs.streams.write_text.Goals as goal
 
 pub loop-written-preserved : goal.loop-written-preserved
@@ -29,3 +30,9 @@ returns-in-Err-clause-part g c =
     let done = c.loop-written.written in
     let xs = c.as_bytes-bytes.result.now in
     (take done xs, (drop done xs, take-append-drop done xs ∙ c.as_bytes-bytes.ensures.value), appends_kept _ _ _ _ c.loop-written.invariant.wrote c.in-Err.ensures.bytes)
+
+pub returns-clause-whole : goal.returns-clause-whole
+returns-clause-whole g c = grind (arith, common_steps)
+
+pub returns-clause-part : goal.returns-clause-part
+returns-clause-part g c = grind (arith, common_steps)

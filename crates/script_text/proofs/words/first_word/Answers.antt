@@ -1,8 +1,9 @@
-use Rattle.std.proofs.Common.{ℕ, List, length, drop, get_or, sym, ap, ◌∙◌, rules}
+use Rattle.std.proofs.Common.{ℕ, List, length, drop, get_or, sym, ap, ◌∙◌, rules, arith}
 use Rattle.std.specs.List.{prefix_len}
 use Rattle.std.proofs.lemmas.List.Sums.{prefix_len-le-length}
 use Rattle.script_text.specs.Inside.{is_space}
 use Rattle.script_text.proofs.Cursor.{no_word, at_quote, at_bare, bare_byte, not_empty, part_of, part_behind}
+use Rattle.std.proofs.lemmas.Grind.{common_steps}
 use Rattle.script_text.proofs.words.first_word.Goals as goal
 
 pub cut-requires-clause-within : goal.cut-requires-clause-within
@@ -41,3 +42,6 @@ returns-else-is_quote-clause-words c =
     let first = ap (λ (xs : List ℕ). get_or xs 0 0) c.as_bytes-2.ensures.value in
     let quote = sym c.is_quote.ensures ∙ c.if-is_quote.false in
     rw (c.bare_word.ensures.words) (at_bare c.args.text.now c.cut.result.1.now _ back some first quote)
+
+pub cut-requires-then-is_quote-clause-ascii : goal.cut-requires-then-is_quote-clause-ascii
+cut-requires-then-is_quote-clause-ascii c = grind (arith, common_steps)

@@ -20,3 +20,6 @@ returns c =
 
 pub returns-in-Err-apply-clause-refused : goal.returns-in-Err-apply-clause-refused
 returns-in-Err-apply-clause-refused c = grind (arith, elements)
+
+pub returns-in-Err-copy-clause-refused : goal.returns-in-Err-copy-clause-refused
+returns-in-Err-copy-clause-refused c = grind (arith, elements)

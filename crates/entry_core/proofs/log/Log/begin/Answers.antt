@@ -5,6 +5,7 @@ use Rattle.entry_core.specs.Laws.{changed}
 use Rattle.entry_core.specs.Stored.{change_of}
 use Rattle.entry_core.specs.declared.entry.Entry.{Entry}
 use Rattle.entry_core.proofs.Drafts.{draft_none, draft_back}
+use Rattle.std.proofs.lemmas.Grind.{common_steps}
 use Rattle.entry_core.proofs.log.Log.begin.Goals as goal
 
 pub returns-clause-draft : goal.returns-clause-draft
@@ -23,3 +24,6 @@ returns-clause-draft c =
     (change.objects ∙ ap (λ n. changed d.result.objects n (change_of back.back)) named)
     (λ s. change.changes s ∙ ap (λ n. changed (all_changed s d.result.changes.items) n (change_of back.back)) named)
     (change.back ∙ d.ensures.back)
+
+pub returns-then-kept-len-clause-draft : goal.returns-then-kept-len-clause-draft
+returns-then-kept-len-clause-draft c = grind (arith, common_steps)

@@ -1,10 +1,11 @@
-use Rattle.std.proofs.Common.{◌≡◌, ◌<◌, ap, sym, ◌∙◌, subst, length, false}
+use Rattle.std.proofs.Common.{◌≡◌, ◌<◌, ap, sym, ◌∙◌, subst, length, false, arith}
 use Rattle.std.specs.Prelude.{Some, slice_get}
 use Rattle.entry_core.specs.Log.{is_in}
 use Rattle.place_core.specs.Placement.{numbers_of}
 use Rattle.suffix_core.specs.Reached.{IsReached}
 use Rattle.group_core.proofs.Calls.{get_in, next_answered, whole_dropped, stepped}
 use Rattle.group_core.proofs.Lowering.{delivery_lowers, drop_lowers, found_lowers}
+use Rattle.std.proofs.lemmas.Grind.{elements}
 use Rattle.group_core.proofs.group.Group.deliver.Goals as goal
 
 pub invariant_of-self : goal.invariant_of-self
@@ -53,3 +54,6 @@ pub reach_daemon-requires-clause-here : goal.reach_daemon-requires-clause-here
 reach_daemon-requires-clause-here c =
     let here : slice_get c.self.inside.state.wire.sent c.args.k ≡ Some c.in-Some.message.now = ap (λ l. slice_get l c.args.k) (sym c.as_slice.ensures) ∙ sym c.in-Some.ensures in
     subst (λ v. c.args.k < length v.wire) c.self.view_is (get_in c.self.inside.state.wire.sent c.args.k c.in-Some.message.now here)
+
+pub reach_client-requires : goal.reach_client-requires
+reach_client-requires c = grind (arith, elements)

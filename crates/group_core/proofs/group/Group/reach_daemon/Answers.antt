@@ -1,9 +1,10 @@
-use Rattle.std.proofs.Common.{◌≡◌, ◌<◌, ◌≤◌, ap, sym, ◌∙◌, subst, length, max, true, refl}
+use Rattle.std.proofs.Common.{◌≡◌, ◌<◌, ◌≤◌, ap, sym, ◌∙◌, subst, length, max, true, refl, arith}
 use Rattle.std.specs.Prelude.{Some, slice_get, slice_set}
 use Rattle.entry_core.specs.Log.{is_in}
 use Rattle.suffix_core.specs.Types.{Osd}
 use Rattle.group_core.proofs.Calls.{get_below, get_or_some, next_swallowed, next_heard, stepped}
 use Rattle.group_core.proofs.Sends.{sent_few}
+use Rattle.std.proofs.lemmas.Grind.{common_steps}
 use Rattle.group_core.proofs.group.Group.reach_daemon.Goals as goal
 
 pub invariant_of-self : goal.invariant_of-self
@@ -49,3 +50,9 @@ returns-clause-ok c =
     (stepped c.self.view_is (next_heard c.self.invariant c.args.k c.args.daemon m.item c.index_mut-copy.result.now c.reach.new.copy c.reach.new.wire.sent (slice_set c.self.inside.state.copies.items c.args.daemon c.reach.new.copy) c.max-self-inside.result m.is to
     (subst (λ v. is_in v.up c.args.daemon ≡ true) (sym c.self.view_is) c.requires.up) found (c.in_ok-reach.ensures.copy_ok m.item m.is) (c.in_ok-reach.ensures.wire_ok m.item m.is) refl
     (c.max-self-inside.ensures ∙ ap (λ l. max c.self.inside.state.decided (length l)) c.decided-shown.ensures))).1
+
+pub invariant_of-self-in_err-reach : goal.invariant_of-self-in_err-reach
+invariant_of-self-in_err-reach c = grind (arith, common_steps)
+
+pub returns-in_err-reach-clause-err : goal.returns-in_err-reach-clause-err
+returns-in_err-reach-clause-err c = grind (arith, common_steps)

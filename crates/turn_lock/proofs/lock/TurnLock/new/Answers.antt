@@ -2,6 +2,7 @@ use Rattle.std.proofs.Common.{rules, ◌≡◌, ℕ, suc, ◌+◌, ◌-◌, ◌*
 use Rattle.turn_lock.specs.Seats.{IsFresh}
 use Rattle.turn_lock.specs.Turns.{last_word}
 use Rattle.turn_lock.proofs.Shares.{one_part_more, all_after}
+use Rattle.std.proofs.lemmas.Grind.{common_steps}
 use Rattle.turn_lock.proofs.lock.TurnLock.new.Goals as goal
 
 pub loop-preserved : goal.loop-preserved
@@ -32,3 +33,9 @@ returns-after-loop-clause-seats g c =
       all_after (IsFresh table) c.loop.all.items c.push_reserved-in-Ok-new.new.self.items _ c.push_reserved-in-Ok-new.ensures.items
           (λ k d h. (c.loop.invariant.cut k d h).0) (search rules, search rules, search rules, search rules),
     )
+
+pub split-other-requires-clause-ready : goal.split-other-requires-clause-ready
+split-other-requires-clause-ready g c = grind (arith, common_steps)
+
+pub overflow_sub-draws : goal.overflow_sub-draws
+overflow_sub-draws g c = grind (arith, common_steps)

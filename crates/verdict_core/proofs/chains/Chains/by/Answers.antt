@@ -6,6 +6,7 @@ use Rattle.verdict_core.specs.Chains.{AreChained}
 use Rattle.verdict_core.specs.Kinds.{chain_of, chains_of}
 use Rattle.verdict_core.proofs.ChainSteps.{chained_more}
 use Rattle.verdict_core.proofs.Walks.{got, chain_at, length-chains_of}
+use Rattle.std.proofs.lemmas.Grind.{common_steps}
 use Rattle.verdict_core.proofs.chains.Chains.by.Goals as goal
 
 pub loop-done-preserved : goal.loop-done-preserved
@@ -26,3 +27,6 @@ loop-done-preserved c =
     let head : c.index.result.now ≡ get_or first chain 0 = get_or_read first _ _ (omega (arith, chained.heads, c.chain_of-chain.ensures.small)) c.index.ensures 0 in
     subst (λ k. AreChained k chains (slice_set first chain place) (slice_set next place c.index.result.now)) (omega arith)
     (chained_more (length grants - done) place chains first next chain c.index.result.now (omega arith) (omega (arith, lengths)) here c.chain_of-chain.ensures.small head chained)
+
+pub loop-done-init : goal.loop-done-init
+loop-done-init c = grind (arith, common_steps)

@@ -5,6 +5,7 @@ use Rattle.std.proofs.lemmas.List.{get_or_read}
 use Rattle.verdict_core.specs.Kinds.{chains_of}
 use Rattle.verdict_core.specs.Chains.{gives}
 use Rattle.verdict_core.proofs.Walks.{none_first, none_next, got, length-chains_of}
+use Rattle.std.proofs.lemmas.Grind.{common_steps}
 use Rattle.verdict_core.proofs.chains.Chains.chain_gives.Goals as goal
 
 pub loop-place-init : goal.loop-place-init
@@ -36,3 +37,12 @@ loop-place-preserved g c =
           chained at same (ap (λ (e : List ℕ × AllowGrant). gives e.1 c.args.target.now c.args.needs.now (option_copied c.args.call)) c.index-grants-place.is ∙ sym c.gives.ensures ∙ c.if-gives.false) later c.loop-place.invariant.none;
       same = λ h. ap (λ i. get_or (chains_of kinds grants) i 0) later ∙ chained.next_in k (omega arith) (omega (arith, lengths, inside)) (omega (arith, later, lengths, h)) ∙ same;
     }
+
+pub returns-then-gives-clause-some : goal.returns-then-gives-clause-some
+returns-then-gives-clause-some g c = grind (arith, common_steps)
+
+pub index-requires-in-loop-place : goal.index-requires-in-loop-place
+index-requires-in-loop-place g c = grind (arith, common_steps)
+
+pub loop-place-smaller : goal.loop-place-smaller
+loop-place-smaller g c = grind (arith, common_steps)
