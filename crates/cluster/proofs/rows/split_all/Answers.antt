@@ -4,6 +4,7 @@ use Rattle.std.proofs.lemmas.List.{length-map, set-get_or}
 use Rattle.std.proofs.lemmas.List.Elements.{All-push}
 use Rattle.turn_lock.specs.Seats.{lock_of, seat_lock, seen_by}
 use Rattle.cluster.proofs.Places.{at_read, read_at, same_at, same_length, grown}
+use Rattle.std.proofs.lemmas.Grind.{common_steps}
 use Rattle.cluster.proofs.rows.split_all.Goals as goal
 
 pub split_seat-requires : goal.split_seat-requires
@@ -26,3 +27,12 @@ loop-k-preserved g c = let inv = c.loop-k.invariant in let k = c.loop-k.k in let
       new_seen = ap (map seen_by) c.push_reserved.ensures.items ∙ (grown seen_by c.loop-k.all.items c.split_seat.result (map seen_by ps) k [] (omega arith) (inv.new_seen ∙ ap (λ l. take k (map seen_by l)) (sym inv.same)) (new.1 ∙ sym (read_at seen_by ps k inside _ [] at)) ∙ ap (λ l. take (k + 1) (map seen_by l)) inv.same);
       none = subst (All (λ s. s.share ≡ 0)) (sym c.push_reserved.ensures.items) (All-push (λ s. s.share ≡ 0) c.loop-k.all.items c.split_seat.result inv.none new.2);
     }
+
+pub bounds-seats-k : goal.bounds-seats-k
+bounds-seats-k g c = grind (arith, common_steps)
+
+pub returns-clause-locks : goal.returns-clause-locks
+returns-clause-locks g c = grind (arith, common_steps)
+
+pub returns-clause-seen : goal.returns-clause-seen
+returns-clause-seen g c = grind (arith, common_steps)

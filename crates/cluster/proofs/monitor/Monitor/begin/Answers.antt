@@ -1,4 +1,4 @@
-use Rattle.std.proofs.Common.{◌≡◌, ℕ, List, refl, sym, ap, ◌∙◌, subst}
+use Rattle.std.proofs.Common.{◌≡◌, ℕ, List, refl, sym, ap, ◌∙◌, subst, arith}
 use Rattle.map_core.specs.declared.command.MapCommand.{MapCommand}
 use Rattle.entry_core.specs.declared.sealed.GroupId.{GroupId}
 use Rattle.cluster.specs.declared.cluster.Cluster.{Cluster}
@@ -12,6 +12,7 @@ use Rattle.cluster.proofs.Moved.{none_through, goes_nowhere, goes_through}
 use Rattle.cluster.proofs.Following.{follows_begun}
 use Rattle.cluster.proofs.GoingOn.{begins, stands_whole, where_none}
 use Rattle.std.specs.Prelude.{None}
+use Rattle.std.proofs.lemmas.Grind.{common_steps}
 use Rattle.cluster.proofs.monitor.Monitor.begin.Goals as goal
 
 -- the command that was copied, by which the change goes on
@@ -70,3 +71,6 @@ pub returns-in-Err-go_on-clause-follows : goal.returns-in-Err-go_on-clause-follo
 returns-in-Err-go_on-clause-follows g c first h = let old = c.args.self.now in
     let mid : Monitor = record old { map = c.apply.new.self; seats = c.any_full.new.seats } in
     c.go_on.ensures.follows first (follows_begun first c.args.command c.in-Ok.kept old mid c.requires.whole c.requires.free c.in-Ok.ensures c.any_full.ensures.looked c.in-Ok-apply.ensures.accepted refl h)
+
+pub any_full-requires-clause-places : goal.any_full-requires-clause-places
+any_full-requires-clause-places g c = grind (arith, common_steps)

@@ -1,8 +1,9 @@
-use Rattle.std.proofs.Common.{◌≡◌, sym, ◌∙◌}
+use Rattle.std.proofs.Common.{◌≡◌, sym, ◌∙◌, arith}
 use Rattle.std.specs.Prelude.{Some}
 use Rattle.cluster.specs.declared.monitor.Unfinished.TheVariants.{Laid}
 use Rattle.cluster.specs.Passes.{group_count}
 use Rattle.cluster.proofs.GoingOn.{stays, left_laid}
+use Rattle.std.proofs.lemmas.Grind.{elements}
 use Rattle.cluster.proofs.monitor.Monitor.finish.Goals as goal
 
 pub returns-in-Err-show-clause-finished : goal.returns-in-Err-show-clause-finished
@@ -14,3 +15,9 @@ returns-in-Err-show-clause-finished g c first command at h = let now = c.args.se
       shown = e.err.0 ∙ h.shown;
       left = e.err.1 command;
     }
+
+pub returns-in-Ok-clause-finished : goal.returns-in-Ok-clause-finished
+returns-in-Ok-clause-finished c = grind (arith, elements)
+
+pub returns-in-Err-clause-finished : goal.returns-in-Err-clause-finished
+returns-in-Err-clause-finished c = grind (arith, elements)

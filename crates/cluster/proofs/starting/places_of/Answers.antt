@@ -1,0 +1,9 @@
+use Rattle.std.proofs.Common.{arith}
+use Rattle.std.proofs.lemmas.Grind.{common_steps}
+use Rattle.cluster.proofs.starting.places_of.Goals as goal
+
+pub loop-placed-preserved : goal.loop-placed-preserved
+loop-placed-preserved c = grind (arith, common_steps)
+
+pub returns : goal.returns
+returns c = grind (arith, common_steps)
