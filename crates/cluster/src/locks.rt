@@ -61,6 +61,26 @@ fn empty_rows<T: Recorded>(alloc: Global, count: usize) -> Result<Vec<Row<T>>, A
     Ok(rows)
 }
 
+// A lock over one more group, and a seat of it more in each row.
+fn open_group(
+    alloc: Global,
+    locks: &mut Vec<TurnLock<LockedGroup>>,
+    rows: Vec<Row<LockedGroup>>,
+    group: LockedGroup,
+) -> Result<Vec<Row<LockedGroup>>, AllocError>
+    requires { 0 < vec_len rows }
+    ensures firsts { IfOk result (λ longer. each first_of locks.new.items ≡ each first_of locks.old.items ++ group_in group ∷ []) }
+    ensures count { IfOk result (λ longer. vec_len longer ≡ vec_len rows) }
+    ensures rows { IfOk result (λ longer. (passes : ℕ) → passes + 1 ≡ vec_len rows
+        → Beside (λ share row. IsFreshRow share locks.old.items row.items) (shares_of passes) rows.items
+        → Beside (λ share row. IsFreshRow share locks.new.items row.items) (shares_of passes) longer.items) }
+{
+    let (lock, seats) = open_lock(alloc, group, rows.len())?;
+    let longer = deal(alloc, rows, seats)?;
+    locks.push(lock)?;
+    Ok(longer)
+}
+
 // A lock over each group, and a row of their seats for each of so many.
 fn open_groups(
     alloc: Global,
@@ -75,9 +95,7 @@ fn open_groups(
     let mut rows = empty_rows(alloc, count)?;
     let mut locks = Vec::with_capacity(alloc, groups.len())?;
     for group in groups {
-        let (lock, seats) = open_lock(alloc, group, count)?;
-        rows = deal(alloc, rows, seats)?;
-        locks.push(lock)?;
+        rows = open_group(alloc, &mut locks, rows, group)?;
     }
     Ok((locks, rows))
 }

@@ -1,5 +1,5 @@
 -- What the examples of two tickets say of both.
-use Rattle.std.proofs.Common.{◌≡◌, ◌↔◌, ℕ, List, [], ◌∷◌, Bool, ◌&&◌, Result, Ok, Err, IfOk, refl, arith}
+use Rattle.std.proofs.Common.{◌≡◌, ◌↔◌, ℕ, List, [], ◌∷◌, Bool, ◌&&◌, Result, Ok, Err, IfOk, ◌⊎◌, inl, inr, refl, arith}
 use Rattle.std.specs.List.{All}
 use Rattle.grant_core.specs.Flat.{Flat}
 use Rattle.compare_core.specs.Widening.{IsGainedBy, WidensBy, request_of}
@@ -9,7 +9,7 @@ use Rattle.compare_core.specs.declared.registry.Registry.{Registry}
 use Rattle.gate_text.specs.declared.comparison.Comparison.{Comparison}
 use Rattle.gate_text.specs.declared.compare.Change.{Change}
 use Rattle.gate_text.specs.declared.compare_auth.Presence.{Presence}
-use Rattle.gate_text.specs.Compared.{IsRelation, IsChange, IsCompared, compared_by, relation_of, is_any, is_wider}
+use Rattle.gate_text.specs.Compared.{ComesTo, IsRelation, IsChange, IsCompared, IsCompareAnswer, IsNewAnswer, compared_by, relation_of, is_any, is_wider}
 
 -- the first of some examples is gained
 first : (registry : Registry) (old new : Flat) (example : Example) (examples : List Example) → All (λ e. IsGainedBy registry old new (request_of e)) (example ∷ examples) → WidensBy registry old new
@@ -53,3 +53,10 @@ change_told how presence name old new change text fails is printed ends = record
 pub ok_also : {T E : Type 0} {P Q : T → Type 0} (r : Result T E) → ((x : T) → P x → Q x) → IfOk r P → IfOk r Q
 ok_also (Ok x) also h = also x h
 ok_also (Err e) also h = tt
+
+-- what is said of a new text beside an old one's ticket is said of both texts
+pub answers_new : (how : Comparison) (old new : List ℕ) (old_grants : Flat) (text : List ℕ) (fails : Bool) → ComesTo old old_grants → IsNewAnswer how old_grants new text fails
+    → IsCompareAnswer how old new text fails
+answers_new how old new old_grants text fails comes (inl (new_grants, new_comes, compared)) =
+    inl (record { old_grants = old_grants; new_grants = new_grants; old_comes = comes; new_comes = new_comes; compared = compared })
+answers_new how old new old_grants text fails comes (inr refused) = inr (inr ((old_grants, comes), refused))

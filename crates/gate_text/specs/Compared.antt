@@ -173,6 +173,11 @@ pub record AreCompared (how : Comparison) (old new : List ℕ) (text : List ℕ)
   pub new_comes : ComesTo new new_grants
   pub compared : IsCompared how old_grants new_grants text fails
 
+-- a new text beside what the old one comes to
+abbrev pub IsNewAnswer : Comparison → Flat → List ℕ → List ℕ → Bool → Type 0
+IsNewAnswer how old_grants new text fails =
+    ((new_grants : Flat) × ComesTo new new_grants × IsCompared how old_grants new_grants text fails) ⊎ IsSideRefused how.format new (codes "new") text fails
+
 abbrev pub IsCompareAnswer : Comparison → List ℕ → List ℕ → List ℕ → Bool → Type 0
 IsCompareAnswer how old new text fails =
     AreCompared how old new text fails

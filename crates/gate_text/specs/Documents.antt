@@ -57,6 +57,10 @@ condition_document line =
 abbrev pub verdict_members : List ℕ → Members
 verdict_members word = member (codes "verdict") (string word) no_members
 
+-- of what is refused for this reason
+abbrev pub refused_document : List ℕ → Data
+refused_document fault = object (member (codes "fault") (string fault) (verdict_members (codes "refused")))
+
 -- a verdict, or the fault for which there is none, and its byte where one is at fault
 abbrev pub answer_document : Result Verdict VerdictFault → Data
 answer_document (Ok Allowed) = object (verdict_members (codes "allow"))
@@ -64,10 +68,8 @@ answer_document (Ok (Denied report)) =
     object (member (codes "report") (array (items_of (map condition_document report))) (verdict_members (codes "deny")))
 answer_document (Err (Caps fault)) =
     object (member (codes "byte") (number (unsigned fault.at)) (member (codes "fault") (string (cap.fault_text fault)) (verdict_members (codes "refused"))))
-answer_document (Err (Profiles fault)) =
-    object (member (codes "fault") (string (profiles.fault_text fault)) (verdict_members (codes "refused")))
-answer_document (Err (Calls fault)) =
-    object (member (codes "fault") (string (vectors.text_of fault)) (verdict_members (codes "refused")))
+answer_document (Err (Profiles fault)) = refused_document (profiles.fault_text fault)
+answer_document (Err (Calls fault)) = refused_document (vectors.text_of fault)
 
 -- what is printed of an answer
 abbrev pub answer_by : Format → Result Verdict VerdictFault → List ℕ

@@ -146,6 +146,17 @@ AreAllTold IsTold (entity ∷ entities) text fails =
     (front rest : List ℕ) × (first later : Bool) × IsTold entity front first × AreAllTold IsTold entities rest later
     × (text ≡ front ++ rest) × (fails ≡ (first || later))
 
+-- what is told of two lists, and whether it fails: the entities of the old list, and then those of the new list alone
+pub record AreListsTold (how : Comparison) (old new : List Entity) (text : List ℕ) (fails : Bool) : Type 0 where
+  pub old_text : List ℕ
+  pub new_text : List ℕ
+  pub old_fails : Bool
+  pub new_fails : Bool
+  pub old_told : AreAllTold (IsOldTold how new) old old_text old_fails
+  pub new_told : AreAllTold (IsNewTold how old) new new_text new_fails
+  pub whole : text ≡ old_text ++ new_text
+  pub ends : fails ≡ (old_fails || new_fails)
+
 -- what is printed of two lists, and whether the command fails: the entities of the old list, and then those of the new list alone
 pub record IsEntitiesAnswer (how : Comparison) (old new : List Entity) (text : List ℕ) (fails : Bool) : Type 0 where
   pub old_text : List ℕ

@@ -317,6 +317,42 @@ fn compared(
     Ok(Printed { text, fails })
 }
 
+/// What is printed of a new text, by the old one's ticket.
+fn compared_new(
+    alloc: Global,
+    profiles: &ProfileTable,
+    old: &Ticket,
+    new: &str,
+    how: Comparison,
+) -> Result<Printed, OutOfMemory>
+    requires { profiles.now ≡ built_in }
+    ensures { IfOk result (λ printed. spec.IsNewAnswer how old.now.grants new.now (string_bytes printed.text) printed.fails) }
+{
+    match ticket_of(alloc, profiles, new) {
+        Ok(ticket) => compared(alloc, old, &ticket, how),
+        Err(TextFault::OutOfMemory) => Err(AllocError),
+        Err(fault) => refused(alloc, "new", fault, how.format),
+    }
+}
+
+/// What is printed of two texts. The old one is refused first.
+fn compared_texts(
+    alloc: Global,
+    profiles: &ProfileTable,
+    old: &str,
+    new: &str,
+    how: Comparison,
+) -> Result<Printed, OutOfMemory>
+    requires { profiles.now ≡ built_in }
+    ensures { IfOk result (λ printed. IsCompareAnswer how old.now new.now (string_bytes printed.text) printed.fails) }
+{
+    match ticket_of(alloc, profiles, old) {
+        Ok(ticket) => compared_new(alloc, profiles, &ticket, new, how),
+        Err(TextFault::OutOfMemory) => Err(AllocError),
+        Err(fault) => refused(alloc, "old", fault, how.format),
+    }
+}
+
 /// What the program prints of two capability texts: `same`, `narrower`, `wider` or `different`, by what the new
 /// text allows and the old one denies and the other way round; then for each grant of the new text that by itself
 /// allows what the old text denies a line `+ PATH REQUEST`, and for each such grant of the old text a line
@@ -335,14 +371,5 @@ pub fn compare_text(
     ensures { IfOk result (λ printed. IsCompareAnswer how old.now new.now (string_bytes printed.text) printed.fails) }
 {
     let profiles = ProfileTable::builtin(alloc)?;
-    let old_ticket = match ticket_of(alloc, &profiles, old) {
-        Ok(ticket) => ticket,
-        Err(TextFault::OutOfMemory) => return Err(AllocError),
-        Err(fault) => return refused(alloc, "old", fault, how.format),
-    };
-    match ticket_of(alloc, &profiles, new) {
-        Ok(ticket) => compared(alloc, &old_ticket, &ticket, how),
-        Err(TextFault::OutOfMemory) => Err(AllocError),
-        Err(fault) => refused(alloc, "new", fault, how.format),
-    }
+    compared_texts(alloc, &profiles, old, new, how)
 }

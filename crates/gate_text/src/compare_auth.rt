@@ -4,7 +4,7 @@ ghost use Rattle.std.specs.Prelude.{◌≡◌, ◌++◌, ◌||◌, [], true, fal
 ghost use Rattle.std.specs.Str.{bytes_eq};
 ghost use Rattle.grant_core.specs.BuiltIn.{built_in};
 ghost use Rattle.gate_text.specs.Entities as spec;
-ghost use Rattle.gate_text.specs.Entities.{AreAllTold, IsBothTold, IsChangeTold, IsEntitiesAnswer, IsNewTold, IsOldTold, IsPairTold};
+ghost use Rattle.gate_text.specs.Entities.{AreAllTold, AreListsTold, IsBothTold, IsChangeTold, IsEntitiesAnswer, IsNewTold, IsOldTold, IsPairTold};
 
 use crate::caret::push_shown_text;
 use crate::compare::{Change, Relation, TextFault, changes, fails_check, push_number, ticket_of};
@@ -332,6 +332,53 @@ fn new_told(
     Ok(printed)
 }
 
+/// What is told of the old list, whose entities are looked up in the new one by their names.
+fn old_list_told(
+    alloc: Global,
+    profiles: &ProfileTable,
+    old: &[Entity],
+    new: &[Entity],
+    how: Comparison,
+) -> Result<Printed, OutOfMemory>
+    requires { profiles.now ≡ built_in }
+    ensures { IfOk result (λ printed. AreAllTold (IsOldTold how new.now) old.now (string_bytes printed.text) printed.fails) }
+{
+    let by_new = NamedEntities::of(alloc, new)?;
+    old_told(alloc, profiles, old, &by_new, how)
+}
+
+/// What is told of the new list, whose entities are looked up in the old one by their names.
+fn new_list_told(
+    alloc: Global,
+    profiles: &ProfileTable,
+    old: &[Entity],
+    new: &[Entity],
+    how: Comparison,
+) -> Result<Printed, OutOfMemory>
+    requires { profiles.now ≡ built_in }
+    ensures { IfOk result (λ printed. AreAllTold (IsNewTold how old.now) new.now (string_bytes printed.text) printed.fails) }
+{
+    let by_old = NamedEntities::of(alloc, old)?;
+    new_told(alloc, profiles, &by_old, new, how)
+}
+
+/// What is told of both lists: of the old one, and then of the new one.
+fn lists_told(
+    alloc: Global,
+    profiles: &ProfileTable,
+    old: &[Entity],
+    new: &[Entity],
+    how: Comparison,
+) -> Result<Printed, OutOfMemory>
+    requires { profiles.now ≡ built_in }
+    ensures { IfOk result (λ printed. AreListsTold how old.now new.now (string_bytes printed.text) printed.fails) }
+{
+    let mut told = old_list_told(alloc, profiles, old, new, how)?;
+    let of_new = new_list_told(alloc, profiles, old, new, how)?;
+    push_told(&mut told, &of_new)?;
+    Ok(told)
+}
+
 /// What the program prints of two lists of entities: for each entity of the old list in its order, and then for
 /// each of the new list alone, a line `ENTITY WORD`, and below it, indented by two blanks, the lines of
 /// `compare_text` for its texts. WORD is `narrower`, `wider` or `different`, or `new` or `gone` where one list alone
@@ -355,11 +402,7 @@ pub fn compare_entities(
     ensures { IfOk result (λ printed. IsEntitiesAnswer how old.now new.now (string_bytes printed.text) printed.fails) }
 {
     let profiles = ProfileTable::builtin(alloc)?;
-    let by_old = NamedEntities::of(alloc, old)?;
-    let by_new = NamedEntities::of(alloc, new)?;
-    let mut told = old_told(alloc, &profiles, old, &by_new, how)?;
-    let of_new = new_told(alloc, &profiles, &by_old, new, how)?;
-    push_told(&mut told, &of_new)?;
+    let told = lists_told(alloc, &profiles, old, new, how)?;
     Ok(Printed {
         text: entities_by(alloc, told.text, how.format)?,
         fails: told.fails,

@@ -5,11 +5,13 @@ ghost use Rattle.serde_json.specs.View.{view};
 ghost use Rattle.gate_text.specs.Compared.{compared_document, example_document, examples_document, side_document};
 ghost use Rattle.gate_text.specs.Documents.{json_line, piece};
 ghost use Rattle.gate_text.specs.Entities.{change_document, unjudged_document};
+ghost use Rattle.gate_text.specs.declared.compare.TextFault.TheVariants.{Spelling};
 
 use crate::compare::{Change, Relation, TextFault};
 use crate::compare_auth::{Presence, became};
 use crate::document::{json_line, piece_of};
 use crate::request::push_request;
+use cap_text::CapFault;
 use common_types::OutOfMemory;
 use compare_core::Example;
 use serde_json::{Value, json};
@@ -105,6 +107,19 @@ pub(crate) fn change_piece(
     piece_of(alloc, &document)
 }
 
+fn misspelt_value(
+    alloc: Global,
+    name: &str,
+    presence: Presence,
+    fault: CapFault,
+) -> Result<Value, OutOfMemory>
+    ensures { IfOk result (λ value. view value ≡ unjudged_document name.now presence (Spelling fault)) }
+{
+    let text = format!(in alloc; "{fault}")?;
+    let change = became(presence);
+    json!(in alloc; {"byte": fault.at, "change": change, "entity": name, "fault": text})
+}
+
 fn unjudged_value(
     alloc: Global,
     name: &str,
@@ -113,13 +128,11 @@ fn unjudged_value(
 ) -> Result<Value, OutOfMemory>
     ensures { IfOk result (λ value. view value ≡ unjudged_document name.now presence fault) }
 {
-    let text = format!(in alloc; "{fault}")?;
-    let change = became(presence);
     match fault {
-        TextFault::Spelling(fault) => {
-            json!(in alloc; {"byte": fault.at, "change": change, "entity": name, "fault": text})
-        }
+        TextFault::Spelling(fault) => misspelt_value(alloc, name, presence, fault),
         TextFault::Expansion(_) | TextFault::OutOfMemory => {
+            let text = format!(in alloc; "{fault}")?;
+            let change = became(presence);
             json!(in alloc; {"change": change, "entity": name, "fault": text})
         }
     }

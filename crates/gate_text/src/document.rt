@@ -1,13 +1,16 @@
 //! Answers as JSON documents.
 
-ghost use Rattle.std.specs.Prelude.{◌≡◌, IfOk, false, map, string_bytes};
+ghost use Rattle.std.specs.Prelude.{◌≡◌, ◌++◌, Err, IfOk, Ok, OnOk, false, map, string_bytes};
 ghost use Rattle.serde_json.specs.Data.{array};
 ghost use Rattle.serde_json.specs.View.{items_of, view};
 ghost use Rattle.serde_json.specs.Written.{has_float};
 ghost use Rattle.cap_text.specs.Printed.{printed};
-ghost use Rattle.gate_text.specs.Documents.{answer_document, condition_document, entity_document, expansion_document, explained_document, grant_document, json_line, piece, spelling_document};
+ghost use Rattle.gate_text.specs.Documents.{answer_document, condition_document, entity_document, expansion_document, explained_document, grant_document, json_line, piece, refused_document, spelling_document};
 ghost use Rattle.gate_text.specs.Documents as spec;
 ghost use Rattle.gate_text.specs.Table.{row_document};
+ghost use Rattle.gate_text.specs.declared.format.Format.TheVariants.{Json};
+ghost use Rattle.gate_text.specs.declared.verdict.Verdict.TheVariants.{Denied};
+ghost use Rattle.gate_text.specs.declared.verdict.VerdictFault.TheVariants.{Caps};
 ghost use Rattle.gate_text.specs.Who.{calls_document};
 
 use crate::format::Format;
@@ -63,15 +66,28 @@ pub fn list_by(
 {
     match format {
         Format::Text => Ok(pieces),
-        Format::Json => {
-            let mut text = String::from_str(alloc, "{\"")?;
-            text.push_str(name)?;
-            text.push_str("\":[")?;
-            text.push_str(without_comma(pieces.as_str()))?;
-            text.push_str("]}\n")?;
-            Ok(text)
-        }
+        Format::Json => list_json(alloc, name, pieces.as_str()),
     }
+}
+
+/// Adds the document of a list under a name, from the pieces of its items, on a line.
+fn push_list(text: &mut String, name: &str, pieces: &str) -> Result<(), OutOfMemory>
+    ensures { OnOk result (string_bytes text.new ≡ string_bytes text.old ++ spec.list_by name.now Json pieces.now) }
+{
+    text.push_str("{\"")?;
+    text.push_str(name)?;
+    text.push_str("\":[")?;
+    text.push_str(without_comma(pieces))?;
+    text.push_str("]}\n")
+}
+
+/// The document of a list under a name, on a line.
+fn list_json(alloc: Global, name: &str, pieces: &str) -> Result<String, OutOfMemory>
+    ensures { IfOk result (λ text. string_bytes text ≡ spec.list_by name.now Json pieces.now) }
+{
+    let mut text = String::new(alloc);
+    push_list(&mut text, name, pieces)?;
+    Ok(text)
 }
 
 /// The document of some entities, from the pieces of theirs; as a text nothing is added.
@@ -107,28 +123,39 @@ fn report_value(alloc: Global, lines: &[(Path, Condition)]) -> Result<Value, Out
     Ok(Value::from(items))
 }
 
+/// The document of an answer that denies.
+fn denied_value(alloc: Global, lines: &[(Path, Condition)]) -> Result<Value, OutOfMemory>
+    ensures { IfOk result (λ value. view value ≡ answer_document (Ok (Denied lines.now))) }
+{
+    let report = report_value(alloc, lines)?;
+    json!(in alloc; {"report": report, "verdict": "deny"})
+}
+
+/// The document of an answer to a text that spells no list.
+fn refused_caps_value(alloc: Global, fault: CapFault) -> Result<Value, OutOfMemory>
+    ensures { IfOk result (λ value. view value ≡ answer_document (Err (Caps fault))) }
+{
+    let text = format!(in alloc; "{fault}")?;
+    json!(in alloc; {"byte": fault.at, "fault": text, "verdict": "refused"})
+}
+
+/// The document of an answer that is refused for this reason.
+fn refused_value(alloc: Global, fault: String) -> Result<Value, OutOfMemory>
+    ensures { IfOk result (λ value. view value ≡ refused_document (string_bytes fault)) }
+{
+    json!(in alloc; {"fault": fault, "verdict": "refused"})
+}
+
 /// The document of an answer.
 pub(crate) fn answer_value(alloc: Global, answer: &Answer) -> Result<Value, OutOfMemory>
     ensures { IfOk result (λ value. view value ≡ answer_document answer.now) }
 {
     match answer {
         Ok(Verdict::Allowed) => json!(in alloc; {"verdict": "allow"}),
-        Ok(Verdict::Denied(report)) => {
-            let report = report_value(alloc, report.lines())?;
-            json!(in alloc; {"report": report, "verdict": "deny"})
-        }
-        Err(VerdictFault::Caps(fault)) => {
-            let text = format!(in alloc; "{fault}")?;
-            json!(in alloc; {"byte": fault.at, "fault": text, "verdict": "refused"})
-        }
-        Err(VerdictFault::Profiles(fault)) => {
-            let text = format!(in alloc; "{fault}")?;
-            json!(in alloc; {"fault": text, "verdict": "refused"})
-        }
-        Err(VerdictFault::Calls(fault)) => {
-            let text = format!(in alloc; "{fault}")?;
-            json!(in alloc; {"fault": text, "verdict": "refused"})
-        }
+        Ok(Verdict::Denied(report)) => denied_value(alloc, report.lines()),
+        Err(VerdictFault::Caps(fault)) => refused_caps_value(alloc, *fault),
+        Err(VerdictFault::Profiles(fault)) => refused_value(alloc, format!(in alloc; "{fault}")?),
+        Err(VerdictFault::Calls(fault)) => refused_value(alloc, format!(in alloc; "{fault}")?),
     }
 }
 

@@ -85,13 +85,18 @@ fn spelling_by(alloc: Global, fault: CapFault, format: Format) -> Result<String,
     }
 }
 
-/// What is printed of a list: by its expansion with the built-in profiles, or by why that is refused.
-fn explained_list(alloc: Global, list: &CapList, format: Format) -> Result<Printed, OutOfMemory>
+/// What is printed of a list: by its expansion, or by why that is refused.
+fn expanded_list(
+    alloc: Global,
+    profiles: &ProfileTable,
+    list: &CapList,
+    format: Format,
+) -> Result<Printed, OutOfMemory>
+    requires { profiles.now ≡ built_in }
     ensures text { IfOk result (λ printed. string_bytes printed.text ≡ list_by format (expand_refusal built_in list.now) list.now) }
     ensures fails { IfOk result (λ printed. printed.fails ≡ is_some (expand_refusal built_in list.now)) }
 {
-    let profiles = ProfileTable::builtin(alloc)?;
-    match ticket_of(alloc, &profiles, list, None) {
+    match ticket_of(alloc, profiles, list, None) {
         Ok(ticket) => Ok(Printed {
             text: explained_by(alloc, list, ticket.grants(), format)?,
             fails: false,
@@ -102,6 +107,15 @@ fn explained_list(alloc: Global, list: &CapList, format: Format) -> Result<Print
             fails: true,
         }),
     }
+}
+
+/// The same with the built-in profiles.
+fn explained_list(alloc: Global, list: &CapList, format: Format) -> Result<Printed, OutOfMemory>
+    ensures text { IfOk result (λ printed. string_bytes printed.text ≡ list_by format (expand_refusal built_in list.now) list.now) }
+    ensures fails { IfOk result (λ printed. printed.fails ≡ is_some (expand_refusal built_in list.now)) }
+{
+    let profiles = ProfileTable::builtin(alloc)?;
+    expanded_list(alloc, &profiles, list, format)
 }
 
 /// What is printed of a text that spells no list.

@@ -115,16 +115,17 @@ fn row_of(
 /// The row of each entity, in order.
 fn rows_of(
     alloc: Global,
+    profiles: &ProfileTable,
     entities: &[Entity],
     requests: &[Asked<'_>],
     format: Format,
 ) -> Result<String, OutOfMemory>
+    requires { profiles.now ≡ built_in }
     ensures { IfOk result (λ text. AreInOrder (IsRow format requests.now) entities.now (string_bytes text)) }
 {
-    let profiles = ProfileTable::builtin(alloc)?;
     let mut text = String::new(alloc);
     for entity in entities {
-        let row = row_of(alloc, &profiles, entity, requests, format)?;
+        let row = row_of(alloc, profiles, entity, requests, format)?;
         text.push_str(row.as_str())?;
     }
     Ok(text)
@@ -141,13 +142,21 @@ fn push_numbers(text: &mut String, count: usize) -> Result<(), OutOfMemory>
     Ok(())
 }
 
+/// Adds the line that numbers the requests.
+fn push_head(text: &mut String, count: usize) -> Result<(), OutOfMemory>
+    ensures { OnOk result (string_bytes text.new ≡ string_bytes text.old ++ spec.head_line count) }
+{
+    text.push_str("entity")?;
+    push_numbers(text, count)?;
+    text.push_str("\n")
+}
+
 /// The line that numbers the requests, and below it the rows.
 fn with_head(alloc: Global, count: usize, rows: &str) -> Result<String, OutOfMemory>
     ensures { IfOk result (λ text. string_bytes text ≡ spec.head_line count ++ rows.now) }
 {
-    let mut text = String::from_str(alloc, "entity")?;
-    push_numbers(&mut text, count)?;
-    text.push_str("\n")?;
+    let mut text = String::new(alloc);
+    push_head(&mut text, count)?;
     text.push_str(rows)?;
     Ok(text)
 }
@@ -181,6 +190,7 @@ pub fn who_table(
 ) -> Result<String, OutOfMemory>
     ensures { IfOk result (λ text. IsTable format entities.now requests.now (string_bytes text)) }
 {
-    let rows = rows_of(alloc, entities, requests, format)?;
+    let profiles = ProfileTable::builtin(alloc)?;
+    let rows = rows_of(alloc, &profiles, entities, requests, format)?;
     table_by(alloc, requests.len(), rows, format)
 }

@@ -1,6 +1,7 @@
 //! Which entities may do what a request asks for.
 
 ghost use Rattle.std.specs.Prelude.{◌≡◌, ◌++◌, true, false, IfOk, OnOk, flat_map, string_bytes};
+ghost use Rattle.grant_core.specs.BuiltIn.{built_in};
 ghost use Rattle.gate_text.specs.Documents.{entity_document, piece};
 ghost use Rattle.gate_text.specs.Who.{AreInOrder, AreTold, IsTold, IsWho, answer_lines, answered_by, answered_lines, calls_by, indented_line, listed, listed_by, name_line, told};
 
@@ -158,16 +159,17 @@ fn push_told(
 /// What is told of each entity, in order.
 fn told_pieces(
     alloc: Global,
+    profiles: &ProfileTable,
     entities: &[Entity],
     asked: &Asked<'_>,
     how: Telling,
 ) -> Result<String, OutOfMemory>
+    requires { profiles.now ≡ built_in }
     ensures { IfOk result (λ text. AreInOrder (IsTold how.format how.all asked.now) entities.now (string_bytes text)) }
 {
-    let profiles = ProfileTable::builtin(alloc)?;
     let mut text = String::new(alloc);
     for entity in entities {
-        let answer = answer_by(alloc, &profiles, entity.osd.as_str(), asked)?;
+        let answer = answer_by(alloc, profiles, entity.osd.as_str(), asked)?;
         push_told(&mut text, alloc, entity.name.as_str(), &answer, how)?;
     }
     Ok(text)
@@ -182,7 +184,8 @@ fn told_text(
 ) -> Result<String, OutOfMemory>
     ensures { IfOk result (λ text. AreTold how.format how.all asked.now entities.now (string_bytes text)) }
 {
-    let pieces = told_pieces(alloc, entities, asked, how)?;
+    let profiles = ProfileTable::builtin(alloc)?;
+    let pieces = told_pieces(alloc, &profiles, entities, asked, how)?;
     entities_by(alloc, pieces, how.format)
 }
 

@@ -19,16 +19,23 @@ impl ProfileTable {
         ensures { IfOk result (λ table. table ≡ built_in) }
     {
         let mut table = ProfileTable::empty(alloc);
-        let read_only = body_of(alloc, allow_flags(true, false, false, false))?;
-        add_free(&mut table, "read-only", read_only)?;
-        let read_write = body_of(alloc, allow_flags(true, true, false, false))?;
-        add_free(&mut table, "read-write", read_write)?;
-        let rbd_read_only = body_of(alloc, allow_flags(true, false, true, false))?;
-        add_free(&mut table, "rbd-read-only", rbd_read_only)?;
-        let rbd = rbd_body(alloc)?;
-        add_free(&mut table, "rbd", rbd)?;
+        add_built_in(alloc, &mut table)?;
         Ok(table)
     }
+}
+
+// Adds the four profiles to a table that has none.
+fn add_built_in(alloc: Global, table: &mut ProfileTable) -> Result<(), OutOfMemory>
+    requires { table.old ≡ [] }
+    ensures { OnOk result (table.new ≡ built_in) }
+{
+    let read_only = body_of(alloc, allow_flags(true, false, false, false))?;
+    add_free(table, "read-only", read_only)?;
+    let read_write = body_of(alloc, allow_flags(true, true, false, false))?;
+    add_free(table, "read-write", read_write)?;
+    let rbd_read_only = body_of(alloc, allow_flags(true, false, true, false))?;
+    add_free(table, "rbd-read-only", rbd_read_only)?;
+    add_free(table, "rbd", rbd_body(alloc)?)
 }
 
 // Adds a profile that nothing but want of memory refuses.

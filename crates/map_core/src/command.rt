@@ -78,42 +78,30 @@ impl MapCommand {
     pub fn copy(&self) -> Result<MapCommand, OutOfMemory>
         ensures { IfOk result (λ command. command ≡ self.now) }
     {
-        Ok(match self {
+        match self {
             MapCommand::PoolCreate {
                 name,
                 pg_num,
                 size,
                 min_size,
-            } => MapCommand::PoolCreate {
+            } => Ok(MapCommand::PoolCreate {
                 name: name.copy()?,
                 pg_num: *pg_num,
                 size: *size,
                 min_size: *min_size,
-            },
-            MapCommand::AppEnable { pool, app } => MapCommand::AppEnable {
-                pool: pool.copy()?,
-                app: app.copy()?,
-            },
+            }),
+            MapCommand::AppEnable { pool, app } => app_enable(pool, app),
             MapCommand::AppSet {
                 pool,
                 app,
                 key,
                 value,
-            } => MapCommand::AppSet {
-                pool: pool.copy()?,
-                app: app.copy()?,
-                key: key.copy()?,
-                value: value.copy()?,
-            },
-            MapCommand::AppRm { pool, app, key } => MapCommand::AppRm {
-                pool: pool.copy()?,
-                app: app.copy()?,
-                key: key.copy()?,
-            },
-            MapCommand::OsdUp(daemon) => MapCommand::OsdUp(*daemon),
-            MapCommand::OsdDown(daemon) => MapCommand::OsdDown(*daemon),
-            MapCommand::OsdRestart(daemon) => MapCommand::OsdRestart(*daemon),
-        })
+            } => app_set(pool, app, key, value),
+            MapCommand::AppRm { pool, app, key } => app_rm(pool, app, key),
+            MapCommand::OsdUp(daemon) => Ok(MapCommand::OsdUp(*daemon)),
+            MapCommand::OsdDown(daemon) => Ok(MapCommand::OsdDown(*daemon)),
+            MapCommand::OsdRestart(daemon) => Ok(MapCommand::OsdRestart(*daemon)),
+        }
     }
 
     /// Whether two commands are equal.
@@ -206,6 +194,39 @@ impl MapCommand {
             _ => false,
         }
     }
+}
+
+// The command that enables an application.
+fn app_enable(pool: &Name, app: &Name) -> Result<MapCommand, OutOfMemory>
+    ensures { IfOk result (λ command. command ≡ AppEnable pool.now app.now) }
+{
+    Ok(MapCommand::AppEnable {
+        pool: pool.copy()?,
+        app: app.copy()?,
+    })
+}
+
+// The command that gives a key a value.
+fn app_set(pool: &Name, app: &Name, key: &Name, value: &Name) -> Result<MapCommand, OutOfMemory>
+    ensures { IfOk result (λ command. command ≡ AppSet pool.now app.now key.now value.now) }
+{
+    Ok(MapCommand::AppSet {
+        pool: pool.copy()?,
+        app: app.copy()?,
+        key: key.copy()?,
+        value: value.copy()?,
+    })
+}
+
+// The command that takes a key away.
+fn app_rm(pool: &Name, app: &Name, key: &Name) -> Result<MapCommand, OutOfMemory>
+    ensures { IfOk result (λ command. command ≡ AppRm pool.now app.now key.now) }
+{
+    Ok(MapCommand::AppRm {
+        pool: pool.copy()?,
+        app: app.copy()?,
+        key: key.copy()?,
+    })
 }
 
 // Equal commands.

@@ -1,13 +1,14 @@
 -- Operations and texts, read one after another.
 use Prim.Native.Nat.{zero, suc}
-use Rattle.std.proofs.Common.{◌≡◌, ◌∙◌, ℕ, ◌+◌, ◌≤◌, List, [], ◌∷◌, ◌++◌, Bool, true, false, Option, Some, None, length, refl, sym, ap, arith, append_assoc}
+use Rattle.std.proofs.Common.{◌≡◌, ◌∙◌, ℕ, ◌+◌, ◌≤◌, List, [], ◌∷◌, ◌++◌, Bool, true, false, Option, Some, None, Result, Ok, Err, IfOk, length, refl, sym, ap, arith, append_assoc}
 use Rattle.world_core.proofs.Bytes.{bytes_same}
 use Rattle.std.specs.Prelude.{codes}
 use Rattle.std.specs.Option.{option_map}
 use Rattle.std.specs.Str.{bytes_eq}
 use Rattle.object_core.specs.declared.op.Op.{Op}
 use Rattle.auth_db.specs.declared.caps.Caps.{Caps}
-use Rattle.script_commands.specs.Command.{Word, an_op, ops_within, ops_behind, ops_next, ops, said_if, no_texts, with_text, texts_onto, texts}
+use Rattle.script_commands.specs.TakenWords.{Takes}
+use Rattle.script_commands.specs.Command.{Word, Reads, an_op, ops_within, ops_behind, ops_next, ops, said_if, no_texts, with_text, texts_onto, texts}
 
 abbrev pub onto : List Op → Option (List Op) → Option (List Op)
 onto done o = option_map (λ more. done ++ more) o
@@ -101,3 +102,12 @@ pub text_added : (all words rest : List Word) (kind text given : Word) (caps mor
     → words ≡ kind ∷ text ∷ rest → given ≡ text → with_text kind given caps ≡ Some more → texts_onto (Some no_texts) all ≡ texts_onto (Some more) rest
 text_added all words rest kind text given caps more same are is added =
     same ∙ ap (texts_onto (Some caps)) are ∙ ap (λ x. texts_onto x rest) (ap (λ t. with_text kind t caps) (sym is) ∙ added)
+
+-- what reads the same takes the same
+takes_as : {A : Type 0} (f g : Reads A) (old new : List Word) (found : Option A) → ((ws : List Word) → f ws ≡ g ws) → Takes g old new found → Takes f old new found
+takes_as f g old new None same h = same old ∙ h
+takes_as f g old new (Some x) same h = same old ∙ h
+
+pub ok_takes_as : {A E : Type 0} (f g : Reads A) (old new : List Word) (found : Result (Option A) E) → ((ws : List Word) → f ws ≡ g ws) → IfOk found (Takes g old new) → IfOk found (Takes f old new)
+ok_takes_as f g old new (Ok found) same h = takes_as f g old new found same h
+ok_takes_as f g old new (Err e) same h = h

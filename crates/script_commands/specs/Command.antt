@@ -139,22 +139,26 @@ call_op ws =
     and_then (a_word ws) (λ input.
     said (op.Call class method input))))
 
-abbrev pub op_named : Word → Reads Op
-op_named w ws =
-    if bytes_eq w (codes "read") then read_op ws
-    else if bytes_eq w (codes "stat") then said op.Stat ws
-    else if bytes_eq w (codes "write") then write_op ws
+abbrev pub changing_op_named : Word → Reads Op
+changing_op_named w ws =
+    if bytes_eq w (codes "write") then write_op ws
     else if bytes_eq w (codes "writefull") then write_full_op ws
     else if bytes_eq w (codes "append") then append_op ws
     else if bytes_eq w (codes "truncate") then truncate_op ws
     else if bytes_eq w (codes "remove") then said op.Remove ws
     else if bytes_eq w (codes "create") then said (op.Create false) ws
     else if bytes_eq w (codes "create-exclusive") then said (op.Create true) ws
+    else None
+
+abbrev pub op_named : Word → Reads Op
+op_named w ws =
+    if bytes_eq w (codes "read") then read_op ws
+    else if bytes_eq w (codes "stat") then said op.Stat ws
     else if bytes_eq w (codes "getxattr") then get_attribute_op ws
     else if bytes_eq w (codes "setxattr") then set_attribute_op ws
     else if bytes_eq w (codes "rmxattr") then remove_attribute_op ws
     else if bytes_eq w (codes "call") then call_op ws
-    else None
+    else changing_op_named w ws
 
 abbrev pub an_op : Reads Op
 an_op ws = and_then (a_word ws) op_named
@@ -373,6 +377,20 @@ ready ws = and_then (a_group ws) (λ group. said (Ready group))
 abbrev pub daemons : Reads Command
 daemons ws = and_then (a_number ws) (λ count ws. if nat_le 1 count && nat_le count 16 then Some (Osds count, ws) else None)
 
+-- on messages, or what is asked
+abbrev pub wire_command_named : Word → Reads Command
+wire_command_named w ws =
+    if bytes_eq w (codes "deliver") then deliver ws
+    else if bytes_eq w (codes "lose") then lose ws
+    else if bytes_eq w (codes "repeat") then send_again ws
+    else if bytes_eq w (codes "settle") then said Settle ws
+    else if bytes_eq w (codes "kick") then said KickAll ws
+    else if bytes_eq w (codes "lose-all") then said LoseAll ws
+    else if bytes_eq w (codes "answer") then answer ws
+    else if bytes_eq w (codes "listing") then listing ws
+    else if bytes_eq w (codes "ready") then ready ws
+    else None
+
 abbrev pub command_named : Word → Reads Command
 command_named w ws =
     if bytes_eq w (codes "osds") then daemons ws
@@ -384,16 +402,7 @@ command_named w ws =
     else if bytes_eq w (codes "tick") then set_tick ws
     else if bytes_eq w (codes "do") then submit ws
     else if bytes_eq w (codes "ls") then list_names ws
-    else if bytes_eq w (codes "deliver") then deliver ws
-    else if bytes_eq w (codes "lose") then lose ws
-    else if bytes_eq w (codes "repeat") then send_again ws
-    else if bytes_eq w (codes "settle") then said Settle ws
-    else if bytes_eq w (codes "kick") then said KickAll ws
-    else if bytes_eq w (codes "lose-all") then said LoseAll ws
-    else if bytes_eq w (codes "answer") then answer ws
-    else if bytes_eq w (codes "listing") then listing ws
-    else if bytes_eq w (codes "ready") then ready ws
-    else None
+    else wire_command_named w ws
 
 -- all words of a line, and none behind
 abbrev pub whole : {A : Type 0} → Option (A × List Word) → Option A

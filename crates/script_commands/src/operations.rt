@@ -114,6 +114,27 @@ fn remove_attribute_op(alloc: Global, words: &mut Words<'_>) -> Result<Option<Op
     }
 }
 
+/// The operation of this name that changes the object's bytes or whether it is there, with what it takes.
+fn changing_op_named(
+    alloc: Global,
+    word: &str,
+    words: &mut Words<'_>,
+) -> Result<Option<Op>, OutOfMemory>
+    ensures takes { IfOk result (Takes (spec.changing_op_named word.now) words.old words.new) }
+    ensures shorter { length words.new ≤ length words.old }
+{
+    match word {
+        "write" => write_op(alloc, words),
+        "writefull" => write_full_op(alloc, words),
+        "append" => append_op(alloc, words),
+        "truncate" => Ok(truncate_op(words)),
+        "remove" => Ok(Some(Op::Remove)),
+        "create" => Ok(Some(Op::Create { exclusive: false })),
+        "create-exclusive" => Ok(Some(Op::Create { exclusive: true })),
+        _ => Ok(None),
+    }
+}
+
 /// The operation of this name, with what it takes.
 fn op_named(alloc: Global, word: &str, words: &mut Words<'_>) -> Result<Option<Op>, OutOfMemory>
     ensures takes { IfOk result (Takes (spec.op_named word.now) words.old words.new) }
@@ -122,18 +143,11 @@ fn op_named(alloc: Global, word: &str, words: &mut Words<'_>) -> Result<Option<O
     match word {
         "read" => Ok(read_op(words)),
         "stat" => Ok(Some(Op::Stat)),
-        "write" => write_op(alloc, words),
-        "writefull" => write_full_op(alloc, words),
-        "append" => append_op(alloc, words),
-        "truncate" => Ok(truncate_op(words)),
-        "remove" => Ok(Some(Op::Remove)),
-        "create" => Ok(Some(Op::Create { exclusive: false })),
-        "create-exclusive" => Ok(Some(Op::Create { exclusive: true })),
         "getxattr" => get_attribute_op(alloc, words),
         "setxattr" => set_attribute_op(alloc, words),
         "rmxattr" => remove_attribute_op(alloc, words),
         "call" => call_op(alloc, words),
-        _ => Ok(None),
+        _ => changing_op_named(alloc, word, words),
     }
 }
 

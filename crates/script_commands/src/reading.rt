@@ -28,6 +28,28 @@ fn daemons(words: &mut Words<'_>) -> Option<Command>
     }
 }
 
+/// The command of this name on messages, or what is asked, with what it takes.
+fn wire_command_named(
+    alloc: Global,
+    word: &str,
+    words: &mut Words<'_>,
+) -> Result<Option<Command>, OutOfMemory>
+    ensures { IfOk result (Takes (spec.wire_command_named word.now) words.old words.new) }
+{
+    match word {
+        "deliver" => deliver(alloc, words),
+        "lose" => lose(alloc, words),
+        "repeat" => send_again(alloc, words),
+        "settle" => Ok(Some(Command::Settle)),
+        "kick" => Ok(Some(Command::KickAll)),
+        "lose-all" => Ok(Some(Command::LoseAll)),
+        "answer" => Ok(answer(words)),
+        "listing" => Ok(listing(words)),
+        "ready" => ready(alloc, words),
+        _ => Ok(None),
+    }
+}
+
 /// The command of this name, with what it takes.
 fn command_named(
     alloc: Global,
@@ -46,16 +68,7 @@ fn command_named(
         "tick" => Ok(tick(words)),
         "do" => submit(alloc, words),
         "ls" => list_names(alloc, words),
-        "deliver" => deliver(alloc, words),
-        "lose" => lose(alloc, words),
-        "repeat" => send_again(alloc, words),
-        "settle" => Ok(Some(Command::Settle)),
-        "kick" => Ok(Some(Command::KickAll)),
-        "lose-all" => Ok(Some(Command::LoseAll)),
-        "answer" => Ok(answer(words)),
-        "listing" => Ok(listing(words)),
-        "ready" => ready(alloc, words),
-        _ => Ok(None),
+        _ => wire_command_named(alloc, word, words),
     }
 }
 

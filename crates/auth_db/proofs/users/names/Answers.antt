@@ -1,4 +1,6 @@
 use Rattle.auth_db.proofs.Commute.{sorted_names, all_names}
+use Rattle.std.proofs.Common.{arith}
+use Rattle.std.proofs.lemmas.Grind.{common_steps}
 use Rattle.auth_db.proofs.users.names.Goals as goal
 
 pub returns-in_err-new-clause-sorted : goal.returns-in_err-new-clause-sorted
@@ -12,3 +14,6 @@ returns-clause-names c = all_names c.loop-name.names.items c.loop-name.name-iter
 
 pub returns-clause-sorted : goal.returns-clause-sorted
 returns-clause-sorted c = sorted_names c.args.users.now.entries c.keys-name-items.ensures.ordered
+
+pub loop-name-preserved : goal.loop-name-preserved
+loop-name-preserved c = grind (arith, common_steps)

@@ -4,7 +4,7 @@ use Rattle.suffix_core.specs.Group.{Group}
 use Rattle.turn_lock.specs.Seats.{first_of}
 use Rattle.cluster.specs.Places.{Beside, IsFreshRow}
 use Rattle.cluster.specs.Passes.{group_in, shares_of}
-use Rattle.cluster.proofs.Begun.{rows_empty, rows_longer, shares_long, in_step_long}
+use Rattle.cluster.proofs.Begun.{rows_empty, shares_long}
 use Rattle.cluster.proofs.locks.open_groups.Goals as goal
 
 pub loop-group-init : goal.loop-group-init
@@ -16,11 +16,8 @@ loop-group-init c = let empty = c.in_ok-rows.ensures in let none = c.in_ok-locks
 }
 
 pub loop-group-preserved : goal.loop-group-preserved
-loop-group-preserved c = let inv = c.loop-group.invariant in let opened = c.in_ok-lock.ensures in let dealt = c.in_ok-rows-2.ensures in
-    let pushed = c.in_ok-push.ensures.items in
-    let longs = in_step_long _ _ _ _ dealt in record {
-      count = c.in_ok-rows-2.rows.ok.0 ∙ (longs.1 ∙ (sym c.loop-group.rows.ok.0 ∙ inv.count));
-      firsts = ap (map first_of) pushed ∙ (map-append first_of c.loop-group.locks.items (c.in_ok-lock.lock ∷ []) ∙ ((λ i. inv.firsts i ++ opened.first i ∷ []) ∙ sym (map-append group_in c.loop-group.yielded (c.in-Some.group ∷ []))));
-      rows = λ passes is. subst (λ locks. Beside (λ share row. IsFreshRow share locks row.items) (shares_of passes) c.in_ok-rows-2.rows.items) (sym pushed)
-          (rows_longer (λ row. row.items) c.loop-group.locks.items c.in_ok-lock.lock (shares_of passes) c.loop-group.rows.items c.in_ok-lock.seats.items c.in_ok-rows-2.rows.items (inv.rows passes is) opened.seats.1 (opened.shares passes is) dealt);
-    }
+loop-group-preserved c = let inv = c.loop-group.invariant in let longer = c.in_ok-rows-2.ensures in record {
+  count = longer.count ∙ inv.count;
+  firsts = longer.firsts ∙ ((λ i. inv.firsts i ++ group_in c.in-Some.group ∷ []) ∙ sym (map-append group_in c.loop-group.yielded (c.in-Some.group ∷ [])));
+  rows = λ passes is. longer.rows passes (is ∙ sym inv.count) (inv.rows passes is);
+}

@@ -2,6 +2,7 @@ use Rattle.std.proofs.Common.{◌≡◌, ◌++◌, take, sym, ap, ◌∙◌, sub
 use Rattle.std.specs.Option.{option_to_list}
 use Rattle.compare_core.specs.Widening.{AnswersBy}
 use Rattle.compare_core.proofs.Gains.{append_nil, all_gained, nothing_widens, no_examples, answers_step, answers_whole}
+use Rattle.std.proofs.lemmas.Grind.{common_steps}
 use Rattle.compare_core.proofs.comparing.widening_by.Goals as goal
 use Rattle.compare_core.proofs.comparing.widening_by.Goals.{in-Some+in_ok-push, in_default}
 
@@ -29,3 +30,6 @@ returns-clause-empty c =
     let all : AnswersBy c.args.registry c.args.old.now.grants c.args.new.now.grants c.loop-entry.examples.items =
     answers_whole c.args.registry c.args.old.now.grants c.args.new.now.grants c.grants-entry-items.result.now c.loop-entry.entry-index c.loop-entry.examples.items c.grants-entry-items.ensures.grants c.loop-entry-test.false c.loop-entry.invariant in
     (λ none. nothing_widens c.args.registry c.args.old.now.grants c.args.new.now.grants (subst (AnswersBy c.args.registry c.args.old.now.grants c.args.new.now.grants) none all), no_examples c.args.registry c.args.old.now.grants c.args.new.now.grants c.loop-entry.examples.items all)
+
+pub returns-clause-answers : goal.returns-clause-answers
+returns-clause-answers c = grind (arith, common_steps)

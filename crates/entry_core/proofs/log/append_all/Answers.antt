@@ -3,6 +3,7 @@ use Rattle.std.specs.Vec.Iter.{into_iter_items}
 use Rattle.entry_core.specs.Fitting.{are_new, requests_of}
 use Rattle.entry_core.specs.Log.{ids}
 use Rattle.entry_core.proofs.Pushing.{add_entry}
+use Rattle.std.proofs.lemmas.Grind.{common_steps}
 use Rattle.entry_core.proofs.log.append_all.Goals as goal
 
 pub loop-entry-preserved : goal.loop-entry-preserved
@@ -22,3 +23,6 @@ loop-entry-preserved c =
       places = more.places;
       new = more.new;
     }
+
+pub returns-clause-entries : goal.returns-clause-entries
+returns-clause-entries c = grind (arith, common_steps)

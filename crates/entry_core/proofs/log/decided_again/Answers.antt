@@ -3,6 +3,7 @@ use Rattle.std.proofs.lemmas.List.{take_more}
 use Rattle.entry_core.specs.Deciding.{Decision}
 use Rattle.entry_core.specs.Log.{decide, ids, is_in}
 use Rattle.entry_core.proofs.LegalLogs.{legal_at}
+use Rattle.std.proofs.lemmas.Grind.{common_steps}
 use Rattle.entry_core.proofs.log.decided_again.Goals as goal
 
 pub push-requires-clause-new : goal.push-requires-clause-new
@@ -20,3 +21,6 @@ loop-entry-preserved c =
     c.in_ok-push.ensures.ok ∙ ap (λ (d : Decision). c.loop-entry.log ++ d.entry ∷ []) c.in_ok-decided.ensures
     ∙ ap (λ l. l ++ decide l e.result.sealed ∷ []) c.loop-entry.invariant ∙ ap (λ x. take i c.args.entries.now ++ x ∷ []) (sym stands.decided ∙ e.is)
     ∙ sym (take_more c.args.entries.now i e.result (omega arith))
+
+pub returns : goal.returns
+returns c = grind (arith, common_steps)

@@ -3,6 +3,7 @@ use Rattle.grant_core.specs.Flat.{flat}
 use Rattle.lint_core.specs.Parts.{CanExpand, IsTidyFrom}
 use Rattle.lint_core.proofs.Allowed.{answer_no, answer_yes}
 use Rattle.lint_core.proofs.Steps.{front_expands, tidy_with, tidy_without}
+use Rattle.std.proofs.lemmas.Grind.{common_steps}
 use Rattle.lint_core.proofs.tidying.kept_grants.Goals as goal
 
 pub parts_allow_all-requires : goal.parts_allow_all-requires
@@ -29,3 +30,9 @@ loop-place-preserved-in_ok-insert c =
     (subst (λ n. IsTidyFrom c.args.table.now c.args.grants.now n c.loop-place.kept.items) at c.loop-place.invariant)
     (answer_no (flat c.args.table.now (take (c.loop-place.place - 1) c.args.grants.now ++ c.loop-place.kept.items)) (flat c.args.table.now c.args.grants.now) _ _ c.in_ok-parts_allow_all.field-0
     c.in_ok-parts_allow_all.ensures (ap (λ kept. flat c.args.table.now (take (c.loop-place.place - 1) c.args.grants.now ++ kept)) c.deref.ensures.value) c.requires.whole c.if-not-branch.true))
+
+pub loop-place-init : goal.loop-place-init
+loop-place-init c = grind (arith, common_steps)
+
+pub returns : goal.returns
+returns c = grind (arith, common_steps)

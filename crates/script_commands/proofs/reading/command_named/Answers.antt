@@ -1,10 +1,12 @@
+use Rattle.std.proofs.Common.{◌≡◌, List, refl}
 use Rattle.std.specs.Prelude.{codes}
-use Rattle.script_commands.proofs.ScriptWords.{differ}
+use Rattle.script_commands.specs.Command.{Word, command_named, wire_command_named}
+use Rattle.script_commands.proofs.ScriptWords.{differ, ok_takes_as}
 use Rattle.script_commands.proofs.reading.command_named.Goals as goal
 
 pub returns-in_default : goal.returns-in_default
 returns-in_default c =
-    rw (
+    let same : (ws : List Word) → command_named c.args.word.now ws ≡ wire_command_named c.args.word.now ws = λ ws. rw (
       differ c.args.word.now (codes "osds") c.in_default.not-osds,
       differ c.args.word.now (codes "osd") c.in_default.not-osd,
       differ c.args.word.now (codes "auth") c.in_default.not-auth,
@@ -14,13 +16,5 @@ returns-in_default c =
       differ c.args.word.now (codes "tick") c.in_default.not-tick,
       differ c.args.word.now (codes "do") c.in_default.not-do,
       differ c.args.word.now (codes "ls") c.in_default.not-ls,
-      differ c.args.word.now (codes "deliver") c.in_default.not-deliver,
-      differ c.args.word.now (codes "lose") c.in_default.not-lose,
-      differ c.args.word.now (codes "repeat") c.in_default.not-repeat,
-      differ c.args.word.now (codes "settle") c.in_default.not-settle,
-      differ c.args.word.now (codes "kick") c.in_default.not-kick,
-      differ c.args.word.now (codes "lose-all") c.in_default.not-text,
-      differ c.args.word.now (codes "answer") c.in_default.not-answer,
-      differ c.args.word.now (codes "listing") c.in_default.not-listing,
-      differ c.args.word.now (codes "ready") c.in_default.not-ready,
-    )
+    ) refl
+    in ok_takes_as (command_named c.args.word.now) (wire_command_named c.args.word.now) c.args.words.now c.wire_command_named.new.words c.wire_command_named.result same c.wire_command_named.ensures

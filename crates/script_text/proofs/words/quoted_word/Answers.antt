@@ -4,6 +4,7 @@ use Rattle.std.proofs.lemmas.List.Sums.{prefix_len-le-length}
 use Rattle.script_text.specs.Inside.{is_inside}
 use Rattle.std.proofs.lemmas.List.{drop-drop}
 use Rattle.script_text.proofs.Cursor.{closed_rest, open_rest}
+use Rattle.std.proofs.lemmas.Grind.{common_steps}
 use Rattle.script_text.proofs.words.quoted_word.Goals as goal
 
 pub returns-then-len-text-clause-words : goal.returns-then-len-text-clause-words
@@ -24,3 +25,9 @@ pub returns-clause-rest : goal.returns-clause-rest
 returns-clause-rest c =
     let len = c.quoted_len-len.ensures ∙ ap (prefix_len (is_inside c.args.quote)) c.as_bytes.ensures.value in
     rw (← drop-drop 1 (prefix_len (is_inside c.args.quote) c.args.text.now) c.args.text.now, ← len, ← c.cut.ensures.back, ← c.cut-2.ensures.back) c.ended.ensures.rest
+
+pub cut-requires-2-clause-within : goal.cut-requires-2-clause-within
+cut-requires-2-clause-within c = grind (arith, common_steps)
+
+pub cut-requires-2-clause-ascii : goal.cut-requires-2-clause-ascii
+cut-requires-2-clause-ascii c = grind (arith, common_steps)

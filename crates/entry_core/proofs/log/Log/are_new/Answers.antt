@@ -2,6 +2,7 @@ use Rattle.std.proofs.Common.{rules, ◌≡◌, ◌∙◌, ◌||◌, ◌==◌, c
 use Rattle.std.specs.HashSet.{contains}
 use Rattle.entry_core.specs.Log.{ids, is_in}
 use Rattle.entry_core.proofs.Fitting.{not_true, not_false, see_more, seen_twice}
+use Rattle.std.proofs.lemmas.Grind.{common_steps}
 use Rattle.entry_core.proofs.log.Log.are_new.Goals as goal
 
 left_or : (a b : Bool) → a ≡ true → (a || b) ≡ true
@@ -40,3 +41,6 @@ loop-sealed-preserved c =
     see_more front c.args.part.now has (contains nat_eq c.insert.new.self) c.loop-sealed.sealed-index s (omega arith) c.sealed-item.is c.loop-sealed.invariant
     (ap (is_in front) (sym c.id-id.ensures) ∙ sym c.is_before.ensures ∙ c.if-is_before.false) (ap has (sym c.id-id.ensures) ∙ once)
     (λ q. c.in_ok-insert.ensures.updates.0 q ∙ ap (λ n. cond (n == q) true (has q)) c.id-id.ensures)
+
+pub returns : goal.returns
+returns c = grind (arith, common_steps)

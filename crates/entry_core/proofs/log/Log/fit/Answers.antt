@@ -10,3 +10,9 @@ returns-clause-fits c = grind (arith, common_steps)
 
 pub returns-clause-log : goal.returns-clause-log
 returns-clause-log c = grind (arith, common_steps)
+
+pub returns-then-len-kept-clause-fits : goal.returns-then-len-kept-clause-fits
+returns-then-len-kept-clause-fits c = grind (arith, common_steps)
+
+pub returns-then-len-kept-clause-log : goal.returns-then-len-kept-clause-log
+returns-then-len-kept-clause-log c = grind (arith, common_steps)

@@ -7,6 +7,7 @@ use Rattle.object_core.specs.declared.op.Op.{Op}
 use Rattle.std.specs.FinMap.{get}
 use Rattle.entry_core.specs.Store.{with_object}
 use Rattle.entry_core.proofs.Drafts.{bring_more, same_alike}
+use Rattle.std.proofs.lemmas.Grind.{common_steps}
 use Rattle.entry_core.proofs.objects.Objects.needed_by.Goals as goal
 
 ops_there : (r : Option (Bor (List Op))) → is_some r ≡ true → option_copied r ≡ None → ⊥
@@ -25,3 +26,6 @@ loop-sealed-preserved c =
     (c.in_ok-object.ensures ∙ ap (get c.args.self.now) c.name.ensures)
     (c.in_ok-change.ensures.ok ∙ ap (λ n. with_object few n (option_map arc_value c.in_ok-object.object)) c.name-in-loop-sealed.ensures)
     (λ none. ops_there c.ops.result there (c.ops.ensures.value ∙ none))
+
+pub returns : goal.returns
+returns c = grind (arith, common_steps)

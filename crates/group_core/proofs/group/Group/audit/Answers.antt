@@ -15,3 +15,6 @@ returns-clause-few c = decided_few c.args.self.now (subst IsReached c.self.view_
 
 pub returns-clause-items : goal.returns-clause-items
 returns-clause-items c = grind (arith, common_steps)
+
+pub loop-entry-preserved : goal.loop-entry-preserved
+loop-entry-preserved c = grind (arith, common_steps)

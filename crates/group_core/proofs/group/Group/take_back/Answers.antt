@@ -1,7 +1,8 @@
-use Rattle.std.proofs.Common.{◌≡◌, ap, sym, ◌∙◌, subst}
+use Rattle.std.proofs.Common.{arith, ◌≡◌, ap, sym, ◌∙◌, subst}
 use Rattle.suffix_core.specs.Group.{last_set}
 use Rattle.suffix_core.specs.Reached.{HasJustTaken, unsent}
 use Rattle.group_core.proofs.Calls.{whole_back}
+use Rattle.std.proofs.lemmas.Grind.{common_steps}
 use Rattle.group_core.proofs.group.Group.take_back.Goals as goal
 
 pub invariant_of-self : goal.invariant_of-self
@@ -10,3 +11,6 @@ invariant_of-self c =
     let wire : c.take_back_sent.new.wire.sent ≡ unsent (last_set c.self.inside.state.sets) c.self.inside.state.wire.sent = c.take_back_sent.ensures ∙ ap (λ l. unsent l c.self.inside.state.wire.sent) c.last_set.ensures in
     whole_back _ c.requires.0 c.requires.1.0 c.self.inside.state.decided c.take_back_sent.new.wire.sent c.take_back.new.self.requests c.take_back.new.self.answers
     (subst (λ v. HasJustTaken v c.requires.0 c.requires.1.0) (sym c.self.view_is) taken) c.self.invariant wire c.take_back.ensures.requests c.take_back.ensures.answers
+
+pub returns : goal.returns
+returns c = grind (arith, common_steps)

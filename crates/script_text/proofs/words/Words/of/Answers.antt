@@ -1,7 +1,8 @@
-use Rattle.std.proofs.Common.{List, ℕ, sym, subst, ◌∙◌, arith}
+use Rattle.std.proofs.Common.{rules, List, ℕ, sym, subst, ◌∙◌, arith}
 use Rattle.std.specs.Str.{IsAscii}
 use Rattle.std.proofs.lemmas.Str.{IsUtf8-from_ascii}
 use Rattle.script_text.proofs.Cursor.{printable_ascii, gives_words, gives_none}
+use borrow.Author.Tests.{tests}
 use Rattle.script_text.proofs.words.Words.of.Goals as goal
 
 pub invariant_of-result : goal.invariant_of-result
@@ -19,3 +20,6 @@ returns-then-are_words c =
 pub returns-else-are_words : goal.returns-else-are_words
 returns-else-are_words c =
     gives_none c.args.line.now c.in-Ok.text.now (omega arith) (sym c.are_printable.ensures ∙ c.if-not-are_printable.false) c.in-Ok.ensures.cases.0 (sym c.are_words.ensures ∙ c.if-are_words.false)
+
+pub returns-then-line-gt-LINE_LIMIT : goal.returns-then-line-gt-LINE_LIMIT
+returns-then-line-gt-LINE_LIMIT c = search (tests, rules)
