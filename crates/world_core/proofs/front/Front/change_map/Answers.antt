@@ -1,4 +1,4 @@
-use Rattle.std.proofs.Common.{◌∙◌, ap, subst}
+use Rattle.std.proofs.Common.{arith, ◌∙◌, ap, subst}
 use Rattle.world_core.specs.Event.{Map, OfMap}
 use Rattle.world_core.specs.Front.{Front, front_step}
 use Rattle.world_core.proofs.FrontSteps.{map_step, map_kept}
@@ -8,6 +8,7 @@ use Rattle.map_core.specs.Refusal.{refusal}
 use Rattle.map_core.specs.declared.fault.MapFault.TheVariants.{OutOfMemory}
 use Rattle.world_core.specs.Refusing.{RefusedOrMemory}
 use Rattle.world_core.proofs.Refused.{map_exit, first_or_memory}
+use Rattle.std.proofs.lemmas.Grind.{common_steps}
 use Rattle.world_core.proofs.front.Front.change_map.Goals as goal
 
 pub returns-in_err-epoch-clause-refused : goal.returns-in_err-epoch-clause-refused
@@ -25,3 +26,6 @@ pub returns-clause-steps : goal.returns-clause-steps
 returns-clause-steps c =
     let inside : Front = record { database = c.self.inside.users; history = c.self.inside.map; sessions = c.self.inside.sessions; submissions = c.self.inside.submissions; lists = c.self.inside.lists } in
     map_step inside c.args.command c.apply.new.self c.in_ok-epoch.ensures.accepted ∙ ap (λ f. front_step f (Map c.args.command)) c.self.view_is
+
+pub returns-clause-tells : goal.returns-clause-tells
+returns-clause-tells c = grind (arith, common_steps)

@@ -4,3 +4,6 @@ use Rattle.world_core.proofs.session.Sessions.renew.Goals as goal
 
 pub returns-clause-ok : goal.returns-clause-ok
 returns-clause-ok c = grind (arith, elements)
+
+pub index_mut-session-requires : goal.index_mut-session-requires
+index_mut-session-requires c = grind (arith, elements)

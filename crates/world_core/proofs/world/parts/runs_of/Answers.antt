@@ -1,9 +1,10 @@
-use Rattle.std.proofs.Common.{◌≡◌, ◌∙◌, ◌++◌, sym, ap, subst}
+use Rattle.std.proofs.Common.{arith, ◌≡◌, ◌∙◌, ◌++◌, sym, ap, subst}
 use Rattle.whole_logs.specs.Each.{Each}
 use Rattle.world_core.specs.Applying.{runs_from}
 use Rattle.world_core.specs.Inside.{entries_told}
 use Rattle.world_core.specs.Sound.{FitsAt}
 use Rattle.world_core.proofs.Parts.{runs_next}
+use Rattle.std.proofs.lemmas.Grind.{common_steps}
 use Rattle.world_core.proofs.world.parts.runs_of.Goals as goal
 
 pub loop-place-preserved : goal.loop-place-preserved
@@ -16,3 +17,6 @@ loop-place-preserved c =
       fit = subst (Each (FitsAt groups)) (sym items) next.fit;
       told = ap (entries_told groups) items ∙ next.tell;
     }
+
+pub returns-clause-told : goal.returns-clause-told
+returns-clause-told c = grind (arith, common_steps)
