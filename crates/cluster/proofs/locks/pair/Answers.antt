@@ -2,6 +2,7 @@ use Rattle.std.proofs.Common.{rules, ◌≡◌, ◌+◌, ◌-◌, Some, take, dr
 use Rattle.std.specs.Prelude.{reverse, slice_index_or}
 use Rattle.cluster.specs.Places.{InStep}
 use Rattle.cluster.proofs.Places.{popped_at, take_fewer, rest_at, one_built}
+use Rattle.std.proofs.lemmas.Grind.{common_steps}
 use Rattle.cluster.proofs.locks.pair.Goals as goal
 
 pub loop-row-preserved : goal.loop-row-preserved
@@ -25,3 +26,6 @@ loop-row-preserved c = let inv = c.loop-row.invariant in let rs = c.args.rows.it
           (one_built (λ row seat s. (s.groups.items ≡ row.items) × (s.users ≡ seat)) rs ss c.loop-row.all.items k n c.in-Some.row c.unwrap.result c.of.result one
           (rest_at rs k n c.in-Some.row one (omega arith) at) (rest_at ss k n c.unwrap.result one (omega arith) at') (ap (λ v. v.items) c.of.ensures.0, c.of.ensures.1) inv.all);
     }
+
+pub loop-row-init : goal.loop-row-init
+loop-row-init c = grind (arith, common_steps)

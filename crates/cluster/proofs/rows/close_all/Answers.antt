@@ -5,6 +5,7 @@ use Rattle.turn_lock.specs.Turned.{Closes}
 use Rattle.std.proofs.Common.{take, drop}
 use Rattle.turn_lock.specs.Seats.{lock_of, seat_lock}
 use Rattle.cluster.proofs.Places.{same_at, same_length, popped_at, take_fewer, rest_at, one_built}
+use Rattle.std.proofs.lemmas.Grind.{common_steps}
 use Rattle.cluster.proofs.rows.close_all.Goals as goal
 
 pub close-requires : goal.close-requires
@@ -39,3 +40,6 @@ loop-lock-preserved g c = let inv = c.loop-lock.invariant in let ls = c.args.loc
           (one_built (λ l s x. Closes g.T.Recorded.after g.T.Recorded.fits l.first (g.T.Recorded.state x) s) ls ss c.loop-lock.out.items k n c.in-Some.lock c.unwrap-seat.result c.close.result one
           (rest_at ls k n c.in-Some.lock one (omega arith) at) (rest_at ss k n c.unwrap-seat.result one (omega arith) at') c.close.ensures inv.closed);
     }
+
+pub loop-lock-init : goal.loop-lock-init
+loop-lock-init c = grind (arith, common_steps)

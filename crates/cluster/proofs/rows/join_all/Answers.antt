@@ -3,6 +3,7 @@ use Rattle.std.proofs.lemmas.List.{get_or-take}
 use Rattle.turn_lock.specs.Seats.{lock_of, seat_lock}
 use Rattle.cluster.specs.Places.{InStep, TakesIn}
 use Rattle.cluster.proofs.Places.{at_read, put_same, same_at, same_length, popped_at, take_fewer, take_whole, take_put, none_left, one_put, rest_at}
+use Rattle.std.proofs.lemmas.Grind.{common_steps}
 use Rattle.cluster.proofs.rows.join_all.Goals as goal
 
 pub loop-other-init : goal.loop-other-init
@@ -71,3 +72,12 @@ loop-other-preserved g c = let inv = c.loop-other.invariant in let k = c.len-k.r
 
 pub returns-clause-taken : goal.returns-clause-taken
 returns-clause-taken g c = let z : vec_len c.loop-other.others ≡ 0 = search rules in subst (λ i. InStep TakesIn (drop i c.args.seats.now) (drop i c.args.others.items) (drop i c.loop-other.seats)) z c.loop-other.invariant.done
+
+pub bounds-seats-k : goal.bounds-seats-k
+bounds-seats-k c = grind (arith, common_steps)
+
+pub offset_bounds-locks-k : goal.offset_bounds-locks-k
+offset_bounds-locks-k c = grind (arith, common_steps)
+
+pub bounds-locks-k : goal.bounds-locks-k
+bounds-locks-k c = grind (arith, common_steps)

@@ -2,6 +2,7 @@ use Rattle.std.proofs.Common.{◌≡◌, ◌<◌, length, get_or, arith, refl}
 use Rattle.turn_lock.specs.Seats.{lock_of, seat_lock}
 use Rattle.std.proofs.lemmas.Option.{slice_get-get_or}
 use Rattle.cluster.proofs.Places.{at_read, put_same, get_at, same_at, same_length}
+use Rattle.std.proofs.lemmas.Grind.{common_steps}
 use Rattle.cluster.proofs.rows.turn_at.Goals as goal
 
 pub turn-requires : goal.turn-requires
@@ -25,3 +26,6 @@ returns-clause-turn g c = let ps = c.args.seats.now in let k = c.args.k in let l
       share = c.turn.ensures.share;
       turned = c.turn.ensures.turned;
     }
+
+pub bounds-seats-k : goal.bounds-seats-k
+bounds-seats-k c = grind (arith, common_steps)

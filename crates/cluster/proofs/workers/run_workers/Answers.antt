@@ -1,4 +1,4 @@
-use Rattle.std.proofs.Common.{refl, sym, ap, subst, ◌∙◌, ◌≡◌, map, length, inl, inr}
+use Rattle.std.proofs.Common.{arith, refl, sym, ap, subst, ◌∙◌, ◌≡◌, map, length, inl, inr}
 use Rattle.std.specs.Prelude.{All}
 use Rattle.cluster.specs.Places.{Beside, InStep}
 use Rattle.cluster.specs.Asks.{IsPassOf}
@@ -7,6 +7,7 @@ use Rattle.cluster.proofs.Places.{spliced}
 use Rattle.cluster.proofs.Rounds.{beside_itself, at_work, passes_after, passes_worked}
 use Rattle.cluster.proofs.FirstFaults.{all_end}
 use Rattle.cluster.proofs.workers.run_workers.Given as given
+use Rattle.std.proofs.lemmas.Grind.{common_steps}
 use Rattle.cluster.proofs.workers.run_workers.Goals as goal
 
 pub returns-in_default-clause-worked : goal.returns-in_default-clause-worked
@@ -51,3 +52,6 @@ returns-clause-fault g c =
           (all_end c.args.cluster.now c.args.rounds c.as_mut_slice.result.now c.work_all.new.workers c.work_all.ensures.count c.work_all.ensures.each)),
       c.dismiss.ensures.fault ∙ ap (λ ws. first_fault (map fault_of ws)) (spliced c.work_all.new.workers _ c.enlist-workers.result.len long),
     )
+
+pub dismiss-requires : goal.dismiss-requires
+dismiss-requires c = grind (arith, common_steps)

@@ -1,9 +1,10 @@
-use Rattle.std.proofs.Common.{◌≡◌, List, subst, Some, None}
+use Rattle.std.proofs.Common.{arith, ◌≡◌, List, subst, Some, None}
 use Rattle.world_core.specs.Front.{error_of}
 use Rattle.cluster.specs.declared.pass.OwnSession.{OwnSession}
 use Rattle.cluster.specs.Asking.{session_by, own_place}
 use Rattle.cluster.proofs.OwnSessions.{stands_at}
 use Rattle.cluster.proofs.Vectors.{submit_unseen, submitted_by, unsubmitted_by}
+use Rattle.std.proofs.lemmas.Grind.{common_steps}
 use Rattle.cluster.proofs.cluster.Cluster.submit.Goals as goal
 
 pub returns-in-Err-see_pool-clause-err : goal.returns-in-Err-see_pool-clause-err
@@ -22,3 +23,6 @@ pub returns-in-Ok-see_pool-clause-err : goal.returns-in-Ok-see_pool-clause-err
 returns-in-Ok-see_pool-clause-err g c =
     let fine = subst (λ (l : List OwnSession). error_of (session_by l c.args.asking) ≡ None) c.as_slice.ensures.value c.in-Ok.ensures.refused in
     unsubmitted_by c.args.self.now c.args.asking c.args.object c.args.ops c.args.pass.now fine c.see_pool.new.pass c.submit_vector.new.pass c.in-Ok-see_pool.view c.in-Ok-see_pool.ensures.ok c.submit_vector.result c.submit_vector.ensures.err
+
+pub returns-in-Err-clause-err : goal.returns-in-Err-clause-err
+returns-in-Err-clause-err c = grind (arith, common_steps)

@@ -1,4 +1,4 @@
-use Rattle.std.proofs.Common.{◌≡◌, ◌≤◌, List, refl, sym, subst}
+use Rattle.std.proofs.Common.{arith, ◌≡◌, ◌≤◌, List, refl, sym, subst}
 use Rattle.map_core.specs.Map.{map_of}
 use Rattle.entry_core.specs.declared.sealed.GroupId.{GroupId}
 use Rattle.cluster.specs.Passes.{group_count}
@@ -8,6 +8,7 @@ use Rattle.cluster.specs.Monitors.{HasBegun}
 use Rattle.cluster.specs.Monitors.{published_of}
 use Rattle.cluster.proofs.GoingOn.{goes_on, either}
 use Rattle.cluster.proofs.Following.{places_long, follows_left, follows_lain}
+use Rattle.std.proofs.lemmas.Grind.{common_steps}
 use Rattle.cluster.proofs.monitor.Monitor.go_on.Goals as goal
 
 pub returns-in-Ok-clause-begun : goal.returns-in-Ok-clause-begun
@@ -37,3 +38,6 @@ pub returns-in-Err-clause-follows : goal.returns-in-Err-clause-follows
 returns-in-Err-clause-follows g c first h = let now = c.args.self.now in
     follows_left first c.args.command c.args.at now (record now { seats = c.move_groups-moved.new.seats }) refl refl h c.in-Err.to c.in-Err.ensures.err.0
     (subst (λ (l : List GroupId). HaveMoved (event_at (move_in (map_of now.map) c.args.command) l) c.args.at c.in-Err.to now.seats c.move_groups-moved.new.seats) c.as_slice-places.ensures.value c.in-Err.ensures.err.2)
+
+pub move_groups-moved-requires-clause-places : goal.move_groups-moved-requires-clause-places
+move_groups-moved-requires-clause-places c = grind (arith, common_steps)
