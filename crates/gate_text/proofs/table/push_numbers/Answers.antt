@@ -1,6 +1,0 @@
-use Rattle.std.proofs.Common.{arith}
-use Rattle.std.proofs.lemmas.Grind.{common_steps}
-use Rattle.gate_text.proofs.table.push_numbers.Goals as goal
-
-pub loop-before-preserved : goal.loop-before-preserved
-loop-before-preserved c = grind (arith, common_steps)
