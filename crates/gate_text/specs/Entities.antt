@@ -157,13 +157,8 @@ pub record AreListsTold (how : Comparison) (old new : List Entity) (text : List 
   pub whole : text ≡ old_text ++ new_text
   pub ends : fails ≡ (old_fails || new_fails)
 
--- what is printed of two lists, and whether the command fails: the entities of the old list, and then those of the new list alone
+-- what is printed of two lists, and whether the command fails
 pub record IsEntitiesAnswer (how : Comparison) (old new : List Entity) (text : List ℕ) (fails : Bool) : Type 0 where
-  pub old_text : List ℕ
-  pub new_text : List ℕ
-  pub old_fails : Bool
-  pub new_fails : Bool
-  pub old_told : AreAllTold (IsOldTold how new) old old_text old_fails
-  pub new_told : AreAllTold (IsNewTold how old) new new_text new_fails
-  pub printed : text ≡ entities_by how.format (old_text ++ new_text)
-  pub ends : fails ≡ (old_fails || new_fails)
+  pub told : List ℕ
+  pub lists : AreListsTold how old new told fails
+  pub printed : text ≡ entities_by how.format told
