@@ -84,20 +84,30 @@ fn add_row<C: Clock, W: Work>(
     Ok(table.row(row.as_str(), work)?)
 }
 
+/// Adds the rows of a profile's use, so many times.
+fn add_uses<C: Clock>(
+    table: &mut Table<'_, C>,
+    profiles: &ProfileTable,
+    name: &str,
+    times: usize,
+) -> Result<(), Fault> {
+    let alloc = table.alloc();
+    let list = list_of(alloc, name, times)?;
+    let work = Expand {
+        alloc,
+        table: profiles,
+        list: &list,
+    };
+    add_row(table, "expand", times, "profile rbd with a pool", &work)?;
+    let work = MakeTicket(work);
+    add_row(table, "expand and make the ticket", times, "them", &work)
+}
+
 /// Adds the rows of expansions, over a given name.
 pub(crate) fn add_expansions<C: Clock>(table: &mut Table<'_, C>, name: &str) -> Result<(), Fault> {
-    let alloc = table.alloc();
-    let profiles = ProfileTable::builtin(alloc)?;
+    let profiles = ProfileTable::builtin(table.alloc())?;
     for times in [1, 16, 51] {
-        let list = list_of(alloc, name, times)?;
-        let work = Expand {
-            alloc,
-            table: &profiles,
-            list: &list,
-        };
-        add_row(table, "expand", times, "profile rbd with a pool", &work)?;
-        let work = MakeTicket(work);
-        add_row(table, "expand and make the ticket", times, "them", &work)?;
+        add_uses(table, &profiles, name, times)?;
     }
     Ok(())
 }

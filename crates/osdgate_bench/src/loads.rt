@@ -89,7 +89,7 @@ enum Kind {
 }
 
 /// All loads, in the order of their rows.
-const LOADS: [Kind; 9] = [
+const LOADS: &[Kind] = &[
     Kind::Requests {
         groups: 1,
         workers: 1,
@@ -169,7 +169,7 @@ pub(crate) fn add_clusters<C: Clock, R: Threads + Wait + Sync>(
     let alloc = table.alloc();
     table.row("world, a request without locks", &Alone { alloc })?;
     for kind in LOADS {
-        add_row(table, rt, kind)?;
+        add_row(table, rt, *kind)?;
     }
     Ok(())
 }

@@ -44,6 +44,15 @@ enum Kind {
     Refused,
 }
 
+/// All kinds, in the order of their rows.
+const KINDS: &[Kind] = &[
+    Kind::All,
+    Kind::OnePool,
+    Kind::TwoGrants,
+    Kind::ManyPools,
+    Kind::Refused,
+];
+
 impl Kind {
     /// How a row is named.
     fn name(self) -> &'static str {
@@ -73,13 +82,7 @@ impl Kind {
 /// Adds the rows of texts, over a given name.
 pub(crate) fn add_parses<C: Clock>(table: &mut Table<'_, C>, name: &str) -> Result<(), Fault> {
     let alloc = table.alloc();
-    for kind in [
-        Kind::All,
-        Kind::OnePool,
-        Kind::TwoGrants,
-        Kind::ManyPools,
-        Kind::Refused,
-    ] {
+    for kind in KINDS {
         let text = kind.text(alloc, name)?;
         table.row(kind.name(), &Parse { alloc, text })?;
     }

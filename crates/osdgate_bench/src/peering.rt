@@ -125,7 +125,7 @@ struct Size {
     missing: &'static str,
 }
 
-const SIZES: [Size; 3] = [
+const SIZES: &[Size] = &[
     Size {
         count: 1000,
         copied: "peering, no move, of 1,000",
@@ -180,7 +180,7 @@ impl Work for Return {
 /// rows of no move show alone; and of one return, so divided too.
 pub(crate) fn add_peering<C: Clock>(table: &mut Table<'_, C>, name: &str) -> Result<(), Fault> {
     for size in SIZES {
-        add_moves(table, name, size)?;
+        add_moves(table, name, *size)?;
     }
     add_return(table, name)
 }

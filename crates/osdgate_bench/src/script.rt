@@ -52,7 +52,7 @@ enum Kind {
 }
 
 /// All scripts, in the order of their rows.
-const SCRIPTS: [Kind; 15] = [
+const SCRIPTS: &[Kind] = &[
     Comments(1000),
     Ticks(1000),
     Comments(16000),
@@ -132,7 +132,7 @@ fn add_row<C: Clock>(table: &mut Table<'_, C>, kind: Kind, name: &str) -> Result
 /// Adds the rows of scripts, over a given name.
 pub(crate) fn add_scripts<C: Clock>(table: &mut Table<'_, C>, name: &str) -> Result<(), Fault> {
     for kind in SCRIPTS {
-        add_row(table, kind, name)?;
+        add_row(table, *kind, name)?;
     }
     Ok(())
 }

@@ -98,6 +98,16 @@ pub(crate) fn requests(
 /// How many pools move.
 const POOLS: u32 = 32;
 
+/// What a script of so many moves prints last.
+fn last_of_moves(alloc: Global, pairs: u16) -> Result<String, OutOfMemory> {
+    if pairs == 0 {
+        let settled = POOLS * 64 * 11;
+        return format!(in alloc; "settled {settled}\n");
+    }
+    let last = POOLS + 1 + 2 * pairs as u32;
+    format!(in alloc; "epoch {last}\n")
+}
+
 /// Pools whose groups settle, each of three members in 11 deliveries. So many times, a daemon that has a copy of every group
 /// goes down and comes up.
 pub(crate) fn moves(alloc: Global, name: &str, pairs: u16) -> Result<Script, OutOfMemory> {
@@ -109,13 +119,7 @@ pub(crate) fn moves(alloc: Global, name: &str, pairs: u16) -> Result<Script, Out
     for _ in 0..pairs {
         text.push_str("osd down 2\nosd up 2\n")?;
     }
-    let ending = if pairs == 0 {
-        let settled = POOLS * 64 * 11;
-        format!(in alloc; "settled {settled}\n")?
-    } else {
-        let last = POOLS + 1 + 2 * pairs as u32;
-        format!(in alloc; "epoch {last}\n")?
-    };
+    let ending = last_of_moves(alloc, pairs)?;
     Ok(Script { text, ending })
 }
 

@@ -110,6 +110,9 @@ enum Kind {
     Sixteen,
 }
 
+/// All kinds, in the order of their rows.
+const KINDS: &[Kind] = &[Kind::Read, Kind::Append, Kind::Count, Kind::Sixteen];
+
 impl Kind {
     fn name(self) -> &'static str {
         match self {
@@ -150,7 +153,7 @@ impl Kind {
 
 /// Adds the rows of vectors, over a given name.
 pub(crate) fn add_vectors<C: Clock>(table: &mut Table<'_, C>, name: &str) -> Result<(), Fault> {
-    for kind in [Kind::Read, Kind::Append, Kind::Count, Kind::Sixteen] {
+    for kind in KINDS {
         let work = kind.work(table.alloc(), name)?;
         table.row(kind.name(), &work)?;
     }
