@@ -3,21 +3,21 @@ use Rattle.std.proofs.Common.{◌≡◌, ℕ, ◌<◌, List, [], ◌∷◌, refl
 use Rattle.std.specs.Prelude.{Option, None, Result, Ok, Err}
 use Rattle.std.specs.Option.{option_to_list}
 use Rattle.map_core.specs.State.{History}
-use Rattle.entry_core.specs.declared.reply.Reply.{Reply}
-use Rattle.entry_core.specs.declared.sealed.GroupId.{GroupId}
+use Rattle.store_core.specs.declared.reply.Reply.{Reply}
+use Rattle.store_core.specs.declared.sealed.GroupId.{GroupId}
 use Rattle.whole_logs.specs.Each.{Each}
 use Rattle.suffix_core.specs.Group.{Group, Event, Deliver}
 use Rattle.group_types.specs.declared.fault.GroupFault.{GroupFault}
 use Rattle.group_types.specs.declared.fault.GroupFault.TheVariants.{NoMessage, Unreachable, Full, OutOfMemory, Doubled}
 use Rattle.cluster.specs.declared.cluster.Cluster.{Cluster}
 use Rattle.cluster.specs.declared.cluster.Seats.{Seats}
-use Rattle.cluster.specs.declared.groups.AnswerFault.{AnswerFault}
-use Rattle.cluster.specs.declared.groups.AnswerOf.{AnswerOf}
-use Rattle.cluster.specs.declared.groups.Worked.{Worked}
-use Rattle.cluster.specs.declared.groups.Worked.TheVariants as worked
+use Rattle.cluster_locks.specs.declared.groups.AnswerFault.{AnswerFault}
+use Rattle.cluster_locks.specs.declared.groups.AnswerOf.{AnswerOf}
+use Rattle.cluster_locks.specs.declared.groups.Worked.{Worked}
+use Rattle.cluster_locks.specs.declared.groups.Worked.TheVariants as worked
 use Rattle.cluster.specs.declared.pass.OwnSession.{OwnSession}
 use Rattle.cluster.specs.declared.pass.Pass.{Pass}
-use Rattle.cluster.specs.Groups.{work_entry, WorkTells, answer_entry, AnswerTells}
+use Rattle.cluster_locks.specs.Groups.{work_entry, WorkTells, answer_entry, AnswerTells}
 use Rattle.cluster.specs.Passes.{GroupTurn, AreSeatsOf, group_count}
 use Rattle.cluster.specs.GroupMoves.{happened, OneMoved}
 use Rattle.cluster.specs.Asks.{IsOwnEvent, IsPassOf}

@@ -12,26 +12,26 @@ use Rattle.map_core.specs.State.{History}
 use Rattle.map_core.specs.Limits.{IsAccepted}
 use Rattle.map_core.specs.declared.command.MapCommand.{MapCommand}
 use Rattle.map_core.specs.declared.command.MapCommand.TheVariants.{PoolCreate, AppEnable, AppSet, AppRm, OsdUp, OsdDown, OsdRestart}
-use Rattle.entry_core.specs.Request.{Sealed}
-use Rattle.entry_core.specs.declared.sealed.GroupId.{GroupId}
+use Rattle.store_core.specs.Request.{Sealed}
+use Rattle.store_core.specs.declared.sealed.GroupId.{GroupId}
 use Rattle.whole_logs.specs.Each.{Each}
 use Rattle.suffix_core.specs.Group.{Group, Event, Submit, Deliver, Lose, Repeat, NewInterval, Restart, Kick, is_submitted}
-use Rattle.world_core.specs.Front.{id_of}
-use Rattle.world_core.specs.Stands.{next_in, next_at, IsGiven}
-use Rattle.world_core.specs.Groups.{is_for}
+use Rattle.world_front.specs.Front.{id_of}
+use Rattle.world_front.specs.Stands.{next_in, next_at, IsGiven}
+use Rattle.world_front.specs.Groups.{is_for}
 use Rattle.world_core.specs.World.{World}
 use Rattle.world_core.specs.Sound.{IsSound}
 use Rattle.world_core.specs.Parts.{requests_of}
-use Rattle.world_core.specs.declared.session.Session.{Session}
+use Rattle.world_front.specs.declared.session.Session.{Session}
 use Rattle.world_core.specs.declared.world.parts.WorldParts.{WorldParts}
-use Rattle.world_core.proofs.Bytes.{number_same}
-use Rattle.world_core.proofs.Merge.{number_refl}
+use Rattle.world_front.proofs.Bytes.{number_same}
+use Rattle.world_front.proofs.Merge.{number_refl}
 use Rattle.world_core.proofs.Acting.{each_weaker}
 use Rattle.world_core.proofs.GroupsOf.{kept_at}
 use Rattle.world_laws.proofs.Apart.{Turn, TakesTurns, commands_of, creates_pool}
 use Rattle.world_laws.proofs.Together.{AreApart, RanApart, NumbersApart, TurnsOf, TookTurns, after_turns, apart_after, most_given, asked_in_one, each_joined, each_placed}
-use Rattle.cluster.specs.declared.groups.GroupEntry.{GroupEntry}
-use Rattle.cluster.specs.declared.groups.GroupEntry.TheVariants.{Happened, Looked, Idle}
+use Rattle.cluster_locks.specs.declared.groups.GroupEntry.{GroupEntry}
+use Rattle.cluster_locks.specs.declared.groups.GroupEntry.TheVariants.{Happened, Looked, Idle}
 use Rattle.cluster.specs.declared.cluster.Cluster.{Cluster}
 use Rattle.cluster.specs.declared.cluster.Seats.{Seats}
 use Rattle.cluster.specs.declared.cluster.Ended.{Ended}
@@ -39,15 +39,14 @@ use Rattle.cluster.specs.declared.monitor.Monitor.{Monitor}
 use Rattle.cluster.specs.declared.monitor.Unfinished.{Unfinished}
 use Rattle.cluster.specs.declared.pass.OwnSession.{OwnSession}
 use Rattle.cluster.specs.declared.pass.Pass.{Pass}
-use Rattle.cluster.specs.Groups.{group_after}
+use Rattle.cluster_locks.specs.Groups.{group_after, group_in}
 use Rattle.published_map.specs.Published.{with_commands}
 use Rattle.cluster.specs.MapCommands.{is_creation}
-use Rattle.cluster.specs.Passes.{firsts_of, group_in, AreMonitorOf, Closed}
+use Rattle.cluster.specs.Passes.{firsts_of, AreMonitorOf, Closed}
 use Rattle.cluster.specs.GroupMoves.{happened, happened_at}
 use Rattle.cluster.specs.Monitors.{moves_from, AllFollow, FollowBy, Follows}
 use Rattle.cluster.specs.Sessions.{own_session, next_of, IsNumbered, AreSessionsOf}
-use Rattle.cluster.specs.Asks.{IsBegun, asked_of, IsOwnEvent, IsAskedAt, IsPassOf}
-use Rattle.cluster.specs.Asks.{seats_of, sessions_of}
+use Rattle.cluster.specs.Asks.{IsBegun, asked_of, IsOwnEvent, IsAskedAt, IsPassOf, seats_of, sessions_of}
 use Rattle.cluster.proofs.Makers.{at_mapped, mapped_at, mapped_beside, all_at, each_at, mine_at, MadeAt, AreMade, are_made}
 use Rattle.cluster.proofs.GroupTurns.{IsPassEvent, Took, took_turns}
 use Rattle.cluster.proofs.Requested.{requests_after, asked_by_all, asked_by_one, moves_ask_none}

@@ -5,10 +5,10 @@ use Rattle.std.specs.Option.{option_or}
 use Rattle.std.proofs.lemmas.List.Elements.{All-nil, All-cons, All-append}
 use Rattle.cluster.specs.declared.cluster.Cluster.{Cluster}
 use Rattle.cluster.specs.declared.fault.ClusterFault.{ClusterFault}
-use Rattle.cluster.specs.declared.groups.Worked.{Worked}
+use Rattle.cluster_locks.specs.declared.groups.Worked.{Worked}
 use Rattle.cluster.specs.declared.pass.Pass.{Pass}
 use Rattle.cluster.specs.declared.workers.Worker.{Worker}
-use Rattle.cluster.specs.Places.{InStep}
+use Rattle.cluster_locks.specs.Places.{InStep}
 use Rattle.cluster.specs.Deliveries.{WorksAt}
 use Rattle.cluster.specs.Workers.{EndsBy, GoesOnAfter, HasGoneOn, HasWorkedOf, HaveTold, first_fault, pass_of, fault_of}
 

@@ -6,10 +6,10 @@ use Rattle.grant_core.specs.Flat.{Table}
 use Rattle.map_core.specs.State.{History, GoesOn}
 use Rattle.whole_logs.specs.Each.{Each}
 use Rattle.suffix_core.specs.Group.{Event, is_submitted}
-use Rattle.world_core.specs.declared.event.Event.{Event as WorldEvent}
+use Rattle.world_front.specs.declared.event.Event.{Event as WorldEvent}
 use Rattle.world_core.specs.World.{World}
 use Rattle.world_core.specs.Holds.{Holds}
-use Rattle.world_core.specs.Front.{Front, first_front, front_step, front_after, requests_of, requests_in}
+use Rattle.world_front.specs.Front.{Front, first_front, front_step, front_after, requests_of, requests_in}
 use Rattle.cluster.specs.declared.cluster.Cluster.{Cluster}
 use Rattle.cluster.specs.declared.cluster.Seats.{Seats}
 use Rattle.cluster.specs.declared.monitor.Monitor.{Monitor}
@@ -17,7 +17,8 @@ use Rattle.cluster.specs.declared.pass.Pass.{Pass}
 use Rattle.cluster.specs.declared.starting.PoolSpec.{PoolSpec}
 use Rattle.cluster.specs.declared.starting.UserSpec.{UserSpec}
 use Rattle.published_map.specs.Published.{GoesOnFrom}
-use Rattle.cluster.specs.Passes.{AreFreshOf, group_count, pass_share}
+use Rattle.cluster.specs.Passes.{AreFreshOf, group_count}
+use Rattle.cluster_locks.specs.Shares.{pass_share}
 use Rattle.cluster.specs.GroupMoves.{happened, happened_at}
 use Rattle.cluster.specs.Monitors.{IsMonitorOf, published_of, waiting_of}
 use Rattle.cluster.specs.Asks.{IsBegun, asked_of, IsOwnEvent, Asks, known_by, IsPassOf}

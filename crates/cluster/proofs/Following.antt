@@ -13,15 +13,15 @@ use Rattle.map_core.specs.Refusal.{refusal}
 use Rattle.map_core.specs.declared.command.MapCommand.{MapCommand}
 use Rattle.map_core.specs.declared.fault.MapFault.{MapFault}
 use Rattle.map_core.specs.declared.fault.MapFault.TheVariants as map_fault
-use Rattle.entry_core.specs.declared.sealed.GroupId.{GroupId}
+use Rattle.store_core.specs.declared.sealed.GroupId.{GroupId}
 use Rattle.suffix_core.specs.Group.{Event}
-use Rattle.cluster.specs.declared.groups.GroupEntry.{GroupEntry}
+use Rattle.cluster_locks.specs.declared.groups.GroupEntry.{GroupEntry}
 use Rattle.cluster.specs.declared.cluster.Cluster.{Cluster}
 use Rattle.cluster.specs.declared.cluster.Seats.{Seats}
 use Rattle.cluster.specs.declared.monitor.Monitor.{Monitor}
 use Rattle.cluster.specs.declared.monitor.Unfinished.{Unfinished}
 use Rattle.cluster.specs.declared.monitor.Unfinished.TheVariants.{Left, Laid}
-use Rattle.cluster.specs.Places.{IsFreshRow}
+use Rattle.cluster_locks.specs.Places.{IsFreshRow}
 use Rattle.published_map.specs.Published.{with_command, with_commands}
 use Rattle.cluster.specs.Passes.{AreFreshOf, group_count, firsts_of}
 use Rattle.cluster.specs.MapCommands.{move_in, move_by, is_creation}

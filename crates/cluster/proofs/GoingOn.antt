@@ -10,7 +10,7 @@ use Rattle.map_core.specs.State.{MapState, History}
 use Rattle.map_core.specs.Map.{map_of, after, initial}
 use Rattle.map_core.specs.declared.command.MapCommand.{MapCommand}
 use Rattle.map_core.specs.declared.command.MapCommand.TheVariants.{PoolCreate, AppEnable, AppSet, AppRm, OsdUp, OsdDown, OsdRestart}
-use Rattle.entry_core.specs.declared.sealed.GroupId.{GroupId}
+use Rattle.store_core.specs.declared.sealed.GroupId.{GroupId}
 use Rattle.suffix_core.specs.Group.{Event, NewInterval}
 use Rattle.world_core.specs.World.{members_of}
 use Rattle.cluster.specs.declared.cluster.Cluster.{Cluster}

@@ -9,20 +9,20 @@ use Rattle.map_core.specs.Limits.{AcceptedFrom, IsAccepted}
 use Rattle.map_core.specs.declared.command.MapCommand.{MapCommand}
 use Rattle.map_core.specs.declared.command.MapCommand.TheVariants.{PoolCreate, AppEnable, AppSet, AppRm, OsdUp, OsdDown, OsdRestart}
 use Rattle.entry_core.specs.Locality.{group_for}
-use Rattle.entry_core.specs.Request.{Sealed}
-use Rattle.entry_core.specs.declared.sealed.GroupId.{GroupId}
+use Rattle.store_core.specs.Request.{Sealed}
+use Rattle.store_core.specs.declared.sealed.GroupId.{GroupId}
 use Rattle.whole_logs.specs.Each.{Each}
 use Rattle.suffix_core.specs.Group.{Group, Event, Submit, Deliver, Lose, Repeat, NewInterval, Restart, Kick, group_step, refusal_of}
 use Rattle.world_core.specs.Moves.{moves_groups, move_of}
 use Rattle.world_core.specs.Sound.{IsSealedFor}
-use Rattle.world_core.proofs.Merge.{number_refl}
+use Rattle.world_front.proofs.Merge.{number_refl}
 use Rattle.world_core.proofs.Standing.{step_is}
-use Rattle.world_core.proofs.Pools.{in_later}
+use Rattle.world_front.proofs.Pools.{in_later}
 use Rattle.world_core.proofs.Intervals.{later}
 use Rattle.world_laws.proofs.Apart.{Turn, Moves, Asks, Works, alone_step, moved_alone, TakesTurns, commands_of}
-use Rattle.cluster.specs.declared.groups.GroupEntry.{GroupEntry}
-use Rattle.cluster.specs.declared.groups.GroupEntry.TheVariants.{Happened, Looked, Idle}
-use Rattle.cluster.specs.Groups.{group_after, entry_fits, WasAccepted}
+use Rattle.cluster_locks.specs.declared.groups.GroupEntry.{GroupEntry}
+use Rattle.cluster_locks.specs.declared.groups.GroupEntry.TheVariants.{Happened, Looked, Idle}
+use Rattle.cluster_locks.specs.Groups.{group_after, entry_fits, WasAccepted}
 use Rattle.published_map.specs.Published.{with_commands}
 use Rattle.cluster.specs.GroupMoves.{happened}
 use Rattle.cluster.specs.Monitors.{moves_from}

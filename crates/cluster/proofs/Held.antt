@@ -5,25 +5,25 @@ use Rattle.std.proofs.lemmas.List.Elements.{All-head, All-tail, All-cons, All-ni
 use Rattle.turn_lock.specs.Turns.{with_leaver}
 use Rattle.turn_lock.specs.Seats.{Seated, mine_of, seat_lock, IsSeatOf, HasItsOwn}
 use Rattle.map_core.specs.State.{History}
-use Rattle.entry_core.specs.declared.sealed.GroupId.{GroupId}
+use Rattle.store_core.specs.declared.sealed.GroupId.{GroupId}
 use Rattle.whole_logs.specs.Each.{Each}
 use Rattle.suffix_core.specs.Group.{Event, Submit, Deliver, Lose, Repeat, NewInterval, Restart, Kick, is_submitted}
-use Rattle.world_core.specs.Front.{id_of}
+use Rattle.world_front.specs.Front.{id_of}
 use Rattle.cluster.specs.declared.cluster.Cluster.{Cluster}
 use Rattle.cluster.specs.declared.cluster.Seats.{Seats}
 use Rattle.cluster.specs.declared.pass.OwnSession.{OwnSession}
 use Rattle.cluster.specs.declared.pass.Pass.{Pass}
-use Rattle.cluster.specs.declared.users.UserTable.{UserTable}
-use Rattle.cluster.specs.declared.users.UserEntry.{UserEntry}
+use Rattle.cluster_locks.specs.declared.users.UserTable.{UserTable}
+use Rattle.cluster_locks.specs.declared.users.UserEntry.{UserEntry}
 use Rattle.cluster.specs.Asks.{Asks, IsOwnEvent, IsPassOf, asked_of, known_by}
 use Rattle.cluster.specs.GroupMoves.{happened, happened_at}
-use Rattle.world_core.specs.declared.session.Session.{Session}
+use Rattle.world_front.specs.declared.session.Session.{Session}
 use Rattle.cluster.specs.Sessions.{own_session_at, next_of, IsNumbered}
-use Rattle.cluster.specs.Places.{InStep, TakesIn}
-use Rattle.cluster.specs.Passes.{ArePassOf, AreSeatsOf, HaveShare, TakeIn, UserTurn, pass_share}
-use Rattle.published_map.specs.Published.{Covers}
+use Rattle.cluster_locks.specs.Places.{InStep, TakesIn}
+use Rattle.cluster.specs.Passes.{ArePassOf, AreSeatsOf, HaveShare, TakeIn, UserTurn}
+use Rattle.cluster_locks.specs.Shares.{pass_share}
+use Rattle.published_map.specs.Published.{Covers, KnowsAll}
 use Rattle.cluster.specs.Noted.{GaveNote}
-use Rattle.published_map.specs.Published.{KnowsAll}
 use Rattle.cluster.specs.Views.{OnlyLooked}
 use Rattle.cluster.proofs.OwnNumbers.{more_up, more_down, same_next}
 

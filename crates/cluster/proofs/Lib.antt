@@ -1,5 +1,3 @@
-pub mod Places
-pub mod NoneLeft
 pub mod Begun
 pub mod Gathering
 pub mod Moved

@@ -5,8 +5,7 @@ use Rattle.map_core.specs.State.{History}
 use Rattle.cluster.specs.declared.fault.ClusterFault.{ClusterFault}
 use Rattle.cluster.specs.declared.fault.ClusterFault.TheVariants as faults
 use Rattle.published_map.specs.declared.published.Knowledge.{Knowledge}
-use Rattle.published_map.specs.Published.{Covers}
-use Rattle.published_map.specs.Published.{KnowsAll}
+use Rattle.published_map.specs.Published.{Covers, KnowsAll}
 use Rattle.cluster.specs.Views.{LooksBy}
 use Rattle.published_map.proofs.Knowing.{sees_more}
 

@@ -12,19 +12,19 @@ use Rattle.turn_lock.specs.Turned.{Closes}
 use Rattle.turn_lock.proofs.Lists.{starts_through, starts_whole, made_by_starts}
 use Rattle.whole_logs.specs.Each.{Each}
 use Rattle.suffix_core.specs.Group.{Group}
-use Rattle.cluster.specs.declared.groups.GroupEntry.{GroupEntry}
-use Rattle.cluster.specs.declared.groups.LockedGroup.{LockedGroup}
+use Rattle.cluster_locks.specs.declared.groups.GroupEntry.{GroupEntry}
+use Rattle.cluster_locks.specs.declared.groups.LockedGroup.{LockedGroup}
 use Rattle.cluster.specs.declared.cluster.Cluster.{Cluster}
 use Rattle.cluster.specs.declared.cluster.Seats.{Seats}
 use Rattle.cluster.specs.declared.cluster.Ended.{Ended}
 use Rattle.cluster.specs.declared.pass.Pass.{Pass}
-use Rattle.cluster.specs.Groups.{group_after, entry_fits}
-use Rattle.cluster.specs.Places.{InStep, Beside, TakesIn, share_of}
-use Rattle.cluster.specs.Passes.{Gathers, Closed, AreMonitorOf, group_in, group_count, firsts_of, pass_share, monitor_share}
+use Rattle.cluster_locks.specs.Groups.{group_after, entry_fits, group_in}
+use Rattle.cluster_locks.specs.Places.{InStep, Beside, TakesIn, share_of}
+use Rattle.cluster.specs.Passes.{Gathers, Closed, AreMonitorOf, group_count, firsts_of}
+use Rattle.cluster_locks.specs.Shares.{pass_share, monitor_share}
 use Rattle.cluster.specs.GroupMoves.{happened, happened_at}
-use Rattle.cluster.specs.Asks.{IsPassOf}
-use Rattle.cluster.specs.Asks.{seats_of}
-use Rattle.cluster.proofs.Begun.{beside_long, in_step_long}
+use Rattle.cluster.specs.Asks.{IsPassOf, seats_of}
+use Rattle.cluster_locks.proofs.FreshRows.{beside_long, in_step_long}
 
 -- ---- elements by their places
 

@@ -13,20 +13,22 @@ use Rattle.turn_lock.specs.Seats.{Seated, HasItsOwn, seen_by, mine_of, lock_of, 
 use Rattle.turn_lock.specs.Turns.{StartsWith, made, made_by, state_after}
 use Rattle.map_core.specs.State.{History}
 use Rattle.map_core.specs.declared.command.MapCommand.{MapCommand}
-use Rattle.entry_core.specs.declared.sealed.GroupId.{GroupId}
+use Rattle.store_core.specs.declared.sealed.GroupId.{GroupId}
 use Rattle.suffix_core.specs.Group.{Group, Event, has_all_intervals}
 use Rattle.group_core.specs.Moves.{event_of}
 use Rattle.group_types.specs.declared.group_move.GroupMove.{GroupMove}
 use Rattle.group_types.specs.declared.fault.GroupFault.{GroupFault}
-use Rattle.cluster.specs.declared.groups.GroupEntry.{GroupEntry}
-use Rattle.cluster.specs.declared.groups.GroupEntry.TheVariants.{Happened, Looked, Idle}
+use Rattle.cluster_locks.specs.declared.groups.GroupEntry.{GroupEntry}
+use Rattle.cluster_locks.specs.declared.groups.GroupEntry.TheVariants.{Happened, Looked, Idle}
 use Rattle.cluster.specs.declared.cluster.Cluster.{Cluster}
 use Rattle.cluster.specs.declared.cluster.Seats.{Seats}
-use Rattle.cluster.specs.Groups.{group_after}
-use Rattle.cluster.specs.Passes.{GroupTurn, AreSeatsOf, HaveShare, AreAlone, AreMonitorOf, HaveTheirOwn, monitor_share, group_count}
-use Rattle.cluster.specs.MapCommands.{begins_interval, move_entry, MoveTells, full_entry, FullTells}
+use Rattle.cluster_locks.specs.Groups.{group_after}
+use Rattle.cluster.specs.Passes.{GroupTurn, AreSeatsOf, HaveShare, AreAlone, AreMonitorOf, HaveTheirOwn, group_count}
+use Rattle.cluster_locks.specs.Shares.{monitor_share}
+use Rattle.cluster.specs.MapCommands.{begins_interval}
+use Rattle.cluster_locks.specs.Moves.{move_entry, MoveTells, full_entry, FullTells}
 use Rattle.cluster.specs.GroupMoves.{happened, happened_at, seen_at, standing, Goes, OneMoved, HaveMoved, HaveLooked, Found, FullAt, NoneFull, BeginsAt, event_at}
-use Rattle.cluster.proofs.Places.{read_at, read_put, read_other, put_same, same_length, starts_whole}
+use Rattle.cluster_locks.proofs.Places.{read_at, read_put, read_other, put_same, same_length, starts_whole}
 
 pub starts_through : {X : Type 0} → (xs ys zs : List X) → StartsWith xs ys → StartsWith ys zs → StartsWith xs zs
 starts_through xs ys zs p q = (q.0 ++ p.0, p.1 ∙ (ap (λ l. l ++ p.0) q.1 ∙ append_assoc zs q.0 p.0))

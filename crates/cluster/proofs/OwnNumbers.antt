@@ -5,9 +5,9 @@ use native.Mathlib.Decide.{ℕ_discrete}
 use Rattle.std.proofs.Common.{◌≡◌, ◌≢◌, ℕ, ◌+◌, ◌<◌, ◌≤◌, ◌==◌, ◌∙◌, Bool, true, false, if◌then◌else◌, List, [], ◌∷◌, ◌++◌, length, set, refl, sym, ap, subst, arith}
 use Rattle.std.specs.Prelude.{None, Some, slice_get}
 use Rattle.std.specs.Cmp.{unsigned_Decides}
-use Rattle.world_core.proofs.Bytes.{number_same}
-use Rattle.world_core.specs.Stands.{next_in}
-use Rattle.world_core.specs.declared.session.Session.{Session}
+use Rattle.world_front.proofs.Bytes.{number_same}
+use Rattle.world_front.specs.Stands.{next_in}
+use Rattle.world_front.specs.declared.session.Session.{Session}
 use Rattle.cluster.specs.declared.pass.OwnSession.{OwnSession}
 use Rattle.cluster.specs.Sessions.{own_session, own_session_at, next_of}
 

@@ -4,13 +4,13 @@ use Rattle.std.specs.Prelude.{slice_get, slice_set, if◌then◌else◌}
 use Rattle.std.specs.Option.{option_map}
 use Rattle.std.specs.List.{position_from}
 use Rattle.std.proofs.lemmas.Iterator.Adapters.{position_from-zero}
-use Rattle.world_core.specs.Stands.{next_in}
-use Rattle.world_core.specs.declared.session.Session.{Session}
-use Rattle.world_core.proofs.Bytes.{number_same}
+use Rattle.world_front.specs.Stands.{next_in}
+use Rattle.world_front.specs.declared.session.Session.{Session}
+use Rattle.world_front.proofs.Bytes.{number_same}
 use Rattle.cluster.specs.declared.pass.OwnSession.{OwnSession}
 use Rattle.cluster.specs.Sessions.{own_session, own_session_at, next_of}
 use Rattle.cluster.specs.Asking.{own_place}
-use Rattle.cluster.proofs.Places.{get_at}
+use Rattle.cluster_locks.proofs.Places.{get_at}
 
 -- ---- where a session stands
 

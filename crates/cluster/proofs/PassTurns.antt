@@ -5,19 +5,20 @@ use Rattle.std.specs.Option.{option_to_list}
 use mathlib.Core.Logic.{dite}
 use native.Mathlib.Decide.{ℕ_discrete}
 use Rattle.map_core.specs.State.{History, GoesOn}
-use Rattle.entry_core.specs.Request.{Sealed}
+use Rattle.store_core.specs.Request.{Sealed}
 use Rattle.whole_logs.specs.Each.{Each}
 use Rattle.suffix_core.specs.Group.{Group, Event, Submit, Deliver, Lose, Repeat, NewInterval, Restart, Kick, is_submitted}
-use Rattle.world_core.specs.Front.{id_of}
+use Rattle.world_front.specs.Front.{id_of}
 use Rattle.world_core.proofs.Acting.{each_join, each_weaker}
-use Rattle.cluster.specs.declared.groups.GroupEntry.{GroupEntry}
+use Rattle.cluster_locks.specs.declared.groups.GroupEntry.{GroupEntry}
 use Rattle.cluster.specs.declared.cluster.Cluster.{Cluster}
 use Rattle.cluster.specs.declared.cluster.Seats.{Seats}
 use Rattle.cluster.specs.declared.pass.OwnSession.{OwnSession}
 use Rattle.cluster.specs.declared.pass.Pass.{Pass}
 use Rattle.published_map.specs.declared.published.Knowledge.{Knowledge}
 use Rattle.published_map.specs.Published.{Covers}
-use Rattle.cluster.specs.Passes.{GroupTurn, AreSeatsOf, pass_share, group_count, firsts_of}
+use Rattle.cluster.specs.Passes.{GroupTurn, AreSeatsOf, group_count, firsts_of}
+use Rattle.cluster_locks.specs.Shares.{pass_share}
 use Rattle.cluster.specs.GroupMoves.{happened, happened_at, OneMoved}
 use Rattle.cluster.specs.Sessions.{next_of}
 use Rattle.cluster.specs.Asks.{asked_of, IsOwnEvent, IsAskedAt, Asks, known_by, IsPassOf}

@@ -4,13 +4,13 @@ use Rattle.std.specs.Prelude.{Result, Ok, Err, IfOk, IfErr, not}
 use Rattle.std.specs.List.{range_with_len}
 use Rattle.map_core.specs.State.{History}
 use Rattle.map_core.specs.declared.pool.PoolView.{PoolView}
-use Rattle.entry_core.specs.Request.{Sealed}
-use Rattle.world_core.specs.Front.{◌>>=◌, refuse_if, error_of, id_of, Asker, is_namespace, asks_more}
-use Rattle.world_core.specs.Stands.{next_in}
-use Rattle.world_core.specs.declared.event.Ask.{Ask}
-use Rattle.world_core.specs.declared.fault.WorldFault.{WorldFault as Fault}
-use Rattle.world_core.specs.declared.fault.WorldFault.TheVariants.{NoPool, BadObjectName}
-use Rattle.world_core.specs.declared.session.Session.{Session}
+use Rattle.store_core.specs.Request.{Sealed}
+use Rattle.world_front.specs.Front.{◌>>=◌, refuse_if, error_of, id_of, Asker, is_namespace, asks_more}
+use Rattle.world_front.specs.Stands.{next_in}
+use Rattle.world_front.specs.declared.event.Ask.{Ask}
+use Rattle.world_front.specs.declared.fault.WorldFault.{WorldFault as Fault}
+use Rattle.world_front.specs.declared.fault.WorldFault.TheVariants.{NoPool, BadObjectName}
+use Rattle.world_front.specs.declared.session.Session.{Session}
 use Rattle.cluster.specs.declared.asking.Asking.{Asking}
 use Rattle.cluster.specs.declared.asking.Asked.{Asked}
 use Rattle.cluster.specs.declared.cluster.Cluster.{Cluster}

@@ -5,13 +5,13 @@ use Rattle.turn_lock.specs.Turns.{entries, made_by, state_after, EachFits}
 use Rattle.map_core.specs.State.{History}
 use Rattle.map_core.specs.declared.command.MapCommand.{MapCommand}
 use Rattle.map_core.specs.declared.command.MapCommand.TheVariants.{PoolCreate, AppEnable, AppSet, AppRm, OsdUp, OsdDown, OsdRestart}
-use Rattle.entry_core.specs.declared.sealed.GroupId.{GroupId}
+use Rattle.store_core.specs.declared.sealed.GroupId.{GroupId}
 use Rattle.suffix_core.specs.Group.{Group, Event, Submit, Deliver, Lose, Repeat, NewInterval, Restart, Kick, group_step, is_submitted}
-use Rattle.world_core.proofs.Merge.{number_refl}
+use Rattle.world_front.proofs.Merge.{number_refl}
 use Rattle.world_core.proofs.Requests.{Facts, message_facts, submit_facts, interval_facts, restart_facts}
-use Rattle.cluster.specs.declared.groups.GroupEntry.{GroupEntry}
-use Rattle.cluster.specs.declared.groups.GroupEntry.TheVariants.{Happened, Looked, Idle}
-use Rattle.cluster.specs.Groups.{group_after, entry_fits, WasAccepted}
+use Rattle.cluster_locks.specs.declared.groups.GroupEntry.{GroupEntry}
+use Rattle.cluster_locks.specs.declared.groups.GroupEntry.TheVariants.{Happened, Looked, Idle}
+use Rattle.cluster_locks.specs.Groups.{group_after, entry_fits, WasAccepted}
 use Rattle.published_map.specs.Published.{with_command}
 use Rattle.cluster.specs.GroupMoves.{happened}
 use Rattle.cluster.specs.Monitors.{moves_from}

@@ -11,12 +11,12 @@ use Rattle.group_types.specs.declared.fault.GroupFault.{GroupFault}
 use Rattle.group_types.specs.declared.fault.GroupFault.TheVariants.{NoMessage, Unreachable, Full, OutOfMemory, Doubled}
 use Rattle.cluster.specs.declared.cluster.Cluster.{Cluster}
 use Rattle.cluster.specs.declared.pass.Pass.{Pass}
-use Rattle.cluster.specs.declared.groups.Worked.{Worked}
-use Rattle.cluster.specs.declared.groups.Worked.TheVariants as worked
-use Rattle.cluster.specs.Groups.{work_entry, WorkTells}
+use Rattle.cluster_locks.specs.declared.groups.Worked.{Worked}
+use Rattle.cluster_locks.specs.declared.groups.Worked.TheVariants as worked
+use Rattle.cluster_locks.specs.Groups.{work_entry, WorkTells}
 use Rattle.cluster.specs.GroupMoves.{happened, happened_at, Goes, OneMoved}
 use Rattle.cluster.specs.declared.workers.Worker.{Worker}
-use Rattle.cluster.specs.Places.{Beside}
+use Rattle.cluster_locks.specs.Places.{Beside}
 use Rattle.cluster.specs.Asks.{IsPassOf}
 use Rattle.cluster.specs.Workers.{HasWorked, HasWorkedOf, AreAtWork, pass_of, deliveries}
 use Rattle.cluster.specs.Deliveries.{TurnsOn}

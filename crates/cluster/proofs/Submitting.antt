@@ -13,28 +13,28 @@ use Rattle.map_core.specs.declared.fault.MapFault.{MapFault}
 use Rattle.map_core.specs.declared.fault.MapFault.TheVariants as map_fault
 use Rattle.map_core.specs.declared.pool.Pool.{Pool}
 use Rattle.entry_core.specs.Locality.{group_for}
-use Rattle.entry_core.specs.Request.{Sealed}
-use Rattle.entry_core.specs.declared.sealed.GroupId.{GroupId}
+use Rattle.store_core.specs.Request.{Sealed}
+use Rattle.store_core.specs.declared.sealed.GroupId.{GroupId}
 use Rattle.whole_logs.specs.Each.{Each}
 use Rattle.suffix_core.specs.Group.{Group, Submit}
 use Rattle.group_types.specs.declared.fault.GroupFault.{GroupFault}
-use Rattle.world_core.specs.Front.{◌>>=◌, need, refuse_if, id_of, asks_more}
+use Rattle.world_front.specs.Front.{◌>>=◌, need, refuse_if, id_of, asks_more}
 use Rattle.world_core.specs.Moves.{IsAt}
 use Rattle.world_core.specs.Sound.{IsSealedFor}
-use Rattle.world_core.specs.declared.event.Ask.{Ask}
+use Rattle.world_front.specs.declared.event.Ask.{Ask}
 use Rattle.world_core.proofs.Acting.{group_at_is}
-use Rattle.world_core.proofs.Bytes.{number_same}
-use Rattle.world_core.proofs.Merge.{number_refl}
+use Rattle.world_front.proofs.Bytes.{number_same}
+use Rattle.world_front.proofs.Merge.{number_refl}
 use Rattle.turn_lock.specs.Seats.{lock_of, first_of as began, seat_lock}
-use Rattle.world_core.specs.declared.fault.WorldFault.{WorldFault as Fault}
-use Rattle.world_core.specs.declared.fault.WorldFault.TheVariants.{NoSession, StaleTick}
-use Rattle.world_core.specs.declared.session.Session.{Session}
+use Rattle.world_front.specs.declared.fault.WorldFault.{WorldFault as Fault}
+use Rattle.world_front.specs.declared.fault.WorldFault.TheVariants.{NoSession, StaleTick}
+use Rattle.world_front.specs.declared.session.Session.{Session}
 use Rattle.cluster.specs.declared.asking.Asking.{Asking}
 use Rattle.cluster.specs.declared.cluster.Cluster.{Cluster}
 use Rattle.cluster.specs.declared.cluster.Seats.{Seats}
 use Rattle.cluster.specs.declared.pass.OwnSession.{OwnSession}
 use Rattle.cluster.specs.declared.pass.Pass.{Pass}
-use Rattle.cluster.specs.Groups.{submission_entry, SubmissionTells}
+use Rattle.cluster_locks.specs.Groups.{submission_entry, SubmissionTells}
 use Rattle.cluster.specs.Passes.{GroupTurn, AreSeatsOf, group_count, firsts_of}
 use Rattle.cluster.specs.GroupMoves.{happened_at, OneMoved}
 use Rattle.cluster.specs.Sessions.{own_session, own_session_at, next_of, IsNumbered}
@@ -44,7 +44,7 @@ use Rattle.cluster.specs.ToAsk.{IsToAsk}
 use Rattle.cluster.proofs.ClusterPlaces.{inside_count}
 use Rattle.cluster.proofs.Ending.{beside_as_long, numbered_in, asked_inside, same_session}
 use Rattle.cluster.proofs.OwnSessions.{one_given, none_given}
-use Rattle.cluster.proofs.Places.{same_length}
+use Rattle.cluster_locks.proofs.Places.{same_length}
 use Rattle.cluster.proofs.PassTurns.{AsksNow, asks_after, asks_still, one_made, turned_pass}
 
 -- ---- the session that asks

@@ -6,15 +6,15 @@ use Rattle.map_core.specs.State.{History}
 use Rattle.map_core.specs.declared.pool.PoolView.{PoolView}
 use Rattle.object_core.specs.Needs.{needs_fault}
 use Rattle.object_core.specs.declared.op.Op.{Op}
-use Rattle.entry_core.specs.Request.{Sealed, Listing}
+use Rattle.store_core.specs.Request.{Sealed, Listing}
 use Rattle.entry_core.specs.Locality.{group_for}
 use Rattle.group_types.specs.declared.fault.GroupFault.{GroupFault}
-use Rattle.world_core.specs.declared.event.Ask.{Ask}
-use Rattle.world_core.specs.declared.fault.WorldFault.{WorldFault as Fault}
-use Rattle.world_core.specs.declared.fault.WorldFault.TheVariants.{NoSession, NoPool, BadObjectName, StaleTick, Needs as OfNeeds}
-use Rattle.world_core.specs.Front.{◌>>=◌, need, refuse_if, lower, Asker, is_object_name, is_namespace, sealed_of, vector_of, id_of, asks_more}
+use Rattle.world_front.specs.declared.event.Ask.{Ask}
+use Rattle.world_front.specs.declared.fault.WorldFault.{WorldFault as Fault}
+use Rattle.world_front.specs.declared.fault.WorldFault.TheVariants.{NoSession, NoPool, BadObjectName, StaleTick, Needs as OfNeeds}
+use Rattle.world_front.specs.Front.{◌>>=◌, need, refuse_if, lower, Asker, is_object_name, is_namespace, sealed_of, vector_of, id_of, asks_more}
 use Rattle.world_core.specs.Moves.{IsAt}
-use Rattle.world_core.specs.declared.session.Session.{Session}
+use Rattle.world_front.specs.declared.session.Session.{Session}
 use Rattle.cluster.specs.declared.asking.Asking.{Asking}
 use Rattle.cluster.specs.declared.asking.Asked.{Asked}
 use Rattle.cluster.specs.declared.fault.ClusterFault.{ClusterFault}
@@ -22,7 +22,7 @@ use Rattle.cluster.specs.declared.fault.ClusterFault.TheVariants as faults
 use Rattle.cluster.specs.declared.cluster.Cluster.{Cluster}
 use Rattle.cluster.specs.declared.pass.OwnSession.{OwnSession}
 use Rattle.cluster.specs.declared.pass.Pass.{Pass}
-use Rattle.cluster.specs.Groups.{submission_entry, SubmissionTells}
+use Rattle.cluster_locks.specs.Groups.{submission_entry, SubmissionTells}
 use Rattle.cluster.specs.Passes.{GroupTurn, firsts_of}
 use Rattle.cluster.specs.Sessions.{own_session, own_session_at}
 use Rattle.cluster.specs.Deliveries.{fault_of_group, TurnsOn}

@@ -4,11 +4,11 @@ use Rattle.std.specs.Prelude.{◌≡◌, ℕ, ◌<◌, ◌≤◌, true, List, []
 use Rattle.left_right.specs.Sides.{view as known}
 use Rattle.map_core.specs.State.{History, GoesOn}
 use Rattle.entry_core.specs.Locality.{group_for}
-use Rattle.entry_core.specs.Request.{Sealed}
-use Rattle.entry_core.specs.declared.sealed.GroupId.{GroupId}
+use Rattle.store_core.specs.Request.{Sealed}
+use Rattle.store_core.specs.declared.sealed.GroupId.{GroupId}
 use Rattle.whole_logs.specs.Each.{Each}
 use Rattle.suffix_core.specs.Group.{Group, Event, Submit, Deliver, Lose, Repeat, NewInterval, Restart, Kick, is_submitted}
-use Rattle.world_core.specs.Front.{id_of}
+use Rattle.world_front.specs.Front.{id_of}
 use Rattle.world_core.specs.World.{World}
 use Rattle.world_core.specs.Sound.{IsSealedFor, IsSound}
 use Rattle.cluster.specs.declared.cluster.Cluster.{Cluster}

@@ -1,22 +1,22 @@
 -- Statement: contracts of public calls use it.
 -- What a pass does to a group by one turn: a delivery, or a look for an answer.
 use Rattle.std.specs.Prelude.{◌≡◌, ℕ, Option, Result, Ok, Err}
-use Rattle.entry_core.specs.declared.reply.Reply.{Reply}
-use Rattle.entry_core.specs.declared.sealed.GroupId.{GroupId}
+use Rattle.store_core.specs.declared.reply.Reply.{Reply}
+use Rattle.store_core.specs.declared.sealed.GroupId.{GroupId}
 use Rattle.suffix_core.specs.Group.{Group}
 use Rattle.group_types.specs.declared.fault.GroupFault.{GroupFault}
 use Rattle.group_types.specs.declared.fault.GroupFault.TheVariants as group_fault
-use Rattle.world_core.specs.declared.fault.WorldFault.TheVariants.{NoRequest, Group as OfGroup}
+use Rattle.world_front.specs.declared.fault.WorldFault.TheVariants.{NoRequest, Group as OfGroup}
 use Rattle.world_core.specs.Moves.{IsAt}
-use Rattle.cluster.specs.declared.groups.GroupEntry.{GroupEntry}
-use Rattle.cluster.specs.declared.groups.Worked.{Worked}
-use Rattle.cluster.specs.declared.groups.AnswerFault.{AnswerFault}
-use Rattle.cluster.specs.declared.groups.AnswerFault.TheVariants as answer_fault
+use Rattle.cluster_locks.specs.declared.groups.GroupEntry.{GroupEntry}
+use Rattle.cluster_locks.specs.declared.groups.Worked.{Worked}
+use Rattle.cluster_locks.specs.declared.groups.AnswerFault.{AnswerFault}
+use Rattle.cluster_locks.specs.declared.groups.AnswerFault.TheVariants as answer_fault
 use Rattle.cluster.specs.declared.fault.ClusterFault.{ClusterFault}
 use Rattle.cluster.specs.declared.fault.ClusterFault.TheVariants as faults
 use Rattle.cluster.specs.declared.cluster.Cluster.{Cluster}
 use Rattle.cluster.specs.declared.pass.Pass.{Pass}
-use Rattle.cluster.specs.Groups.{work_entry, WorkTells, answer_entry, AnswerTells}
+use Rattle.cluster_locks.specs.Groups.{work_entry, WorkTells, answer_entry, AnswerTells}
 use Rattle.cluster.specs.Passes.{GroupTurn, firsts_of}
 
 -- ---- faults

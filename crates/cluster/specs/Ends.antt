@@ -1,7 +1,7 @@
 -- Statement: contracts of public calls use it.
 -- What a cluster is closed to.
 use Rattle.std.specs.Prelude.{◌≡◌, List, map, length, IsSome, IsNone}
-use Rattle.world_core.specs.declared.session.Session.{Session}
+use Rattle.world_front.specs.declared.session.Session.{Session}
 use Rattle.world_core.specs.declared.world.parts.WorldParts.{WorldParts}
 use Rattle.cluster.specs.declared.cluster.Cluster.{Cluster}
 use Rattle.cluster.specs.declared.cluster.Ended.{Ended}
@@ -11,7 +11,8 @@ use Rattle.cluster.specs.declared.monitor.Monitor.{Monitor}
 use Rattle.cluster.specs.declared.pass.Pass.{Pass}
 use Rattle.cluster.specs.Asks.{seats_of, sessions_of}
 use Rattle.cluster.specs.Sessions.{AreSessionsOf}
-use Rattle.cluster.specs.Passes.{Closed, group_in}
+use Rattle.cluster.specs.Passes.{Closed}
+use Rattle.cluster_locks.specs.Groups.{group_in}
 
 -- Groups and users are the fold of lists which begin with what each pass and the monitor had seen, and which have no entries but theirs, each one's
 -- in its order. The map is the monitor's, and the sessions are those of the passes

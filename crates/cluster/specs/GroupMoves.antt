@@ -9,13 +9,13 @@ use Rattle.turn_lock.specs.Seats.{Locked, Seated, seen_by, mine_of}
 use Rattle.turn_lock.specs.Turns.{StartsWith, state_after}
 use Rattle.map_core.specs.State.{History}
 use Rattle.map_core.specs.declared.command.MapCommand.{MapCommand}
-use Rattle.entry_core.specs.declared.sealed.GroupId.{GroupId}
+use Rattle.store_core.specs.declared.sealed.GroupId.{GroupId}
 use Rattle.suffix_core.specs.Group.{Group, Event, has_all_intervals}
-use Rattle.cluster.specs.declared.groups.GroupEntry.{GroupEntry}
-use Rattle.cluster.specs.declared.groups.GroupEntry.TheVariants.{Happened, Looked, Idle}
+use Rattle.cluster_locks.specs.declared.groups.GroupEntry.{GroupEntry}
+use Rattle.cluster_locks.specs.declared.groups.GroupEntry.TheVariants.{Happened, Looked, Idle}
 use Rattle.cluster.specs.declared.cluster.Cluster.{Cluster}
 use Rattle.cluster.specs.declared.cluster.Seats.{Seats}
-use Rattle.cluster.specs.Groups.{group_after}
+use Rattle.cluster_locks.specs.Groups.{group_after}
 use Rattle.cluster.specs.MapCommands.{begins_interval}
 
 -- the events among a seat's entries, looks and idle turns aside

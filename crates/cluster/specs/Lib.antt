@@ -1,6 +1,3 @@
-pub mod Groups
-pub mod Users
-pub mod Places
 pub mod Passes
 pub mod MapCommands
 pub mod GroupMoves

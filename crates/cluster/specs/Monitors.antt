@@ -9,7 +9,7 @@ use Rattle.map_core.specs.Refusal.{refusal}
 use Rattle.map_core.specs.declared.command.MapCommand.{MapCommand}
 use Rattle.map_core.specs.declared.fault.MapFault.{MapFault}
 use Rattle.map_core.specs.declared.fault.MapFault.TheVariants as map_fault
-use Rattle.entry_core.specs.declared.sealed.GroupId.{GroupId}
+use Rattle.store_core.specs.declared.sealed.GroupId.{GroupId}
 use Rattle.suffix_core.specs.Group.{Event}
 use Rattle.group_types.specs.declared.fault.GroupFault.TheVariants as group_fault
 use Rattle.cluster.specs.declared.cluster.Cluster.{Cluster}

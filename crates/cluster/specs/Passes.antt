@@ -1,22 +1,21 @@
 -- Statement: contracts of public calls use it.
 -- What clauses say of a cluster and of seats of its locks.
-use Rattle.std.specs.Prelude.{◌≡◌, ℕ, zero, suc, ◌+◌, ◌-◌, ◌*◌, ◌/◌, List, [], ◌∷◌, ◌++◌, All, map, length}
+use Rattle.std.specs.Prelude.{◌≡◌, ℕ, List, [], ◌∷◌, All, map, length}
 use Rattle.turn_lock.specs.declared.rule.Made.{Made}
-use Rattle.turn_lock.specs.Turns.{last_word}
 use Rattle.turn_lock.specs.Seats.{lock_of, first_of, seat_lock, seen_by, IsSeatOf, IsFresh, HasItsOwn, IsSameSeat, HasSameShare}
 use Rattle.turn_lock.specs.Turned.{Turned, Closes}
 use Rattle.map_core.specs.State.{History}
 use Rattle.suffix_core.specs.Group.{Group}
-use Rattle.cluster.specs.declared.groups.GroupEntry.{GroupEntry}
-use Rattle.cluster.specs.declared.users.UserTable.{UserTable}
-use Rattle.cluster.specs.declared.users.UserEntry.{UserEntry}
+use Rattle.cluster_locks.specs.declared.groups.GroupEntry.{GroupEntry}
+use Rattle.cluster_locks.specs.declared.users.UserTable.{UserTable}
+use Rattle.cluster_locks.specs.declared.users.UserEntry.{UserEntry}
 use Rattle.cluster.specs.declared.cluster.Cluster.{Cluster}
 use Rattle.cluster.specs.declared.cluster.Seats.{Seats}
 use Rattle.cluster.specs.declared.cluster.Ended.{Ended}
-use Rattle.cluster.specs.declared.groups.LockedGroup.{LockedGroup}
-use Rattle.cluster.specs.Groups.{group_after, entry_fits}
-use Rattle.cluster.specs.Users.{table_after}
-use Rattle.cluster.specs.Places.{TurnsAt, TakesIn, InStep, IsFreshRow, ClosedAll}
+use Rattle.cluster_locks.specs.Groups.{group_after, group_in, entry_fits}
+use Rattle.cluster_locks.specs.Users.{table_after}
+use Rattle.cluster_locks.specs.Shares.{pass_share, monitor_share}
+use Rattle.cluster_locks.specs.Places.{TurnsAt, TakesIn, InStep, IsFreshRow, ClosedAll}
 
 -- there is a seat of each lock of the cluster
 abbrev pub AreSeatsOf : Cluster → Seats → Type 0
@@ -36,9 +35,6 @@ GroupTurn entry tells c old new k step answer = TurnsAt group_after entry tells 
 -- one turn on the users
 abbrev pub UserTurn : {Step A : Type 0} → (Step → UserTable → A → UserEntry) → (Step → UserTable → A → Type 0) → Cluster → Seats → Seats → Step → A → Type 0
 UserTurn entry tells c old new step answer = Turned table_after entry tells c.users.first step answer old.users new.users × IsSameSeat old.users new.users × HasSameShare old.users new.users × (new.groups ≡ old.groups)
-
-abbrev pub group_in : LockedGroup → Group
-group_in p = p.group
 
 -- the states that the groups began with
 abbrev pub firsts_of : Cluster → List Group
@@ -62,21 +58,6 @@ Gathers old [] new = new ≡ old
 Gathers old (p ∷ ps) new = (next : Seats) × TakeIn old p next × Gathers next ps new
 
 -- ---- the numbers that turns draw
-
--- the share of each pass, of all numbers of a lock, and what that leaves for the monitor
-abbrev pub pass_share : ℕ → ℕ
-pass_share passes = last_word / (passes + 1)
-
-abbrev pub monitor_share : ℕ → ℕ
-monitor_share passes = last_word - passes * pass_share passes
-
-abbrev pub times : ℕ → ℕ → List ℕ
-times zero x = []
-times (suc n) x = x ∷ times n x
-
--- the shares of all passes, and last the monitor's
-abbrev pub shares_of : ℕ → List ℕ
-shares_of passes = times passes (pass_share passes) ++ monitor_share passes ∷ []
 
 abbrev pub HaveShare : ℕ → Seats → Type 0
 HaveShare share p = All (λ s. s.share ≡ share) p.groups.items × (p.users.share ≡ share)

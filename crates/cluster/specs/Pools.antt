@@ -6,8 +6,8 @@ use Rattle.map_core.specs.Map.{map_of, epoch_of, view_at}
 use Rattle.map_core.specs.Refusal.{has_pool, is_word}
 use Rattle.map_core.specs.Limits.{HasLimits}
 use Rattle.map_core.specs.declared.pool.PoolView.{PoolView}
-use Rattle.world_core.specs.declared.fault.WorldFault.TheVariants.{NoPool}
-use Rattle.world_core.specs.Stands.{InMap}
+use Rattle.world_front.specs.declared.fault.WorldFault.TheVariants.{NoPool}
+use Rattle.world_front.specs.Stands.{InMap}
 use Rattle.cluster.specs.declared.fault.ClusterFault.{ClusterFault}
 use Rattle.cluster.specs.declared.fault.ClusterFault.TheVariants as faults
 use Rattle.cluster.specs.declared.pass.Pass.{Pass}

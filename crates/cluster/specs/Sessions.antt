@@ -1,10 +1,10 @@
 -- Statement: contracts of public calls use it.
 -- The sessions that a pass has opened, by their numbers.
 use Rattle.std.specs.Prelude.{◌≡◌, ℕ, ◌-◌, ◌<◌, ◌≤◌, ◌==◌, List, [], ◌∷◌, Option, Some, None, if◌then◌else◌, slice_get}
-use Rattle.entry_core.specs.Request.{numbers}
-use Rattle.world_core.specs.Front.{id_of}
-use Rattle.world_core.specs.Stands.{next_in}
-use Rattle.world_core.specs.declared.session.Session.{Session}
+use Rattle.store_core.specs.Request.{numbers}
+use Rattle.world_front.specs.Front.{id_of}
+use Rattle.world_front.specs.Stands.{next_in}
+use Rattle.world_front.specs.declared.session.Session.{Session}
 use Rattle.cluster.specs.declared.pass.OwnSession.{OwnSession}
 
 -- the session of a number

@@ -10,16 +10,16 @@ use Rattle.map_core.specs.declared.fault.MapFault.{MapFault}
 use Rattle.map_core.specs.declared.fault.MapFault.TheVariants as map_fault
 use Rattle.map_core.specs.declared.pool.PoolView.{PoolView}
 use Rattle.object_core.specs.declared.op.Op.{Op}
-use Rattle.entry_core.specs.Request.{Sealed, numbers}
-use Rattle.world_core.specs.declared.event.Ask.{Ask}
-use Rattle.world_core.specs.Front.{id_of}
+use Rattle.store_core.specs.Request.{Sealed, numbers}
+use Rattle.world_front.specs.declared.event.Ask.{Ask}
+use Rattle.world_front.specs.Front.{id_of}
 use Rattle.world_core.specs.Sound.{IsSealedFor}
-use Rattle.world_core.specs.declared.session.Session.{Session}
+use Rattle.world_front.specs.declared.session.Session.{Session}
 use Rattle.cluster.specs.declared.asking.Asking.{Asking}
 use Rattle.cluster.specs.declared.asking.Asked.{Asked}
 use Rattle.cluster.specs.declared.fault.ClusterFault.{ClusterFault}
 use Rattle.cluster.specs.declared.fault.ClusterFault.TheVariants as faults
-use Rattle.world_core.specs.declared.fault.WorldFault.TheVariants.{NoPool}
+use Rattle.world_front.specs.declared.fault.WorldFault.TheVariants.{NoPool}
 use Rattle.cluster.specs.declared.cluster.Cluster.{Cluster}
 use Rattle.cluster.specs.declared.pass.OwnSession.{OwnSession}
 use Rattle.cluster.specs.declared.pass.Pass.{Pass}

@@ -4,20 +4,20 @@ use Rattle.std.specs.Prelude.{◌≡◌, ◌⊎◌, ℕ, List, [], ◌∷◌, �
 use Rattle.verdict_core.specs.Ticket.{Ticket}
 use Rattle.auth_db.specs.declared.fault.AuthFault.{AuthFault}
 use Rattle.auth_db.specs.declared.fault.AuthFault.TheVariants as auth_fault
-use Rattle.world_core.specs.declared.fault.WorldFault.TheVariants.{Limit, Auth as OfUsers}
-use Rattle.world_core.specs.Front.{opened}
-use Rattle.world_core.specs.declared.session.Session.{Session}
-use Rattle.world_core.specs.declared.event.AuthCommand.{AuthCommand}
-use Rattle.world_core.specs.declared.event.Told.{Told}
+use Rattle.world_front.specs.declared.fault.WorldFault.TheVariants.{Limit, Auth as OfUsers}
+use Rattle.world_front.specs.Front.{opened}
+use Rattle.world_front.specs.declared.session.Session.{Session}
+use Rattle.world_front.specs.declared.event.AuthCommand.{AuthCommand}
+use Rattle.world_front.specs.declared.event.Told.{Told}
 use Rattle.cluster.specs.declared.cluster.Cluster.{Cluster}
 use Rattle.cluster.specs.declared.fault.ClusterFault.{ClusterFault}
 use Rattle.cluster.specs.declared.fault.ClusterFault.TheVariants as faults
 use Rattle.cluster.specs.declared.pass.Pass.{Pass}
-use Rattle.cluster.specs.declared.users.OpenFault.{OpenFault}
-use Rattle.cluster.specs.declared.users.OpenFault.TheVariants as opening
+use Rattle.cluster_locks.specs.declared.users.OpenFault.{OpenFault}
+use Rattle.cluster_locks.specs.declared.users.OpenFault.TheVariants as opening
 use Rattle.cluster.specs.Passes.{UserTurn}
 use Rattle.cluster.specs.Sessions.{own_session_at}
-use Rattle.cluster.specs.Users.{open_entry, OpenTells, renew_entry, RenewTells, change_entry, ChangeTells}
+use Rattle.cluster_locks.specs.Users.{open_entry, OpenTells, renew_entry, RenewTells, change_entry, ChangeTells}
 
 -- ---- faults
 

@@ -4,15 +4,15 @@ use Rattle.std.specs.Prelude.{◌≡◌, ◌⊎◌, ℕ, zero, suc, ◌≤◌, L
 use Rattle.std.specs.Option.{option_or}
 use Rattle.suffix_core.specs.Group.{Event, Deliver}
 use Rattle.group_types.specs.declared.fault.GroupFault.TheVariants.{Unreachable}
-use Rattle.world_core.specs.declared.fault.WorldFault.TheVariants.{Group as OfGroup}
+use Rattle.world_front.specs.declared.fault.WorldFault.TheVariants.{Group as OfGroup}
 use Rattle.cluster.specs.declared.cluster.Cluster.{Cluster}
 use Rattle.cluster.specs.declared.fault.ClusterFault.{ClusterFault}
 use Rattle.cluster.specs.declared.fault.ClusterFault.TheVariants as faults
-use Rattle.cluster.specs.declared.groups.Worked.{Worked}
+use Rattle.cluster_locks.specs.declared.groups.Worked.{Worked}
 use Rattle.cluster.specs.declared.pass.Pass.{Pass}
 use Rattle.cluster.specs.declared.workers.Worker.{Worker}
 use Rattle.cluster.specs.GroupMoves.{happened_at, Goes}
-use Rattle.cluster.specs.Places.{InStep}
+use Rattle.cluster_locks.specs.Places.{InStep}
 use Rattle.cluster.specs.Asks.{IsPassOf}
 use Rattle.cluster.specs.Deliveries.{WorksAt}
 

@@ -3,9 +3,9 @@
 ghost use Rattle.std.specs.Prelude.{◌≡◌, ◌⊎◌, ◌<◌, ◌≤◌, ◌+◌, Ok, None, Some, IfOk, IfErr, IfSome, length};
 ghost use Rattle.std.specs.Option.{option_map};
 ghost use Rattle.object_core.specs.Needs.{needs_fault};
-ghost use Rattle.world_core.specs.declared.fault.WorldFault.{WorldFault as Fault};
-ghost use Rattle.world_core.specs.declared.fault.WorldFault.TheVariants.{Needs as OfNeeds};
-ghost use Rattle.world_core.specs.Front.{error_of, vector_of, asks_more};
+ghost use Rattle.world_front.specs.declared.fault.WorldFault.{WorldFault as Fault};
+ghost use Rattle.world_front.specs.declared.fault.WorldFault.TheVariants.{Needs as OfNeeds};
+ghost use Rattle.world_front.specs.Front.{error_of, vector_of, asks_more};
 ghost use Rattle.common_types.specs.Refused.{RefusedExactly};
 ghost use Rattle.cluster.specs.declared.fault.ClusterFault.TheVariants as faults;
 ghost use Rattle.cluster.specs.Sessions.{own_session_at, next_of};
@@ -18,8 +18,8 @@ ghost use Rattle.cluster.specs.ToAsk.{IsToAsk, IsVectorAsked, IsVectorRefused, F
 use crate::cluster::Cluster;
 use crate::deliveries::of_group;
 use crate::fault::ClusterFault;
-use crate::groups::Submission;
 use crate::pass::{OwnSession, Pass};
+use cluster_locks::Submission;
 use common_types::Name;
 use entry_core::{GroupId, Id, Sealed};
 use map_core::PoolView;

@@ -3,18 +3,18 @@
 ghost use Rattle.std.specs.Prelude.{◌≡◌, ◌≤◌, [], All, map as each, vec_len, IfOk, IfErr, OnOk, IsNone};
 ghost use Rattle.std.specs.Vec.{vec_capacity};
 ghost use Rattle.world_core.specs.Parts.{FitTogether};
-ghost use Rattle.cluster.specs.Passes.{AreSeatsOf, Gathers, group_in};
+ghost use Rattle.cluster.specs.Passes.{AreSeatsOf, Gathers};
+ghost use Rattle.cluster_locks.specs.Groups.{group_in};
 ghost use Rattle.cluster.specs.Monitors.{IsMonitorOf, IsWhole, Follows, FollowsStart};
 ghost use Rattle.cluster.specs.Asks.{IsBegun, IsPassOf, seats_of, sessions_of};
 ghost use Rattle.cluster.specs.Ends.{IsEndOf, AreAll, CloseFails};
 ghost use Rattle.cluster.specs.Numbering.{AreNumbered, HasRoom};
 
 use crate::cluster::{Cluster, Ended, Seats};
-use crate::groups::LockedGroup;
 use crate::monitor::Monitor;
 use crate::numbering::{greatest_number, sessions_by_number};
 use crate::pass::Pass;
-use crate::users::UserTable;
+use cluster_locks::{LockedGroup, UserTable};
 use group_core::Group;
 use std::alloc::{AllocError, Global};
 use std::sync::Wait;

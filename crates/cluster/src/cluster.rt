@@ -3,13 +3,11 @@
 ghost use Rattle.std.specs.Prelude.{◌≡◌, ◌<◌, ◌≤◌, [], length, IfOk};
 ghost use Rattle.std.specs.Vec.{vec_capacity};
 ghost use Rattle.turn_lock.specs.Turned.{Closes};
-ghost use Rattle.cluster.specs.Groups.{group_after, entry_fits};
-ghost use Rattle.cluster.specs.Users.{table_after};
-ghost use Rattle.cluster.specs.Places.{ClosedAll};
+ghost use Rattle.cluster_locks.specs.Groups.{group_after, entry_fits};
+ghost use Rattle.cluster_locks.specs.Users.{table_after};
+ghost use Rattle.cluster_locks.specs.Places.{ClosedAll};
 
-use crate::groups::LockedGroup;
-use crate::rows::{close_all, join_all, split_all, split_seat, turn_at};
-use crate::users::UserTable;
+use cluster_locks::{LockedGroup, UserTable, close_all, join_all, split_all, split_seat, turn_at};
 use map_core::ClusterMap;
 use std::alloc::{AllocError, Global};
 use std::sync::Wait;
@@ -59,7 +57,8 @@ impl Seats {
 }
 
 impl Cluster {
-    ghost use Rattle.cluster.specs.Passes.{AreSeatsOf, group_count, group_in, GroupTurn, UserTurn, heard_of, SameSeats, TakeIn, HaveShare};
+    ghost use Rattle.cluster.specs.Passes.{AreSeatsOf, group_count, GroupTurn, UserTurn, heard_of, SameSeats, TakeIn, HaveShare};
+    ghost use Rattle.cluster_locks.specs.Groups.{group_in};
 
     // A cluster of these locks.
     pub(crate) fn of(

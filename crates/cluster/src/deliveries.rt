@@ -3,7 +3,7 @@
 ghost use Rattle.std.specs.Prelude.{◌≡◌, ◌<◌, Option, None, Some, Ok, Err};
 ghost use Rattle.map_core.specs.Refusal.{acting_refusal};
 ghost use Rattle.map_core.specs.declared.fault.MapFault as map;
-ghost use Rattle.world_core.specs.declared.fault.WorldFault.TheVariants.{NoRequest, Map as OfMap};
+ghost use Rattle.world_front.specs.declared.fault.WorldFault.TheVariants.{NoRequest, Map as OfMap};
 ghost use Rattle.cluster.specs.declared.fault.ClusterFault.TheVariants as faults;
 ghost use Rattle.cluster.specs.Passes.{group_count, start_of};
 ghost use Rattle.cluster.specs.Asks.{IsPassOf};
@@ -12,8 +12,8 @@ ghost use Rattle.cluster.specs.Deliveries.{fault_of_group, fault_of_answer, Work
 use crate::asking::Asked;
 use crate::cluster::Cluster;
 use crate::fault::ClusterFault;
-use crate::groups::{AnswerFault, AnswerOf, Work, Worked};
 use crate::pass::Pass;
+use cluster_locks::{AnswerFault, AnswerOf, Work, Worked};
 use entry_core::{GroupId, Id, Reply};
 use group_types::GroupFault;
 use std::sync::Wait;

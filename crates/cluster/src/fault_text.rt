@@ -2,9 +2,7 @@
 
 use crate::closing::CloseFault;
 use crate::fault::ClusterFault;
-use crate::groups::AnswerFault;
 use crate::monitor::{ChangeFault, TellFault};
-use crate::users::OpenFault;
 use std::error::Error;
 use std::fmt;
 
@@ -60,27 +58,3 @@ impl fmt::Display for CloseFault {
 }
 
 impl Error for CloseFault {}
-
-/// As `W6 Limit`; a fault of the users prints itself.
-impl fmt::Display for OpenFault {
-    fn fmt<W: fmt::Write>(&self, f: &mut fmt::Formatter<W>) -> fmt::Result {
-        match self {
-            OpenFault::User(fault) => write!(f, "{fault}"),
-            OpenFault::Limit => write!(f, "W6 Limit"),
-        }
-    }
-}
-
-impl Error for OpenFault {}
-
-/// As `W5 NoRequest`.
-impl fmt::Display for AnswerFault {
-    fn fmt<W: fmt::Write>(&self, f: &mut fmt::Formatter<W>) -> fmt::Result {
-        match self {
-            AnswerFault::NoRequest => write!(f, "W5 NoRequest"),
-            AnswerFault::OutOfMemory => write!(f, "W7 OutOfMemory"),
-        }
-    }
-}
-
-impl Error for AnswerFault {}

@@ -13,7 +13,6 @@ mod deliveries;
 mod fault;
 mod fault_text;
 mod group_moves;
-mod groups;
 mod locks;
 mod map_commands;
 mod monitor;
@@ -21,26 +20,23 @@ mod notes;
 mod numbering;
 mod pass;
 mod pools;
-mod rows;
 mod starting;
 mod user_turns;
-mod users;
 mod views;
 mod workers;
 
 pub use asking::{Asked, Asking};
 pub use closing::CloseFault;
 pub use cluster::{Cluster, Ended, Seats};
+pub use cluster_locks::{
+    AnswerFault, AnswerOf, Change, GroupEntry, GroupEvent, IsFull, LockedGroup, Move, Open,
+    OpenFault, Renew, Submission, UserCommand, UserEntry, UserTable, Work, Worked,
+};
 pub use common_types::OutOfMemory;
 pub use fault::ClusterFault;
-pub use groups::{
-    AnswerFault, AnswerOf, GroupEntry, GroupEvent, LockedGroup, Submission, Work, Worked,
-};
-pub use map_commands::{IsFull, Move};
 pub use monitor::{ChangeFault, Monitor, TellFault, Unfinished};
 pub use notes::Note;
 pub use pass::{OwnSession, Pass};
 pub use published_map::{Located, News};
 pub use starting::{PoolSpec, UserSpec, start};
-pub use users::{Change, Open, OpenFault, Renew, UserCommand, UserEntry, UserTable};
 pub use workers::{Gate, run_workers};

@@ -6,53 +6,12 @@ ghost use Rattle.map_core.specs.Map.{map_of, epoch_of};
 ghost use Rattle.map_core.specs.Refusal.{refusal};
 ghost use Rattle.group_core.specs.Moves.{event_of};
 ghost use Rattle.world_core.specs.World.{members_of};
-ghost use Rattle.cluster.specs.MapCommands.{move_entry, MoveTells, full_entry, FullTells, move_in, begins_interval, is_creation};
+ghost use Rattle.cluster.specs.MapCommands.{move_in, begins_interval, is_creation};
 
-use crate::groups::LockedGroup;
 use entry_core::GroupId;
-use group_types::{GroupFault, GroupMove};
+use group_types::GroupMove;
 use map_core::{ClusterMap, MapCommand};
 use place_core::ActingSet;
-use turn_lock::Step;
-
-/// Moves a group.
-#[derive(Drop)]
-pub struct Move(pub GroupMove);
-
-impl Step for Move {
-    type Value = LockedGroup;
-
-    type Answer = Result<(), GroupFault>;
-
-    ghost entry = { move_entry };
-
-    ghost tells = { MoveTells };
-
-    fn run(&mut self, placed: &mut LockedGroup) -> Result<(), GroupFault> {
-        match &self.0 {
-            GroupMove::NewInterval { acting, up } => placed.group.new_interval(*acting, *up),
-            GroupMove::Restart(daemon) => placed.group.restart(*daemon),
-        }
-    }
-}
-
-/// Looks whether a group has all its intervals.
-#[derive(Drop)]
-pub struct IsFull;
-
-impl Step for IsFull {
-    type Value = LockedGroup;
-
-    type Answer = bool;
-
-    ghost entry = { full_entry };
-
-    ghost tells = { FullTells };
-
-    fn run(&mut self, placed: &mut LockedGroup) -> bool {
-        placed.group.is_full_of_intervals()
-    }
-}
 
 // The acting set of a group, of nobody where its pool is not there.
 fn members(map: &ClusterMap, group: &GroupId) -> ActingSet

@@ -2,19 +2,20 @@
 
 ghost use Rattle.std.specs.Prelude.{◌≡◌, ℕ, ◌<◌, ◌≤◌, ◌^◌, ◌++◌, [], All, map as each, vec_len, IfOk, IfErr, IsNone};
 ghost use Rattle.world_core.specs.Sound.{IsSound};
-ghost use Rattle.cluster.specs.Passes.{AreFreshOf, AreMonitorOf, firsts_of, group_in, pass_share, start_of};
+ghost use Rattle.cluster.specs.Passes.{AreFreshOf, AreMonitorOf, firsts_of, start_of};
+ghost use Rattle.cluster_locks.specs.Groups.{group_in};
+ghost use Rattle.cluster_locks.specs.Shares.{pass_share};
 ghost use Rattle.cluster.specs.Monitors.{IsMonitorOf, Follows, FollowsStart, IsWhole, own_map};
 ghost use Rattle.cluster.specs.Asks.{IsBegun, IsPassOf, sessions_of};
 ghost use Rattle.cluster.specs.Starts.{HasWorld, creation_of, addition_of, events_of, IsStartOf, IsWant, StartFails};
 
 use crate::cluster::{Cluster, Seats};
 use crate::fault::ClusterFault;
-use crate::groups::LockedGroup;
 use crate::locks::open_cluster;
 use crate::monitor::Monitor;
 use crate::pass::Pass;
-use crate::users::UserTable;
 use auth_db::Caps;
+use cluster_locks::{LockedGroup, UserTable};
 use common_types::{Name, OutOfMemory};
 use entry_core::{GroupId, TryCopy};
 use grant_core::ProfileTable;

@@ -1,7 +1,7 @@
 //! Sessions of a pass, and the users.
 
 ghost use Rattle.std.specs.Prelude.{◌≡◌, None, Some, Err, MatchOption};
-ghost use Rattle.world_core.specs.declared.fault.WorldFault.TheVariants.{NoSession};
+ghost use Rattle.world_front.specs.declared.fault.WorldFault.TheVariants.{NoSession};
 ghost use Rattle.cluster.specs.declared.fault.ClusterFault.TheVariants as faults;
 ghost use Rattle.cluster.specs.Asks.{IsPassOf, sessions_of};
 ghost use Rattle.cluster.specs.UserTurns.{fault_of_users, fault_of_opening, Opens, Renews, Changes};
@@ -11,8 +11,8 @@ use crate::cluster::Cluster;
 use crate::fault::ClusterFault;
 use crate::numbering::find_own;
 use crate::pass::{OwnSession, Pass};
-use crate::users::{Change, Open, OpenFault, Renew};
 use auth_db::AuthFault;
+use cluster_locks::{Change, Open, OpenFault, Renew};
 use common_types::Name;
 use std::sync::Wait;
 use verdict_core::SharedTicket;

@@ -2,7 +2,7 @@
 
 ghost use Rattle.std.specs.Prelude.{◌≡◌, ◌↔◌, ◌<◌, ◌≤◌, ℕ, [], Some, Err, All, map as each, length, slice_index_or, vec_len, IsTrue, MatchResult, Result};
 ghost use Rattle.std.specs.Vec.{vec_capacity};
-ghost use Rattle.cluster.specs.Places.{Beside};
+ghost use Rattle.cluster_locks.specs.Places.{Beside};
 ghost use Rattle.cluster.specs.Asks.{IsPassOf};
 ghost use Rattle.cluster.specs.declared.fault.ClusterFault.{ClusterFault as Fault};
 ghost use Rattle.cluster.specs.Passes.{group_count};
@@ -11,8 +11,8 @@ ghost use Rattle.cluster.specs.Workers.{HasWorked, HasWorkedOf, HasGoneOn, EndsB
 
 use crate::cluster::Cluster;
 use crate::fault::ClusterFault;
-use crate::groups::Worked;
 use crate::pass::Pass;
+use cluster_locks::Worked;
 use group_types::GroupFault;
 use std::alloc::Global;
 use std::sync::Wait;

@@ -6,11 +6,11 @@ use Rattle.std.proofs.lemmas.Bool.Decides.{nat_tests}
 use Rattle.std.proofs.lemmas.List.{take_all, take_more, drop_all, drop-map, length-append, length-drop, length-map, map-append, drop-append-le, take-append-drop}
 use Prim.Native.Nat.{zero}
 use Rattle.std.proofs.Math.Seq.{drop-cons, take-append_seam, drop-append_seam}
-use Rattle.entry_core.specs.Request.{Sealed}
+use Rattle.store_core.specs.Request.{Sealed}
 use Rattle.entry_core.specs.Log.{Legal, LegalFrom, decide, ids, is_in}
 use Rattle.entry_core.specs.Fitting.{requests_of, part_of, agreed, are_new, decided_behind, kept, can_fit, fitted}
 use Rattle.entry_core.specs.FittingLaws.{SameNext, FitGivesTheLog, FitOfNothing, FittedIsLegal}
-use Rattle.entry_core.specs.declared.entry.Entry.{Entry}
+use Rattle.store_core.specs.declared.entry.Entry.{Entry}
 use Rattle.entry_core.proofs.LegalLogs.{legal_front, legal_rest, behind_again, new_again, legal_behind}
 
 le_true : (a b : ℕ) → a ≤ b → leb a b ≡ true

@@ -3,7 +3,7 @@ use Rattle.std.proofs.Common.{◌≡◌, ◌∙◌, ℕ, ◌==◌, List, [], ◌
 use Rattle.std.specs.Cmp.{unsigned_Decides}
 use Rattle.entry_core.specs.Log.{LegalFrom, decide, find}
 use Rattle.entry_core.specs.Laws.{FindTells}
-use Rattle.entry_core.specs.declared.entry.Entry.{Entry}
+use Rattle.store_core.specs.declared.entry.Entry.{Entry}
 
 -- the same behind other entries
 record Found (before es : List Entry) (id : ℕ) (e : Entry) : Type 0 where

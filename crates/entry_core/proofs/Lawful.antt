@@ -7,15 +7,16 @@ use Rattle.verdict_core.specs.Verdict.{report_of}
 use Rattle.object_core.specs.Content.{Content}
 use Rattle.object_core.specs.Effect.{Run, effect, left_by}
 use Rattle.object_core.specs.declared.op.Op.{Op}
-use Rattle.entry_core.specs.Request.{Sealed, Work, Vector, Listing, target_of, needs_for}
-use Rattle.entry_core.specs.Store.{Store, ObjectName, name_cmp, with_object}
-use Rattle.entry_core.specs.Names.{name_cmp_total, is_same-ties, same_from_is_same}
-use Rattle.entry_core.specs.Deciding.{store_of, step, stepped, answered, ran, performed, answer_on, is_allowed_sealed, name_of}
-use Rattle.entry_core.specs.Laws.{is_denied, is_done, changed, VerdictIsSealed, RefusalsLeaveTheStore, OthersAreLeft, DecisionTellsTheStore}
+use Rattle.store_core.specs.Request.{Sealed, Work, Vector, Listing, target_of, needs_for}
+use Rattle.store_core.specs.Store.{Store, ObjectName, name_cmp, with_object}
+use Rattle.store_core.specs.Names.{name_cmp_total, is_same-ties, same_from_is_same}
+use Rattle.store_core.specs.Deciding.{store_of, step, stepped, answered, ran, performed, answer_on, is_allowed_sealed, name_of}
+use Rattle.entry_core.specs.Laws.{is_denied, is_done, VerdictIsSealed, RefusalsLeaveTheStore, OthersAreLeft, DecisionTellsTheStore}
+use Rattle.store_core.specs.Objects.{changed}
 use Rattle.entry_core.specs.Log.{decide}
-use Rattle.entry_core.specs.declared.reply.Reply.{Reply}
-use Rattle.entry_core.specs.declared.reply.Reply.TheVariants.{Denied, Done, Failed, Names}
-use Rattle.entry_core.specs.declared.entry.Entry.{Entry}
+use Rattle.store_core.specs.declared.reply.Reply.{Reply}
+use Rattle.store_core.specs.declared.reply.Reply.TheVariants.{Denied, Done, Failed, Names}
+use Rattle.store_core.specs.declared.entry.Entry.{Entry}
 
 -- one more entry is one more step
 pub store_push : (log : List Entry) (e : Entry) → store_of (log ++ e ∷ []) ≡ step (store_of log) e

@@ -3,9 +3,6 @@ pub mod Fitting
 pub mod FoundEntries
 pub mod Lawful
 pub mod LegalLogs
-pub mod Listing
 pub mod Locality
 pub mod Places
 pub mod Pushing
-pub mod Stores
-pub mod TextSets

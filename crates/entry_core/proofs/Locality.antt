@@ -10,11 +10,11 @@ use Rattle.std.proofs.lemmas.Slice.Eq.{bytes_eq-Decides}
 use Rattle.place_core.specs.Placement.{group_of}
 use Rattle.object_core.specs.Content.{Content}
 use Rattle.object_core.specs.Effect.{effect}
-use Rattle.entry_core.specs.Request.{Sealed, Work, Vector, Listing, object_of}
-use Rattle.entry_core.specs.Store.{Store, ObjectName, name_cmp}
-use Rattle.entry_core.specs.Names.{name_cmp_total, same_names}
-use Rattle.entry_core.specs.Deciding.{Answer, name_of, ran, is_listed, names_in, answered, performed, answer_on, with_answer, is_allowed_sealed}
-use Rattle.entry_core.specs.declared.reply.Reply.TheVariants.{Names}
+use Rattle.store_core.specs.Request.{Sealed, Work, Vector, Listing, object_of}
+use Rattle.store_core.specs.Store.{Store, ObjectName, name_cmp}
+use Rattle.store_core.specs.Names.{name_cmp_total, same_names}
+use Rattle.store_core.specs.Deciding.{Answer, name_of, ran, is_listed, names_in, answered, performed, answer_on, with_answer, is_allowed_sealed}
+use Rattle.store_core.specs.declared.reply.Reply.TheVariants.{Names}
 use Rattle.entry_core.specs.Locality.{group_for, IsIn, AgreeIn, Hashes, IsPlaced, SealedDecideAlike}
 
 bytes_same : (a b : List ℕ) → bytes_eq a b ≡ true → a ≡ b

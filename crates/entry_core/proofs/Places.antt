@@ -6,8 +6,8 @@ use Rattle.std.proofs.lemmas.Bool.Decides.{nat_tests}
 use Rattle.std.specs.Option.{option_map, IfSome}
 use Rattle.entry_core.specs.Log.{find, reply_in, ids, is_in}
 use Rattle.entry_core.specs.Stored.{place_in}
-use Rattle.entry_core.specs.declared.reply.Reply.{Reply}
-use Rattle.entry_core.specs.declared.entry.Entry.{Entry}
+use Rattle.store_core.specs.declared.reply.Reply.{Reply}
+use Rattle.store_core.specs.declared.entry.Entry.{Entry}
 
 abbrev next : Option ℕ → Option ℕ
 next o = option_map (λ n. n + 1) o

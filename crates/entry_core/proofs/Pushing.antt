@@ -5,14 +5,14 @@ use Rattle.std.proofs.lemmas.List.{length-append, take_more, take_all}
 use Rattle.std.specs.List.{AllZip}
 use Rattle.std.specs.Map.{lookup}
 use Rattle.std.specs.Option.{option_map}
-use Rattle.entry_core.specs.Store.{Store}
-use Rattle.entry_core.specs.Deciding.{Decision, store_of, name_of}
+use Rattle.store_core.specs.Store.{Store}
+use Rattle.store_core.specs.Deciding.{Decision, store_of, name_of}
 use Rattle.entry_core.specs.Fitting.{are_new, requests_of}
-use Rattle.entry_core.specs.Laws.{changed}
+use Rattle.store_core.specs.Objects.{changed, decided_of, change_of}
 use Rattle.entry_core.specs.Log.{Legal, decision, ids, is_in}
-use Rattle.entry_core.specs.Stored.{IsStored, LeadsBack, Places, place_in, decided_of, change_of}
-use Rattle.entry_core.specs.declared.entry.Entry.{Entry}
-use Rattle.entry_core.specs.declared.decided.ObjectChange.{ObjectChange}
+use Rattle.entry_core.specs.Stored.{IsStored, LeadsBack, Places, place_in}
+use Rattle.store_core.specs.declared.entry.Entry.{Entry}
+use Rattle.store_core.specs.declared.decided.ObjectChange.{ObjectChange}
 use Rattle.entry_core.proofs.Lawful.{decision_tells_the_store}
 use Rattle.entry_core.proofs.LegalLogs.{first_new, ids-push, legal_push, legal_rest, rest_new}
 use Rattle.entry_core.proofs.Places.{is_in-place, place_push}

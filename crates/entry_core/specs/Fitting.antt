@@ -3,9 +3,9 @@
 -- Source: this project's profile, after the exchange of logs in Ceph's peering.
 use Rattle.std.specs.Prelude.{ℕ, suc, ◌+◌, ◌-◌, Bool, true, ◌&&◌, not, ◌==◌, nat_le, if◌then◌else◌, List, [], ◌∷◌, ◌++◌, length, take, drop, map, slice_get, Option, Some, None}
 use Rattle.std.specs.Option.{option_map}
-use Rattle.entry_core.specs.Request.{Sealed}
+use Rattle.store_core.specs.Request.{Sealed}
 use Rattle.entry_core.specs.Log.{decide, ids, is_in}
-use Rattle.entry_core.specs.declared.entry.Entry.{Entry}
+use Rattle.store_core.specs.declared.entry.Entry.{Entry}
 
 -- the requests of entries
 abbrev pub requests_of : List Entry → List Sealed

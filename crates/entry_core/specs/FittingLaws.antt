@@ -1,10 +1,10 @@
 -- Statement: contracts of public calls use it.
 -- Laws of parts and fitting.
 use Rattle.std.specs.Prelude.{◌≡◌, ℕ, ◌≤◌, Some, List, [], ◌∷◌, ◌++◌, length}
-use Rattle.entry_core.specs.Request.{Sealed}
+use Rattle.store_core.specs.Request.{Sealed}
 use Rattle.entry_core.specs.Log.{Legal}
 use Rattle.entry_core.specs.Fitting.{part_of, fitted}
-use Rattle.entry_core.specs.declared.entry.Entry.{Entry}
+use Rattle.store_core.specs.declared.entry.Entry.{Entry}
 
 -- where both go on with a request of one number, it is one request
 abbrev pub SameNext : List Entry → List Entry → Type 0

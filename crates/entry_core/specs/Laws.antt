@@ -4,15 +4,14 @@ use Rattle.std.specs.Prelude.{◌≡◌, ℕ, Some, Bool, true, false, not, List
 use Rattle.std.specs.List.Sorted.{IsStrictlySortedBy}
 use Rattle.std.specs.FinMap.{get}
 use Rattle.verdict_core.specs.Verdict.{report_of}
-use Rattle.object_core.specs.declared.outcome.Change.{Change}
-use Rattle.object_core.specs.declared.outcome.Change.TheVariants.{Kept, Became}
-use Rattle.entry_core.specs.Request.{Sealed, target_of, needs_for}
-use Rattle.entry_core.specs.Store.{Store, ObjectName, bytes_cmp, with_object}
-use Rattle.entry_core.specs.Deciding.{store_of, is_allowed_sealed, name_of, names_in}
+use Rattle.store_core.specs.Request.{Sealed, target_of, needs_for}
+use Rattle.store_core.specs.Store.{Store, ObjectName, bytes_cmp}
+use Rattle.store_core.specs.Deciding.{store_of, is_allowed_sealed, name_of, names_in}
+use Rattle.store_core.specs.Objects.{changed}
 use Rattle.entry_core.specs.Log.{decision, decide, find, Legal}
-use Rattle.entry_core.specs.declared.reply.Reply.{Reply}
-use Rattle.entry_core.specs.declared.reply.Reply.TheVariants.{Denied, Done, Failed, Names}
-use Rattle.entry_core.specs.declared.entry.Entry.{Entry}
+use Rattle.store_core.specs.declared.reply.Reply.{Reply}
+use Rattle.store_core.specs.declared.reply.Reply.TheVariants.{Denied, Done, Failed, Names}
+use Rattle.store_core.specs.declared.entry.Entry.{Entry}
 
 abbrev pub is_denied : Reply → Bool
 is_denied (Denied report) = true
@@ -49,11 +48,6 @@ pub record StandsIn (log : List Entry) (id : ℕ) (e : Entry) : Type 0 where
 -- in a legal log an entry that is found stands so
 abbrev pub FindTells : Type 0
 FindTells = (log : List Entry) (id : ℕ) (e : Entry) → Legal log → find log id ≡ Some e → StandsIn log id e
-
--- a store after a change of one object
-abbrev pub changed : Store → ObjectName → Change → Store
-changed store name Kept = store
-changed store name (Became object) = with_object store name object
 
 -- a decision, once it stands in the log, changes the store as it says
 abbrev pub DecisionTellsTheStore : Type 0

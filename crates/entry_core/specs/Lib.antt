@@ -1,15 +1,7 @@
-pub mod Deciding
 pub mod Drafts
 pub mod Fitting
 pub mod FittingLaws
-pub mod IdHash
-pub mod Inside
 pub mod Laws
 pub mod Locality
 pub mod Log
-pub mod Names
-pub mod Replies
-pub mod Request
-pub mod Sealing
-pub mod Store
 pub mod Stored

@@ -4,10 +4,10 @@
 use Rattle.std.specs.Prelude.{◌≡◌, ℕ, List}
 use Rattle.std.specs.FinMap.{get}
 use Rattle.place_core.specs.Placement.{group_of}
-use Rattle.entry_core.specs.Request.{Sealed, Work, Vector, Listing}
-use Rattle.entry_core.specs.Store.{Store, ObjectName}
-use Rattle.entry_core.specs.Deciding.{decision_on}
-use Rattle.entry_core.specs.declared.sealed.GroupId.{GroupId}
+use Rattle.store_core.specs.Request.{Sealed, Work, Vector, Listing}
+use Rattle.store_core.specs.Store.{Store, ObjectName}
+use Rattle.store_core.specs.Deciding.{decision_on}
+use Rattle.store_core.specs.declared.sealed.GroupId.{GroupId}
 
 -- the group that a request is sealed for
 abbrev pub group_for : Sealed → GroupId

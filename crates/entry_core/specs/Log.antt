@@ -2,11 +2,11 @@
 -- What a copy decides on a request, by the entries before it; and the logs that such decisions make.
 use Rattle.std.specs.Prelude.{ℕ, ◌≡◌, Bool, false, ◌==◌, ◌||◌, List, [], ◌∷◌, ◌++◌, refl, Option, Some, None, if◌then◌else◌}
 use Rattle.std.specs.Option.{option_map}
-use Rattle.entry_core.specs.Request.{Sealed}
-use Rattle.entry_core.specs.Deciding.{store_of, decision_on}
-pub use Rattle.entry_core.specs.Deciding.{Decision}
-use Rattle.entry_core.specs.declared.reply.Reply.{Reply}
-use Rattle.entry_core.specs.declared.entry.Entry.{Entry}
+use Rattle.store_core.specs.Request.{Sealed}
+use Rattle.store_core.specs.Deciding.{store_of, decision_on}
+pub use Rattle.store_core.specs.Deciding.{Decision}
+use Rattle.store_core.specs.declared.reply.Reply.{Reply}
+use Rattle.store_core.specs.declared.entry.Entry.{Entry}
 
 -- what becomes of a request at the end of this log: its own store decides
 abbrev pub decision : List Entry → Sealed → Decision

@@ -15,7 +15,7 @@ pub struct BoxedLog {
 
 impl Model for BoxedLog {
     ghost use Rattle.std.specs.Prelude.{List};
-    ghost use Rattle.entry_core.specs.declared.entry.Entry.{Entry};
+    ghost use Rattle.store_core.specs.declared.entry.Entry.{Entry};
 
     ghost Value = { List Entry };
 

@@ -1,20 +1,14 @@
 //! What a fit does to a log, made before the log is changed.
 
 ghost use Rattle.std.specs.Prelude.{◌≡◌, [], ◌∷◌, ◌++◌, None, IfOk, OnOk};
-ghost use Rattle.entry_core.specs.Deciding.{decision_on, name_of};
-ghost use Rattle.entry_core.specs.Laws.{changed};
-ghost use Rattle.entry_core.specs.Store.{Store};
-ghost use Rattle.entry_core.specs.Drafts.{Undoes, all_changed};
-ghost use Rattle.entry_core.specs.Stored.{change_of};
+ghost use Rattle.store_core.specs.Deciding.{decision_on, name_of};
+ghost use Rattle.store_core.specs.Objects.{changed, all_changed, change_of};
+ghost use Rattle.store_core.specs.Store.{Store};
+ghost use Rattle.entry_core.specs.Drafts.{Undoes};
 
-use crate::decided::{NamedChange, ObjectChange};
-use crate::deciding::decide;
-use crate::entry::Entry;
-use crate::object_name::ObjectName;
-use crate::objects::Objects;
-use crate::sealed::Sealed;
 use common_types::OutOfMemory;
 use std::alloc::Global;
+use store_core::{Entry, NamedChange, ObjectChange, ObjectName, Objects, Sealed, decide};
 
 /// Entries that are to come behind the first ones of a log, and what becomes of the log's objects.
 ///

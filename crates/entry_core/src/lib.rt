@@ -5,32 +5,16 @@
 #![tactic(auto)]
 
 mod boxed_log;
-mod decided;
-mod deciding;
 mod draft;
-mod entry;
-mod id;
-mod id_hasher;
 mod laws;
 mod log;
-mod object_name;
-mod objects;
-mod reply;
-mod sealed;
-mod sealed_parts;
-mod texts;
 
 pub use boxed_log::BoxedLog;
 pub use common_types::{Items, OutOfMemory, TryCopy};
-pub use decided::Decided;
-pub use entry::Entry;
-pub use id::Id;
-pub use id_hasher::{IdHash, IdHasher};
 pub use laws::{
     decision_tells_the_store, find_tells, fit_gives_the_log, fit_of_nothing, fitted_is_legal,
     groups_decide_apart, listings_are_sorted, others_are_left, refusals_leave_the_store,
     verdict_is_sealed,
 };
 pub use log::Log;
-pub use reply::{Reply, reply_number};
-pub use sealed::{GroupId, Sealed};
+pub use store_core::{Decided, Entry, GroupId, Id, IdHash, IdHasher, Reply, Sealed, reply_number};

@@ -8,21 +8,15 @@ ghost use Rattle.entry_core.specs.Fitting as fitting;
 ghost use Rattle.entry_core.specs.Fitting.{are_new, decided_behind, fitted, last_id, part_of};
 ghost use Rattle.std.specs.Option.{option_map};
 ghost use Rattle.entry_core.specs.Drafts.{IsDraft, IsFound};
-ghost use Rattle.entry_core.specs.Stored.{LeadsBack, Places, change_of, place_in};
+ghost use Rattle.entry_core.specs.Stored.{LeadsBack, Places, place_in};
+ghost use Rattle.store_core.specs.Objects.{change_of};
 
-use crate::decided::{Decided, ObjectChange};
-use crate::deciding::decide;
 use crate::draft::Draft;
-use crate::entry::Entry;
-use crate::id::Id;
-use crate::id_hasher::IdHash;
-use crate::objects::Objects;
-use crate::reply::Reply;
-use crate::sealed::Sealed;
 use common_types::{Items, TryCopy};
 use std::alloc::{AllocError, Global};
 use std::collections::{HashMap, HashSet};
 use std::marker::Model;
+use store_core::{Decided, Entry, Id, IdHash, ObjectChange, Objects, Reply, Sealed, decide};
 
 /// The entries that one copy of a group holds, in order, with the objects that they make. Contracts see the entries.
 ///
@@ -48,7 +42,7 @@ impl Drop for Log {
 
 impl Model for Log {
     ghost use Rattle.std.specs.Prelude.{List};
-    ghost use Rattle.entry_core.specs.declared.entry.Entry.{Entry};
+    ghost use Rattle.store_core.specs.declared.entry.Entry.{Entry};
 
     ghost Value = { List Entry };
 

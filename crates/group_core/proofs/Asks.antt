@@ -3,8 +3,8 @@ use Rattle.std.proofs.Common.{ℕ, take, drop, ◌≡◌, ◌+◌, Bool, true, f
 use Rattle.std.specs.Prelude.{Option, Some, None}
 use Rattle.std.specs.List.{list_any}
 use Rattle.entry_core.specs.Log.{decide, decide-sealed, find, is_in, ids}
-use Rattle.entry_core.specs.Request.{Sealed}
-use Rattle.entry_core.specs.declared.entry.Entry.{Entry}
+use Rattle.store_core.specs.Request.{Sealed}
+use Rattle.store_core.specs.declared.entry.Entry.{Entry}
 use Rattle.peer_core.specs.Steps.{Stepped, still, send}
 use Rattle.peer_core.specs.Copy.{promise_interval, on_request, on_request_as, busy_request, waits, on_query, info, start_for, query, uninformed, learn_sets, leads, lead, on_interval, on_append, acknowledged, queries, retransmit, retransmit_as, append_again, complete, on_installed, on_appended, on_install, install_fitted, install_from, on_body, install_chosen, fit_chosen, try_choice, on_info, on_info_as}
 use Rattle.peer_core.specs.ActingSets.{others, asked, all_count, counted, missing}

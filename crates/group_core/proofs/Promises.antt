@@ -1,7 +1,7 @@
 -- What each group that there can be keeps.
 use Rattle.std.proofs.Common.{ℕ, ◌≡◌, ◌≤◌, true, List, [], ◌∷◌, map, length, subst}
 use Rattle.entry_core.specs.Log.{Legal}
-use Rattle.entry_core.specs.Request.{Sealed}
+use Rattle.store_core.specs.Request.{Sealed}
 use Rattle.whole_logs.specs.Types.{Daemon, Role as WholeRole}
 use Rattle.whole_logs.specs.Each.{Each}
 use Rattle.whole_logs.specs.Asked.{IsReplied}

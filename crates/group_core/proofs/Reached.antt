@@ -2,7 +2,7 @@
 use Rattle.std.proofs.Common.{ℕ, ◌≡◌, ◌≤◌, List, [], ◌∷◌, map, length, take, max, refl, sym, ◌∙◌, ap, subst}
 use Rattle.std.specs.Prelude.{Some, slice_get}
 use Rattle.entry_core.specs.Log.{Legal}
-use Rattle.entry_core.specs.declared.entry.Entry.{Entry}
+use Rattle.store_core.specs.declared.entry.Entry.{Entry}
 use Rattle.whole_logs.specs.Choice.{own_offer, best}
 use Rattle.whole_logs.specs.Decided.{decided_by as whole_decided_by}
 use Rattle.peer_core.specs.Decided.{decided_by}

@@ -23,7 +23,7 @@ impl Drop for Requests {
 
 impl Model for Requests {
     ghost use Rattle.std.specs.Prelude.{List, ◌≡◌, map};
-    ghost use Rattle.entry_core.specs.Request as request;
+    ghost use Rattle.store_core.specs.Request as request;
 
     ghost Value = { List request.Sealed };
 

@@ -1,7 +1,7 @@
 -- Each entry on its way goes from the primary of its interval to another member.
 use Rattle.std.proofs.Common.{ℕ, ◌≡◌, refl, sym, ◌∙◌, ap, subst}
 use Rattle.std.specs.Prelude.{Some, slice_get}
-use Rattle.entry_core.specs.Request.{Sealed}
+use Rattle.store_core.specs.Request.{Sealed}
 use Rattle.whole_logs.specs.Types.{Osd, Append as WholeAppend, Role as WholeRole, Idle as WholeIdle, Sent as WholeSent}
 use Rattle.whole_logs.specs.Group.{Group as WholeGroup}
 use Rattle.whole_laws.specs.Laws.{GoesToOther, AppendsGoToOthers as WholeAppendsGo}

@@ -1,6 +1,6 @@
 -- A calm group stays one.
 use Rattle.std.proofs.Common.{ℕ, zero, suc, List, [], ◌∷◌, ◌++◌, replicate, refl, sym, ◌∙◌, ap}
-use Rattle.entry_core.specs.declared.sealed.GroupId.{GroupId}
+use Rattle.store_core.specs.declared.sealed.GroupId.{GroupId}
 use Rattle.whole_logs.proofs.Eaches.{Each-append, Each-push}
 use Rattle.whole_laws.specs.Calm.{IsCalm, OnlyCalm}
 use Rattle.suffix_core.specs.Group.{Group, Event, Deliver, group_step, run, start}

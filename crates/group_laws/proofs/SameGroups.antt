@@ -1,8 +1,8 @@
 -- What no event changes, and the requests after each.
 use Rattle.std.proofs.Common.{ℕ, zero, suc, ◌≡◌, Bool, true, false, not, nat_lt, List, [], ◌∷◌, ◌++◌, length, refl, sym, ◌∙◌, ap, if◌then◌else◌}
 use Rattle.std.specs.Prelude.{None}
-use Rattle.entry_core.specs.Request.{Sealed}
-use Rattle.entry_core.specs.declared.sealed.GroupId.{GroupId}
+use Rattle.store_core.specs.Request.{Sealed}
+use Rattle.store_core.specs.declared.sealed.GroupId.{GroupId}
 use Rattle.whole_laws.specs.Calm.{taken, all_taken}
 use Rattle.suffix_core.specs.Group.{Group, Event, Submit, Deliver, Lose, Repeat, NewInterval, Restart, Kick, is_submitted, take_request, group_step, refusal_of, run, settle}
 use Rattle.group_laws.specs.Laws.{IsSameGroup}

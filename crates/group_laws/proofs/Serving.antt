@@ -3,8 +3,8 @@ use Rattle.std.proofs.Common.{ℕ, ◌≡◌, ◌+◌, ◌*◌, not, List, [], m
 use Rattle.std.specs.Prelude.{None}
 use Rattle.std.specs.List.{filter}
 use Rattle.entry_core.specs.Log.{reply_in}
-use Rattle.entry_core.specs.Request.{Sealed}
-use Rattle.entry_core.specs.declared.entry.Entry.{Entry}
+use Rattle.store_core.specs.Request.{Sealed}
+use Rattle.store_core.specs.declared.entry.Entry.{Entry}
 use Rattle.group_types.specs.Answers.{Answer}
 use Rattle.whole_logs.specs.Group.{Group as WholeGroup, Event, Submit, group_step as whole_group_step, refusal_of as whole_refusal_of, is_answered, answer_of}
 use Rattle.whole_logs.specs.Budget.{settled_group as whole_settled_group, settle_count as whole_settle_count}

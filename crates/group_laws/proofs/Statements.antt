@@ -1,6 +1,6 @@
 -- The laws of groups that send suffixes, by those of the groups for which they stand.
 use Rattle.std.proofs.Common.{ℕ, ◌≡◌, List, [], length, refl, sym, ◌∙◌, subst}
-use Rattle.entry_core.specs.declared.sealed.GroupId.{GroupId}
+use Rattle.store_core.specs.declared.sealed.GroupId.{GroupId}
 use Rattle.whole_logs.specs.Each.{Each}
 use Rattle.whole_logs.specs.Asked.{HasSubmit}
 use Rattle.whole_logs.specs.Group.{Group as WholeGroup, Event, run as whole_run, start as whole_start}

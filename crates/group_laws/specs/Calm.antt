@@ -1,7 +1,7 @@
 -- Statement: contracts of public calls use it.
 -- A calm group: it stays in one interval, while daemons outside of its set come, go and restart.
 use Rattle.std.specs.Prelude.{ℕ, ◌≡◌, List, []}
-use Rattle.entry_core.specs.declared.sealed.GroupId.{GroupId}
+use Rattle.store_core.specs.declared.sealed.GroupId.{GroupId}
 use Rattle.whole_laws.specs.Calm.{OnlyCalm}
 use Rattle.suffix_core.specs.Group.{Group, Event, run, start}
 use Rattle.suffix_core.specs.Budget.{settled_group}

@@ -2,7 +2,7 @@
 -- The laws of groups that send suffixes, each over any group that there can be, in the words of those of groups that send whole logs.
 use Rattle.std.specs.Prelude.{ℕ, ◌≡◌, ◌≤◌, ◌+◌, ◌*◌, List, [], map, length, replicate, slice_get, Some, None}
 use Rattle.entry_core.specs.Log.{reply_in}
-use Rattle.entry_core.specs.Request.{Sealed}
+use Rattle.store_core.specs.Request.{Sealed}
 use Rattle.whole_logs.specs.History.{Begins, but_last}
 use Rattle.whole_logs.specs.Asked.{IsReplied}
 use Rattle.whole_laws.specs.Quiet.{opening_cost, request_cost}

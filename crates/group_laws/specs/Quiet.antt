@@ -1,7 +1,7 @@
 -- Statement: contracts of public calls use it.
 -- What events cost in deliveries, and what is left once a group settled.
 use Rattle.std.specs.Prelude.{ℕ, ◌≡◌, ◌+◌, not, List, [], ◌∷◌, filter, Option, Some, None, slice_get}
-use Rattle.entry_core.specs.Request.{Sealed}
+use Rattle.store_core.specs.Request.{Sealed}
 use Rattle.suffix_core.specs.Types.{Sent}
 use Rattle.suffix_core.specs.Group.{Group, Event, Submit, Deliver, Lose, Repeat, NewInterval, Restart, Kick, group_step, is_answered}
 use Rattle.suffix_core.specs.Budget.{settled_group}

@@ -1,8 +1,8 @@
 -- Statement: contracts of public calls use it.
 -- Worked cases of groups that send suffixes: those of groups that send whole logs.
 use Rattle.std.specs.Prelude.{◌≡◌, true, false, [], ◌∷◌, length, Some, None}
-use Rattle.entry_core.specs.Request.{Sealed}
-use Rattle.entry_core.specs.declared.sealed.GroupId.{GroupId}
+use Rattle.store_core.specs.Request.{Sealed}
+use Rattle.store_core.specs.declared.sealed.GroupId.{GroupId}
 use Rattle.entry_core.specs.Log.{ids}
 use Rattle.group_types.specs.declared.fault.GroupFault.TheVariants.{NoMessage, Unreachable, Doubled}
 use Rattle.suffix_core.specs.Group.{Group, Submit, Deliver, Lose, NewInterval, Restart, run, start, settle, kick, refusal_of}

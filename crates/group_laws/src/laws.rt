@@ -2,8 +2,8 @@
 //! words. They are those of groups that send whole logs.
 
 ghost use Rattle.std.specs.Prelude.{ℕ, ◌≡◌, Some, None, List, length, true, [], ◌∷◌, ◌++◌, replicate};
-ghost use Rattle.entry_core.specs.declared.sealed.GroupId.{GroupId};
-ghost use Rattle.entry_core.specs.Request.{Sealed};
+ghost use Rattle.store_core.specs.declared.sealed.GroupId.{GroupId};
+ghost use Rattle.store_core.specs.Request.{Sealed};
 ghost use Rattle.whole_logs.specs.Asked.{HasSubmit};
 ghost use Rattle.whole_logs.specs.Each.{Each};
 ghost use Rattle.group_types.specs.declared.fault.GroupFault.{GroupFault as Fault};

@@ -3,8 +3,8 @@ use Prim.Native.Nat.{zero, suc}
 use Rattle.std.proofs.Common.{◌≡◌, ◌∙◌, ℕ, List, [], ◌∷◌, ◌++◌, Bool, true, false, cond, if◌then◌else◌, Option, Some, None, map, refl, sym, ap, subst}
 use Rattle.std.specs.List.{filter, flat_map}
 use Rattle.std.proofs.lemmas.List.{append_assoc}
-use Rattle.entry_core.specs.declared.sealed.GroupId.{GroupId}
-use Rattle.entry_core.specs.Request.{Sealed}
+use Rattle.store_core.specs.declared.sealed.GroupId.{GroupId}
+use Rattle.store_core.specs.Request.{Sealed}
 use Rattle.entry_core.specs.Locality.{group_for}
 use Rattle.place_core.specs.Placement.{numbers_of}
 use Rattle.map_core.specs.State.{MapState}
@@ -17,12 +17,13 @@ use Rattle.suffix_core.specs.Group.{Group, group_step, run}
 use Rattle.suffix_core.specs.Group as group
 use Rattle.wire_steps.specs.Wire.{kept, place_of, TellsStep}
 use Rattle.wire_steps.proofs.Steps.{Sends, nothing, sends}
-use Rattle.world_core.specs.declared.event.Event.{Event}
-use Rattle.world_core.specs.declared.event.Event.TheVariants.{Auth, Map, Open, Renew, Close, Submit, List as ListNames, Deliver, Lose, Repeat, Kick}
-use Rattle.world_core.specs.declared.fault.WorldFault.{WorldFault as Fault}
-use Rattle.world_core.specs.Groups.{is_same_group}
-use Rattle.world_core.specs.Front.{Front, group_refusal, sealed_by}
-use Rattle.world_core.specs.World.{World, Part, part, group_at, groups_of, members_of, parts_of, map_parts, moved_parts, restarted_parts, asked_parts, created_by, world_step}
+use Rattle.world_front.specs.declared.event.Event.{Event}
+use Rattle.world_front.specs.declared.event.Event.TheVariants.{Auth, Map, Open, Renew, Close, Submit, List as ListNames, Deliver, Lose, Repeat, Kick}
+use Rattle.world_front.specs.declared.fault.WorldFault.{WorldFault as Fault}
+use Rattle.world_front.specs.Groups.{is_same_group}
+use Rattle.world_front.specs.Front.{Front, group_refusal, sealed_by}
+use Rattle.world_core.specs.World.{World, Part, part, group_at, members_of, parts_of, map_parts, moved_parts, restarted_parts, asked_parts, created_by, world_step}
+use Rattle.world_front.specs.Groups.{groups_of}
 use Rattle.world_core.specs.Holds.{events_in, group_step_alone}
 use Rattle.world_core.proofs.Holding.{step_at}
 use Rattle.group_story.specs.Story.{wire_where, wire_in, place_in, TellsEvent}

@@ -3,7 +3,7 @@ use Rattle.std.proofs.Common.{◌≡◌, ◌∙◌, ℕ, List, [], ◌∷◌, Bo
 use Rattle.std.specs.Prelude.{nat_le}
 use Rattle.std.specs.List.{find}
 use Rattle.std.specs.Option.{option_map, option_map_or}
-use Rattle.entry_core.specs.declared.sealed.GroupId.{GroupId}
+use Rattle.store_core.specs.declared.sealed.GroupId.{GroupId}
 use Rattle.map_core.specs.State.{History}
 use Rattle.map_core.specs.Map.{is_named, map_of, pool_in}
 use Rattle.map_core.specs.Refusal.{first_of, acting_refusal, groups_in, is_word}
@@ -13,11 +13,11 @@ use Rattle.map_core.specs.declared.pool.Pool.{Pool}
 use Rattle.map_core.specs.declared.command.MapCommand.{MapCommand}
 use Rattle.map_core.specs.Laws.{HasPool, later}
 use Rattle.map_core.proofs.Kept.{pools_stay}
-use Rattle.world_core.specs.declared.event.Event.{Event}
-use Rattle.world_core.specs.declared.event.Event.TheVariants.{Auth, Map, Open, Renew, Close, Submit, List as ListNames, Deliver, Lose, Repeat, Kick}
-use Rattle.world_core.specs.declared.fault.WorldFault.TheVariants.{Map as OfMap}
-use Rattle.world_core.specs.Front.{Front, front_step, group_refusal}
-use Rattle.world_core.proofs.Bytes.{bytes_same}
+use Rattle.world_front.specs.declared.event.Event.{Event}
+use Rattle.world_front.specs.declared.event.Event.TheVariants.{Auth, Map, Open, Renew, Close, Submit, List as ListNames, Deliver, Lose, Repeat, Kick}
+use Rattle.world_front.specs.declared.fault.WorldFault.TheVariants.{Map as OfMap}
+use Rattle.world_front.specs.Front.{Front, front_step, group_refusal}
+use Rattle.world_front.proofs.Bytes.{bytes_same}
 
 -- the pool that is found has the name
 named_so : (name : List ℕ) (pools : List Pool) (p : Pool) → find (is_named name) pools ≡ Some p → p.name ≡ name

@@ -1,7 +1,7 @@
 //! What an event does to the messages of a group.
 
 ghost use Rattle.std.specs.Prelude.{◌≡◌, true, false, IfOk};
-ghost use Rattle.world_core.specs.Groups.{is_same_group};
+ghost use Rattle.world_front.specs.Groups.{is_same_group};
 ghost use Rattle.group_story.specs.Story.{wire_in, place_in, TellsEvent};
 ghost use Rattle.world_core.specs.World.{counts, world_step};
 

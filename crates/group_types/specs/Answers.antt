@@ -1,7 +1,7 @@
 -- Statement: contracts of public calls use it.
 -- The answers that reached the client.
 use Rattle.std.specs.Prelude.{ℕ}
-use Rattle.entry_core.specs.declared.reply.Reply.{Reply}
+use Rattle.store_core.specs.declared.reply.Reply.{Reply}
 
 -- the first reply to the request of a number
 pub record Answer : Type 0 where

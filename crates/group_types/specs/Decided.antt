@@ -1,7 +1,7 @@
 -- Statement: contracts of public calls use it.
 -- Which entries of a log are decided while its last one is in flight.
 use Rattle.std.specs.Prelude.{ℕ, ◌-◌, List, [], ◌∷◌, length, take, Option, Some, None}
-use Rattle.entry_core.specs.declared.entry.Entry.{Entry}
+use Rattle.store_core.specs.declared.entry.Entry.{Entry}
 
 -- the entries that are not in flight
 abbrev pub not_in_flight : List Entry → Option (List ℕ) → List Entry

@@ -1,9 +1,9 @@
 -- Statement: contracts of public calls use it.
 -- With how many entries two logs begin alike, by the numbers of their requests.
 use Rattle.std.specs.Prelude.{ℕ, suc, ◌==◌, List, [], ◌∷◌, ◌++◌, map, take, if◌then◌else◌}
-use Rattle.entry_core.specs.Request.{Sealed}
+use Rattle.store_core.specs.Request.{Sealed}
 use Rattle.entry_core.specs.Log.{ids}
-use Rattle.entry_core.specs.declared.entry.Entry.{Entry}
+use Rattle.store_core.specs.declared.entry.Entry.{Entry}
 use Rattle.peer_core.specs.Types.{Offer, Common}
 
 -- the numbers of the log that was told to a copy of this log

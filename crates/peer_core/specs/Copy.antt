@@ -2,10 +2,10 @@
 -- One daemon's copy of one group, where peering sends suffixes: what each message makes of it, and what it sends (Ceph Peering, the RADOS paper, and this project's profile).
 use Rattle.std.specs.Prelude.{ℕ, ◌+◌, ◌-◌, Bool, true, false, ◌==◌, ◌||◌, ◌&&◌, not, nat_lt, nat_le, min, List, [], ◌∷◌, ◌++◌, map, filter, length, take, Option, Some, None, if◌then◌else◌}
 use Rattle.std.specs.List.{list_any}
-use Rattle.entry_core.specs.Request.{Sealed}
+use Rattle.store_core.specs.Request.{Sealed}
 use Rattle.entry_core.specs.Log.{find, is_in, ids}
 use Rattle.entry_core.specs.Fitting.{part_of, last_id, fitted}
-use Rattle.entry_core.specs.declared.entry.Entry.{Entry}
+use Rattle.store_core.specs.declared.entry.Entry.{Entry}
 use Rattle.group_types.specs.ActingSets.{set_of, is_primary}
 use Rattle.group_types.specs.Decided.{not_in_flight, last}
 use Rattle.peer_core.specs.Types.{Party, Client, Osd, Body, Interval, Query, Info, Install, Installed, Append, Appended, Request, Reply, NotHere, Message, Sent, Offer, Role, Idle, Peering, Installing, Active, Copy}

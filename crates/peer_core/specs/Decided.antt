@@ -1,9 +1,9 @@
 -- Statement: contracts of public calls use it.
 -- Which entries of a copy's log are decided, and one entry more.
 use Rattle.std.specs.Prelude.{List, [], ◌∷◌, ◌++◌}
-use Rattle.entry_core.specs.Request.{Sealed}
+use Rattle.store_core.specs.Request.{Sealed}
 use Rattle.entry_core.specs.Log.{decide}
-use Rattle.entry_core.specs.declared.entry.Entry.{Entry}
+use Rattle.store_core.specs.declared.entry.Entry.{Entry}
 use Rattle.group_types.specs.Decided.{not_in_flight}
 use Rattle.peer_core.specs.Types.{Role, Idle, Peering, Installing, Active, Copy}
 

@@ -1,9 +1,9 @@
 -- Statement: contracts of public calls use it.
 -- How an active copy takes the requests that wait.
 use Rattle.std.specs.Prelude.{ℕ, ◌+◌, List, [], ◌∷◌, ◌++◌, map, length, Option, Some, None}
-use Rattle.entry_core.specs.Request.{Sealed}
+use Rattle.store_core.specs.Request.{Sealed}
 use Rattle.entry_core.specs.Log.{decide, find}
-use Rattle.entry_core.specs.declared.entry.Entry.{Entry}
+use Rattle.store_core.specs.declared.entry.Entry.{Entry}
 use Rattle.peer_core.specs.Types.{Client, Osd, Append, Reply, Sent, Active, Copy}
 use Rattle.peer_core.specs.ActingSets.{others}
 use Rattle.peer_core.specs.Decided.{with_entry}

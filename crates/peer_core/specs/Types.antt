@@ -1,8 +1,8 @@
 -- Statement: contracts of public calls use it.
 -- The types that the rules of a copy speak of, where peering sends suffixes of logs: every other file takes them from here.
-pub use Rattle.entry_core.specs.Request.{Sealed}
-pub use Rattle.entry_core.specs.declared.entry.Entry.{Entry}
-pub use Rattle.entry_core.specs.declared.reply.Reply.{Reply as EntryReply}
+pub use Rattle.store_core.specs.Request.{Sealed}
+pub use Rattle.store_core.specs.declared.entry.Entry.{Entry}
+pub use Rattle.store_core.specs.declared.reply.Reply.{Reply as EntryReply}
 pub use Rattle.group_types.specs.declared.party.Party.{Party}
 pub use Rattle.group_types.specs.declared.party.Party.TheVariants.{Client, Osd}
 pub use Rattle.peer_core.specs.declared.message.Body.{Body}

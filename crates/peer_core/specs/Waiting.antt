@@ -3,7 +3,7 @@
 use Rattle.std.specs.Prelude.{ℕ, ◌≡◌, true, ◌==◌, List, nat_eq}
 use Rattle.std.specs.List.{list_any}
 use Rattle.std.specs.HashSet.{HashSet, contains}
-use Rattle.entry_core.specs.Request.{Sealed}
+use Rattle.store_core.specs.Request.{Sealed}
 
 -- the set has the id of each request that waits
 pub record KnowsWaiting {S : Type 0} (requests : List Sealed) (seen : HashSet ℕ S) : Type 0 where

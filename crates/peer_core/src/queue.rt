@@ -28,7 +28,7 @@ impl Drop for Queue {
 
 impl Model for Queue {
     ghost use Rattle.std.specs.Prelude.{List};
-    ghost use Rattle.entry_core.specs.Request.{Sealed};
+    ghost use Rattle.store_core.specs.Request.{Sealed};
 
     ghost Value = { List Sealed };
 

@@ -1,7 +1,7 @@
 -- Operations and texts, read one after another.
 use Prim.Native.Nat.{zero, suc}
 use Rattle.std.proofs.Common.{◌≡◌, ◌∙◌, ℕ, ◌+◌, ◌≤◌, List, [], ◌∷◌, ◌++◌, Bool, true, false, Option, Some, None, Result, Ok, Err, IfOk, length, refl, sym, ap, arith, append_assoc}
-use Rattle.world_core.proofs.Bytes.{bytes_same}
+use Rattle.world_front.proofs.Bytes.{bytes_same}
 use Rattle.std.specs.Prelude.{codes}
 use Rattle.std.specs.Option.{option_map}
 use Rattle.std.specs.Str.{bytes_eq}

@@ -8,13 +8,13 @@ use Rattle.verdict_core.specs.Text.{report_line}
 use Rattle.verdict_core.specs.declared.request.Condition.{Condition}
 use Rattle.auth_db.specs.Users.{Users}
 use Rattle.auth_db.specs.declared.caps.Caps.{Caps}
-use Rattle.entry_core.specs.declared.reply.Reply.{Reply}
-use Rattle.entry_core.specs.declared.reply.Reply.TheVariants as reply
-use Rattle.entry_core.specs.Request.{numbers}
-use Rattle.world_core.specs.declared.event.Told.{Told}
-use Rattle.world_core.specs.declared.event.Told.TheVariants.{Done, Made, There, Epoch, Session as OfSession, Request, List as Pieces}
-use Rattle.world_core.specs.declared.fault.WorldFault.{WorldFault as Fault}
-use Rattle.world_core.specs.Printed.{fault_text}
+use Rattle.store_core.specs.declared.reply.Reply.{Reply}
+use Rattle.store_core.specs.declared.reply.Reply.TheVariants as reply
+use Rattle.store_core.specs.Request.{numbers}
+use Rattle.world_front.specs.declared.event.Told.{Told}
+use Rattle.world_front.specs.declared.event.Told.TheVariants.{Done, Made, There, Epoch, Session as OfSession, Request, List as Pieces}
+use Rattle.world_front.specs.declared.fault.WorldFault.{WorldFault as Fault}
+use Rattle.world_front.specs.Printed.{fault_text}
 
 -- a request's session, and its number there
 abbrev pub id_text : ℕ → List ℕ

@@ -4,12 +4,12 @@ use Rattle.std.proofs.Common.{◌≡◌, ◌∙◌, ℕ, ◌+◌, List, [], ◌�
 use Rattle.std.specs.Prelude.{nat_lt, slice_get}
 use Rattle.std.specs.Option.{option_map, option_or}
 use Rattle.std.proofs.lemmas.Bool.Decides.{nat_tests}
-use Rattle.entry_core.specs.Deciding.{store_of, decision_on, name_of}
-use Rattle.entry_core.specs.Laws.{changed}
+use Rattle.store_core.specs.Deciding.{store_of, decision_on, name_of}
+use Rattle.store_core.specs.Objects.{changed}
 use Rattle.entry_core.specs.Log.{LegalFrom, decision, is_in}
-use Rattle.entry_core.specs.Request.{Sealed}
-use Rattle.entry_core.specs.declared.entry.Entry.{Entry}
-use Rattle.entry_core.specs.declared.sealed.GroupId.{GroupId}
+use Rattle.store_core.specs.Request.{Sealed}
+use Rattle.store_core.specs.declared.entry.Entry.{Entry}
+use Rattle.store_core.specs.declared.sealed.GroupId.{GroupId}
 use Rattle.entry_core.proofs.Lawful.{decision_tells_the_store}
 use Rattle.suffix_core.specs.Types.{Sent, Party, Client, Osd}
 use Rattle.whole_logs.specs.Each.{Each}
@@ -18,10 +18,10 @@ use Rattle.suffix_core.specs.Group as group
 use Rattle.group_types.specs.declared.fault.GroupFault.TheVariants as group_fault
 use Rattle.whole_laws.specs.Calm.{answer_with}
 use Rattle.suffix_core.proofs.Runs.{delivered_idle}
-use Rattle.world_core.specs.declared.event.Event.{Event}
-use Rattle.world_core.specs.declared.event.Event.TheVariants.{Deliver}
-use Rattle.world_core.specs.declared.fault.WorldFault.TheVariants.{Group as OfGroup}
-use Rattle.world_core.specs.Front.{group_refusal}
+use Rattle.world_front.specs.declared.event.Event.{Event}
+use Rattle.world_front.specs.declared.event.Event.TheVariants.{Deliver}
+use Rattle.world_front.specs.declared.fault.WorldFault.TheVariants.{Group as OfGroup}
+use Rattle.world_front.specs.Front.{group_refusal}
 use Rattle.world_core.specs.World.{World, group_at, decided_in, acted, refused_in, refusal_of, world_step}
 use Rattle.world_laws.specs.Recovery.{if_sent, deliveries_of}
 use Rattle.world_script.specs.Script.{has_messages, events_while, emptied_within, one_if_none, unrefused}

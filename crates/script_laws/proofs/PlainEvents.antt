@@ -16,12 +16,12 @@ use Rattle.map_core.specs.declared.command.MapCommand.TheVariants.{PoolCreate, A
 use Rattle.map_core.proofs.Current.{after_push}
 use Rattle.map_core.proofs.OnePool.{pool_after_step}
 use Rattle.place_core.specs.Placement.{numbers_of}
-use Rattle.entry_core.specs.Deciding.{store_of}
+use Rattle.store_core.specs.Deciding.{store_of}
 use Rattle.entry_core.specs.Locality.{group_for}
 use Rattle.entry_core.specs.Log.{is_in}
-use Rattle.entry_core.specs.Request.{Sealed}
-use Rattle.entry_core.specs.declared.entry.Entry.{Entry}
-use Rattle.entry_core.specs.declared.sealed.GroupId.{GroupId}
+use Rattle.store_core.specs.Request.{Sealed}
+use Rattle.store_core.specs.declared.entry.Entry.{Entry}
+use Rattle.store_core.specs.declared.sealed.GroupId.{GroupId}
 use Rattle.whole_logs.specs.Each.{Each}
 use Rattle.suffix_core.specs.Group.{Group, last_set, same_set, has_all_intervals, group_step, run, start}
 use Rattle.suffix_core.specs.Group as group
@@ -29,26 +29,27 @@ use Rattle.group_types.specs.declared.fault.GroupFault.{GroupFault}
 use Rattle.group_types.specs.declared.fault.GroupFault.TheVariants as group_fault
 use Rattle.whole_laws.specs.Calm.{IsCalm, answer_with}
 use Rattle.group_laws.proofs.CalmGroups.{begins_calm}
-use Rattle.world_core.specs.declared.event.Ask.{Ask}
-use Rattle.world_core.specs.declared.event.Event.{Event}
-use Rattle.world_core.specs.declared.event.Event.TheVariants.{Auth, Map, Open, Renew, Close, Submit, List as ListNames, Deliver, Lose, Repeat, Kick}
-use Rattle.world_core.specs.declared.fault.WorldFault.{WorldFault as Fault}
-use Rattle.world_core.specs.declared.fault.WorldFault.TheVariants.{Map as OfMap, Group as OfGroup}
-use Rattle.world_core.specs.Groups.{is_same_group, is_for}
-use Rattle.world_core.specs.Front.{Front, front_step, front_refusal, requests_of, requests_in, sealed_by, if_ok}
-use Rattle.world_core.specs.World.{World, Part, part, group_at, groups_of, members_of, moved_parts, asked_parts, parts_of, created_by, decided_in, act, acted, refused_in, parts_refusal, refusal_of, world_step}
+use Rattle.world_front.specs.declared.event.Ask.{Ask}
+use Rattle.world_front.specs.declared.event.Event.{Event}
+use Rattle.world_front.specs.declared.event.Event.TheVariants.{Auth, Map, Open, Renew, Close, Submit, List as ListNames, Deliver, Lose, Repeat, Kick}
+use Rattle.world_front.specs.declared.fault.WorldFault.{WorldFault as Fault}
+use Rattle.world_front.specs.declared.fault.WorldFault.TheVariants.{Map as OfMap, Group as OfGroup}
+use Rattle.world_front.specs.Groups.{is_same_group, is_for}
+use Rattle.world_front.specs.Front.{Front, front_step, front_refusal, requests_of, requests_in, sealed_by, if_ok}
+use Rattle.world_core.specs.World.{World, Part, part, group_at, members_of, moved_parts, asked_parts, parts_of, created_by, decided_in, act, acted, refused_in, parts_refusal, refusal_of, world_step}
+use Rattle.world_front.specs.Groups.{groups_of}
 use Rattle.world_core.specs.Holds.{events_in, group_step_alone}
 use Rattle.world_core.specs.Accepted.{FrontTells}
 use Rattle.world_script.specs.Script.{places}
 use Rattle.script_laws.specs.Plain.{Plain, least_of, is_open, asks, moves, is_move, is_message}
-use Rattle.world_core.proofs.Merge.{bytes_refl}
+use Rattle.world_front.proofs.Merge.{bytes_refl}
 use Rattle.world_core.proofs.Holding.{step_at}
-use Rattle.world_core.proofs.Places.{places_once, places_none, AtMostOne}
-use Rattle.world_core.proofs.Pools.{found_in}
+use Rattle.world_front.proofs.Places.{places_once, places_none, AtMostOne}
+use Rattle.world_front.proofs.Pools.{found_in}
 use Rattle.world_core.proofs.Sets.{IsMap, members_fit, lies_within}
 use Rattle.world_core.specs.Sound.{FrontKept, GroupKept, WorldKept}
 use Rattle.world_core.proofs.Limits.{CreatesWell, creates_well, wrapped_none, once, front_kept, pool_limits}
-use Rattle.world_core.proofs.Fronts.{Requested, submit_made, list_made}
+use Rattle.world_front.proofs.Fronts.{Requested, submit_made, list_made}
 use Rattle.world_core.proofs.Requests.{heard, heard_map, heard_passes}
 use Rattle.world_core.proofs.Intervals.{later, members_are, same_set_refl, restarts_is}
 use Rattle.world_core.proofs.Accepted.{IsMade, made_at, none_yet}

@@ -11,18 +11,18 @@ use Rattle.object_core.specs.Effect.{effect}
 use Rattle.object_core.specs.declared.outcome.Change.{Change}
 use Rattle.object_core.specs.declared.outcome.Change.TheVariants.{Kept, Became}
 use Rattle.verdict_core.specs.Verdict.{report_of}
-use Rattle.entry_core.specs.Request.{Sealed, Work, Vector, Listing, target_of, needs_for}
-use Rattle.entry_core.specs.Store.{Store, ObjectName, name_cmp}
-use Rattle.entry_core.specs.Names.{name_cmp_total, same_names, is_same-ties, is_same_equiv}
-use Rattle.entry_core.specs.Deciding.{name_of, ran, answered, names_in, performed, answer_on, decision_on, is_allowed_sealed}
-use Rattle.entry_core.specs.Laws.{changed}
-use Rattle.entry_core.specs.declared.reply.Reply.TheVariants.{Denied}
-use Rattle.entry_core.specs.declared.sealed.GroupId.{GroupId}
-use Rattle.world_core.specs.declared.event.Event.{Event}
-use Rattle.world_core.specs.declared.fault.WorldFault.{WorldFault as Fault}
-use Rattle.world_core.specs.declared.event.Event.TheVariants as happens
-use Rattle.world_core.specs.Groups.{is_for}
-use Rattle.world_core.specs.Front.{front_refusal}
+use Rattle.store_core.specs.Request.{Sealed, Work, Vector, Listing, target_of, needs_for}
+use Rattle.store_core.specs.Store.{Store, ObjectName, name_cmp}
+use Rattle.store_core.specs.Names.{name_cmp_total, same_names, is_same-ties, is_same_equiv}
+use Rattle.store_core.specs.Deciding.{name_of, ran, answered, names_in, performed, answer_on, decision_on, is_allowed_sealed}
+use Rattle.store_core.specs.Objects.{changed}
+use Rattle.store_core.specs.declared.reply.Reply.TheVariants.{Denied}
+use Rattle.store_core.specs.declared.sealed.GroupId.{GroupId}
+use Rattle.world_front.specs.declared.event.Event.{Event}
+use Rattle.world_front.specs.declared.fault.WorldFault.{WorldFault as Fault}
+use Rattle.world_front.specs.declared.event.Event.TheVariants as happens
+use Rattle.world_front.specs.Groups.{is_for}
+use Rattle.world_front.specs.Front.{front_refusal}
 use Rattle.script_commands.specs.declared.command.Command.{Command}
 use Rattle.script_commands.specs.declared.command.Command.TheVariants.{Osds, Happens, Submit, List as ListNames, Locate, ShowUser, ListUsers, Tick, Settle, KickAll, LoseAll, Answer as AskAnswer, Listing as AskListing, Ready}
 use Rattle.script_commands.specs.Command.{read_line}

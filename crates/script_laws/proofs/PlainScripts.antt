@@ -9,9 +9,9 @@ use Rattle.script_text.specs.Text.{line, numeral}
 use Rattle.grant_core.specs.BuiltIn.{built_in}
 use Rattle.map_core.specs.Map.{map_of}
 use Rattle.entry_core.specs.Log.{find, is_in}
-use Rattle.entry_core.specs.Request.{Sealed}
-use Rattle.entry_core.specs.declared.entry.Entry.{Entry}
-use Rattle.entry_core.specs.declared.sealed.GroupId.{GroupId}
+use Rattle.store_core.specs.Request.{Sealed}
+use Rattle.store_core.specs.declared.entry.Entry.{Entry}
+use Rattle.store_core.specs.declared.sealed.GroupId.{GroupId}
 use Rattle.whole_logs.specs.Choice.{covers}
 use Rattle.whole_logs.specs.Each.{Each}
 use Rattle.whole_logs.specs.Asked.{IsAsked}
@@ -19,12 +19,12 @@ use Rattle.suffix_core.specs.Group.{Group, answer_of, submitted, last_set}
 use Rattle.whole_laws.specs.Calm.{answer_with}
 use Rattle.suffix_core.specs.Recovery.{is_ready, greatest_base}
 use Rattle.entry_core.specs.Locality.{group_for}
-use Rattle.world_core.specs.declared.event.Event.{Event}
-use Rattle.world_core.specs.declared.fault.WorldFault.{WorldFault as Fault}
-use Rattle.world_core.specs.declared.event.Event.TheVariants.{Auth, Map, Open, Renew, Close, Submit as SubmitEvent, List as ListEvent, Deliver, Lose, Repeat, Kick}
-use Rattle.world_core.specs.declared.fault.WorldFault.TheVariants.{Group as OfGroup}
-use Rattle.world_core.specs.Groups.{is_for}
-use Rattle.world_core.specs.Front.{front_refusal, group_refusal, told_of}
+use Rattle.world_front.specs.declared.event.Event.{Event}
+use Rattle.world_front.specs.declared.fault.WorldFault.{WorldFault as Fault}
+use Rattle.world_front.specs.declared.event.Event.TheVariants.{Auth, Map, Open, Renew, Close, Submit as SubmitEvent, List as ListEvent, Deliver, Lose, Repeat, Kick}
+use Rattle.world_front.specs.declared.fault.WorldFault.TheVariants.{Group as OfGroup}
+use Rattle.world_front.specs.Groups.{is_for}
+use Rattle.world_front.specs.Front.{front_refusal, group_refusal, told_of}
 use Rattle.world_core.specs.World.{World, first_world, group_at, members_of, parts_of, parts_refusal, refusal_of, is_drop}
 use Rattle.world_core.specs.Standing.{audit_in, audit_at}
 use Rattle.world_core.specs.Answers.{answer_in as answer_in_group, answer_to, answer_at}
@@ -35,7 +35,7 @@ use Rattle.script_commands.specs.Command.{read_line}
 use Rattle.script_commands.specs.Text.{id_text, told_text, refused_text, or_refused, asked_text, users_text, ready_text}
 use Rattle.world_script.specs.Script.{Step, Goes, IsBad, IsOther, stepped, line_step, behind, onward, outputs, kept, begins, ask_now, places, locate_text, show_text, answer_in, listing_in, Machine, prints, does, event_told, event_line, ready_in, ready_line_text, goes, machine_step, script_step, Wrote}
 use Rattle.script_laws.specs.Plain.{Plain, Settled, decides, serves, settles, first_plain, is_enough, least_of, is_move, is_message, asks, judged, plain_event, tells, ready_plain, plain_step, IsPlain, PlainScriptsPrint, PlainBeginnings, PlainScriptsWrite}
-use Rattle.world_core.proofs.Bytes.{number_same}
+use Rattle.world_front.proofs.Bytes.{number_same}
 use Rattle.world_laws.proofs.AcceptedLaws.{accepted_has_numbers}
 use Rattle.world_core.specs.Sound.{WorldStands}
 use Rattle.world_core.proofs.Worlds.{world_stands, find_part}

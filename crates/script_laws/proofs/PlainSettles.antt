@@ -7,11 +7,11 @@ use Rattle.std.proofs.lemmas.List.Sums.{fold-append}
 use Rattle.grant_core.specs.BuiltIn.{built_in}
 use Rattle.map_core.specs.State.{MapState}
 use Rattle.map_core.specs.Map.{map_of}
-use Rattle.entry_core.specs.Deciding.{store_of}
+use Rattle.store_core.specs.Deciding.{store_of}
 use Rattle.entry_core.specs.Log.{Legal, LegalFrom}
-use Rattle.entry_core.specs.Request.{Sealed}
-use Rattle.entry_core.specs.declared.entry.Entry.{Entry}
-use Rattle.entry_core.specs.declared.sealed.GroupId.{GroupId}
+use Rattle.store_core.specs.Request.{Sealed}
+use Rattle.store_core.specs.declared.entry.Entry.{Entry}
+use Rattle.store_core.specs.declared.sealed.GroupId.{GroupId}
 use Rattle.whole_logs.specs.Each.{Each}
 use Rattle.suffix_core.specs.Group.{Group, run}
 use Rattle.suffix_core.specs.Group as group
@@ -20,19 +20,19 @@ use Rattle.whole_laws.specs.Quiet.{request_cost}
 use Rattle.whole_laws.specs.Calm.{answer_with, unserved_cost}
 use Rattle.whole_logs.proofs.Audits.{legal_rest}
 use Rattle.group_laws.proofs.SameGroups.{same_settle}
-use Rattle.world_core.specs.declared.event.Event.{Event}
-use Rattle.world_core.specs.declared.event.Event.TheVariants.{Deliver}
-use Rattle.world_core.specs.Groups.{is_same_group, is_for}
-use Rattle.world_core.specs.Front.{Front, group_refusal}
+use Rattle.world_front.specs.declared.event.Event.{Event}
+use Rattle.world_front.specs.declared.event.Event.TheVariants.{Deliver}
+use Rattle.world_front.specs.Groups.{is_same_group, is_for}
+use Rattle.world_front.specs.Front.{Front, group_refusal}
 use Rattle.world_core.specs.World.{World, group_at, members_of, world_step, world_after}
 use Rattle.world_core.specs.Holds.{AcceptedFrom, AreAccepted}
 use Rattle.world_laws.specs.Places.{HasPlaces, IsFoundByPlace}
 use Rattle.world_laws.specs.Recovery.{deliveries_of}
 use Rattle.world_script.specs.Script.{places, budget_in, emptied_within, emptied, on_each, settle_events, unrefused}
 use Rattle.script_laws.specs.Plain.{Plain, least_of, is_enough, is_open, decides, serves, serving_cost, waiting_cost, cost, Settled, settles, settles_all, rested}
-use Rattle.world_core.proofs.Merge.{same_group, group_refl}
-use Rattle.world_core.proofs.Places.{true_not_false, places_once, group_turned}
-use Rattle.world_core.proofs.Pools.{found_in}
+use Rattle.world_front.proofs.Merge.{same_group, group_refl}
+use Rattle.world_front.proofs.Places.{true_not_false, places_once, group_turned}
+use Rattle.world_front.proofs.Pools.{found_in}
 use Rattle.world_core.proofs.Limits.{once}
 use Rattle.world_laws.proofs.AcceptedLaws.{accepted_has_numbers}
 use Rattle.world_core.proofs.Worlds.{world_stands, world_legal}

@@ -16,26 +16,26 @@ use Rattle.map_core.proofs.Current.{after_push}
 use Rattle.map_core.proofs.Kept.{pools_stay}
 use Rattle.map_core.proofs.Daemons.{set_sized}
 use Rattle.place_core.specs.Placement.{acting_of, numbers_of}
-use Rattle.entry_core.specs.Deciding.{store_of}
-use Rattle.entry_core.specs.Request.{Sealed}
-use Rattle.entry_core.specs.declared.sealed.GroupId.{GroupId}
+use Rattle.store_core.specs.Deciding.{store_of}
+use Rattle.store_core.specs.Request.{Sealed}
+use Rattle.store_core.specs.declared.sealed.GroupId.{GroupId}
 use Rattle.whole_logs.specs.Each.{Each}
 use Rattle.suffix_core.specs.Group.{Group, group_step, last_set}
 use Rattle.suffix_core.specs.Group as group
 use Rattle.suffix_core.specs.Budget.{settle_count}
 use Rattle.whole_laws.specs.Calm.{IsCalm, answer_with}
 use Rattle.group_laws.proofs.SameGroups.{same_step, takes_last}
-use Rattle.world_core.specs.declared.event.Event.{Event}
-use Rattle.world_core.specs.Groups.{is_same_group, is_for}
-use Rattle.world_core.specs.Front.{Front}
+use Rattle.world_front.specs.declared.event.Event.{Event}
+use Rattle.world_front.specs.Groups.{is_same_group, is_for}
+use Rattle.world_front.specs.Front.{Front}
 use Rattle.world_core.specs.World.{World, group_at, members_of, world_step, world_after, refusal_of, accepts, is_accepted}
 use Rattle.world_core.specs.Holds.{AreAccepted}
 use Rattle.world_script.specs.Script.{places}
 use Rattle.script_laws.specs.Plain.{Plain, least_of, is_open, moves}
-use Rattle.world_core.proofs.Bytes.{bytes_same}
-use Rattle.world_core.specs.Stands.{InMap}
-use Rattle.world_core.proofs.Pools.{found_in}
-use Rattle.world_core.proofs.Places.{places_once, each_filter}
+use Rattle.world_front.proofs.Bytes.{bytes_same}
+use Rattle.world_front.specs.Stands.{InMap}
+use Rattle.world_front.proofs.Pools.{found_in}
+use Rattle.world_front.proofs.Places.{places_once, each_filter}
 use Rattle.world_core.specs.Sound.{FrontKept, GroupKept, WorldKept}
 use Rattle.world_core.proofs.Limits.{once, each_not}
 use Rattle.world_core.proofs.Intervals.{later, set_later, members_are}

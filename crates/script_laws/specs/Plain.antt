@@ -13,22 +13,22 @@ use Rattle.map_core.specs.Map.{map_of, after, is_named}
 use Rattle.map_core.specs.Intervals.{set_of, begun}
 use Rattle.map_core.specs.declared.pool.Pool.{Pool}
 use Rattle.map_core.specs.declared.command.MapCommand.{MapCommand}
-use Rattle.entry_core.specs.Request.{Sealed}
-use Rattle.entry_core.specs.Store.{Store}
-use Rattle.entry_core.specs.Deciding.{Decision, decision_on, name_of}
-use Rattle.entry_core.specs.Laws.{changed}
-use Rattle.entry_core.specs.declared.reply.Reply.{Reply}
-use Rattle.entry_core.specs.declared.sealed.GroupId.{GroupId}
+use Rattle.store_core.specs.Request.{Sealed}
+use Rattle.store_core.specs.Store.{Store}
+use Rattle.store_core.specs.Deciding.{Decision, decision_on, name_of}
+use Rattle.store_core.specs.Objects.{changed}
+use Rattle.store_core.specs.declared.reply.Reply.{Reply}
+use Rattle.store_core.specs.declared.sealed.GroupId.{GroupId}
 use Rattle.suffix_core.specs.Group.{answer_of}
 use Rattle.group_types.specs.Answers.{Answer}
 use Rattle.whole_laws.specs.Quiet.{opening_cost, request_cost}
 use Rattle.whole_laws.specs.Calm.{unserved_cost}
-use Rattle.world_core.specs.declared.event.Event.{Event}
-use Rattle.world_core.specs.declared.fault.WorldFault.{WorldFault as Fault}
-use Rattle.world_core.specs.declared.event.Event.TheVariants.{Map, Deliver, Lose, Repeat, Kick}
-use Rattle.world_core.specs.declared.event.Event.TheVariants as happens
-use Rattle.world_core.specs.Groups.{is_same_group, is_for}
-use Rattle.world_core.specs.Front.{Front, first_front, front_step, front_refusal, sealed_by, told_of, group_refusal}
+use Rattle.world_front.specs.declared.event.Event.{Event}
+use Rattle.world_front.specs.declared.fault.WorldFault.{WorldFault as Fault}
+use Rattle.world_front.specs.declared.event.Event.TheVariants.{Map, Deliver, Lose, Repeat, Kick}
+use Rattle.world_front.specs.declared.event.Event.TheVariants as happens
+use Rattle.world_front.specs.Groups.{is_same_group, is_for}
+use Rattle.world_front.specs.Front.{Front, first_front, front_step, front_refusal, sealed_by, told_of, group_refusal}
 use Rattle.world_core.specs.World.{members_of}
 use Rattle.script_commands.specs.declared.command.Command.{Command}
 use Rattle.script_commands.specs.declared.command.Command.TheVariants.{Osds, Happens, Submit, List as ListNames, Locate, ShowUser, ListUsers, Tick, Settle, KickAll, LoseAll, Answer as AskAnswer, Listing, Ready}

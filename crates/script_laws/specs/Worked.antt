@@ -9,11 +9,11 @@ use Rattle.object_core.specs.Effect.{effect}
 use Rattle.object_core.specs.declared.outcome.Change.{Change}
 use Rattle.object_core.specs.declared.outcome.Change.TheVariants.{Kept, Became}
 use Rattle.verdict_core.specs.Verdict.{report_of}
-use Rattle.entry_core.specs.Request.{Sealed, Work, Vector, Listing, target_of, needs_for}
-use Rattle.entry_core.specs.Store.{ObjectName, name_cmp}
-use Rattle.entry_core.specs.Deciding.{Answer, name_of, ran, answered, is_listed, is_allowed_sealed}
-use Rattle.entry_core.specs.declared.reply.Reply.{Reply}
-use Rattle.entry_core.specs.declared.reply.Reply.TheVariants.{Denied, Names}
+use Rattle.store_core.specs.Request.{Sealed, Work, Vector, Listing, target_of, needs_for}
+use Rattle.store_core.specs.Store.{ObjectName, name_cmp}
+use Rattle.store_core.specs.Deciding.{Answer, name_of, ran, answered, is_listed, is_allowed_sealed}
+use Rattle.store_core.specs.declared.reply.Reply.{Reply}
+use Rattle.store_core.specs.declared.reply.Reply.TheVariants.{Denied, Names}
 use Rattle.world_script.specs.Script.{script_output, Whole, BadAt}
 use Rattle.script_laws.specs.Plain.{Keeping}
 

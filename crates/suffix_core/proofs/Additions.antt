@@ -1,7 +1,7 @@
 -- Whatever happens to a group only adds to what was decided and answered.
 use Rattle.std.proofs.Common.{ℕ, ◌≡◌, Bool, true, false, ◌==◌, List, [], ◌∷◌, ◌++◌, refl, sym, subst, if◌then◌else◌}
 use Rattle.std.specs.Prelude.{Some}
-use Rattle.entry_core.specs.declared.entry.Entry.{Entry}
+use Rattle.store_core.specs.declared.entry.Entry.{Entry}
 use Rattle.whole_logs.specs.Each.{Each}
 use Rattle.whole_logs.specs.History.{Begins}
 use Rattle.whole_logs.proofs.Prefixes.{Begins-refl, Begins-trans}

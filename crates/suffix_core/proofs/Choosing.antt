@@ -3,9 +3,9 @@ use Rattle.std.proofs.Common.{ℕ, ◌≡◌, ◌≤◌, ◌<◌, Bool, true, fa
 use Rattle.std.specs.Prelude.{Some, None}
 use Rattle.std.proofs.Math.Seq.{drop-length}
 use Rattle.entry_core.specs.Log.{Legal}
-use Rattle.entry_core.specs.Request.{Sealed}
+use Rattle.store_core.specs.Request.{Sealed}
 use Rattle.entry_core.specs.Fitting.{requests_of, decided_behind, kept, agreed, can_fit, fitted}
-use Rattle.entry_core.specs.declared.entry.Entry.{Entry}
+use Rattle.store_core.specs.declared.entry.Entry.{Entry}
 use Rattle.entry_core.proofs.Fitting.{fit_gives_the_log}
 use Rattle.whole_logs.specs.ActingSets.{set_of}
 use Rattle.whole_logs.specs.Choice.{best as whole_best, own_offer as whole_own_offer, can_choose as whole_can_choose}

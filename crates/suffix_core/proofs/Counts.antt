@@ -2,7 +2,7 @@
 use Rattle.std.proofs.Common.{ℕ, zero, suc, ◌≡◌, ◌+◌, not, nat_lt, List, [], ◌∷◌, length, refl, sym, ◌∙◌, ap, subst, arith, if◌then◌else◌}
 use Rattle.std.specs.Prelude.{Option, Some, None, slice_get}
 use Rattle.entry_core.specs.Log.{is_in}
-use Rattle.entry_core.specs.Request.{Sealed}
+use Rattle.store_core.specs.Request.{Sealed}
 use Rattle.whole_logs.specs.Types.{Daemon, Party, Osd, Client, Role as WholeRole, Body as WholeBody, Sent as WholeSent}
 use Rattle.whole_logs.specs.Budget.{body_budget as whole_body_budget, sent_budget as whole_sent_budget, role_budget as whole_role_budget, copies_budget as whole_copies_budget, budget as whole_budget, settle_count as whole_settle_count, settled_group as whole_settled_group}
 use Rattle.whole_logs.specs.Group.{Group as WholeGroup, group_step as whole_group_step, settle as whole_settle, delivered_to as whole_delivered_to, delivered_now as whole_delivered_now, delivered as whole_delivered, refusal_of as whole_refusal_of}

@@ -2,7 +2,7 @@
 use Rattle.std.proofs.Common.{ℕ, ◌≡◌, Bool, true, false, nat_lt, List, length, refl, subst, if◌then◌else◌}
 use Rattle.std.specs.Prelude.{Option, Some, None, slice_get}
 use Rattle.std.proofs.lemmas.Bool.{ltb-true, ltb-false}
-use Rattle.entry_core.specs.Request.{Sealed}
+use Rattle.store_core.specs.Request.{Sealed}
 use Rattle.entry_core.specs.Fitting.{can_fit}
 use Rattle.whole_logs.specs.Types.{Role as WholeRole, Daemon, Body as WholeBody, Info as WholeInfo, Install as WholeInstall, Sent as WholeSent, Party, Osd, Client}
 use Rattle.whole_logs.specs.Asked.{IsAsked, InLog}

@@ -2,9 +2,9 @@
 use Rattle.std.proofs.Common.{ℕ, ◌≡◌, ◌≤◌, ◌<◌, Bool, true, false, not, ◌&&◌, nat_lt, List, [], ◌∷◌, length, refl, sym, subst, arith, if◌then◌else◌}
 use Rattle.std.specs.Prelude.{Option, Some, None}
 use Rattle.std.proofs.lemmas.Bool.{ltb-true, ltb-false, and_parts, not-true}
-use Rattle.entry_core.specs.Request.{Sealed}
+use Rattle.store_core.specs.Request.{Sealed}
 use Rattle.entry_core.specs.Fitting.{can_fit}
-use Rattle.entry_core.specs.declared.entry.Entry.{Entry}
+use Rattle.store_core.specs.declared.entry.Entry.{Entry}
 use Rattle.whole_logs.specs.ActingSets.{set_of, is_primary, others as whole_others}
 use Rattle.whole_logs.specs.Choice.{best as whole_best, own_offer as whole_own_offer, can_choose as whole_can_choose}
 use Rattle.whole_logs.specs.Copy.{install_chosen as whole_install_chosen, try_choice as whole_try_choice, queries as whole_queries, learn_sets as whole_learn_sets, lead as whole_lead, on_interval as whole_on_interval}

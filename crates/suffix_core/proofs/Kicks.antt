@@ -4,7 +4,7 @@ use Rattle.std.specs.Prelude.{Option, Some, None}
 use Rattle.std.specs.List.{filter}
 use Rattle.entry_core.specs.Log.{is_in}
 use Rattle.entry_core.specs.Fitting.{part_of, last_id}
-use Rattle.entry_core.specs.declared.entry.Entry.{Entry}
+use Rattle.store_core.specs.declared.entry.Entry.{Entry}
 use Rattle.whole_logs.specs.ActingSets.{asked as whole_asked, others as whole_others}
 use Rattle.whole_logs.specs.Choice.{is_informed as whole_is_informed}
 use Rattle.whole_logs.specs.Decided.{last}

@@ -4,10 +4,10 @@ use Rattle.std.specs.Prelude.{Some, slice_get}
 use Rattle.std.proofs.lemmas.Bool.{eqb-true}
 use Rattle.std.proofs.lemmas.List.{take-append-drop}
 use Rattle.entry_core.specs.Log.{Legal, LegalFrom, decide, ids}
-use Rattle.entry_core.specs.Request.{Sealed}
+use Rattle.store_core.specs.Request.{Sealed}
 use Rattle.entry_core.specs.Fitting.{requests_of, part_of}
 use Rattle.entry_core.specs.FittingLaws.{SameNext}
-use Rattle.entry_core.specs.declared.entry.Entry.{Entry}
+use Rattle.store_core.specs.declared.entry.Entry.{Entry}
 use Rattle.whole_logs.specs.Group.{submitted}
 use Rattle.whole_logs.specs.Asked.{IsAsked, InLog}
 use Rattle.whole_logs.specs.History.{Begins}

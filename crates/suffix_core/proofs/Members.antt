@@ -3,9 +3,9 @@ use Rattle.std.proofs.Common.{ℕ, ◌≡◌, ◌≤◌, ◌<◌, ◌+◌, Bool,
 use Rattle.std.specs.Prelude.{Some, None}
 use Rattle.std.proofs.lemmas.Bool.{eqb-true, ltb-true, ltb-false, and_parts}
 use Rattle.entry_core.specs.Log.{decide, is_in, ids}
-use Rattle.entry_core.specs.Request.{Sealed}
+use Rattle.store_core.specs.Request.{Sealed}
 use Rattle.entry_core.specs.Fitting.{fitted}
-use Rattle.entry_core.specs.declared.entry.Entry.{Entry}
+use Rattle.store_core.specs.declared.entry.Entry.{Entry}
 use Rattle.whole_logs.specs.Serve.{serve as whole_serve}
 use Rattle.whole_logs.specs.Decided.{with_entry as whole_with_entry, last}
 use Rattle.whole_logs.specs.Copy.{promise_interval as whole_promise_interval, on_install as whole_on_install, on_installed as whole_on_installed, acknowledged as whole_acknowledged, on_append as whole_on_append, complete as whole_complete, on_appended as whole_on_appended}

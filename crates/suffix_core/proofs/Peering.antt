@@ -3,9 +3,9 @@ use Rattle.std.proofs.Common.{ℕ, ◌≡◌, ◌<◌, ◌-◌, Bool, true, fals
 use Rattle.std.specs.Prelude.{Some, None}
 use Rattle.std.specs.List.{list_any, list_all}
 use Rattle.std.proofs.lemmas.Bool.{cases_eq, eqb-true, ltb-true, and_parts}
-use Rattle.entry_core.specs.Request.{Sealed}
+use Rattle.store_core.specs.Request.{Sealed}
 use Rattle.entry_core.specs.Fitting.{can_fit, fitted}
-use Rattle.entry_core.specs.declared.entry.Entry.{Entry}
+use Rattle.store_core.specs.declared.entry.Entry.{Entry}
 use Rattle.whole_logs.specs.ActingSets.{set_of, others as whole_others}
 use Rattle.whole_logs.specs.Choice.{best as whole_best, own_offer as whole_own_offer, is_informed as whole_is_informed, can_choose as whole_can_choose, covers}
 use Rattle.whole_logs.specs.Copy.{install_chosen as whole_install_chosen, try_choice as whole_try_choice, on_info as whole_on_info}

@@ -5,9 +5,9 @@ use Rattle.std.specs.Option.{option_map}
 use Rattle.std.proofs.lemmas.Bool.{cases_eq, eqb-true, leb-true, ltb-false, and_parts, or_cases}
 use Rattle.std.proofs.lemmas.List.{length-take-le}
 use Rattle.entry_core.specs.Log.{Legal}
-use Rattle.entry_core.specs.Request.{Sealed}
+use Rattle.store_core.specs.Request.{Sealed}
 use Rattle.entry_core.specs.Fitting.{part_of, last_id}
-use Rattle.entry_core.specs.declared.entry.Entry.{Entry}
+use Rattle.store_core.specs.declared.entry.Entry.{Entry}
 use Rattle.whole_logs.specs.Steps.{still as whole_still, send as whole_send}
 use Rattle.whole_logs.specs.Copy.{promise_interval as whole_promise_interval, on_query as whole_on_query}
 use Rattle.whole_logs.specs.Types.{Role as WholeRole, Idle as WholeIdle, Daemon, Info as WholeInfo, Party, Osd, Client}

@@ -2,7 +2,7 @@
 use Rattle.std.proofs.Common.{◌≡◌, Bool, true, false, ◌==◌, map, refl, subst, if◌then◌else◌}
 use Rattle.std.specs.Prelude.{Option, Some, None, slice_get}
 use Rattle.entry_core.specs.Log.{is_in}
-use Rattle.entry_core.specs.Request.{Sealed}
+use Rattle.store_core.specs.Request.{Sealed}
 use Rattle.suffix_core.specs.Types.{Party, Osd, Client, Sent}
 use Rattle.suffix_core.specs.Group.{Group, Event, Submit, Deliver, Lose, Repeat, NewInterval, Restart, Kick, Fault, NoMessage, Unreachable, Full, Doubled, last_set, copy_hears, arrives, without, deliver, lose, again, is_submitted, has_all_requests, has_all_intervals, take_request, refusal_to, refusal_at, missing_at, refusal_of, left_by, begin, with_up, same_set, group_step}
 use Rattle.peer_core.specs.Steps.{restarted}

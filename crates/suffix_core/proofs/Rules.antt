@@ -1,6 +1,6 @@
 -- Each rule of a copy agrees with that of whole logs.
 use Rattle.std.proofs.Common.{ℕ, List, refl, sym, subst}
-use Rattle.entry_core.specs.Request.{Sealed}
+use Rattle.store_core.specs.Request.{Sealed}
 use Rattle.whole_logs.specs.Copy.{on_body as whole_on_body}
 use Rattle.whole_logs.specs.Types.{Role as WholeRole, Body as WholeBody, Party, Osd, Client}
 use Rattle.whole_logs.specs.Asked.{IsAsked, InLog}

@@ -3,8 +3,8 @@ use Rattle.std.proofs.Common.{ℕ, ◌≡◌, ◌+◌, Bool, true, false, ◌==�
 use Rattle.std.specs.Prelude.{Option, Some, None}
 use Rattle.std.specs.List.{list_any}
 use Rattle.entry_core.specs.Log.{find, is_in, ids}
-use Rattle.entry_core.specs.Request.{Sealed}
-use Rattle.entry_core.specs.declared.entry.Entry.{Entry}
+use Rattle.store_core.specs.Request.{Sealed}
+use Rattle.store_core.specs.declared.entry.Entry.{Entry}
 use Rattle.whole_logs.specs.Decided.{not_in_flight, with_entry as whole_with_entry}
 use Rattle.whole_logs.specs.Serve.{push_new as whole_push_new, serve_one as whole_serve_one, serve as whole_serve}
 use Rattle.whole_logs.specs.Steps.{Stepped as WholeStepped, still as whole_still, send as whole_send}

@@ -1,6 +1,6 @@
 -- A group in step with one that sends whole logs stands for it.
 use Rattle.std.proofs.Common.{ℕ, ◌≡◌, List, [], ◌∷◌, map, refl, sym, ap, subst}
-use Rattle.entry_core.specs.declared.entry.Entry.{Entry}
+use Rattle.store_core.specs.declared.entry.Entry.{Entry}
 use Rattle.whole_logs.specs.Types.{PeerInfo, Role as WholeRole, Body as WholeBody, Daemon, Party, Sent as WholeSent}
 use Rattle.whole_logs.specs.Group.{Group as WholeGroup, run as whole_run, start as whole_start}
 use Rattle.whole_logs.specs.History.{History}

@@ -1,9 +1,9 @@
 -- What agrees goes on to agree while the history goes on.
 use Rattle.std.proofs.Common.{ℕ, ◌≡◌, List}
 use Rattle.std.specs.Prelude.{None}
-use Rattle.entry_core.specs.Request.{Sealed}
+use Rattle.store_core.specs.Request.{Sealed}
 use Rattle.entry_core.specs.Fitting.{part_of}
-use Rattle.entry_core.specs.declared.entry.Entry.{Entry}
+use Rattle.store_core.specs.declared.entry.Entry.{Entry}
 use Rattle.whole_logs.specs.Types.{PeerInfo, Role as WholeRole, Daemon, Body as WholeBody, Party, Osd, Client, Sent as WholeSent}
 use Rattle.whole_logs.specs.History.{History}
 use Rattle.whole_logs.proofs.Invariant.{OfOsd}

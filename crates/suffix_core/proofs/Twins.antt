@@ -1,7 +1,7 @@
 -- What holds of each group that there can be, by the group that sends whole logs and for which it stands.
 use Rattle.std.proofs.Common.{ℕ, zero, suc, ◌≤◌, List, [], ◌∷◌, ◌++◌, refl, ◌∙◌, ap, subst}
 use Rattle.entry_core.specs.Log.{Legal}
-use Rattle.entry_core.specs.declared.sealed.GroupId.{GroupId}
+use Rattle.store_core.specs.declared.sealed.GroupId.{GroupId}
 use Rattle.whole_logs.specs.Each.{Each}
 use Rattle.whole_logs.specs.Asked.{HasSubmit, IsAsked, InLog, IsReplied}
 use Rattle.whole_logs.specs.Group.{Group as WholeGroup, run as whole_run, start as whole_start, settle as whole_settle, group_step as whole_group_step}

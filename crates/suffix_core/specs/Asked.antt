@@ -1,6 +1,6 @@
 -- Statement: contracts of public calls use it.
 -- Where a request that a group holds comes from.
-use Rattle.entry_core.specs.Request.{Sealed}
+use Rattle.store_core.specs.Request.{Sealed}
 use Rattle.whole_logs.specs.Asked.{IsAsked, InLog}
 use Rattle.whole_logs.specs.Each.{Each}
 use Rattle.suffix_core.specs.Group.{Group}

@@ -1,7 +1,7 @@
 -- Statement: contracts of public calls use it.
 -- Which log a step fits to a part: at a choice and at an Install.
 use Rattle.std.specs.Prelude.{ℕ, ◌≡◌, true, ◌==◌, ◌&&◌, not, nat_lt, List, [], ◌∷◌, ◌++◌, length, slice_get, Option, Some, None, if◌then◌else◌}
-use Rattle.entry_core.specs.Request.{Sealed}
+use Rattle.store_core.specs.Request.{Sealed}
 use Rattle.entry_core.specs.Fitting.{can_fit}
 use Rattle.suffix_core.specs.Types.{Party, Client, Osd, Body, Interval, Query, Info, Install, Installed, Append, Appended, Request, Reply, NotHere, Sent, Offer, Role, Idle, Peering, Installing, Active, Copy}
 use Rattle.peer_core.specs.Choice.{best, own_offer, is_informed, can_choose}

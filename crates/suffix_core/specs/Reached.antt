@@ -1,8 +1,8 @@
 -- Statement: contracts of public calls use it.
 -- The groups that there can be, and what one call does.
 use Rattle.std.specs.Prelude.{ℕ, ◌≡◌, ◌≤◌, List, Some, None, Result, Ok, Err, min, take, length, ◌-◌, [], ◌∷◌}
-use Rattle.entry_core.specs.declared.sealed.GroupId.{GroupId}
-use Rattle.entry_core.specs.Request.{Sealed}
+use Rattle.store_core.specs.declared.sealed.GroupId.{GroupId}
+use Rattle.store_core.specs.Request.{Sealed}
 use Rattle.suffix_core.specs.Types.{Sent}
 use Rattle.whole_logs.specs.Each.{Each}
 use Rattle.suffix_core.specs.Group.{Group, Event, Submit, Fault, NoMessage, Unreachable, Full, OutOfMemory, Doubled, IsSet, EventFits, run, start, settle, group_step, refusal_of, left_by}

@@ -2,9 +2,9 @@
 -- Worked cases of peering by suffixes.
 use Rattle.std.specs.Prelude.{ℕ, ◌≡◌, List, [], ◌∷◌, length, Option, Some, None, slice_get}
 use Rattle.std.specs.Option.{option_map}
-use Rattle.entry_core.specs.Request.{Sealed}
+use Rattle.store_core.specs.Request.{Sealed}
 use Rattle.entry_core.specs.Log.{ids}
-use Rattle.entry_core.specs.declared.sealed.GroupId.{GroupId}
+use Rattle.store_core.specs.declared.sealed.GroupId.{GroupId}
 use Rattle.whole_logs.specs.Group.{Submit, Deliver, Lose, NewInterval, Kick}
 use Rattle.suffix_core.specs.Types.{Osd, Query, Info, Install, Sent, Copy}
 use Rattle.suffix_core.specs.Fits.{Fit, fit_at}

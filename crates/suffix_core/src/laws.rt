@@ -1,7 +1,7 @@
 //! The laws of peering by suffixes: functions that do nothing, whose clauses are the laws. `specs/Laws.antt` says each in words.
 
-ghost use Rattle.entry_core.specs.declared.sealed.GroupId.{GroupId};
-ghost use Rattle.entry_core.specs.Request.{Sealed};
+ghost use Rattle.store_core.specs.declared.sealed.GroupId.{GroupId};
+ghost use Rattle.store_core.specs.Request.{Sealed};
 ghost use Rattle.suffix_core.specs.Laws.{DecidedIsHeld, FitAnswersTrue, PromisesAreKept, RefusesAlike, SettlesAlike, SuffixesRefineWholeLogs};
 ghost use Rattle.suffix_core.specs.WorkedCases.{IsAllThere, IsFitted, IsHalfDone, IsSentAgain};
 

@@ -1,6 +1,6 @@
 -- A calm group stays one, and what each of its events adds to the deliveries that are due.
 use Rattle.std.proofs.Common.{ℕ, zero, suc, ◌≡◌, ◌+◌, ◌*◌, List, [], ◌∷◌, ◌++◌, length, replicate, refl, sym, ◌∙◌, ap, arith}
-use Rattle.entry_core.specs.declared.sealed.GroupId.{GroupId}
+use Rattle.store_core.specs.declared.sealed.GroupId.{GroupId}
 use Rattle.whole_logs.specs.Group.{Group, Event, Deliver, group_step, run, start}
 use Rattle.whole_logs.specs.Budget.{budget, settled_group, settle_count}
 use Rattle.whole_laws.specs.Quiet.{IsQuiet, made_by, deliveries_made, opening_cost, request_cost}

@@ -4,7 +4,7 @@ use Rattle.std.specs.Prelude.{Some, None, slice_get}
 use Rattle.std.specs.Option.{option_map}
 use Rattle.std.proofs.lemmas.Bool.{eq-eqb, eqb-true, or_cases, or_left}
 use Rattle.entry_core.specs.Log.{is_in, find, reply_in, Legal, LegalFrom}
-use Rattle.entry_core.specs.declared.entry.Entry.{Entry}
+use Rattle.store_core.specs.declared.entry.Entry.{Entry}
 use Rattle.whole_logs.specs.ActingSets.{set_of}
 use Rattle.whole_logs.specs.Types.{EntryReply, Active, Daemon}
 use Rattle.group_types.specs.Answers.{Answer}

@@ -2,7 +2,7 @@
 use Rattle.std.proofs.Common.{ℕ, zero, suc, ◌≡◌, ◌+◌, ◌*◌, Bool, true, false, List, [], ◌∷◌, ◌++◌, length, refl, sym, ◌∙◌, ap, subst, arith, inl, inr, length-append, if◌then◌else◌, ◌⊎◌}
 use Rattle.std.specs.Prelude.{Some, None, slice_get}
 use Rattle.entry_core.specs.Log.{is_in}
-use Rattle.entry_core.specs.Request.{Sealed}
+use Rattle.store_core.specs.Request.{Sealed}
 use Rattle.whole_logs.specs.Types.{Sent}
 use Rattle.whole_logs.specs.Group.{Group, Event, Submit, Deliver, Lose, Repeat, NewInterval, Restart, Kick, is_submitted, has_all_requests, take_request, deliver, group_step, run, settle, delivered, delivered_now, delivered_to}
 use Rattle.whole_laws.specs.Quiet.{found_one, made_by, deliveries_made}

@@ -4,8 +4,8 @@ use Rattle.std.specs.Prelude.{Some, None, slice_get}
 use Rattle.std.specs.List.{filter, list_any}
 use Rattle.std.proofs.lemmas.Bool.{eq-eqb, ne_eqb, le-ltb, ltb-false}
 use Rattle.entry_core.specs.Log.{is_in, decide, ids}
-use Rattle.entry_core.specs.Request.{Sealed}
-use Rattle.entry_core.specs.declared.entry.Entry.{Entry}
+use Rattle.store_core.specs.Request.{Sealed}
+use Rattle.store_core.specs.declared.entry.Entry.{Entry}
 use Rattle.whole_logs.specs.Steps.{still, send}
 use Rattle.whole_logs.specs.Copy.{promise_interval, on_query, on_install, on_append, acknowledged, on_interval, leads, lead, learn_sets}
 use Rattle.whole_logs.specs.Decided.{with_entry}

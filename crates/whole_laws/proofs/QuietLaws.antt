@@ -1,10 +1,10 @@
 -- A quiet group answers every request, in a number of deliveries that is known before.
-use Rattle.entry_core.specs.declared.sealed.GroupId.{GroupId}
+use Rattle.store_core.specs.declared.sealed.GroupId.{GroupId}
 use Rattle.std.proofs.Common.{ℕ, zero, suc, ◌≡◌, ◌≤◌, ◌<◌, ◌+◌, ◌*◌, Bool, true, false, ◌==◌, List, [], ◌∷◌, ◌++◌, map, length, take, refl, sym, ◌∙◌, ap, subst, arith, if◌then◌else◌}
 use Rattle.std.specs.Prelude.{Some, None, replicate}
 use Rattle.std.proofs.lemmas.Bool.{or_right}
 use Rattle.entry_core.specs.Log.{is_in, reply_in, Legal}
-use Rattle.entry_core.specs.Request.{Sealed}
+use Rattle.store_core.specs.Request.{Sealed}
 use Rattle.whole_logs.specs.ActingSets.{daemons}
 use Rattle.whole_logs.specs.Each.{Each}
 use Rattle.group_types.specs.declared.fault.GroupFault.TheVariants.{Doubled, Full}

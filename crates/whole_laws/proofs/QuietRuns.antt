@@ -1,11 +1,11 @@
 -- A quiet group from its start: what is due, over submissions and deliveries.
-use Rattle.entry_core.specs.declared.sealed.GroupId.{GroupId}
+use Rattle.store_core.specs.declared.sealed.GroupId.{GroupId}
 use Rattle.std.proofs.Common.{ℕ, zero, suc, ◌≡◌, ◌≤◌, ◌<◌, ◌+◌, ◌*◌, true, false, not, ◌==◌, List, [], ◌∷◌, ◌++◌, map, length, take, refl, sym, ◌∙◌, ap, subst, arith, inl, inr, append_assoc, if◌then◌else◌}
 use Rattle.std.specs.Prelude.{Some, slice_get}
 use Rattle.std.specs.List.{filter}
 use Rattle.std.proofs.lemmas.Bool.{cases_eq, eq-eqb, ne_eqb, or_parts, or_left, or_right}
 use Rattle.entry_core.specs.Log.{is_in}
-use Rattle.entry_core.specs.Request.{Sealed}
+use Rattle.store_core.specs.Request.{Sealed}
 use Rattle.whole_logs.specs.ActingSets.{daemons}
 use Rattle.whole_logs.specs.Types.{Daemon, Interval, Request, Osd, Sent}
 use Rattle.whole_logs.specs.Each.{Each}

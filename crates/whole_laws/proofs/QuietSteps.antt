@@ -4,8 +4,8 @@ use Rattle.std.specs.Prelude.{Some, None, slice_get}
 use Rattle.std.specs.List.{filter, list_any, list_all}
 use Rattle.std.proofs.lemmas.Bool.{eq-eqb, both_ways, or_cases, or_left, or_right, and_from, eqb-true}
 use Rattle.entry_core.specs.Log.{is_in}
-use Rattle.entry_core.specs.Request.{Sealed}
-use Rattle.entry_core.specs.declared.entry.Entry.{Entry}
+use Rattle.store_core.specs.Request.{Sealed}
+use Rattle.store_core.specs.declared.entry.Entry.{Entry}
 use Rattle.whole_logs.specs.Choice.{can_choose, covers, best, own_offer, is_informed}
 use Rattle.whole_logs.specs.ActingSets.{all_count}
 use Rattle.whole_logs.specs.Types.{PeerInfo, Role, Idle, Peering, Installing, Active, Daemon, Interval, Query, Info, Install, Installed, Append, Appended, Sent}

@@ -4,7 +4,7 @@ use Rattle.std.specs.Prelude.{Some, None, slice_get}
 use Rattle.std.specs.List.{list_any, list_all}
 use Rattle.std.proofs.lemmas.Bool.{eq-eqb, ne_eqb, cases_eq, cases_order, or_left, and_from, both_ways, not_from_false}
 use Rattle.entry_core.specs.Log.{is_in}
-use Rattle.entry_core.specs.declared.entry.Entry.{Entry}
+use Rattle.store_core.specs.declared.entry.Entry.{Entry}
 use Rattle.whole_logs.specs.ActingSets.{set_of, asked, others, all_count, daemons}
 use Rattle.whole_logs.specs.Choice.{best, covers, is_informed, can_choose, own_offer}
 use Rattle.whole_logs.specs.Types.{PeerInfo, Role, Idle, Peering, Installing, Active, Daemon, Sent}

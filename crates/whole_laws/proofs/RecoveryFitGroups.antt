@@ -3,8 +3,8 @@ use Rattle.std.proofs.Common.{ℕ, ◌≡◌, not, List, [], ◌∷◌, ◌++◌
 use Rattle.std.specs.Prelude.{Option, Some, None, slice_get}
 use Rattle.std.specs.List.{filter}
 use Rattle.entry_core.specs.Log.{is_in}
-use Rattle.entry_core.specs.Request.{Sealed}
-use Rattle.entry_core.specs.declared.entry.Entry.{Entry}
+use Rattle.store_core.specs.Request.{Sealed}
+use Rattle.store_core.specs.declared.entry.Entry.{Entry}
 use Rattle.whole_logs.specs.ActingSets.{others}
 use Rattle.whole_logs.specs.Choice.{is_informed}
 use Rattle.whole_logs.specs.Decided.{last}

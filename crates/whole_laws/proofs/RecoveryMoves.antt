@@ -4,8 +4,8 @@ use Rattle.std.specs.Prelude.{Option, Some, None}
 use Rattle.std.specs.List.{list_any, list_all}
 use Rattle.std.proofs.lemmas.Bool.{eq-eqb, both_ways, or_cases, or_left, or_right, and_parts, and_cases, not-true, not-false}
 use Rattle.entry_core.specs.Log.{is_in}
-use Rattle.entry_core.specs.Request.{Sealed}
-use Rattle.entry_core.specs.declared.entry.Entry.{Entry}
+use Rattle.store_core.specs.Request.{Sealed}
+use Rattle.store_core.specs.declared.entry.Entry.{Entry}
 use Rattle.whole_logs.specs.Steps.{Stepped, still, send}
 use Rattle.whole_logs.proofs.Countings.{counted_still, counted_same}
 use Rattle.whole_logs.specs.ActingSets.{set_of, others, all_count, asked, daemons, counted}

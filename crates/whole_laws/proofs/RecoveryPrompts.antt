@@ -4,8 +4,8 @@ use Rattle.std.specs.Prelude.{Some, None}
 use Rattle.std.specs.List.{list_any}
 use Rattle.std.proofs.lemmas.Bool.{ltb-true, ltb-false, eqb-true, cases_lt, both_ways, and_parts, and_from, le-ltb, lt-ltb, not_from_false}
 use Rattle.entry_core.specs.Log.{is_in, decide, ids}
-use Rattle.entry_core.specs.Request.{Sealed}
-use Rattle.entry_core.specs.declared.entry.Entry.{Entry}
+use Rattle.store_core.specs.Request.{Sealed}
+use Rattle.store_core.specs.declared.entry.Entry.{Entry}
 use Rattle.whole_logs.specs.Steps.{Stepped, still, send}
 use Rattle.whole_logs.specs.ActingSets.{set_of, is_primary}
 use Rattle.whole_logs.specs.Decided.{with_entry}

@@ -3,8 +3,8 @@ use Rattle.std.proofs.Common.{ℕ, ◌≡◌, ◌≤◌, ◌<◌, ◌+◌, ◌-�
 use Rattle.std.specs.Prelude.{Some}
 use Rattle.std.proofs.lemmas.Bool.{eqb-true, eq-eqb, cases_lt, both_ways, and_parts, and_from, le-ltb, not_from_false}
 use Rattle.entry_core.specs.Log.{is_in, decide, ids, Legal}
-use Rattle.entry_core.specs.Request.{Sealed}
-use Rattle.entry_core.specs.declared.entry.Entry.{Entry}
+use Rattle.store_core.specs.Request.{Sealed}
+use Rattle.store_core.specs.declared.entry.Entry.{Entry}
 use Rattle.whole_logs.specs.Steps.{still, send}
 use Rattle.whole_logs.specs.ActingSets.{set_of, others, asked}
 use Rattle.whole_logs.specs.Decided.{last, with_entry}

@@ -2,8 +2,8 @@
 use Rattle.std.proofs.Common.{ℕ, ◌≡◌, ◌≤◌, ◌<◌, true, false, List, [], ◌∷◌, length, ◌⊎◌}
 use Rattle.std.specs.Prelude.{Some, None, slice_get}
 use Rattle.entry_core.specs.Log.{is_in}
-use Rattle.entry_core.specs.Request.{Sealed}
-use Rattle.entry_core.specs.declared.entry.Entry.{Entry}
+use Rattle.store_core.specs.Request.{Sealed}
+use Rattle.store_core.specs.declared.entry.Entry.{Entry}
 use Rattle.whole_logs.specs.ActingSets.{set_of, is_primary, asked, others, all_count}
 use Rattle.whole_logs.specs.Decided.{last}
 use Rattle.whole_logs.specs.Choice.{can_choose, is_informed}

@@ -4,8 +4,8 @@ use Rattle.std.specs.Prelude.{Option, Some, None}
 use Rattle.std.specs.List.{list_any}
 use Rattle.std.proofs.lemmas.Bool.{ltb-false, eqb-true, both_ways, or_cases, and_parts, le-ltb}
 use Rattle.entry_core.specs.Log.{is_in, find, ids}
-use Rattle.entry_core.specs.Request.{Sealed}
-use Rattle.entry_core.specs.declared.entry.Entry.{Entry}
+use Rattle.store_core.specs.Request.{Sealed}
+use Rattle.store_core.specs.declared.entry.Entry.{Entry}
 use Rattle.whole_logs.specs.Steps.{Stepped, still, send}
 use Rattle.whole_logs.specs.Serve.{serve, reply_with}
 use Rattle.whole_logs.specs.Decided.{with_entry, not_in_flight}

@@ -1,7 +1,7 @@
 -- What no event changes, and the requests after each.
 use Rattle.std.proofs.Common.{ℕ, zero, suc, ◌≡◌, List, [], ◌∷◌, ◌++◌, refl, sym, ◌∙◌, ap}
 use Rattle.std.specs.Prelude.{None}
-use Rattle.entry_core.specs.Request.{Sealed}
+use Rattle.store_core.specs.Request.{Sealed}
 use Rattle.whole_logs.specs.Group.{Group, Event, Submit, Deliver, group_step, refusal_of, run, settle}
 use Rattle.whole_laws.specs.Calm.{taken, all_taken}
 use Rattle.whole_laws.specs.Laws.{IsSameGroup}

@@ -4,7 +4,7 @@ use Rattle.std.specs.Prelude.{Some, slice_get, slice_set}
 use Rattle.std.specs.List.{filter, list_any}
 use Rattle.std.proofs.lemmas.Bool.{cases_eq, lt-ltb, or_left, eq-eqb}
 use Rattle.entry_core.specs.Log.{is_in, ids}
-use Rattle.entry_core.specs.Request.{Sealed}
+use Rattle.store_core.specs.Request.{Sealed}
 use Rattle.whole_logs.specs.Steps.{still, send, restarted}
 use Rattle.whole_logs.specs.Copy.{on_body, on_interval, leads, lead, learn_sets, on_request, on_request_as}
 use Rattle.whole_logs.specs.ActingSets.{is_primary}

@@ -3,11 +3,11 @@
 use Prim.Native.Nat.{zero, suc}
 use Rattle.std.specs.Prelude.{ℕ, ◌≡◌, ◌<◌, true, false, nat_lt, if◌then◌else◌, List, [], ◌∷◌, ◌++◌, length, take}
 use Rattle.entry_core.specs.Log.{is_in, decide}
-use Rattle.entry_core.specs.Request.{Sealed}
-use Rattle.entry_core.specs.declared.entry.Entry.{Entry}
+use Rattle.store_core.specs.Request.{Sealed}
+use Rattle.store_core.specs.declared.entry.Entry.{Entry}
 use Rattle.whole_logs.specs.ActingSets.{daemons}
 use Rattle.whole_logs.specs.Each.{Each}
-use Rattle.entry_core.specs.declared.sealed.GroupId.{GroupId}
+use Rattle.store_core.specs.declared.sealed.GroupId.{GroupId}
 use Rattle.group_types.specs.Answers.{Answer}
 use Rattle.whole_logs.specs.Group.{Group, IsSet, is_submitted, run, start, Event, Submit, Deliver, Lose, Repeat, NewInterval, Restart, Kick}
 use Rattle.whole_logs.specs.Budget.{settled_group}

@@ -2,7 +2,7 @@
 -- The laws of groups, each over any group that there can be. What `Group::keeps_promises` ensures is not said again.
 use Rattle.std.specs.Prelude.{ℕ, ◌≡◌, ◌≤◌, ◌+◌, ◌*◌, true, false, List, [], map, length, replicate, slice_get, Some, None}
 use Rattle.entry_core.specs.Log.{is_in, reply_in}
-use Rattle.entry_core.specs.Request.{Sealed}
+use Rattle.store_core.specs.Request.{Sealed}
 use Rattle.whole_logs.specs.ActingSets.{set_of, is_primary}
 use Rattle.whole_logs.specs.Types.{Idle, Append, Daemon, Party, Osd, Sent, EntryReply}
 use Rattle.whole_logs.specs.Group.{Group, Event, Submit, Deliver, Lose, EventFits, run, start, group_step, refusal_of, answer_of, settle}

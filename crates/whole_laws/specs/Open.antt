@@ -1,7 +1,7 @@
 -- Statement: contracts of public calls use it.
 -- Of any log all but the last entry is decided.
 use Rattle.std.specs.Prelude.{ℕ, ◌≡◌, ◌⊎◌, List, length, Some, slice_get}
-use Rattle.entry_core.specs.declared.entry.Entry.{Entry}
+use Rattle.store_core.specs.declared.entry.Entry.{Entry}
 use Rattle.whole_logs.specs.Types.{Daemon}
 use Rattle.whole_logs.specs.Group.{Group}
 use Rattle.whole_logs.specs.History.{Begins, History, IsSound, but_last, IsSettled}

@@ -1,8 +1,8 @@
 -- Statement: contracts of public calls use it.
 -- Worked cases.
 use Rattle.std.specs.Prelude.{ℕ, ◌≡◌, true, false, List, [], ◌∷◌, map, length, Some, None}
-use Rattle.entry_core.specs.Request.{Sealed}
-use Rattle.entry_core.specs.declared.sealed.GroupId.{GroupId}
+use Rattle.store_core.specs.Request.{Sealed}
+use Rattle.store_core.specs.declared.sealed.GroupId.{GroupId}
 use Rattle.entry_core.specs.Log.{ids}
 use Rattle.group_types.specs.Answers.{Answer}
 use Rattle.group_types.specs.declared.fault.GroupFault.TheVariants.{NoMessage, Unreachable, Doubled}

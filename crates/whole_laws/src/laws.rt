@@ -1,9 +1,9 @@
 //! The laws of groups: functions that do nothing, whose clauses are the laws. `specs/Laws.antt` says each in words.
 
 ghost use Rattle.std.specs.Prelude.{ℕ, ◌≡◌, ◌<◌, Some, None, take, List, length, true, [], ◌∷◌, ◌++◌, replicate};
-ghost use Rattle.entry_core.specs.declared.entry.Entry.{Entry};
-ghost use Rattle.entry_core.specs.declared.sealed.GroupId.{GroupId};
-ghost use Rattle.entry_core.specs.Request.{Sealed};
+ghost use Rattle.store_core.specs.declared.entry.Entry.{Entry};
+ghost use Rattle.store_core.specs.declared.sealed.GroupId.{GroupId};
+ghost use Rattle.store_core.specs.Request.{Sealed};
 ghost use Rattle.whole_logs.specs.History.{History, IsSound, IsDecided, Begins};
 ghost use Rattle.group_types.specs.declared.fault.GroupFault.{GroupFault as Fault};
 ghost use Rattle.whole_logs.specs.Group.{Group, Event, run, start, group_step, IsSet, refusal_of, left_by, settle, Submit, Lose};

@@ -7,8 +7,8 @@ use Rattle.std.proofs.lemmas.Cmp.{nat_eq_equiv}
 use Rattle.std.proofs.lemmas.Map.Made.{length-le_from_is_member}
 use Rattle.std.proofs.lemmas.Bool.{cases_eq, eq-eqb, ne_eqb, eqb-true, or_cases, or_left, or_right, both_ways}
 use Rattle.entry_core.specs.Log.{is_in, ids, LegalFrom}
-use Rattle.entry_core.specs.Request.{Sealed}
-use Rattle.entry_core.specs.declared.entry.Entry.{Entry}
+use Rattle.store_core.specs.Request.{Sealed}
+use Rattle.store_core.specs.declared.entry.Entry.{Entry}
 use Rattle.whole_logs.specs.Asked.{IsAsked, InLog}
 use Rattle.whole_logs.specs.Group.{Group, submitted}
 use Rattle.whole_logs.specs.Reached.{IsReached}

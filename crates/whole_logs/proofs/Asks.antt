@@ -3,8 +3,8 @@ use Rattle.std.proofs.Common.{ℕ, ◌≡◌, ◌+◌, Bool, true, false, not, �
 use Rattle.std.specs.Prelude.{Option, Some, None}
 use Rattle.std.specs.List.{list_any, filter}
 use Rattle.entry_core.specs.Log.{decide, decide-sealed, find, is_in, ids}
-use Rattle.entry_core.specs.Request.{Sealed}
-use Rattle.entry_core.specs.declared.entry.Entry.{Entry}
+use Rattle.store_core.specs.Request.{Sealed}
+use Rattle.store_core.specs.declared.entry.Entry.{Entry}
 use Rattle.whole_logs.specs.Steps.{Stepped, still, send}
 use Rattle.whole_logs.specs.Copy.{promise_interval, on_request, on_request_as, busy_request, waits, on_query, learn_sets, leads, lead, on_interval, on_append, acknowledged, queries, retransmit, retransmit_as, append_again, complete, on_installed, on_appended, on_install, on_body, install_chosen, try_choice, on_info}
 use Rattle.whole_logs.specs.ActingSets.{others, asked, all_count, counted}

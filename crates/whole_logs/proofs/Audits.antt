@@ -7,7 +7,7 @@ use Rattle.std.proofs.lemmas.List.{append-nil, take-append-le}
 use Rattle.std.proofs.lemmas.List.Elements.{filter-append}
 use Rattle.std.proofs.lemmas.Bool.{cases_order, eq-eqb}
 use Rattle.entry_core.specs.Log.{is_in, ids, Legal, LegalFrom}
-use Rattle.entry_core.specs.declared.entry.Entry.{Entry}
+use Rattle.store_core.specs.declared.entry.Entry.{Entry}
 use Rattle.whole_logs.specs.Types.{Role, Idle, Peering, Installing, Active, Daemon}
 use Rattle.whole_logs.specs.History.{Begins, History, IsDecided, IsSound}
 use Rattle.whole_logs.specs.Decided.{decided_by}

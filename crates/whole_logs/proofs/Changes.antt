@@ -3,7 +3,7 @@ use Rattle.std.proofs.Common.{ℕ, ◌≡◌, ◌≤◌, true, ◌==◌, List, [
 use Rattle.std.specs.Prelude.{Some, None}
 use Rattle.std.proofs.lemmas.Bool.{cases_eq, eq-eqb, ne_eqb}
 use Rattle.entry_core.specs.Log.{Legal}
-use Rattle.entry_core.specs.declared.entry.Entry.{Entry}
+use Rattle.store_core.specs.declared.entry.Entry.{Entry}
 use Rattle.whole_logs.specs.ActingSets.{set_of, is_primary}
 use Rattle.whole_logs.specs.History.{Begins, History, Held, IsOpened, IsSound, but_last, IsSettled}
 use Rattle.whole_logs.proofs.Prefixes.{Begins-refl}

@@ -3,7 +3,7 @@ use Rattle.std.proofs.Common.{ℕ, zero, suc, ◌≡◌, ◌≤◌, ◌<◌, tru
 use Rattle.std.specs.Prelude.{Option, Some, None, slice_get}
 use Rattle.std.proofs.Math.Seq.{take-append_seam}
 use Rattle.entry_core.specs.Log.{is_in, Legal}
-use Rattle.entry_core.specs.declared.entry.Entry.{Entry}
+use Rattle.store_core.specs.declared.entry.Entry.{Entry}
 use Rattle.whole_logs.specs.ActingSets.{set_of, is_primary}
 use Rattle.whole_logs.specs.Choice.{best, own_offer}
 use Rattle.whole_logs.specs.Decided.{decided_by}

@@ -3,7 +3,7 @@ use Rattle.std.proofs.Common.{ℕ, ◌≡◌, ◌≤◌, ◌<◌, ◌-◌, List,
 use Rattle.std.specs.Prelude.{Some}
 use Rattle.std.proofs.lemmas.List.{length-take-le}
 use Rattle.std.proofs.Math.Seq.{take-append_seam}
-use Rattle.entry_core.specs.declared.entry.Entry.{Entry}
+use Rattle.store_core.specs.declared.entry.Entry.{Entry}
 use Rattle.whole_logs.specs.History.{Begins, History, IsDecided, IsSound, but_last, IsSettled}
 use Rattle.whole_logs.proofs.Prefixes.{Begins-trans, Begins-take, Begins-compare, Begins-nil, Begins-length}
 use Rattle.whole_logs.proofs.Histories.{decided_begins_chosen}

@@ -4,14 +4,14 @@ use Rattle.std.specs.Prelude.{Option, Some, None, slice_get, slice_set}
 use Rattle.std.specs.List.{filter, remove}
 use Rattle.std.proofs.lemmas.Bool.{cases_eq, cases_order, ne_eqb}
 use Rattle.entry_core.specs.Log.{is_in, ids, Legal}
-use Rattle.entry_core.specs.Request.{Sealed}
-use Rattle.entry_core.specs.declared.entry.Entry.{Entry}
+use Rattle.store_core.specs.Request.{Sealed}
+use Rattle.store_core.specs.declared.entry.Entry.{Entry}
 use Rattle.whole_logs.specs.Steps.{Stepped, send, blank, restarted}
 use Rattle.whole_logs.specs.Copy.{copy_step, retransmit_as, append_again}
 use Rattle.whole_logs.specs.Decided.{last, decided_by}
 use Rattle.whole_logs.specs.ActingSets.{others, asked, set_of, daemons}
 use Rattle.whole_logs.specs.Choice.{is_informed}
-use Rattle.entry_core.specs.declared.sealed.GroupId.{GroupId}
+use Rattle.store_core.specs.declared.sealed.GroupId.{GroupId}
 use Rattle.whole_logs.specs.Group.{Group, Answer, Event, Submit, Deliver, Lose, Repeat, NewInterval, Restart, Kick, retransmit_from, last_set, open_requests, is_answered, to_daemon, to_primary, audit_after, steps, answered, copy_hears, arrives, without, deliver, lose, again, is_submitted, has_all_requests, has_all_intervals, take_request, submit, resent_by, announced_by, begin, with_up, same_set, new_interval, restart, retransmit_of, kick, group_step, run, start}
 use Rattle.whole_logs.specs.Types.{Role, Idle, Peering, Installing, Active, Daemon, Body, Interval, Query, Info, Install, Installed, Append, Appended, Request, Reply, NotHere, Party, Osd, Client, Sent, EntryReply}
 use Rattle.whole_logs.specs.Each.{Each}

@@ -1,6 +1,6 @@
 -- What is decided in one interval begins the log of each later one.
 use Rattle.std.proofs.Common.{ℕ, zero, suc, ◌≡◌, ◌≤◌, ◌<◌, List, length, take, Some, arith, inl, inr, ◌⊎◌}
-use Rattle.entry_core.specs.declared.entry.Entry.{Entry}
+use Rattle.store_core.specs.declared.entry.Entry.{Entry}
 use Rattle.whole_logs.specs.History.{Begins, History, IsDecided, IsOpened, IsSound}
 use Rattle.whole_logs.proofs.Prefixes.{Begins-trans, take-begins}
 

@@ -4,12 +4,12 @@ use Rattle.std.specs.Prelude.{Option, Some, None, slice_get}
 use Rattle.std.specs.List.{filter}
 use Rattle.std.proofs.lemmas.Bool.{eqb-true, eqb-false, ne_eqb, eq-eqb, ltb-true, not-false, and_parts, both_ways}
 use Rattle.entry_core.specs.Log.{is_in, ids, Legal}
-use Rattle.entry_core.specs.Request.{Sealed}
-use Rattle.entry_core.specs.declared.entry.Entry.{Entry}
+use Rattle.store_core.specs.Request.{Sealed}
+use Rattle.store_core.specs.declared.entry.Entry.{Entry}
 use Rattle.whole_logs.specs.Steps.{Stepped, blank, restarted}
 use Rattle.whole_logs.specs.Copy.{copy_step}
 use Rattle.whole_logs.specs.ActingSets.{daemons}
-use Rattle.entry_core.specs.declared.sealed.GroupId.{GroupId}
+use Rattle.store_core.specs.declared.sealed.GroupId.{GroupId}
 use Rattle.whole_logs.specs.Group.{Group, Answer, Event, Submit, Deliver, Lose, Repeat, NewInterval, Restart, Kick, retransmit_from, last_set, open_requests, is_answered, answer_of, to_daemon, to_primary, audit_after, steps, answered, copy_hears, arrives, without, deliver, lose, again, submitted, is_submitted, has_all_requests, has_all_intervals, take_request, is_distinct, submit, resent_by, announced_by, begin, with_up, same_set, new_interval, restart, retransmit_of, kick, group_step, run, start}
 use Rattle.whole_logs.specs.Decided.{decided_by}
 use Rattle.whole_logs.specs.Types.{Role, Idle, Peering, Installing, Active, Daemon, Body, Interval, Query, Info, Install, Installed, Append, Appended, Request, Reply, NotHere, Party, Osd, Client, Sent, EntryReply}

@@ -4,8 +4,8 @@ use Rattle.std.specs.Prelude.{Option, Some, None}
 use Rattle.std.proofs.Math.Seq.{take-append_seam}
 use Rattle.std.proofs.lemmas.Bool.{cases_eq}
 use Rattle.entry_core.specs.Log.{find}
-use Rattle.entry_core.specs.Request.{Sealed}
-use Rattle.entry_core.specs.declared.entry.Entry.{Entry}
+use Rattle.store_core.specs.Request.{Sealed}
+use Rattle.store_core.specs.declared.entry.Entry.{Entry}
 use Rattle.whole_logs.specs.Steps.{Stepped}
 use Rattle.whole_logs.specs.ActingSets.{others}
 use Rattle.whole_logs.specs.Copy.{leads}

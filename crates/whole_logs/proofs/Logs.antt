@@ -3,8 +3,8 @@ use Rattle.std.proofs.Common.{ℕ, ◌≡◌, Bool, true, false, ◌==◌, ◌||
 use Rattle.std.specs.Prelude.{Some, None}
 use Rattle.std.proofs.lemmas.List.{append-nil}
 use Rattle.entry_core.specs.Log.{Legal, LegalFrom, decide, decide-sealed, find, is_in, ids}
-use Rattle.entry_core.specs.Request.{Sealed}
-use Rattle.entry_core.specs.declared.entry.Entry.{Entry}
+use Rattle.store_core.specs.Request.{Sealed}
+use Rattle.store_core.specs.declared.entry.Entry.{Entry}
 
 -- a number that is not found is not there
 pub absent : (log : List Entry) (id : ℕ) → find log id ≡ None → is_in (ids log) id ≡ false

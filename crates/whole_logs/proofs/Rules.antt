@@ -4,8 +4,8 @@ use Rattle.std.specs.Prelude.{Option, Some, None}
 use Rattle.std.specs.List.{list_any, list_all, filter}
 use Rattle.std.proofs.lemmas.Bool.{cases_eq, eqb-true, eq-eqb, ne_eqb, ltb-true, ltb-false, and_parts, not-true, both_ways, or_cases}
 use Rattle.entry_core.specs.Log.{is_in, ids, Legal, decide, decide-sealed, find}
-use Rattle.entry_core.specs.Request.{Sealed}
-use Rattle.entry_core.specs.declared.entry.Entry.{Entry}
+use Rattle.store_core.specs.Request.{Sealed}
+use Rattle.store_core.specs.declared.entry.Entry.{Entry}
 use Rattle.whole_logs.specs.Steps.{Stepped, still, send}
 use Rattle.whole_logs.specs.ActingSets.{set_of, is_primary, others, asked, all_count, counted}
 use Rattle.whole_logs.specs.Copy.{promise_interval, waits, busy_request, on_request_as, on_request, install_chosen, try_choice, queries, learn_sets, leads, lead, on_interval, on_query, on_info, on_install, on_installed, acknowledged, on_append, complete, on_appended, on_body}

@@ -4,8 +4,8 @@ use Rattle.std.specs.Prelude.{Option, Some, None, slice_get}
 use Rattle.std.specs.List.{list_any}
 use Rattle.std.proofs.Math.ListN.{length-map}
 use Rattle.entry_core.specs.Log.{find, is_in, ids}
-use Rattle.entry_core.specs.Request.{Sealed}
-use Rattle.entry_core.specs.declared.entry.Entry.{Entry}
+use Rattle.store_core.specs.Request.{Sealed}
+use Rattle.store_core.specs.declared.entry.Entry.{Entry}
 use Rattle.whole_logs.specs.Steps.{Stepped, still, send}
 use Rattle.whole_logs.specs.Copy.{promise_interval, on_request_as, busy_request, waits, on_append, acknowledged, complete, on_appended, learn_sets, leads, lead, on_interval, queries, on_installed, on_body, copy_step, install_chosen, try_choice, on_info}
 use Rattle.whole_logs.specs.ActingSets.{others, all_count, set_of, asked, is_asked, daemons, counted}

@@ -5,14 +5,14 @@ use Rattle.std.specs.List.{list_any, filter, remove}
 use Rattle.std.proofs.Math.ListN.{length-map}
 use Rattle.std.proofs.lemmas.Bool.{cases_eq, eq-eqb, and_parts}
 use Rattle.entry_core.specs.Log.{is_in}
-use Rattle.entry_core.specs.Request.{Sealed}
-use Rattle.entry_core.specs.declared.entry.Entry.{Entry}
+use Rattle.store_core.specs.Request.{Sealed}
+use Rattle.store_core.specs.declared.entry.Entry.{Entry}
 use Rattle.whole_logs.specs.Steps.{Stepped, still, send, blank, restarted}
 use Rattle.whole_logs.specs.Copy.{promise_interval, on_request_as, learn_sets, leads, lead, on_interval, queries, on_installed, on_appended, on_install, on_body, copy_step, install_chosen, try_choice, on_info}
 use Rattle.whole_logs.specs.ActingSets.{others, asked, set_of, is_primary, all_count, daemons, counted}
 use Rattle.whole_logs.specs.Serve.{serve}
 use Rattle.whole_logs.specs.Choice.{can_choose, best, own_offer, is_informed}
-use Rattle.entry_core.specs.declared.sealed.GroupId.{GroupId}
+use Rattle.store_core.specs.declared.sealed.GroupId.{GroupId}
 use Rattle.whole_logs.specs.Group.{Group, Event, Submit, Deliver, Lose, Repeat, NewInterval, Restart, Kick, last_set, is_answered, answered, copy_hears, arrives, without, deliver, lose, again, is_submitted, has_all_requests, has_all_intervals, take_request, begin, with_up, same_set, group_step, run, start, IsSet, EventFits, settle, delivered, delivered_now, delivered_to}
 use Rattle.whole_logs.specs.Types.{PeerInfo, Role, Idle, Peering, Installing, Active, Daemon, Body, Interval, Query, Info, Install, Installed, Append, Appended, Request, Reply, NotHere, Party, Osd, Client, Sent}
 use Rattle.whole_logs.specs.Each.{Each}

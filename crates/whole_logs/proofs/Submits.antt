@@ -1,6 +1,6 @@
 -- Each request that a group holds was submitted by one of its events.
 use Rattle.std.proofs.Common.{ℕ, ◌≡◌, List, [], ◌∷◌, ◌++◌, refl, sym, ◌∙◌, append_assoc, replicate, zero, suc}
-use Rattle.entry_core.specs.declared.sealed.GroupId.{GroupId}
+use Rattle.store_core.specs.declared.sealed.GroupId.{GroupId}
 use Rattle.whole_logs.specs.Each.{Each}
 use Rattle.whole_logs.specs.Asked.{HasSubmit}
 use Rattle.whole_logs.specs.Group.{Group, Event, Submit, Deliver, Lose, Repeat, NewInterval, Restart, Kick, group_step, run, start, settle}

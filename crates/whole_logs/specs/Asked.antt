@@ -2,8 +2,8 @@
 -- Where a request that a group holds comes from, and what an answer rests on.
 use Rattle.std.specs.Prelude.{ℕ, ◌≡◌, List, ◌∷◌, ◌++◌, Some}
 use Rattle.entry_core.specs.Log.{find}
-use Rattle.entry_core.specs.Request.{Sealed}
-use Rattle.entry_core.specs.declared.entry.Entry.{Entry}
+use Rattle.store_core.specs.Request.{Sealed}
+use Rattle.store_core.specs.declared.entry.Entry.{Entry}
 use Rattle.whole_logs.specs.Types.{Role, Idle, Peering, Installing, Active, Daemon, Body, Interval, Query, Info, Install, Installed, Append, Appended, Request, Reply, NotHere, EntryReply}
 use Rattle.whole_logs.specs.Each.{Each}
 use Rattle.whole_logs.specs.Group.{Group, Event, Submit, submitted}

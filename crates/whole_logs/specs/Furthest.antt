@@ -1,7 +1,7 @@
 -- Refinement: only contracts inside the crate use it.
 -- The copy that is furthest on: its log begins with all that was decided.
 use Rattle.std.specs.Prelude.{List, [], ◌∷◌, map}
-use Rattle.entry_core.specs.declared.entry.Entry.{Entry}
+use Rattle.store_core.specs.declared.entry.Entry.{Entry}
 use Rattle.whole_logs.specs.Choice.{best, own_offer}
 use Rattle.whole_logs.specs.Types.{Daemon}
 

@@ -4,9 +4,9 @@ use Prim.Native.Nat.{zero, suc}
 use Rattle.std.specs.Prelude.{ℕ, ◌≡◌, ◌≤◌, ◌+◌, Bool, true, false, ◌==◌, ◌&&◌, not, nat_lt, List, [], ◌∷◌, ◌++◌, map, filter, length, take, remove, slice_get, slice_set, Option, Some, None, if◌then◌else◌}
 use Rattle.std.specs.List.{list_any}
 use Rattle.entry_core.specs.Log.{is_in, ids}
-use Rattle.entry_core.specs.Request.{Sealed}
-use Rattle.entry_core.specs.declared.entry.Entry.{Entry}
-use Rattle.entry_core.specs.declared.sealed.GroupId.{GroupId}
+use Rattle.store_core.specs.Request.{Sealed}
+use Rattle.store_core.specs.declared.entry.Entry.{Entry}
+use Rattle.store_core.specs.declared.sealed.GroupId.{GroupId}
 use Rattle.whole_logs.specs.Steps.{Stepped, blank, restarted}
 use Rattle.whole_logs.specs.Copy.{copy_step, retransmit}
 use Rattle.whole_logs.specs.Decided.{decided_by}

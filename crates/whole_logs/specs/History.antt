@@ -2,7 +2,7 @@
 -- What happened in a group's intervals so far. Nothing reads it: it stands beside the group in proofs.
 use Rattle.std.specs.Prelude.{ℕ, ◌≡◌, ◌≤◌, ◌<◌, ◌-◌, ◌⊎◌, true, List, [], ◌++◌, length, take, Option, Some, None}
 use Rattle.entry_core.specs.Log.{is_in, Legal}
-use Rattle.entry_core.specs.declared.entry.Entry.{Entry}
+use Rattle.store_core.specs.declared.entry.Entry.{Entry}
 use Rattle.whole_logs.specs.ActingSets.{set_of, is_primary}
 
 -- the first list is the beginning of the second

@@ -1,7 +1,7 @@
 -- Refinement: only contracts inside the crate use it.
 -- What a copy that was heard stands for.
 use Rattle.std.specs.Prelude.{ℕ, ◌≡◌, ◌≤◌, ◌<◌, List, length, Some}
-use Rattle.entry_core.specs.declared.entry.Entry.{Entry}
+use Rattle.store_core.specs.declared.entry.Entry.{Entry}
 use Rattle.whole_logs.specs.Types.{PeerInfo}
 use Rattle.whole_logs.specs.History.{Begins, History}
 

@@ -2,9 +2,9 @@
 -- Copies and messages where peering sends whole logs (Ceph Peering, and this project's profile): every other file takes them from here.
 -- No code has them. They are what groups that send suffixes are compared with.
 use Rattle.std.specs.Prelude.{ℕ, List, Option}
-pub use Rattle.entry_core.specs.Request.{Sealed}
-pub use Rattle.entry_core.specs.declared.entry.Entry.{Entry}
-pub use Rattle.entry_core.specs.declared.reply.Reply.{Reply as EntryReply}
+pub use Rattle.store_core.specs.Request.{Sealed}
+pub use Rattle.store_core.specs.declared.entry.Entry.{Entry}
+pub use Rattle.store_core.specs.declared.reply.Reply.{Reply as EntryReply}
 pub use Rattle.group_types.specs.declared.party.Party.{Party}
 pub use Rattle.group_types.specs.declared.party.Party.TheVariants.{Client, Osd}
 

@@ -1,8 +1,8 @@
 -- Refinement: only contracts inside the crate use it.
 -- A turn that only holds the lock.
 use Rattle.suffix_core.specs.Group.{Group}
-use Rattle.cluster.specs.declared.groups.GroupEntry.{GroupEntry}
-use Rattle.cluster.specs.declared.groups.GroupEntry.TheVariants.{Looked}
+use Rattle.cluster_locks.specs.declared.groups.GroupEntry.{GroupEntry}
+use Rattle.cluster_locks.specs.declared.groups.GroupEntry.TheVariants.{Looked}
 
 abbrev pub hold_entry : {Step A : Type 0} → Step → Group → A → GroupEntry
 hold_entry s g answer = Looked

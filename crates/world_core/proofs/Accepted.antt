@@ -18,8 +18,8 @@ use Rattle.map_core.specs.declared.command.MapCommand.{MapCommand}
 use Rattle.map_core.specs.declared.command.MapCommand.TheVariants.{PoolCreate, AppEnable, AppSet, AppRm, OsdUp, OsdDown, OsdRestart}
 use Rattle.map_core.proofs.Current.{daemons_stay, after_push}
 use Rattle.map_core.proofs.OnePool.{pool_after_step}
-use Rattle.entry_core.specs.Request.{Sealed}
-use Rattle.entry_core.specs.declared.sealed.GroupId.{GroupId}
+use Rattle.store_core.specs.Request.{Sealed}
+use Rattle.store_core.specs.declared.sealed.GroupId.{GroupId}
 use Rattle.whole_logs.specs.Each.{Each}
 use Rattle.suffix_core.specs.Group.{Group, EventFits, group_step, run, start, last_set, is_submitted}
 use Rattle.suffix_core.specs.Group as group
@@ -28,21 +28,21 @@ use Rattle.whole_logs.specs.Within.{ActsWithin}
 use Rattle.group_types.specs.declared.fault.GroupFault.{GroupFault}
 use Rattle.group_types.specs.declared.fault.GroupFault.TheVariants as group_fault
 use Rattle.suffix_core.proofs.Runs.{run-append}
-use Rattle.world_core.specs.Event.{Ask, Event, Auth, Map, Open, Renew, Close, Submit, ListNames, Deliver, Lose, Repeat, Kick, Fault, OfMap, OfGroup}
+use Rattle.world_front.specs.Event.{Ask, Event, Auth, Map, Open, Renew, Close, Submit, ListNames, Deliver, Lose, Repeat, Kick, Fault, OfMap, OfGroup}
 use Rattle.entry_core.specs.Locality.{group_for}
-use Rattle.world_core.specs.Groups.{is_same_group, is_for}
-use Rattle.world_core.specs.Front.{Front, Session, front_step, front_refusal, asking_refusal, is_full, requests_of, requests_in, sealed_by, if_ok}
-use Rattle.world_core.specs.World.{World, Part, part, group_at, groups_of, members_of, map_parts, asked_parts, parts_of, begun_group, created_by, refused_in, parts_refusal, is_accepted, world_step}
+use Rattle.world_front.specs.Groups.{is_same_group, is_for, groups_of}
+use Rattle.world_front.specs.Front.{Front, Session, front_step, front_refusal, asking_refusal, is_full, requests_of, requests_in, sealed_by, if_ok}
+use Rattle.world_core.specs.World.{World, Part, part, group_at, members_of, map_parts, asked_parts, parts_of, begun_group, created_by, refused_in, parts_refusal, is_accepted, world_step}
 use Rattle.world_core.specs.Holds.{events_in, group_step_alone}
 use Rattle.world_core.specs.Accepted.{FrontTells, IsServed}
-use Rattle.world_core.proofs.Merge.{same_group, bytes_refl}
-use Rattle.world_core.proofs.Bytes.{number_same}
-use Rattle.world_core.proofs.Pools.{InMap, in_later, found_in}
-use Rattle.world_core.proofs.Numbers.{next_in, next_at, open_is, IsGiven, NumberedFrom}
+use Rattle.world_front.proofs.Merge.{same_group, bytes_refl}
+use Rattle.world_front.proofs.Bytes.{number_same}
+use Rattle.world_front.proofs.Pools.{InMap, in_later, found_in}
+use Rattle.world_front.proofs.Numbers.{next_in, next_at, open_is, IsGiven, NumberedFrom}
 use Rattle.world_core.proofs.Acting.{each_join}
-use Rattle.world_core.proofs.Fronts.{Requested, submit_made, list_made, FrontStands}
+use Rattle.world_front.proofs.Fronts.{Requested, submit_made, list_made, FrontStands}
 use Rattle.world_core.proofs.Holding.{step_at}
-use Rattle.world_core.proofs.Places.{each_filter, numbered, places_once, AtMostOne}
+use Rattle.world_front.proofs.Places.{each_filter, numbered, places_once, AtMostOne}
 use Rattle.world_core.proofs.Limits.{or_second, wrapped_none, not_refused, Allowed, allowed, CreatesWell, creates_well, IsSealedFor, FrontKept, once, front_kept, few_submissions, pool_limits, if_none, each_not, counted_for, not_full}
 use Rattle.world_core.proofs.Sets.{IsMap, set_acting, members_fit, lies_within}
 use Rattle.world_core.proofs.Requests.{facts, told_one, asked_facts, moved_facts, restarted_facts}

@@ -3,20 +3,20 @@ use Rattle.std.proofs.Common.{◌≡◌, ◌∙◌, List, [], ◌∷◌, ◌++�
 use Rattle.std.specs.Option.{option_map}
 use Rattle.std.proofs.lemmas.List.Elements.{filter-append}
 use Rattle.std.proofs.Math.Seq.{drop-append_seam}
-use Rattle.entry_core.specs.Request.{Sealed}
-use Rattle.entry_core.specs.declared.entry.Entry.{Entry}
-use Rattle.entry_core.specs.declared.sealed.GroupId.{GroupId}
+use Rattle.store_core.specs.Request.{Sealed}
+use Rattle.store_core.specs.declared.entry.Entry.{Entry}
+use Rattle.store_core.specs.declared.sealed.GroupId.{GroupId}
 use Rattle.whole_logs.specs.Each.{Each}
 use Rattle.whole_logs.specs.Asked.{IsAsked}
 use Rattle.whole_logs.specs.History.{Begins}
 use Rattle.suffix_core.specs.Group.{Group, Event, group_step}
 use Rattle.suffix_core.proofs.Additions.{audit_grows}
 use Rattle.entry_core.specs.Locality.{group_for}
-use Rattle.world_core.specs.Groups.{is_same_group, is_of}
-use Rattle.world_core.specs.Merging.{part_of}
+use Rattle.world_front.specs.Groups.{is_same_group, is_of}
+use Rattle.world_front.specs.Merging.{part_of}
 use Rattle.world_core.specs.World.{World, Part, group_at, at_group, decided_in, act}
 use Rattle.world_core.specs.Standing.{audit_in, audit_at, IsMerged}
-use Rattle.world_core.proofs.Merge.{same_group, group_refl}
+use Rattle.world_front.proofs.Merge.{same_group, group_refl}
 use Rattle.world_core.proofs.Standing.{step_is, Submits, Stands, stands_step, stands_asked}
 
 -- ---- groups by their places

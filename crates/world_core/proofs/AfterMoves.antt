@@ -18,19 +18,20 @@ use Rattle.map_core.proofs.Current.{after_push}
 use Rattle.map_core.proofs.Kept.{others_leave_sets}
 use Rattle.map_core.proofs.OnePool.{pool_after_step}
 use Rattle.entry_core.specs.Log.{is_in}
-use Rattle.entry_core.specs.declared.sealed.GroupId.{GroupId}
+use Rattle.store_core.specs.declared.sealed.GroupId.{GroupId}
 use Rattle.whole_logs.specs.Each.{Each}
 use Rattle.suffix_core.specs.Group.{Group, group_step, refusal_of, last_set, same_set}
 use Rattle.suffix_core.specs.Group as group
-use Rattle.world_core.specs.Event.{Fault, Map, OfGroup}
-use Rattle.world_core.specs.Front.{Front, front_step}
-use Rattle.world_core.specs.Refusing.{RefusedOrMemory}
-use Rattle.world_core.specs.World.{groups_of, members_of, begun_group}
+use Rattle.world_front.specs.Event.{Fault, Map, OfGroup}
+use Rattle.world_front.specs.Front.{Front, front_step}
+use Rattle.world_front.specs.Refusing.{RefusedOrMemory}
+use Rattle.world_front.specs.Groups.{groups_of}
+use Rattle.world_core.specs.World.{members_of, begun_group}
 use Rattle.world_core.specs.Moves.{AreGroupsOf, moves_groups, move_of, made_by, all_moved, first_refusal}
-use Rattle.world_core.proofs.Merge.{bytes_refl}
+use Rattle.world_front.proofs.Merge.{bytes_refl}
 use Rattle.world_core.proofs.Acting.{each_join}
 use Rattle.world_core.proofs.Standing.{step_is}
-use Rattle.world_core.proofs.Places.{numbered, true_not_false}
+use Rattle.world_front.proofs.Places.{numbered, true_not_false}
 use Rattle.world_core.proofs.Limits.{or_first, or_second, wrapped_none, creates_well}
 use Rattle.world_core.proofs.Requests.{moved_sets, restarted_sets, interval_facts, restart_facts}
 use Rattle.world_core.proofs.Intervals.{same_set_is, last_pushed, sized_set, members_are, later}

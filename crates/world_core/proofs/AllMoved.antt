@@ -1,7 +1,7 @@
 -- All groups made ready, moved, and given up.
 use Rattle.std.proofs.Common.{◌≡◌, ◌∙◌, List, [], ◌∷◌, ◌++◌, map, refl, sym, ap}
 use Rattle.std.proofs.lemmas.List.{map-append}
-use Rattle.entry_core.specs.declared.sealed.GroupId.{GroupId}
+use Rattle.store_core.specs.declared.sealed.GroupId.{GroupId}
 use Rattle.suffix_core.specs.Group.{Group, group_step}
 use Rattle.suffix_core.specs.Group as group
 use Rattle.group_core.specs.Moves.{Prepared}

@@ -5,25 +5,25 @@ use Rattle.std.proofs.lemmas.Nat.{mod-mul-add}
 use Rattle.std.proofs.Math.Nat.{mod-add-div'}
 use Rattle.map_core.specs.State.{History}
 use Rattle.map_core.specs.Map.{map_of}
-use Rattle.entry_core.specs.Request.{Sealed}
+use Rattle.store_core.specs.Request.{Sealed}
 use Rattle.entry_core.specs.Locality.{group_for}
-use Rattle.entry_core.specs.declared.reply.Reply.{Reply}
+use Rattle.store_core.specs.declared.reply.Reply.{Reply}
 use Rattle.suffix_core.specs.Group.{Group, submitted, is_submitted, answer_of}
-use Rattle.world_core.specs.Event.{Fault, NoRequest}
-use Rattle.world_core.specs.Front.{Front}
+use Rattle.world_front.specs.Event.{Fault, NoRequest}
+use Rattle.world_front.specs.Front.{Front}
 use Rattle.world_core.specs.World.{group_at}
 use Rattle.world_core.specs.Moves.{AreGroupsOf, IsAt, place_in}
 use Rattle.world_core.specs.Answers.{answer_to, answer_in, answer_at}
 use Rattle.world_core.specs.Calls.{answer_refusal}
 use Rattle.world_core.specs.Sound.{IsKept, IsSealedFor}
-use Rattle.world_core.specs.Stands.{next_at, IsGiven}
+use Rattle.world_front.specs.Stands.{next_at, IsGiven}
 use Rattle.world_core.specs.Inside.{world_of}
 use Rattle.world_core.specs.declared.audit.Run.{Run}
 use Rattle.world_core.proofs.Limits.{few_submissions}
 use Rattle.world_core.proofs.PlaceIn.{stands}
-use Rattle.world_core.proofs.Pools.{found_in}
+use Rattle.world_front.proofs.Pools.{found_in}
 use Rattle.world_core.proofs.Standing.{found_each}
-use Rattle.world_core.proofs.Bytes.{number_same}
+use Rattle.world_front.proofs.Bytes.{number_same}
 
 pub asked_for : (rs : List Sealed) (id : ℕ) → is_submitted rs id ≡ is_some (submitted rs id)
 asked_for [] id = refl

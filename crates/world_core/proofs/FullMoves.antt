@@ -10,16 +10,16 @@ use Rattle.map_core.specs.declared.command.MapCommand.{MapCommand}
 use Rattle.map_core.specs.declared.command.MapCommand.TheVariants.{PoolCreate, AppEnable, AppSet, AppRm, OsdUp, OsdDown, OsdRestart}
 use Rattle.map_core.proofs.Daemons.{set_sized}
 use Rattle.entry_core.specs.Log.{is_in}
-use Rattle.entry_core.specs.declared.sealed.GroupId.{GroupId}
+use Rattle.store_core.specs.declared.sealed.GroupId.{GroupId}
 use Rattle.suffix_core.specs.Group.{Group, last_set, same_set, has_all_intervals, refusal_of}
 use Rattle.suffix_core.specs.Group as group
 use Rattle.group_types.specs.declared.fault.GroupFault.{GroupFault}
 use Rattle.group_types.specs.declared.fault.GroupFault.TheVariants as group_fault
 use Rattle.world_core.specs.World.{members_of}
 use Rattle.world_core.specs.Moves.{moves_groups, move_of}
-use Rattle.world_core.proofs.Bytes.{bytes_same}
-use Rattle.world_core.proofs.Merge.{bytes_refl}
-use Rattle.world_core.proofs.Places.{true_not_false}
+use Rattle.world_front.proofs.Bytes.{bytes_same}
+use Rattle.world_front.proofs.Merge.{bytes_refl}
+use Rattle.world_front.proofs.Places.{true_not_false}
 use Rattle.world_core.proofs.Intervals.{same_set_is, same_set_refl, restarts_is, set_later, members_are, intervals_after, later}
 
 same_is : (a b : List ℕ) → same_set a b ≡ bytes_eq b a

@@ -1,37 +1,36 @@
 -- The groups of a sound world are those of its map, each as the map has it.
 use Prim.Native.Nat.{zero, suc}
-use Rattle.std.proofs.Common.{◌≡◌, ◌∙◌, ℕ, ◌+◌, ◌<◌, ◌≤◌, List, [], ◌∷◌, Bool, true, false, cond, Option, Some, None, if◌then◌else◌, map, refl, sym, ap, subst, arith}
+use Rattle.std.proofs.Common.{◌≡◌, ◌∙◌, ℕ, ◌+◌, ◌<◌, ◌≤◌, List, [], ◌∷◌, Bool, true, false, cond, Option, Some, None, if◌then◌else◌, map, refl, sym, ap, subst, arith, Result, get_or, length}
 use Rattle.std.specs.Prelude.{slice_get}
 use Rattle.std.specs.List.{filter, flat_map, find, range_with_len}
 use Rattle.place_core.specs.Placement.{numbers_of}
 use Rattle.map_core.specs.Map.{is_named, map_of}
 use Rattle.map_core.specs.Intervals.{set_of}
 use Rattle.map_core.specs.declared.pool.Pool.{Pool}
-use Rattle.entry_core.specs.declared.sealed.GroupId.{GroupId}
+use Rattle.store_core.specs.declared.sealed.GroupId.{GroupId}
 use Rattle.whole_logs.specs.Each.{Each}
 use Rattle.suffix_core.specs.Group.{Group, last_set}
-use Rattle.world_core.specs.Groups.{is_same_group}
-use Rattle.world_core.specs.World.{World, group_at, groups_of}
+use Rattle.world_front.specs.Groups.{is_same_group, groups_of}
+use Rattle.world_core.specs.World.{World, group_at}
 use Rattle.world_core.specs.Moves.{AreGroupsOf, IsAt}
 use Rattle.world_core.specs.Sound.{GroupKept, IsSound, IsKept}
-use Rattle.std.proofs.Common.{Result, get_or, length}
 use Rattle.std.proofs.lemmas.Option.{slice_get_read}
 use Rattle.std.specs.Option.{option_map}
 use Rattle.map_core.specs.State.{History}
 use Rattle.map_core.specs.Refusal.{acting_refusal}
 use Rattle.group_types.specs.declared.fault.GroupFault.{GroupFault}
-use Rattle.world_core.specs.Event.{Fault, OfMap}
-use Rattle.world_core.specs.Front.{Front, group_refusal}
+use Rattle.world_front.specs.Event.{Fault, OfMap}
+use Rattle.world_front.specs.Front.{Front, group_refusal}
 use Rattle.world_core.specs.declared.audit.Run.{Run}
 use Rattle.world_core.specs.declared.calls.GroupCall.{GroupCall}
 use Rattle.world_core.specs.Inside.{world_of}
 use Rattle.world_core.specs.Applying.{CalledAt, event_of}
 use Rattle.world_core.proofs.Messages.{Called, called}
 use Rattle.world_core.proofs.Acting.{each_join, each_weaker}
-use Rattle.world_core.proofs.Bytes.{bytes_same}
+use Rattle.world_front.proofs.Bytes.{bytes_same}
 use Rattle.world_core.proofs.Limits.{once}
-use Rattle.world_core.proofs.Merge.{group_refl, bytes_refl}
-use Rattle.world_core.proofs.Places.{NamedOnce, numbered, places_once}
+use Rattle.world_front.proofs.Merge.{group_refl, bytes_refl}
+use Rattle.world_front.proofs.Places.{NamedOnce, numbered, places_once}
 use Rattle.world_core.proofs.Sounds.{ids_of}
 
 -- ---- each place of the map stands there once

@@ -4,15 +4,15 @@ use Rattle.std.proofs.lemmas.List.Sums.{fold-append}
 use Rattle.std.specs.Prelude.{fold}
 use Rattle.std.specs.List.{filter}
 use Rattle.std.specs.Option.{option_map}
-use Rattle.entry_core.specs.declared.sealed.GroupId.{GroupId}
+use Rattle.store_core.specs.declared.sealed.GroupId.{GroupId}
 use Rattle.suffix_core.specs.Group.{Group, run, group_step}
-use Rattle.world_core.specs.Event.{Event}
-use Rattle.world_core.specs.Groups.{is_same_group}
-use Rattle.world_core.specs.Front.{front_step}
+use Rattle.world_front.specs.Event.{Event}
+use Rattle.world_front.specs.Groups.{is_same_group}
+use Rattle.world_front.specs.Front.{front_step}
 use Rattle.world_core.specs.World.{World, Part, group_at, act, acted, parts_of, created_by, world_step, first_world, world_after}
 use Rattle.world_core.specs.Standing.{HasNumbers}
 use Rattle.world_core.specs.Holds.{events_in, group_step_alone, group_from, Holds, WorldHolds, HoldsOn}
-use Rattle.world_core.proofs.Merge.{same_group}
+use Rattle.world_front.proofs.Merge.{same_group}
 use Rattle.world_core.proofs.Standing.{step_is}
 use Rattle.world_core.proofs.Acting.{group_at_self, group_at_other}
 use Rattle.world_core.proofs.Worlds.{decided_is_one_list}

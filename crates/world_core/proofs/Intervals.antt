@@ -14,12 +14,12 @@ use Rattle.map_core.proofs.Daemons.{set_sized}
 use Rattle.map_core.proofs.IntervalLists.{size_stays}
 use Rattle.map_core.proofs.Kept.{commands_begin_intervals, present_set_is_last}
 use Rattle.entry_core.specs.Log.{is_in}
-use Rattle.entry_core.specs.declared.sealed.GroupId.{GroupId}
+use Rattle.store_core.specs.declared.sealed.GroupId.{GroupId}
 use Rattle.suffix_core.specs.Group.{last_set, same_set}
 use Rattle.world_core.specs.World.{members_of}
-use Rattle.world_core.proofs.Merge.{bytes_refl, number_refl}
-use Rattle.world_core.proofs.Bytes.{bytes_same, number_same, both_true}
-use Rattle.world_core.proofs.Places.{true_not_false}
+use Rattle.world_front.proofs.Merge.{bytes_refl, number_refl}
+use Rattle.world_front.proofs.Bytes.{bytes_same, number_same, both_true}
+use Rattle.world_front.proofs.Places.{true_not_false}
 use Rattle.world_core.proofs.Requests.{moved_sets, restarted_sets}
 pub use Rattle.world_core.specs.Sound.{HasSets}
 

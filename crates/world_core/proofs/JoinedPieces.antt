@@ -10,10 +10,10 @@ use Rattle.std.specs.declared.cmp.Ordering.{Ordering}
 use Rattle.std.specs.declared.cmp.Ordering.TheVariants.{Less, Equal, Greater}
 use Rattle.std.proofs.lemmas.List.Sums.{fold-append}
 use Rattle.entry_core.specs.Laws.{is_denied}
-use Rattle.entry_core.specs.Store.{bytes_cmp}
-use Rattle.entry_core.specs.declared.reply.Reply.{Reply}
-use Rattle.entry_core.specs.declared.reply.Reply.TheVariants.{Names}
-use Rattle.world_core.specs.Front.{Pieced}
+use Rattle.store_core.specs.Store.{bytes_cmp}
+use Rattle.store_core.specs.declared.reply.Reply.{Reply}
+use Rattle.store_core.specs.declared.reply.Reply.TheVariants.{Names}
+use Rattle.world_front.specs.Front.{Pieced}
 use Rattle.world_core.specs.Listing.{names_in, consed, all_of, joined, listing_of}
 use Rattle.world_core.specs.Joining.{with_names, with_reply, reply_of, joined_with}
 use Rattle.world_core.specs.declared.joining.Joined.{Joined}

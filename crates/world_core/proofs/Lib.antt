@@ -1,12 +1,5 @@
-pub mod Bytes
-pub mod Tickets
-pub mod Merge
 pub mod Standing
 pub mod Acting
-pub mod Pools
-pub mod Numbers
-pub mod Places
-pub mod Fronts
 pub mod Worlds
 pub mod Runs
 pub mod Replied
@@ -23,11 +16,6 @@ pub mod FullMoves
 pub mod NewGroups
 pub mod Stepped
 pub mod AfterMoves
-pub mod Submitted
-pub mod Refused
-pub mod Views
-pub mod FrontSteps
-pub mod NewRequests
 pub mod Sounds
 pub mod Calling
 pub mod RunPlaces
@@ -39,7 +27,6 @@ pub mod Silent
 pub mod MapEvents
 pub mod Takings
 pub mod RequestEvents
-pub mod Recording
 pub mod Answering
 pub mod JoinedPieces
 pub mod Serving

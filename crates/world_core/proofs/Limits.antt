@@ -18,20 +18,20 @@ use Rattle.map_core.specs.declared.command.MapCommand.{MapCommand}
 use Rattle.map_core.specs.declared.command.MapCommand.TheVariants.{PoolCreate}
 use Rattle.map_core.proofs.Acceptance.{all_fail, limits_of, accepted_push}
 use Rattle.map_core.proofs.Kept.{pools_differ, pools_are_few}
-use Rattle.entry_core.specs.Request.{Sealed}
-use Rattle.entry_core.specs.declared.sealed.GroupId.{GroupId}
+use Rattle.store_core.specs.Request.{Sealed}
+use Rattle.store_core.specs.declared.sealed.GroupId.{GroupId}
 use Rattle.whole_logs.specs.Each.{Each}
-use Rattle.world_core.specs.Event.{Ask, Event, Auth, Map, Open, Renew, Close, Submit, ListNames, Deliver, Lose, Repeat, Kick, Fault, OfMap}
+use Rattle.world_front.specs.Event.{Ask, Event, Auth, Map, Open, Renew, Close, Submit, ListNames, Deliver, Lose, Repeat, Kick, Fault, OfMap}
 use Rattle.entry_core.specs.Locality.{group_for}
-use Rattle.world_core.specs.Groups.{is_same_group, is_for}
-use Rattle.world_core.specs.Front.{Front, first_front, front_step, front_refusal, asking_refusal, is_full, requests_of, requests_in, if_ok}
-use Rattle.world_core.specs.World.{World, groups_of, refusal_of, is_drop, accepts, is_accepted}
-use Rattle.world_core.proofs.Merge.{same_group}
-use Rattle.world_core.proofs.Pools.{in_later, found_in}
-use Rattle.world_core.proofs.Bytes.{bytes_same}
+use Rattle.world_front.specs.Groups.{is_same_group, is_for, groups_of}
+use Rattle.world_front.specs.Front.{Front, first_front, front_step, front_refusal, asking_refusal, is_full, requests_of, requests_in, if_ok}
+use Rattle.world_core.specs.World.{World, refusal_of, is_drop, accepts, is_accepted}
+use Rattle.world_front.proofs.Merge.{same_group}
+use Rattle.world_front.proofs.Pools.{in_later, found_in}
+use Rattle.world_front.proofs.Bytes.{bytes_same}
 use Rattle.world_core.proofs.Acting.{each_join, each_weaker}
-use Rattle.world_core.proofs.Fronts.{IsSealedWell, IsBelow, Requested, submit_made, list_made}
-use Rattle.world_core.proofs.Places.{true_not_false, each_filter, all_pass, group_turned, NamedOnce, places_once, AtMostOne}
+use Rattle.world_front.proofs.Fronts.{IsSealedWell, IsBelow, Requested, submit_made, list_made}
+use Rattle.world_front.proofs.Places.{true_not_false, each_filter, all_pass, group_turned, NamedOnce, places_once, AtMostOne}
 pub use Rattle.world_core.specs.Sound.{IsSealedFor, FrontKept}
 
 -- ---- what an accepted event was let through by

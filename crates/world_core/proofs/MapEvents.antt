@@ -6,11 +6,11 @@ use Rattle.map_core.specs.Map.{map_of}
 use Rattle.map_core.specs.declared.command.MapCommand.{MapCommand}
 use Rattle.whole_logs.specs.Each.{Each}
 use Rattle.suffix_core.specs.Group.{Group}
-use Rattle.world_core.specs.Event.{Map, Told, Fault, OfGroup}
-use Rattle.world_core.specs.Front.{Front, front_step, front_refusal, told_of}
+use Rattle.world_front.specs.Event.{Map, Told, Fault, OfGroup}
+use Rattle.world_front.specs.Front.{Front, front_step, front_refusal, told_of}
 use Rattle.world_core.specs.World.{World, Part, acted, created_by, parts_of, parts_refusal}
 use Rattle.world_core.specs.Moves.{stepped}
-use Rattle.world_core.specs.Refusing.{RefusedOrMemory}
+use Rattle.world_front.specs.Refusing.{RefusedOrMemory}
 use Rattle.world_core.specs.declared.audit.Run.{Run}
 use Rattle.world_core.specs.Inside.{world_of}
 use Rattle.world_core.specs.Sound.{FitsAt, IsKept}

@@ -3,7 +3,7 @@ use Rattle.std.proofs.Common.{◌≡◌, ◌∙◌, ◌⊎◌, inl, inr, ℕ, Li
 use Rattle.std.specs.Prelude.{slice_get, slice_set}
 use Rattle.std.specs.Option.{option_map, option_or}
 use Rattle.entry_core.specs.Log.{is_in}
-use Rattle.entry_core.specs.declared.sealed.GroupId.{GroupId}
+use Rattle.store_core.specs.declared.sealed.GroupId.{GroupId}
 use Rattle.whole_logs.specs.Each.{Each}
 use Rattle.whole_logs.specs.History.{Begins}
 use Rattle.suffix_core.specs.Types.{Party, Client, Osd, Sent}
@@ -12,14 +12,14 @@ use Rattle.suffix_core.specs.Group as group
 use Rattle.group_types.specs.declared.fault.GroupFault.{GroupFault}
 use Rattle.group_types.specs.declared.fault.GroupFault.TheVariants as group_fault
 use Rattle.suffix_core.proofs.Additions.{audit_grows}
-use Rattle.world_core.specs.Event.{Event, Auth, Map, Open, Renew, Close, Submit, ListNames, Deliver, Lose, Repeat, Kick, Told, Fault, OutOfMemory, OfMap, OfGroup, Done}
+use Rattle.world_front.specs.Event.{Event, Auth, Map, Open, Renew, Close, Submit, ListNames, Deliver, Lose, Repeat, Kick, Told, Fault, OutOfMemory, OfMap, OfGroup, Done}
 use Rattle.map_core.specs.Refusal.{acting_refusal}
 use Rattle.map_core.specs.declared.fault.MapFault.{MapFault}
-use Rattle.world_core.specs.Front.{Front, front_step, front_refusal, group_refusal, told_of, requests_of, requests_in}
+use Rattle.world_front.specs.Front.{Front, front_step, front_refusal, group_refusal, told_of, requests_of, requests_in}
 use Rattle.world_core.specs.World.{World, Part, part, group_at, at_group, act, acted, counts, is_drop, accepts, is_accepted, created_by, decided_in, part_refusal, parts_refusal, parts_of, refused_in, refusal_of, world_step}
 use Rattle.world_core.specs.Moves.{IsAt}
 use Rattle.common_types.specs.Refused.{RefusedExactly}
-use Rattle.world_core.specs.Refusing.{RefusedOrMemory}
+use Rattle.world_front.specs.Refusing.{RefusedOrMemory}
 use Rattle.world_core.specs.declared.audit.Run.{Run}
 use Rattle.world_core.specs.declared.calls.GroupCall.{GroupCall}
 use Rattle.world_core.specs.declared.calls.GroupCall.TheVariants as calls

@@ -12,11 +12,11 @@ use Rattle.map_core.specs.declared.command.MapCommand.{MapCommand}
 use Rattle.map_core.specs.declared.command.MapCommand.TheVariants.{PoolCreate}
 use Rattle.map_core.proofs.Acceptance.{all_fail, or_left, not_false}
 use Rattle.map_core.proofs.Current.{daemons_stay}
-use Rattle.entry_core.specs.declared.sealed.GroupId.{GroupId}
+use Rattle.store_core.specs.declared.sealed.GroupId.{GroupId}
 use Rattle.suffix_core.specs.Group.{start}
 use Rattle.world_core.specs.World.{begun_group, members_of}
 use Rattle.place_core.specs.Placement.{numbers_of}
-use Rattle.world_core.proofs.Places.{numbered}
+use Rattle.world_front.proofs.Places.{numbered}
 
 range_push : (a n : ℕ) → range_with_len a (suc n) ≡ range_with_len a n ++ (a + n) ∷ []
 range_push a zero = let e : a ≡ a + 0 = omega arith in ap (λ x. x ∷ []) e

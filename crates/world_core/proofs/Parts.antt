@@ -4,10 +4,10 @@ use Rattle.std.specs.Prelude.{slice_get}
 use Rattle.std.proofs.lemmas.List.{append_assoc, drop_more, take_more}
 use Rattle.std.proofs.lemmas.Option.{slice_get_read}
 use Rattle.std.proofs.lemmas.Grind.{flat_map-append}
-use Rattle.entry_core.specs.Request.{Sealed}
+use Rattle.store_core.specs.Request.{Sealed}
 use Rattle.whole_logs.specs.Each.{Each}
 use Rattle.suffix_core.specs.Group.{Group}
-use Rattle.world_core.specs.Submitting.{AreNew}
+use Rattle.world_front.specs.Submitting.{AreNew}
 use Rattle.world_core.specs.Inside.{run_entries, entries_told}
 use Rattle.world_core.specs.Sound.{FitsAt}
 use Rattle.world_core.specs.Applying.{runs_from}

@@ -13,14 +13,14 @@ use Rattle.map_core.specs.Map.{is_named, map_of, pool_in}
 use Rattle.map_core.specs.Refusal.{first_of, acting_tests, groups_in}
 use Rattle.map_core.specs.declared.pool.Pool.{Pool}
 use Rattle.map_core.proofs.Acceptance.{all_fail, not_false}
-use Rattle.entry_core.specs.declared.sealed.GroupId.{GroupId}
+use Rattle.store_core.specs.declared.sealed.GroupId.{GroupId}
 use Rattle.suffix_core.specs.Group.{Group}
-use Rattle.world_core.specs.Groups.{is_same_group}
-use Rattle.world_core.specs.World.{group_at, at_group, groups_of}
+use Rattle.world_front.specs.Groups.{is_same_group, groups_of}
+use Rattle.world_core.specs.World.{group_at, at_group}
 use Rattle.world_core.specs.Moves.{AreGroupsOf, IsAt, place_in}
-use Rattle.world_core.proofs.Bytes.{bytes_same, number_same}
-use Rattle.world_core.proofs.Merge.{bytes_refl}
-use Rattle.world_core.proofs.Places.{numbered, true_not_false, bytes_turned}
+use Rattle.world_front.proofs.Bytes.{bytes_same, number_same}
+use Rattle.world_front.proofs.Merge.{bytes_refl}
+use Rattle.world_front.proofs.Places.{numbered, true_not_false, bytes_turned}
 
 -- ---- one group before it, or none
 

@@ -13,9 +13,9 @@ use Rattle.map_core.specs.declared.pool.Pool.{Pool}
 use Rattle.map_core.specs.declared.command.MapCommand.{MapCommand}
 use Rattle.map_core.specs.declared.command.MapCommand.TheVariants.{PoolCreate, AppEnable, AppSet, AppRm, OsdUp, OsdDown, OsdRestart}
 use Rattle.map_core.proofs.Acceptance.{all_fail, not_false}
-use Rattle.entry_core.specs.declared.sealed.GroupId.{GroupId}
+use Rattle.store_core.specs.declared.sealed.GroupId.{GroupId}
 use Rattle.whole_logs.specs.Each.{Each}
-use Rattle.world_core.proofs.Bytes.{bytes_same}
+use Rattle.world_front.proofs.Bytes.{bytes_same}
 use Rattle.world_core.proofs.Acting.{each_join}
 
 not_above : (a b : ℕ) → b < a → nat_le a b ≡ false

@@ -2,7 +2,7 @@
 use Rattle.std.proofs.Common.{◌≡◌, ◌∙◌, ℕ, ◌==◌, List, [], ◌∷◌, Bool, true, false, if◌then◌else◌, Some, sym, ap, subst, refl}
 use Rattle.entry_core.specs.Log.{decide, find}
 use Rattle.entry_core.specs.Laws.{is_denied, StandsIn}
-use Rattle.entry_core.specs.declared.entry.Entry.{Entry}
+use Rattle.store_core.specs.declared.entry.Entry.{Entry}
 use Rattle.entry_core.proofs.Lawful.{verdict_is_sealed}
 use Rattle.entry_core.proofs.FoundEntries.{find_tells}
 use Rattle.whole_logs.specs.Each.{Each}

@@ -9,16 +9,17 @@ use Rattle.map_core.specs.State.{History}
 use Rattle.map_core.specs.Map.{map_of}
 use Rattle.map_core.specs.declared.pool.Pool.{Pool}
 use Rattle.entry_core.specs.Locality.{group_for}
-use Rattle.entry_core.specs.Request.{Sealed}
+use Rattle.store_core.specs.Request.{Sealed}
 use Rattle.whole_logs.specs.Each.{Each}
 use Rattle.suffix_core.specs.Group.{Group, Submit, group_step, has_all_requests}
 use Rattle.group_types.specs.declared.fault.GroupFault.TheVariants as group_fault
-use Rattle.world_core.specs.Event.{Ask, Event, ListNames, Told, Fault, OfGroup, OutOfMemory}
-use Rattle.world_core.specs.Event as events
-use Rattle.world_core.specs.Front.{Front, asking_refusal, error_of, front_refusal, front_step, is_full, requests_of, told_of, if_ok}
-use Rattle.world_core.specs.World.{World, Part, acted, asked_parts, created_by, groups_of, is_drop, parts_of, parts_refusal, refusal_of}
+use Rattle.world_front.specs.Event.{Ask, Event, ListNames, Told, Fault, OfGroup, OutOfMemory}
+use Rattle.world_front.specs.Event as events
+use Rattle.world_front.specs.Front.{Front, asking_refusal, error_of, front_refusal, front_step, is_full, requests_of, told_of, if_ok}
+use Rattle.world_core.specs.World.{World, Part, acted, asked_parts, created_by, is_drop, parts_of, parts_refusal, refusal_of}
+use Rattle.world_front.specs.Groups.{groups_of}
 use Rattle.world_core.specs.Moves.{IsAt, place_in, stepped}
-use Rattle.world_core.specs.Refusing.{RefusedOrMemory}
+use Rattle.world_front.specs.Refusing.{RefusedOrMemory}
 use Rattle.world_core.specs.declared.audit.Run.{Run}
 use Rattle.world_core.specs.Inside.{world_of}
 use Rattle.world_core.specs.Sound.{FitsAt, IsKept, IsSealedFor, IsSound}
@@ -26,11 +27,11 @@ use Rattle.world_core.specs.Accepted.{FrontTells}
 use Rattle.world_core.specs.Applying.{Applies}
 use Rattle.world_core.specs.Taking.{TakesAll, is_full_at, places_for}
 use Rattle.world_core.proofs.Accepted.{front_tells}
-use Rattle.world_core.proofs.Fronts.{Requested, list_made, submit_made}
+use Rattle.world_front.proofs.Fronts.{Requested, list_made, submit_made}
 use Rattle.world_core.proofs.Limits.{asked_for, counted_for, few_submissions}
 use Rattle.world_core.proofs.Messages.{true_not_false}
 use Rattle.world_core.proofs.PlaceIn.{stands}
-use Rattle.world_core.proofs.Pools.{found_in}
+use Rattle.world_front.proofs.Pools.{found_in}
 use Rattle.world_core.proofs.RunPlaces.{Longer, fit_on, told_on}
 use Rattle.world_core.proofs.Silent.{acted_audit, acted_groups, asked_silent, longer_with, stepped_audits}
 use Rattle.world_core.proofs.Sounds.{ids_of, at_group_ids}

@@ -5,8 +5,8 @@ use Rattle.std.specs.List.{filter, flat_map}
 use Rattle.place_core.specs.Placement.{numbers_of}
 use Rattle.map_core.specs.State.{MapState}
 use Rattle.entry_core.specs.Log.{is_in}
-use Rattle.entry_core.specs.Request.{Sealed}
-use Rattle.entry_core.specs.declared.sealed.GroupId.{GroupId}
+use Rattle.store_core.specs.Request.{Sealed}
+use Rattle.store_core.specs.declared.sealed.GroupId.{GroupId}
 use Rattle.peer_core.specs.Steps.{restarted}
 use Rattle.suffix_core.specs.Types.{Daemon, Body, Interval, Query, Info, Install, Installed, Append, Appended, Request, Reply, NotHere, Party, Osd, Client, Sent}
 use Rattle.whole_logs.specs.Each.{Each}
@@ -14,12 +14,11 @@ use Rattle.suffix_core.specs.Group.{Group, last_set, is_answered, answered, copy
 use Rattle.suffix_core.specs.Group as group
 use Rattle.group_types.specs.declared.fault.GroupFault.TheVariants as group_fault
 use Rattle.entry_core.specs.Locality.{group_for}
-use Rattle.world_core.specs.Groups.{is_same_group}
-use Rattle.world_core.specs.World.{Part, part, group_at, groups_of, members_of, moved_parts, restarted_parts, asked_parts, refused_in, part_refusal, parts_refusal}
+use Rattle.world_front.specs.Groups.{is_same_group, groups_of, is_for}
+use Rattle.world_core.specs.World.{Part, part, group_at, members_of, moved_parts, restarted_parts, asked_parts, refused_in, part_refusal, parts_refusal}
 use Rattle.world_core.specs.Holds.{events_in}
-use Rattle.world_core.specs.Groups.{is_for}
-use Rattle.world_core.proofs.Merge.{same_group}
-use Rattle.world_core.proofs.Places.{filter_map_is, each_filter, all_pass, AtMostOne}
+use Rattle.world_front.proofs.Merge.{same_group}
+use Rattle.world_front.proofs.Places.{filter_map_is, each_filter, all_pass, AtMostOne}
 use Rattle.world_core.proofs.Limits.{or_first, or_second}
 
 -- what only submissions, intervals and daemons change

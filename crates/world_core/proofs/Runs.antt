@@ -1,7 +1,7 @@
 -- Runs of entries.
 use Rattle.std.proofs.Common.{◌≡◌, ◌∙◌, ℕ, ◌≤◌, ◌-◌, List, sym, ap, append-nil, length, take, drop, length-drop, []}
 use Rattle.std.proofs.Math.Seq.{take-length}
-use Rattle.entry_core.specs.declared.entry.Entry.{Entry}
+use Rattle.store_core.specs.declared.entry.Entry.{Entry}
 use Rattle.whole_logs.specs.History.{Begins}
 
 pub same_begins : (xs ys : List Entry) → xs ≡ ys → Begins xs ys

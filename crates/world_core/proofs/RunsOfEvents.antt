@@ -4,12 +4,12 @@ use Rattle.std.proofs.Common.{◌≡◌, ◌∙◌, ◌⊎◌, inl, inr, ℕ, �
 use Rattle.std.specs.Prelude.{fold, slice_get}
 use Rattle.std.proofs.lemmas.List.{take_more}
 use Rattle.grant_core.specs.Flat.{Table}
-use Rattle.world_core.specs.Event.{Event, Told, Fault, OutOfMemory}
+use Rattle.world_front.specs.Event.{Event, Told, Fault, OutOfMemory}
 use Rattle.world_core.specs.World.{World, accepts, first_world, is_accepted, refusal_of, world_after, world_step}
 use Rattle.world_core.specs.Holds.{AcceptedFrom, AreAccepted, Holds}
-use Rattle.world_core.specs.Refusing.{RefusedOrMemory}
+use Rattle.world_front.specs.Refusing.{RefusedOrMemory}
 use Rattle.world_core.specs.Calls.{AreUnrefused, IsFirstRefused, UnrefusedFrom}
-use Rattle.world_core.specs.Front.{first_front}
+use Rattle.world_front.specs.Front.{first_front}
 use Rattle.world_core.specs.Service.{Reaches, begun}
 use Rattle.world_core.specs.Serving.{service_of, submitted_through}
 use Rattle.world_core.proofs.Holding.{world_holds}

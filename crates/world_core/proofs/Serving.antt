@@ -3,21 +3,21 @@ use Prim.Native.Nat.{suc}
 use Rattle.std.proofs.Common.{◌≡◌, ◌∙◌, ℕ, ◌+◌, ◌<◌, ◌≤◌, ◌==◌, ◌||◌, List, ◌∷◌, ◌++◌, Bool, true, false, if◌then◌else◌, Some, None, Result, map, length, refl, sym, ap, subst, arith, append-nil, length-append, []}
 use Rattle.std.specs.Prelude.{Contains, fold}
 use Rattle.std.specs.Option.{option_map}
-use Rattle.entry_core.specs.Request.{Sealed}
+use Rattle.store_core.specs.Request.{Sealed}
 use Rattle.entry_core.specs.Log.{is_in, LegalFrom, reply_in}
-use Rattle.entry_core.specs.declared.reply.Reply.{Reply}
-use Rattle.entry_core.specs.declared.entry.Entry.{Entry}
+use Rattle.store_core.specs.declared.reply.Reply.{Reply}
+use Rattle.store_core.specs.declared.entry.Entry.{Entry}
 use Rattle.whole_logs.specs.Each.{Each}
 use Rattle.suffix_core.specs.Group.{submitted}
 use Rattle.whole_logs.specs.Asked.{IsAsked}
 use Rattle.whole_logs.proofs.Audits.{legal_rest}
-use Rattle.world_core.specs.Event.{Event, Told, Fault}
-use Rattle.world_core.specs.Front.{sealed_by}
+use Rattle.world_front.specs.Event.{Event, Told, Fault}
+use Rattle.world_front.specs.Front.{sealed_by}
 use Rattle.world_core.specs.World.{World, counts, is_accepted, world_step}
 use Rattle.world_core.specs.Answers.{answer_at}
 use Rattle.world_core.specs.Applying.{Applies}
 use Rattle.world_core.specs.Sound.{IsSound}
-use Rattle.world_core.specs.Submitting as submitting
+use Rattle.world_front.specs.Submitting as submitting
 use Rattle.world_core.specs.Service.{AreNew, AreDecided, Step, Reaches, begun}
 use Rattle.world_core.specs.Serving.{service_of, submitted_by, submitted_through}
 use Rattle.world_core.proofs.Limits.{few_submissions}
@@ -28,7 +28,7 @@ use Rattle.suffix_core.proofs.Twins.{reached_replicated}
 use Rattle.world_core.specs.Calls.{KeepsPromises}
 use Rattle.world_core.proofs.Replied.{world_answered}
 use Rattle.world_core.specs.Holds.{AcceptedFrom}
-use Rattle.world_core.proofs.NewRequests.{event_new}
+use Rattle.world_front.proofs.NewRequests.{event_new}
 use Rattle.world_core.proofs.Accepted.{front_tells, group_served}
 
 -- ---- requests

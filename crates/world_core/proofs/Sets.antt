@@ -16,13 +16,13 @@ use Rattle.map_core.specs.declared.command.MapCommand.TheVariants.{PoolCreate, A
 use Rattle.map_core.proofs.Current.{daemons_stay}
 use Rattle.map_core.proofs.Daemons.{sets_are_acting, up_are_there}
 use Rattle.entry_core.specs.Log.{is_in}
-use Rattle.entry_core.specs.declared.sealed.GroupId.{GroupId}
+use Rattle.store_core.specs.declared.sealed.GroupId.{GroupId}
 use Rattle.whole_logs.specs.ActingSets.{daemons}
 use Rattle.suffix_core.specs.Group.{IsSet}
 use Rattle.whole_logs.specs.Within.{LiesWithin}
 use Rattle.whole_logs.proofs.Sets.{set_is}
 use Rattle.world_core.specs.World.{members_of}
-use Rattle.world_core.proofs.Bytes.{number_same}
+use Rattle.world_front.proofs.Bytes.{number_same}
 
 true_not_false : true ≡ false → ⊥
 true_not_false e = cc

@@ -10,16 +10,16 @@ use Rattle.map_core.specs.declared.command.MapCommand.{MapCommand}
 use Rattle.map_core.specs.declared.command.MapCommand.TheVariants.{PoolCreate, AppEnable, AppSet, AppRm, OsdUp, OsdDown, OsdRestart}
 use Rattle.entry_core.specs.Log.{is_in}
 use Rattle.entry_core.specs.Locality.{group_for}
-use Rattle.entry_core.specs.Request.{Sealed}
-use Rattle.entry_core.specs.declared.entry.Entry.{Entry}
-use Rattle.entry_core.specs.declared.sealed.GroupId.{GroupId}
+use Rattle.store_core.specs.Request.{Sealed}
+use Rattle.store_core.specs.declared.entry.Entry.{Entry}
+use Rattle.store_core.specs.declared.sealed.GroupId.{GroupId}
 use Rattle.peer_core.specs.Steps.{restarted}
 use Rattle.whole_logs.specs.Each.{Each}
 use Rattle.whole_logs.specs.History.{Begins}
 use Rattle.suffix_core.specs.Group.{Group, begin, group_step, has_all_intervals, has_all_requests, is_submitted, last_set, take_request, same_set, with_up}
 use Rattle.suffix_core.specs.Group as group
-use Rattle.world_core.specs.Groups.{is_same_group}
-use Rattle.world_core.specs.World.{World, Part, part, act, acted, asked_parts, decided_in, group_at, groups_of, map_parts, members_of}
+use Rattle.world_front.specs.Groups.{is_same_group, groups_of}
+use Rattle.world_core.specs.World.{World, Part, part, act, acted, asked_parts, decided_in, group_at, map_parts, members_of}
 use Rattle.world_core.specs.Moves.{stepped, stepped_by}
 use Rattle.world_core.proofs.RunPlaces.{Longer, audit_at_place}
 

@@ -10,17 +10,17 @@ use Rattle.map_core.specs.declared.pool.Pool.{Pool}
 use Rattle.map_core.specs.declared.command.MapCommand.{MapCommand}
 use Rattle.map_core.specs.declared.command.MapCommand.TheVariants.{PoolCreate, AppEnable, AppSet, AppRm, OsdUp, OsdDown, OsdRestart}
 use Rattle.map_core.proofs.Current.{after_push}
-use Rattle.entry_core.specs.Request.{Sealed}
-use Rattle.entry_core.specs.declared.sealed.GroupId.{GroupId}
+use Rattle.store_core.specs.Request.{Sealed}
+use Rattle.store_core.specs.declared.sealed.GroupId.{GroupId}
 use Rattle.suffix_core.specs.Group.{Group, group_step}
-use Rattle.world_core.specs.Event.{Event, Auth, Map, Open, Renew, Close, Submit, ListNames, Deliver, Lose, Repeat, Kick}
-use Rattle.world_core.specs.Groups.{is_same_group}
-use Rattle.world_core.specs.Front.{Front, front_step, sealed_by}
-use Rattle.world_core.specs.World.{World, Part, first_world, at_group, groups_of, act, acted, parts_of, begun_group, created_by, is_accepted, world_step}
+use Rattle.world_front.specs.Event.{Event, Auth, Map, Open, Renew, Close, Submit, ListNames, Deliver, Lose, Repeat, Kick}
+use Rattle.world_front.specs.Groups.{is_same_group, groups_of}
+use Rattle.world_front.specs.Front.{Front, front_step, sealed_by}
+use Rattle.world_core.specs.World.{World, Part, first_world, at_group, act, acted, parts_of, begun_group, created_by, is_accepted, world_step}
 use Rattle.world_core.specs.Standing.{HasNumbers}
 use Rattle.world_core.specs.Sound.{FrontKept, HasGroups, WorldKept, IsSound}
 use Rattle.world_core.proofs.Standing.{step_is}
-use Rattle.world_core.proofs.NewRequests.{event_new, new_joined}
+use Rattle.world_front.proofs.NewRequests.{event_new, new_joined}
 use Rattle.world_core.proofs.Worlds.{first_stands, step_stands}
 use Rattle.world_core.proofs.Limits.{allowed, first_kept, front_kept, few_submissions}
 use Rattle.world_core.proofs.Accepted.{world_kept}

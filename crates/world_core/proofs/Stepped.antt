@@ -11,20 +11,20 @@ use Rattle.map_core.specs.declared.pool.Pool.{Pool}
 use Rattle.map_core.specs.declared.command.MapCommand.{MapCommand}
 use Rattle.map_core.specs.declared.command.MapCommand.TheVariants.{PoolCreate, AppEnable, AppSet, AppRm, OsdUp, OsdDown, OsdRestart}
 use Rattle.map_core.proofs.Kept.{pools_differ}
-use Rattle.entry_core.specs.declared.sealed.GroupId.{GroupId}
+use Rattle.store_core.specs.declared.sealed.GroupId.{GroupId}
 use Rattle.whole_logs.specs.Each.{Each}
 use Rattle.suffix_core.specs.Group.{Group, group_step, refusal_of}
 use Rattle.suffix_core.specs.Group as group
-use Rattle.world_core.specs.Groups.{is_same_group}
-use Rattle.world_core.specs.World.{Part, part, group_at, at_group, groups_of, map_parts, parts_of, created_by, refused_in, part_refusal, parts_refusal}
-use Rattle.world_core.specs.Event.{Map}
-use Rattle.world_core.specs.Front.{Front}
+use Rattle.world_front.specs.Groups.{is_same_group, groups_of}
+use Rattle.world_core.specs.World.{Part, part, group_at, at_group, map_parts, parts_of, created_by, refused_in, part_refusal, parts_refusal}
+use Rattle.world_front.specs.Event.{Map}
+use Rattle.world_front.specs.Front.{Front}
 use Rattle.world_core.specs.Moves.{stepped, stepped_by, moves_groups, move_of, all_moved, first_refusal}
-use Rattle.world_core.proofs.Bytes.{number_same}
-use Rattle.world_core.proofs.Merge.{group_refl}
+use Rattle.world_front.proofs.Bytes.{number_same}
+use Rattle.world_front.proofs.Merge.{group_refl}
 use Rattle.world_core.proofs.Standing.{step_is}
 use Rattle.world_core.proofs.Acting.{each_join}
-use Rattle.world_core.proofs.Places.{numbered, true_not_false, group_turned, bytes_turned, NamedOnce}
+use Rattle.world_front.proofs.Places.{numbered, true_not_false, group_turned, bytes_turned, NamedOnce}
 use Rattle.world_core.proofs.Limits.{named_once}
 
 -- ---- no two places are one

@@ -9,10 +9,10 @@ use Rattle.map_core.specs.State.{MapState}
 use Rattle.map_core.specs.Map.{map_of, after}
 use Rattle.map_core.specs.declared.command.MapCommand.{MapCommand}
 use Rattle.map_core.specs.declared.command.MapCommand.TheVariants.{PoolCreate, AppEnable, AppSet, AppRm, OsdUp, OsdDown, OsdRestart}
-use Rattle.entry_core.specs.Request.{Sealed}
+use Rattle.store_core.specs.Request.{Sealed}
 use Rattle.entry_core.specs.Log.{Legal, find}
-use Rattle.entry_core.specs.declared.entry.Entry.{Entry}
-use Rattle.entry_core.specs.declared.sealed.GroupId.{GroupId}
+use Rattle.store_core.specs.declared.entry.Entry.{Entry}
+use Rattle.store_core.specs.declared.sealed.GroupId.{GroupId}
 use Rattle.suffix_core.specs.Types.{EntryReply}
 use Rattle.whole_logs.specs.Each.{Each}
 use Rattle.whole_logs.specs.Asked.{IsAsked, IsReplied}
@@ -22,20 +22,20 @@ use Rattle.suffix_core.specs.Group as group
 use Rattle.whole_logs.proofs.Kept.{answer_replied}
 use Rattle.suffix_core.proofs.Additions.{answer_stands}
 use Rattle.suffix_core.proofs.Twins.{run_replied}
-use Rattle.world_core.specs.Event.{Event, Auth, Map, Open, Renew, Close, Submit, ListNames, Deliver, Lose, Repeat, Kick}
+use Rattle.world_front.specs.Event.{Event, Auth, Map, Open, Renew, Close, Submit, ListNames, Deliver, Lose, Repeat, Kick}
 use Rattle.entry_core.specs.Locality.{group_for, IsPlaced}
-use Rattle.world_core.specs.Groups.{is_same_group, is_of}
-use Rattle.world_core.specs.Merging.{part_of, IsKnown}
-use Rattle.world_core.specs.Front.{Front, sealed_by, front_step}
-use Rattle.world_core.specs.World.{World, Part, part, first_world, group_at, decided_in, act, acted, groups_of, members_of, map_parts, asked_parts, parts_of, begun_group, created_by, world_step, world_after}
-use Rattle.world_core.specs.Standing.{audit_in, audit_at, group_count, IsMerged, AllSubmitted, HasNumbers}
+use Rattle.world_front.specs.Groups.{is_same_group, is_of, groups_of, group_count}
+use Rattle.world_front.specs.Merging.{part_of, IsKnown}
+use Rattle.world_front.specs.Front.{Front, sealed_by, front_step}
+use Rattle.world_core.specs.World.{World, Part, part, first_world, group_at, decided_in, act, acted, members_of, map_parts, asked_parts, parts_of, begun_group, created_by, world_step, world_after}
+use Rattle.world_core.specs.Standing.{audit_in, audit_at, IsMerged, AllSubmitted, HasNumbers}
 use Rattle.world_core.specs.Answers.{answer_in, answer_to, answer_at, IsOneList, DecidedIsOneList, AuditGrows, AnswersStand}
-use Rattle.world_core.proofs.Merge.{same_group, group_refl, parts_are_legal_together}
+use Rattle.world_front.proofs.Merge.{same_group, group_refl, parts_are_legal_together}
 use Rattle.world_core.proofs.Standing.{step_is, Submits, Stands, stands_legal}
 use Rattle.world_core.proofs.Acting.{act_stands, act_asked, act_merged, group_at_self, group_at_other, group_at_each, each_join, each_weaker}
-use Rattle.world_core.proofs.Bytes.{number_same}
-use Rattle.world_core.proofs.Numbers.{asked_later}
-use Rattle.world_core.proofs.Fronts.{IsSealedWell, placed, front_stands}
+use Rattle.world_front.proofs.Bytes.{number_same}
+use Rattle.world_front.proofs.Numbers.{asked_later}
+use Rattle.world_front.proofs.Fronts.{IsSealedWell, placed, front_stands}
 pub use Rattle.world_core.specs.Sound.{WorldStands}
 
 -- ---- more submissions

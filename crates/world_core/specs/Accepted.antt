@@ -6,13 +6,13 @@ use Rattle.place_core.specs.Placement.{IsActingSet, numbers_of}
 use Rattle.object_core.specs.declared.op.Op.{Op}
 use Rattle.map_core.specs.Map.{map_of}
 use Rattle.map_core.specs.Intervals.{set_of}
-use Rattle.entry_core.specs.declared.sealed.GroupId.{GroupId}
+use Rattle.store_core.specs.declared.sealed.GroupId.{GroupId}
 use Rattle.suffix_core.specs.Within.{IsReachedWithin}
 use Rattle.suffix_core.specs.Group.{Group, last_set}
-use Rattle.world_core.specs.Event.{Ask, Submit, ListNames}
-use Rattle.world_core.specs.Front.{front_refusal}
+use Rattle.world_front.specs.Event.{Ask, Submit, ListNames}
+use Rattle.world_front.specs.Front.{front_refusal}
 use Rattle.world_core.specs.World.{World, group_at, refusal_of}
-use Rattle.world_core.specs.Groups.{is_for}
+use Rattle.world_front.specs.Groups.{is_for}
 
 -- ---- requests
 

@@ -4,14 +4,14 @@ use Rattle.std.specs.Prelude.{◌≡◌, ℕ, List, ◌++◌, ◌∷◌, Option,
 use Rattle.grant_core.specs.Flat.{Table}
 use Rattle.entry_core.specs.Log.{Legal, decide}
 use Rattle.entry_core.specs.Laws.{is_denied}
-use Rattle.entry_core.specs.Deciding.{is_allowed_sealed}
-use Rattle.entry_core.specs.declared.entry.Entry.{Entry}
-use Rattle.entry_core.specs.Request.{Sealed}
+use Rattle.store_core.specs.Deciding.{is_allowed_sealed}
+use Rattle.store_core.specs.declared.entry.Entry.{Entry}
+use Rattle.store_core.specs.Request.{Sealed}
 use Rattle.suffix_core.specs.Types.{EntryReply}
 use Rattle.suffix_core.specs.Group.{Group, answer_of, submitted}
 use Rattle.whole_logs.specs.Asked.{IsReplied}
 use Rattle.whole_logs.specs.History.{Begins}
-use Rattle.world_core.specs.Event.{Event}
+use Rattle.world_front.specs.Event.{Event}
 use Rattle.entry_core.specs.Locality.{group_for}
 use Rattle.world_core.specs.World.{World, world_after, world_step, group_at}
 use Rattle.world_core.specs.Standing.{IsMerged, AllSubmitted, HasNumbers}

@@ -1,16 +1,16 @@
 -- Refinement: only contracts inside the crate use it.
 -- What one event does to a world, and one call to a group and its runs.
 use Rattle.std.specs.Prelude.{◌≡◌, ◌⊎◌, ℕ, List, [], ◌∷◌, ◌++◌, true, false, if◌then◌else◌, None, Some, Result, Ok, Err, IfOk, length, nat_lt, slice_get, slice_set}
-use Rattle.entry_core.specs.declared.sealed.GroupId.{GroupId}
+use Rattle.store_core.specs.declared.sealed.GroupId.{GroupId}
 use Rattle.suffix_core.specs.Group.{Group, group_step, left_by}
 use Rattle.suffix_core.specs.Group as group
 use Rattle.group_types.specs.declared.fault.GroupFault.{GroupFault}
 use Rattle.group_types.specs.declared.fault.GroupFault.TheVariants as group_fault
-use Rattle.world_core.specs.Event.{Event, Deliver, Lose, Repeat, Kick, Told, Done, Fault, OutOfMemory, OfGroup}
-use Rattle.world_core.specs.Front.{told_of}
+use Rattle.world_front.specs.Event.{Event, Deliver, Lose, Repeat, Kick, Told, Done, Fault, OutOfMemory, OfGroup}
+use Rattle.world_front.specs.Front.{told_of}
 use Rattle.world_core.specs.World.{World, counts, refusal_of, world_step}
 use Rattle.common_types.specs.Refused.{RefusedExactly}
-use Rattle.world_core.specs.Refusing.{RefusedOrMemory}
+use Rattle.world_front.specs.Refusing.{RefusedOrMemory}
 use Rattle.world_core.specs.declared.audit.Run.{Run}
 use Rattle.world_core.specs.declared.calls.GroupCall.{GroupCall}
 use Rattle.world_core.specs.declared.calls.GroupCall.TheVariants as calls

@@ -2,12 +2,12 @@
 -- What calls on a world answer.
 use Rattle.std.specs.Prelude.{◌≡◌, ◌⊎◌, ℕ, List, [], ◌∷◌, Option, None, Some, if◌then◌else◌, slice_get, take}
 use Rattle.grant_core.specs.Flat.{Table}
-use Rattle.entry_core.specs.Request.{Sealed}
-use Rattle.entry_core.specs.declared.sealed.GroupId.{GroupId}
+use Rattle.store_core.specs.Request.{Sealed}
+use Rattle.store_core.specs.declared.sealed.GroupId.{GroupId}
 use Rattle.suffix_core.specs.Group.{Group, is_submitted}
 use Rattle.suffix_core.specs.Replicated.{IsReplicated}
 use Rattle.suffix_core.specs.Types.{EntryReply}
-use Rattle.world_core.specs.Event.{Event, Fault, NoRequest, OutOfMemory}
+use Rattle.world_front.specs.Event.{Event, Fault, NoRequest, OutOfMemory}
 use Rattle.world_core.specs.World.{World, first_world, group_at, refusal_of, world_after, world_step}
 use Rattle.world_core.specs.Holds.{AreAccepted, HasIntervals}
 use Rattle.world_core.specs.Standing.{HasNumbers}

@@ -4,12 +4,12 @@ use Rattle.std.specs.Prelude.{◌≡◌, ℕ, List, [], ◌∷◌, ◌++◌, tru
 use Rattle.std.specs.List.{filter}
 use Rattle.grant_core.specs.Flat.{Table}
 use Rattle.map_core.specs.Intervals.{intervals_of}
-use Rattle.entry_core.specs.declared.sealed.GroupId.{GroupId}
+use Rattle.store_core.specs.declared.sealed.GroupId.{GroupId}
 use Rattle.suffix_core.specs.Group.{Group, run}
 use Rattle.suffix_core.specs.Group as group
-use Rattle.world_core.specs.Event.{Event}
-use Rattle.world_core.specs.Groups.{is_same_group}
-use Rattle.world_core.specs.Front.{Front, first_front, front_step, front_after}
+use Rattle.world_front.specs.Event.{Event}
+use Rattle.world_front.specs.Groups.{is_same_group}
+use Rattle.world_front.specs.Front.{Front, first_front, front_step, front_after}
 use Rattle.world_core.specs.World.{World, Part, group_at, parts_of, created_by, world_after, world_step, first_world, is_accepted}
 use Rattle.world_core.specs.Standing.{HasNumbers}
 use Rattle.world_core.specs.Answers.{IsOneList}

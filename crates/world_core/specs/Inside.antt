@@ -2,9 +2,9 @@
 -- What the fields of a world stand for.
 use Rattle.std.specs.Prelude.{◌-◌, List, take, drop, slice_get}
 use Rattle.std.specs.List.{flat_map}
-use Rattle.entry_core.specs.declared.entry.Entry.{Entry}
+use Rattle.store_core.specs.declared.entry.Entry.{Entry}
 use Rattle.suffix_core.specs.Group.{Group}
-use Rattle.world_core.specs.Front.{Front}
+use Rattle.world_front.specs.Front.{Front}
 use Rattle.world_core.specs.World.{World}
 use Rattle.world_core.specs.Standing.{audit_in}
 use Rattle.world_core.specs.declared.audit.Run.{Run}

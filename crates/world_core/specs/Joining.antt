@@ -7,8 +7,8 @@ use Rattle.std.specs.Ordering.{nat_cmp}
 use Rattle.std.specs.Cmp.Lexicographic.{slice_cmp}
 use Rattle.std.specs.BTreeSet.{insert_key}
 use Rattle.entry_core.specs.Laws.{is_denied}
-use Rattle.entry_core.specs.declared.reply.Reply.{Reply}
-use Rattle.entry_core.specs.declared.reply.Reply.TheVariants.{Names}
+use Rattle.store_core.specs.declared.reply.Reply.{Reply}
+use Rattle.store_core.specs.declared.reply.Reply.TheVariants.{Names}
 use Rattle.world_core.specs.Listing.{names_in}
 use Rattle.world_core.specs.declared.joining.Joined.{Joined}
 

@@ -1,10 +1,3 @@
-pub mod Groups
-pub mod Merging
-pub mod Tickets
-pub mod Event
-pub mod Printed
-pub mod Sealing
-pub mod Front
 pub mod World
 pub mod Standing
 pub mod Answers
@@ -14,11 +7,7 @@ pub mod Holds
 pub mod Listing
 pub mod Accepted
 pub mod Taking
-pub mod Refusing
 pub mod Moves
-pub mod Asking
-pub mod Stands
-pub mod Submitting
 pub mod Calls
 pub mod Inside
 pub mod Sound

@@ -7,10 +7,10 @@ use Rattle.std.specs.Ordering.{nat_cmp}
 use Rattle.std.specs.Cmp.Lexicographic.{slice_cmp}
 use Rattle.std.specs.BTreeSet.{insert_key}
 use Rattle.entry_core.specs.Laws.{is_denied}
-use Rattle.entry_core.specs.declared.reply.Reply.{Reply}
-use Rattle.entry_core.specs.declared.reply.Reply.TheVariants.{Denied, Done, Failed, Names}
-use Rattle.world_core.specs.Event.{Fault, NoRequest}
-use Rattle.world_core.specs.Front.{Front, Pieced}
+use Rattle.store_core.specs.declared.reply.Reply.{Reply}
+use Rattle.store_core.specs.declared.reply.Reply.TheVariants.{Denied, Done, Failed, Names}
+use Rattle.world_front.specs.Event.{Fault, NoRequest}
+use Rattle.world_front.specs.Front.{Pieced, list_at}
 use Rattle.world_core.specs.World.{World}
 use Rattle.world_core.specs.Answers.{answer_at}
 
@@ -45,10 +45,6 @@ piece_ids p = range_with_len p.first p.count
 -- nothing until each piece has its answer
 abbrev pub listing_of : (ℕ → Option Reply) → Pieced → Option Reply
 listing_of answer p = option_map joined (all_of (map answer (piece_ids p)))
-
--- the list that begins with a request
-abbrev pub list_at : Front → ℕ → Option Pieced
-list_at front first = find (λ p. p.first == first) front.lists
 
 abbrev pub listing_at : World → ℕ → Result (Option Reply) Fault
 listing_at w first = listing_found (list_at w.front first)

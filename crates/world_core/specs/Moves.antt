@@ -10,13 +10,14 @@ use Rattle.map_core.specs.Intervals.{set_of}
 use Rattle.map_core.specs.declared.pool.Pool.{Pool}
 use Rattle.map_core.specs.declared.command.MapCommand.{MapCommand}
 use Rattle.map_core.specs.declared.command.MapCommand.TheVariants.{PoolCreate, OsdUp, OsdDown, OsdRestart}
-use Rattle.entry_core.specs.declared.sealed.GroupId.{GroupId}
+use Rattle.store_core.specs.declared.sealed.GroupId.{GroupId}
 use Rattle.whole_logs.specs.Each.{Each}
 use Rattle.suffix_core.specs.Group.{Group, group_step, last_set}
 use Rattle.suffix_core.specs.Group as group
 use Rattle.group_core.specs.Moves.{Prepared}
 use Rattle.group_types.specs.declared.fault.GroupFault.{GroupFault}
-use Rattle.world_core.specs.World.{Part, group_at, at_group, groups_of, members_of, begun_group}
+use Rattle.world_core.specs.World.{Part, group_at, at_group, members_of, begun_group}
+use Rattle.world_front.specs.Groups.{groups_of}
 
 -- one group after its part
 abbrev pub stepped_by : List Group → Part → List Group

@@ -2,10 +2,10 @@
 -- A world that is put together of parts.
 use Rattle.std.specs.Prelude.{◌≤◌, List, length, []}
 use Rattle.std.specs.List.{flat_map}
-use Rattle.entry_core.specs.Request.{Sealed}
-use Rattle.entry_core.specs.declared.entry.Entry.{Entry}
+use Rattle.store_core.specs.Request.{Sealed}
+use Rattle.store_core.specs.declared.entry.Entry.{Entry}
 use Rattle.suffix_core.specs.Group.{Group}
-use Rattle.world_core.specs.Front.{Front}
+use Rattle.world_front.specs.Front.{Front}
 use Rattle.world_core.specs.World.{World}
 use Rattle.world_core.specs.Sound.{IsSound}
 use Rattle.world_core.specs.declared.world.parts.WorldParts.{WorldParts}

@@ -4,12 +4,12 @@
 use Rattle.std.specs.Prelude.{◌≡◌, ℕ, ◌≤◌, ◌==◌, true, false, List, [], ◌∷◌, ◌++◌, Option, None, Some, Contains, length, filter, map}
 use Rattle.verdict_core.specs.Verdict.{report_of}
 use Rattle.verdict_core.specs.declared.request.Condition.{Condition}
-use Rattle.entry_core.specs.Request.{Sealed, target_of, needs_for}
-use Rattle.entry_core.specs.Deciding.{is_allowed_sealed, performed, store_of}
+use Rattle.store_core.specs.Request.{Sealed, target_of, needs_for}
+use Rattle.store_core.specs.Deciding.{is_allowed_sealed, performed, store_of}
 use Rattle.entry_core.specs.Log.{decide, ids, is_in, reply_in}
-use Rattle.entry_core.specs.declared.reply.Reply.{Reply}
-use Rattle.entry_core.specs.declared.reply.Reply.TheVariants.{Denied}
-use Rattle.entry_core.specs.declared.entry.Entry.{Entry}
+use Rattle.store_core.specs.declared.reply.Reply.{Reply}
+use Rattle.store_core.specs.declared.reply.Reply.TheVariants.{Denied}
+use Rattle.store_core.specs.declared.entry.Entry.{Entry}
 
 pub record Service : Type 0 where
   pub submitted : List Sealed  -- in order, each with the ticket, tick and view that it was sealed with

@@ -1,9 +1,9 @@
 -- Statement: contracts of public calls use it.
 -- A world as the service: which of its parts are seen, and which requests an event submits.
 use Rattle.std.specs.Prelude.{List, [], ◌∷◌, if◌then◌else◌, Result}
-use Rattle.entry_core.specs.Request.{Sealed}
-use Rattle.world_core.specs.Event.{Event, Told, Fault}
-use Rattle.world_core.specs.Front.{Front, front_step, sealed_by}
+use Rattle.store_core.specs.Request.{Sealed}
+use Rattle.world_front.specs.Event.{Event, Told, Fault}
+use Rattle.world_front.specs.Front.{Front, front_step, sealed_by}
 use Rattle.world_core.specs.World.{World, counts}
 use Rattle.world_core.specs.Answers.{answer_at}
 use Rattle.world_core.specs.Service.{Service}

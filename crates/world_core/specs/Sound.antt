@@ -8,20 +8,20 @@ use Rattle.map_core.specs.Map.{map_of}
 use Rattle.map_core.specs.Limits.{IsAccepted}
 use Rattle.map_core.specs.Intervals.{set_of, intervals_of}
 use Rattle.entry_core.specs.Locality.{group_for}
-use Rattle.entry_core.specs.Request.{Sealed}
-use Rattle.entry_core.specs.declared.sealed.GroupId.{GroupId}
+use Rattle.store_core.specs.Request.{Sealed}
+use Rattle.store_core.specs.declared.sealed.GroupId.{GroupId}
 use Rattle.whole_logs.specs.Each.{Each}
 use Rattle.whole_logs.specs.Asked.{IsAsked}
 use Rattle.suffix_core.specs.Group.{Group, Event, Submit, Deliver, Lose, Repeat, NewInterval, Restart, Kick, last_set, run, start}
 use Rattle.suffix_core.specs.Within.{IsReachedWithin}
-use Rattle.world_core.specs.Groups.{is_for}
-use Rattle.world_core.specs.Front.{Front}
-use Rattle.world_core.specs.World.{World, group_at, groups_of}
+use Rattle.world_front.specs.Groups.{is_for, groups_of}
+use Rattle.world_front.specs.Front.{Front}
+use Rattle.world_core.specs.World.{World, group_at}
 use Rattle.world_core.specs.Standing.{audit_in, IsMerged}
-use Rattle.world_core.specs.Stands.{InMap, IsSealedWell, FrontStands}
+use Rattle.world_front.specs.Stands.{InMap, IsSealedWell, FrontStands}
 use Rattle.world_core.specs.declared.audit.Run.{Run}
 use Rattle.world_core.specs.Inside.{world_of}
-use Rattle.world_core.specs.Submitting.{AreNew}
+use Rattle.world_front.specs.Submitting.{AreNew}
 
 -- ---- the front
 

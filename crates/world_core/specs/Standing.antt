@@ -1,16 +1,14 @@
 -- Statement: contracts of public calls use it.
 -- What every world keeps, whatever happens.
 use Rattle.std.specs.Prelude.{◌≡◌, ℕ, ◌<◌, ◌^◌, List, [], Some, None, Option, length}
-use Rattle.map_core.specs.State.{History}
-use Rattle.map_core.specs.Map.{map_of}
-use Rattle.map_core.specs.Refusal.{groups_in}
-use Rattle.entry_core.specs.declared.entry.Entry.{Entry}
-use Rattle.entry_core.specs.declared.sealed.GroupId.{GroupId}
+use Rattle.store_core.specs.declared.entry.Entry.{Entry}
+use Rattle.store_core.specs.declared.sealed.GroupId.{GroupId}
 use Rattle.whole_logs.specs.Each.{Each}
 use Rattle.whole_logs.specs.Asked.{IsAsked}
 use Rattle.suffix_core.specs.Group.{Group}
 use Rattle.entry_core.specs.Locality.{IsPlaced}
-use Rattle.world_core.specs.Merging.{part_of}
+use Rattle.world_front.specs.Groups.{group_count}
+use Rattle.world_front.specs.Merging.{part_of}
 use Rattle.world_core.specs.World.{World, group_at}
 
 -- what was decided in the group of a place
@@ -20,10 +18,6 @@ audit_in (Some g) = g.audit
 
 abbrev pub audit_at : GroupId → List Group → List Entry
 audit_at id groups = audit_in (group_at id groups)
-
--- how many groups a pool of the map has
-abbrev pub group_count : History → List ℕ → ℕ
-group_count history pool = groups_in (map_of history).pools pool
 
 -- each group's entries stand in the world's list in their order, and all its entries are of groups
 abbrev pub IsMerged : World → Type 0

@@ -4,7 +4,7 @@ use Rattle.std.specs.Prelude.{◌≡◌, ℕ, List, [], ◌∷◌, Bool, false, 
 use Rattle.std.specs.Option.{option_map_or}
 use Rattle.map_core.specs.declared.pool.Pool.{Pool}
 use Rattle.entry_core.specs.Locality.{group_for}
-use Rattle.entry_core.specs.Request.{Sealed}
+use Rattle.store_core.specs.Request.{Sealed}
 use Rattle.suffix_core.specs.Group.{Group, Submit, group_step, has_all_requests, refusal_of}
 use Rattle.suffix_core.specs.Reached.{IsReached}
 use Rattle.world_core.specs.Moves.{place_in}

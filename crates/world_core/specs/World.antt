@@ -1,7 +1,7 @@
 -- Statement: contracts of public calls use it.
 -- The world: the front, the groups, and what was decided.
 use Rattle.std.specs.Prelude.{ℕ, List, [], ◌∷◌, ◌++◌, Bool, true, false, if◌then◌else◌, Option, None, Some, Result, Ok, Err, length, drop, fold, map, unwrap_or}
-use Rattle.std.specs.List.{flat_map, range_with_len}
+use Rattle.std.specs.List.{flat_map}
 use Rattle.std.specs.Option.{option_map, option_or}
 use Rattle.grant_core.specs.Flat.{Table}
 use Rattle.place_core.specs.Placement.{numbers_of}
@@ -11,17 +11,17 @@ use Rattle.map_core.specs.Intervals.{set_of}
 use Rattle.map_core.specs.declared.pool.Pool.{Pool}
 use Rattle.map_core.specs.declared.command.MapCommand.{MapCommand}
 use Rattle.map_core.specs.declared.command.MapCommand.TheVariants.{PoolCreate, OsdUp, OsdDown, OsdRestart}
-use Rattle.entry_core.specs.Request.{Sealed}
-use Rattle.entry_core.specs.declared.entry.Entry.{Entry}
-use Rattle.entry_core.specs.declared.sealed.GroupId.{GroupId}
+use Rattle.store_core.specs.Request.{Sealed}
+use Rattle.store_core.specs.declared.entry.Entry.{Entry}
+use Rattle.store_core.specs.declared.sealed.GroupId.{GroupId}
 use Rattle.suffix_core.specs.Group.{Group, group_step, start}
 use Rattle.suffix_core.specs.Group as group
 use Rattle.group_types.specs.declared.fault.GroupFault.{GroupFault}
 use Rattle.group_types.specs.declared.fault.GroupFault.TheVariants as group_fault
-use Rattle.world_core.specs.Event.{Event, Map, Submit, ListNames, Deliver, Lose, Repeat, Kick, Told, Fault, OfGroup}
-use Rattle.world_core.specs.Front.{Front, first_front, front_step, front_refusal, sealed_by}
+use Rattle.world_front.specs.Event.{Event, Map, Submit, ListNames, Deliver, Lose, Repeat, Kick, Told, Fault, OfGroup}
+use Rattle.world_front.specs.Front.{Front, first_front, front_step, front_refusal, sealed_by}
 use Rattle.entry_core.specs.Locality.{group_for}
-use Rattle.world_core.specs.Groups.{is_same_group}
+use Rattle.world_front.specs.Groups.{is_same_group, groups_of}
 
 pub record World : Type 0 where
   pub front : Front
@@ -51,10 +51,6 @@ pub record Part : Type 0 where
 
 abbrev pub part : GroupId → group.Event → Part
 part id event = record { id = id; event = event }
-
--- the groups of a pool, by number
-abbrev pub groups_of : Pool → List GroupId
-groups_of pool = map (λ n. record { pool = pool.name; number = n }) (range_with_len 0 pool.pg_num)
 
 -- the acting set of a group
 abbrev pub members_of : MapState → GroupId → List ℕ

@@ -5,10 +5,9 @@ ghost use Rattle.suffix_core.specs.Group.{Deliver};
 ghost use Rattle.world_core.specs.Applying.{CalledAt, LosesFreely, StepsOrMemory, event_of, runs_from, told_call};
 
 use crate::audit::{Run, keep};
-use crate::event::Told;
-use crate::fault::WorldFault;
 use group_core::Group;
 use group_types::GroupFault;
+use world_front::{Told, WorldFault};
 
 /// What happens to one group.
 #[derive(Clone, Copy, Drop)]

@@ -3,19 +3,17 @@
 ghost use Rattle.std.specs.Prelude.{◌≡◌, ◌≤◌, ◌++◌, None, IfOk, IfErr, OnOk, OnErr};
 ghost use Rattle.map_core.specs.Map.{map_of, epoch_of, after};
 ghost use Rattle.map_core.specs.Refusal.{refusal};
-ghost use Rattle.world_core.specs.Event.{Map, OutOfMemory};
-ghost use Rattle.world_core.specs.Front.{front_step, told_of};
+ghost use Rattle.world_front.specs.Event.{Map, OutOfMemory};
+ghost use Rattle.world_front.specs.Front.{front_step, told_of};
 ghost use Rattle.world_core.specs.Moves.{made_by};
 ghost use Rattle.world_core.specs.World.{begun_group};
 
 use crate::after_command::members_after;
-use crate::event::Told;
-use crate::fault::WorldFault;
-use crate::front::Front;
 use entry_core::{GroupId, OutOfMemory};
 use group_core::Group;
 use map_core::{ClusterMap, MapCommand};
 use std::alloc::Global;
+use world_front::{Front, Told, WorldFault};
 
 /// Carries out a command on pools that the map does not refuse. The groups of a new pool are made first, then the map is
 /// changed, and then the groups are added. Where memory is refused, nothing changes.

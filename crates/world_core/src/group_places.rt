@@ -6,16 +6,16 @@ ghost use Rattle.entry_core.specs.Locality.{group_for};
 ghost use Rattle.suffix_core.specs.Group.{Group};
 ghost use Rattle.map_core.specs.Limits.{IsPool};
 ghost use Rattle.map_core.specs.Refusal.{acting_refusal, groups_in};
-ghost use Rattle.world_core.specs.Event.{OfMap};
-ghost use Rattle.world_core.specs.Front.{error_of};
+ghost use Rattle.world_front.specs.Event.{OfMap};
+ghost use Rattle.world_front.specs.Front.{error_of};
 ghost use Rattle.world_core.specs.Moves.{AreGroupsOf, IsAt};
 ghost use Rattle.world_core.specs.Moves as spec;
 ghost use Rattle.world_core.specs.Sound.{IsSealedFor};
 
-use crate::fault::WorldFault;
 use common_types::Name;
 use entry_core::{GroupId, Sealed};
 use map_core::{ClusterMap, Pool};
+use world_front::WorldFault;
 
 /// The place of a group among the groups of a map's pools: as many as the earlier pools have, and its number. It takes no
 /// memory, and a step for each pool up to the group's own, of which there are at most 32.

@@ -1,7 +1,7 @@
 //! The answers of a list's pieces, put together.
 
 ghost use Rattle.std.specs.Prelude.{◌≡◌, ◌+◌, ◌<◌, ◌%◌, [], None, IfOk, OnOk};
-ghost use Rattle.entry_core.specs.Request.{numbers};
+ghost use Rattle.store_core.specs.Request.{numbers};
 ghost use Rattle.world_core.specs.Answers.{answer_at};
 ghost use Rattle.world_core.specs.Joining.{reply_of, with_reply};
 ghost use Rattle.world_core.specs.Listing.{listing_of};

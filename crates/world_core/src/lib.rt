@@ -5,36 +5,21 @@
 #![tactic(auto)]
 
 mod after_command;
-mod asking;
 mod audit;
 mod calls;
 mod creating;
-mod event;
-mod fault;
-mod fault_text;
-mod front;
 mod group_places;
 mod joining;
-mod lists;
 mod moves;
 mod name_set;
-mod ops;
 mod running;
-mod sealing;
-mod session;
-mod submissions;
 mod taking;
-mod users;
 mod world;
 
-pub use asking::{are_names, is_namespace};
-pub use event::{Ask, AuthCommand, Event, Told};
-pub use fault::WorldFault;
-pub use front::MOST_SESSIONS;
 pub use group_places::place_of;
-pub use ops::Ops;
 pub use running::run;
-pub use sealing::{seal_piece, seal_vector};
-pub use session::{Pieced, Session};
-pub use users::change_users;
 pub use world::{World, WorldParts};
+pub use world_front::{
+    Ask, AuthCommand, Event, MOST_SESSIONS, Ops, Pieced, Session, Told, WorldFault, are_names,
+    change_users, is_namespace, seal_piece, seal_vector,
+};

@@ -12,23 +12,21 @@ ghost use Rattle.whole_logs.specs.Each.{Each};
 ghost use Rattle.suffix_core.specs.Group.{last_set, refusal_of};
 ghost use Rattle.group_core.specs.Moves.{event_of};
 ghost use Rattle.group_types.specs.declared.fault.GroupFault.TheVariants as group_fault;
-ghost use Rattle.world_core.specs.Event.{Map, OfGroup, OutOfMemory};
-ghost use Rattle.world_core.specs.Front.{front_step, front_refusal, told_of};
+ghost use Rattle.world_front.specs.Event.{Map, OfGroup, OutOfMemory};
+ghost use Rattle.world_front.specs.Front.{front_step, front_refusal, told_of};
 ghost use Rattle.world_core.specs.Moves.{AreGroupsOf, stepped, moves_groups, move_of, all_moved, first_refusal, prepared, all_prepared, given_up, committed};
 ghost use Rattle.world_core.specs.Moves as spec;
-ghost use Rattle.world_core.specs.Refusing.{RefusedOrMemory};
+ghost use Rattle.world_front.specs.Refusing.{RefusedOrMemory};
 ghost use Rattle.world_core.specs.World.{parts_of, parts_refusal, created_by};
 
 use crate::after_command::members_after;
 use crate::creating::change_pools;
-use crate::event::Told;
-use crate::fault::WorldFault;
-use crate::front::Front;
 use entry_core::{GroupId, OutOfMemory};
 use group_core::{Group, PreparedGroup};
 use group_types::{GroupFault, GroupMove};
 use map_core::{ClusterMap, MapCommand};
 use std::alloc::AllocError;
+use world_front::{Front, Told, WorldFault};
 
 /// Carries out a command on the map. All groups move with it, or none.
 ///

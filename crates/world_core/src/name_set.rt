@@ -3,7 +3,7 @@
 ghost use Rattle.std.specs.Prelude.{◌≡◌, [], IfOk, OnOk};
 ghost use Rattle.std.specs.BTreeSet.{insert_key};
 ghost use Rattle.world_core.specs.Joining.{with_names};
-ghost use Rattle.entry_core.specs.Store.{bytes_cmp};
+ghost use Rattle.store_core.specs.Store.{bytes_cmp};
 
 use common_types::Name;
 use entry_core::{Items, OutOfMemory};

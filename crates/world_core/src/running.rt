@@ -2,16 +2,15 @@
 
 ghost use Rattle.std.specs.Prelude.{◌≡◌, ◌≤◌, ◌⊎◌, IfOk, IfErr};
 ghost use Rattle.world_core.specs.Holds.{AreAccepted, Holds};
-ghost use Rattle.world_core.specs.Front.{first_front};
+ghost use Rattle.world_front.specs.Front.{first_front};
 ghost use Rattle.world_core.specs.Service.{Reaches, begun};
 ghost use Rattle.world_core.specs.Serving.{service_of, submitted_through};
 ghost use Rattle.world_core.specs.Calls.{AreUnrefused, IsFirstRefused};
 
-use crate::event::Event;
-use crate::fault::WorldFault;
 use crate::world::World;
 use grant_core::ProfileTable;
 use std::alloc::Global;
+use world_front::{Event, WorldFault};
 
 /// The world that these events make, one after another, of 1 to 16 daemons.
 ///

@@ -2,21 +2,21 @@
 
 ghost use Rattle.std.specs.Prelude.{◌≡◌, ◌⊎◌, ◌<◌, List, true, false, length, IfOk, IfErr, OnOk, OnErr};
 ghost use Rattle.std.specs.List.{list_any};
-ghost use Rattle.entry_core.specs.Request as request;
+ghost use Rattle.store_core.specs.Request as request;
 ghost use Rattle.whole_logs.specs.Each.{Each};
 ghost use Rattle.suffix_core.specs.Group as group;
 ghost use Rattle.group_types.specs.declared.fault.GroupFault.TheVariants as group_fault;
 ghost use Rattle.map_core.specs.Map.{map_of};
-ghost use Rattle.world_core.specs.Event as events;
+ghost use Rattle.world_front.specs.Event as events;
 ghost use Rattle.world_core.specs.Taking.{Takes, TakesAll, is_full_at, places_for};
 
-use crate::fault::WorldFault;
 use crate::group_places::place_for;
 use entry_core::{Items, OutOfMemory, Sealed, TryCopy};
 use group_core::Group;
 use group_types::GroupFault;
 use map_core::ClusterMap;
 use std::alloc::{AllocError, Global};
+use world_front::WorldFault;
 
 /// Where the groups of requests stand.
 pub(crate) fn places(

@@ -2,14 +2,14 @@
 
 ghost use Rattle.std.specs.Prelude.{◌≡◌, ◌≤◌, ◌++◌, [], ◌∷◌, ℕ, List, true, false, Ok, Some, IfOk, IsOkAnd, IsSomeAnd};
 ghost use Rattle.grant_core.specs.Flat.{Table};
-ghost use Rattle.entry_core.specs.declared.sealed.GroupId.{GroupId};
+ghost use Rattle.store_core.specs.declared.sealed.GroupId.{GroupId};
 ghost use Rattle.suffix_core.specs.Recovery.{is_ready};
-ghost use Rattle.world_core.specs.Event as events;
-ghost use Rattle.world_core.specs.Front.{told_of, group_refusal};
+ghost use Rattle.world_front.specs.Event as events;
+ghost use Rattle.world_front.specs.Front.{told_of, group_refusal};
 ghost use Rattle.world_core.specs.World.{first_world, world_step, refusal_of, counts, group_at};
 ghost use Rattle.world_core.specs.Holds.{Holds};
 ghost use Rattle.common_types.specs.Refused.{RefusedExactly};
-ghost use Rattle.world_core.specs.Refusing.{RefusedOrMemory};
+ghost use Rattle.world_front.specs.Refusing.{RefusedOrMemory};
 ghost use Rattle.world_core.specs.Calls.{KeepsPromises};
 ghost use Rattle.world_core.specs.Service.{Step, begun};
 ghost use Rattle.world_core.specs.Serving.{service_of, submitted_by};
@@ -19,12 +19,8 @@ mod parts;
 
 use crate::audit::{Run, collect};
 use crate::calls::{GroupCall, call_at, told};
-use crate::event::{Ask, AuthCommand, Event, Told};
-use crate::fault::WorldFault;
-use crate::front::Front;
 use crate::group_places::place_of;
 use crate::moves::apply_map;
-use crate::ops::Ops;
 use crate::taking::{take_back_all, take_requests};
 use auth_db::AuthDb;
 use common_types::Name;
@@ -37,6 +33,7 @@ use peer_core::Sent;
 use std::alloc::Global;
 use std::marker::Model;
 use std::slice;
+use world_front::{Ask, AuthCommand, Event, Front, Ops, Told, WorldFault};
 
 /// Users, a map, sessions and groups, with what was decided (this project's profile, over the commands of the Ceph manual
 /// and the placement groups of the RADOS paper).
@@ -181,7 +178,7 @@ impl World {
 // One event each.
 impl World {
     ghost use Rattle.std.specs.Prelude.{Err};
-    ghost use Rattle.world_core.specs.Event.{Auth, Map, Open, Renew, Close, Submit, ListNames};
+    ghost use Rattle.world_front.specs.Event.{Auth, Map, Open, Renew, Close, Submit, ListNames};
     ghost use Rattle.world_core.specs.Applying.{Applies, LosesExactly, event_for};
 
     /// Carries out an event.

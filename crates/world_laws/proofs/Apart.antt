@@ -10,25 +10,25 @@ use Rattle.map_core.specs.declared.command.MapCommand.{MapCommand}
 use Rattle.map_core.specs.declared.command.MapCommand.TheVariants.{PoolCreate, AppEnable, AppSet, AppRm, OsdUp, OsdDown, OsdRestart}
 use Rattle.map_core.proofs.Current.{after_push}
 use Rattle.entry_core.specs.Locality.{group_for}
-use Rattle.entry_core.specs.Request.{Sealed}
-use Rattle.entry_core.specs.declared.sealed.GroupId.{GroupId}
+use Rattle.store_core.specs.Request.{Sealed}
+use Rattle.store_core.specs.declared.sealed.GroupId.{GroupId}
 use Rattle.whole_logs.specs.Each.{Each}
 use Rattle.whole_logs.specs.Asked.{IsAsked}
 use Rattle.suffix_core.specs.Group.{Group, group_step, submitted, is_submitted, has_all_requests}
 use Rattle.suffix_core.specs.Group as group
 use Rattle.group_types.specs.declared.fault.GroupFault.TheVariants as group_fault
-use Rattle.world_core.specs.declared.event.Event.TheVariants.{Map}
-use Rattle.world_core.specs.Groups.{is_same_group, is_for}
-use Rattle.world_core.specs.Front.{Front, requests_of, requests_in, front_step}
-use Rattle.world_core.specs.World.{World, group_at, groups_of, members_of, created_by}
+use Rattle.world_front.specs.declared.event.Event.TheVariants.{Map}
+use Rattle.world_front.specs.Groups.{is_same_group, is_for, groups_of}
+use Rattle.world_front.specs.Front.{Front, requests_of, requests_in, front_step}
+use Rattle.world_core.specs.World.{World, group_at, members_of, created_by}
 use Rattle.world_core.specs.Moves.{moves_groups, move_of}
-use Rattle.world_core.specs.Submitting.{AreNew}
+use Rattle.world_front.specs.Submitting.{AreNew}
 use Rattle.world_core.specs.Sound.{IsSealedFor, Submits, Stands, IsWithin, GroupKept, IsSound}
-use Rattle.world_core.proofs.Merge.{group_refl, number_refl}
+use Rattle.world_front.proofs.Merge.{group_refl, number_refl}
 use Rattle.world_core.proofs.Standing.{step_is, stands_step}
 use Rattle.world_core.proofs.Acting.{each_join, each_weaker, group_at_is, group_at_each}
-use Rattle.world_core.proofs.Pools.{in_later}
-use Rattle.world_core.proofs.Numbers.{asked_later}
+use Rattle.world_front.proofs.Pools.{in_later}
+use Rattle.world_front.proofs.Numbers.{asked_later}
 use Rattle.world_core.proofs.Sets.{IsMap, members_fit, lies_within}
 use Rattle.world_core.proofs.Requests.{facts, message_facts, submit_facts, interval_facts, restart_facts}
 use Rattle.world_core.proofs.Intervals.{later, sets_after}

@@ -7,8 +7,8 @@ use Rattle.std.specs.Option.{option_map, option_or}
 use Rattle.std.proofs.lemmas.List.Sums.{fold-append}
 use Rattle.entry_core.specs.Locality.{group_for}
 use Rattle.entry_core.specs.Log.{is_in}
-use Rattle.entry_core.specs.Request.{Sealed}
-use Rattle.entry_core.specs.declared.sealed.GroupId.{GroupId}
+use Rattle.store_core.specs.Request.{Sealed}
+use Rattle.store_core.specs.declared.sealed.GroupId.{GroupId}
 use Rattle.suffix_core.specs.Types.{Sent, Party, Client, Osd}
 use Rattle.whole_logs.specs.Each.{Each}
 use Rattle.group_types.specs.Answers.{Answer}
@@ -19,20 +19,19 @@ use Rattle.suffix_core.specs.Budget.{budget, settled_group}
 use Rattle.group_laws.specs.Recovery.{lost_all, Recovers}
 use Rattle.whole_laws.specs.Recovery.{IsLoss}
 use Rattle.group_laws.proofs.Losses.{all_lost, can_lose}
-use Rattle.group_laws.proofs.Recovery.{ready_from}
-use Rattle.group_laws.proofs.Recovery.{recovers}
+use Rattle.group_laws.proofs.Recovery.{ready_from, recovers}
 use Rattle.group_laws.proofs.SameGroups.{same_settle}
-use Rattle.world_core.specs.declared.event.Event.{Event}
-use Rattle.world_core.specs.declared.event.Event.TheVariants.{Deliver, Lose, Repeat, Kick}
-use Rattle.world_core.specs.declared.fault.WorldFault.TheVariants.{Group as OfGroup}
-use Rattle.world_core.specs.Groups.{is_same_group, is_for}
-use Rattle.world_core.specs.Front.{Front, front_step, front_refusal, group_refusal, requests_of, requests_in}
+use Rattle.world_front.specs.declared.event.Event.{Event}
+use Rattle.world_front.specs.declared.event.Event.TheVariants.{Deliver, Lose, Repeat, Kick}
+use Rattle.world_front.specs.declared.fault.WorldFault.TheVariants.{Group as OfGroup}
+use Rattle.world_front.specs.Groups.{is_same_group, is_for}
+use Rattle.world_front.specs.Front.{Front, front_step, front_refusal, group_refusal, requests_of, requests_in}
 use Rattle.world_core.specs.World.{World, part, group_at, parts_of, created_by, world_step, world_after, accepts, is_accepted, refused_in, parts_refusal}
 use Rattle.world_core.specs.Holds.{events_in, group_step_alone, AcceptedFrom}
 use Rattle.world_core.specs.Answers.{answer_in, answer_to, answer_at}
 use Rattle.world_laws.specs.Recovery.{wire_in, wire_at, if_sent, deliveries_of, deliveries_left, losses, recovery, LosesAll, AnswersAll, KickRecovers, LossesLoseAll}
-use Rattle.world_core.proofs.Merge.{group_refl}
-use Rattle.world_core.proofs.Bytes.{number_same}
+use Rattle.world_front.proofs.Merge.{group_refl}
+use Rattle.world_front.proofs.Bytes.{number_same}
 use Rattle.world_core.proofs.Holding.{step_at}
 use Rattle.world_core.proofs.Requests.{IsMessage}
 use Rattle.world_laws.proofs.PlaceGroups.{groups_are_found_by_place}

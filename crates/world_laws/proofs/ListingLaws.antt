@@ -8,35 +8,35 @@ use Rattle.std.proofs.lemmas.List.FromFn.{length-map-range_with_len}
 use Rattle.grant_core.specs.Flat.{Table}
 use Rattle.map_core.specs.State.{History}
 use Rattle.map_core.specs.declared.command.MapCommand.{MapCommand}
-use Rattle.entry_core.specs.Request.{Sealed, Listing}
-use Rattle.entry_core.specs.Deciding.{store_of, is_allowed_sealed, answer_on, answered as replied, performed}
+use Rattle.store_core.specs.Request.{Sealed, Listing}
+use Rattle.store_core.specs.Deciding.{store_of, is_allowed_sealed, answer_on, answered as replied, performed}
 use Rattle.entry_core.specs.Log.{Legal, LegalFrom, decide, is_in, ids}
 use Rattle.entry_core.specs.Laws.{is_denied}
-use Rattle.entry_core.specs.declared.entry.Entry.{Entry}
-use Rattle.entry_core.specs.declared.reply.Reply.{Reply}
-use Rattle.entry_core.specs.declared.reply.Reply.TheVariants.{Names}
+use Rattle.store_core.specs.declared.entry.Entry.{Entry}
+use Rattle.store_core.specs.declared.reply.Reply.{Reply}
+use Rattle.store_core.specs.declared.reply.Reply.TheVariants.{Names}
 use Rattle.whole_logs.specs.Each.{Each}
 use Rattle.suffix_core.specs.Group.{submitted}
 use Rattle.whole_logs.specs.Asked.{IsAsked}
 use Rattle.whole_logs.proofs.Audits.{legal_rest}
-use Rattle.world_core.specs.declared.event.Ask.{Ask}
-use Rattle.world_core.specs.declared.event.Event.{Event}
-use Rattle.world_core.specs.declared.event.Event.TheVariants.{Auth, Map, Open, Renew, Close, Submit, List as ListNames, Deliver, Lose, Repeat, Kick}
-use Rattle.world_core.specs.declared.fault.WorldFault.{WorldFault as Fault}
-use Rattle.world_core.specs.declared.fault.WorldFault.TheVariants.{BadObjectName}
-use Rattle.world_core.specs.Front.{Front, Asker, ◌>>=◌, refuse_if, if_ok, asker_of, is_namespace, id_of, sealed_of, pieces_of, requests_of, requests_in, sealed_by, listed, front_step}
-use Rattle.world_core.specs.declared.session.Pieced.{Pieced}
+use Rattle.world_front.specs.declared.event.Ask.{Ask}
+use Rattle.world_front.specs.declared.event.Event.{Event}
+use Rattle.world_front.specs.declared.event.Event.TheVariants.{Auth, Map, Open, Renew, Close, Submit, List as ListNames, Deliver, Lose, Repeat, Kick}
+use Rattle.world_front.specs.declared.fault.WorldFault.{WorldFault as Fault}
+use Rattle.world_front.specs.declared.fault.WorldFault.TheVariants.{BadObjectName}
+use Rattle.world_front.specs.Front.{Front, Asker, ◌>>=◌, refuse_if, if_ok, asker_of, is_namespace, id_of, sealed_of, pieces_of, requests_of, requests_in, sealed_by, listed, front_step}
+use Rattle.world_front.specs.declared.session.Pieced.{Pieced}
 use Rattle.world_core.specs.World.{World, world_step, first_world, world_after}
 use Rattle.world_core.specs.Standing.{HasNumbers}
 use Rattle.world_core.specs.Answers.{answer_at, IsAnswered}
 use Rattle.world_core.specs.Listing.{sorted, names_in, consed, all_of, joined, listing_of}
 use Rattle.world_laws.specs.Pieces.{objects_of}
 use Rattle.world_laws.specs.ListingLaws.{HasPieces, ListsHavePieces, before_of, names_at, denial, IsComplete, KeepsObjects, IsUnchanged, IsListing, ListingsAreTold, AcceptedListings}
-use Rattle.world_core.proofs.Bytes.{number_same}
-use Rattle.world_core.specs.Stands.{InMap, FrontStands}
-use Rattle.world_core.proofs.Pools.{in_later, counted}
+use Rattle.world_front.proofs.Bytes.{number_same}
+use Rattle.world_front.specs.Stands.{InMap, FrontStands}
+use Rattle.world_front.proofs.Pools.{in_later, counted}
 use Rattle.world_core.proofs.Acting.{each_join, each_weaker}
-use Rattle.world_core.proofs.Fronts.{Made, asker_made, bind_ok, front_stands}
+use Rattle.world_front.proofs.Fronts.{Made, asker_made, bind_ok, front_stands}
 use Rattle.world_core.proofs.Worlds.{world_stands, world_legal, more_submitted, first_stands, found_later}
 use Rattle.world_core.proofs.Replied.{answers_are_decided}
 use Rattle.world_laws.proofs.Listings.{reply_names, same_replies, none_denied, names_told, pieces_are_the_namespace}

@@ -13,21 +13,21 @@ use Rattle.std.specs.FinMap.{keys, entries, entries_sorted, slice_cmp-IsAntisymm
 use Rattle.std.specs.FinMap.Entries.{find, put, by_order, below_all, is_sorted, where_key, is_sorted-put, is_sorted-where_key, find-put, same_entries}
 use Rattle.place_core.specs.Placement.{fnv, group_of}
 use Rattle.object_core.specs.Content.{Content}
-use Rattle.entry_core.specs.Request.{Sealed, Listing, target_of, needs_for}
-use Rattle.entry_core.specs.Store.{Store, ObjectName, name_cmp, bytes_cmp}
-use Rattle.entry_core.specs.Deciding.{names_in, answered, performed, answer_on, is_allowed_sealed, store_of}
+use Rattle.store_core.specs.Request.{Sealed, Listing, target_of, needs_for}
+use Rattle.store_core.specs.Store.{Store, ObjectName, name_cmp, bytes_cmp}
+use Rattle.store_core.specs.Deciding.{names_in, answered, performed, answer_on, is_allowed_sealed, store_of}
 use Rattle.entry_core.specs.Log.{decide}
 use Rattle.entry_core.specs.Laws.{is_denied}
-use Rattle.entry_core.specs.declared.entry.Entry.{Entry}
-use Rattle.entry_core.specs.declared.reply.Reply.{Reply}
-use Rattle.entry_core.specs.declared.reply.Reply.TheVariants.{Denied, Names}
+use Rattle.store_core.specs.declared.entry.Entry.{Entry}
+use Rattle.store_core.specs.declared.reply.Reply.{Reply}
+use Rattle.store_core.specs.declared.reply.Reply.TheVariants.{Denied, Names}
 use Rattle.verdict_core.specs.Verdict.{report_of}
 use Rattle.whole_logs.specs.Each.{Each}
 use Rattle.world_core.specs.Listing.{sorted, joined, names_in as names_shown}
 use Rattle.world_laws.specs.Pieces.{is_there, objects_of, IsPiece, PiecesAreTheNamespace, PiecesAnswerTheNamespace}
-use Rattle.world_core.proofs.Merge.{number_refl}
-use Rattle.world_core.proofs.Bytes.{bytes_same, both_true}
-use Rattle.world_core.proofs.Places.{true_not_false, all_pass}
+use Rattle.world_front.proofs.Merge.{number_refl}
+use Rattle.world_front.proofs.Bytes.{bytes_same, both_true}
+use Rattle.world_front.proofs.Places.{true_not_false, all_pass}
 
 -- the names that pass a test
 keys_where : (p : ObjectName → Bool) (es : List (ObjectName × Content)) → map (λ e. e.0) (where_key name_cmp p es) ≡ filter p (map (λ e. e.0) es)

@@ -13,19 +13,19 @@ use Rattle.map_core.specs.declared.command.MapCommand.{MapCommand}
 use Rattle.map_core.specs.declared.command.MapCommand.TheVariants.{PoolCreate, AppEnable, AppSet, AppRm, OsdUp, OsdDown, OsdRestart}
 use Rattle.map_core.proofs.Current.{after_push}
 use Rattle.map_core.proofs.Acceptance.{all_fail, not_false}
-use Rattle.entry_core.specs.declared.sealed.GroupId.{GroupId}
+use Rattle.store_core.specs.declared.sealed.GroupId.{GroupId}
 use Rattle.suffix_core.specs.Group.{Group, group_step}
-use Rattle.world_core.specs.declared.event.Event.{Event}
-use Rattle.world_core.specs.declared.event.Event.TheVariants.{Auth, Map, Open, Renew, Close, Submit, List as ListNames, Deliver, Lose, Repeat, Kick}
-use Rattle.world_core.specs.declared.fault.WorldFault.TheVariants.{Map as OfMap}
-use Rattle.world_core.specs.Groups.{is_same_group}
-use Rattle.world_core.specs.Front.{Front, front_step, group_refusal}
-use Rattle.world_core.specs.World.{World, Part, first_world, group_at, at_group, groups_of, begun_group, act, acted, parts_of, created_by, world_step, world_after}
+use Rattle.world_front.specs.declared.event.Event.{Event}
+use Rattle.world_front.specs.declared.event.Event.TheVariants.{Auth, Map, Open, Renew, Close, Submit, List as ListNames, Deliver, Lose, Repeat, Kick}
+use Rattle.world_front.specs.declared.fault.WorldFault.TheVariants.{Map as OfMap}
+use Rattle.world_front.specs.Groups.{is_same_group, groups_of}
+use Rattle.world_front.specs.Front.{Front, front_step, group_refusal}
+use Rattle.world_core.specs.World.{World, Part, first_world, group_at, at_group, begun_group, act, acted, parts_of, created_by, world_step, world_after}
 use Rattle.world_laws.specs.Places.{places_of, HasPlaces, EveryPlaceHasItsGroup, PlacesStay, IsPlace, HasGroup, GroupsAreFoundByPlace}
 use Rattle.world_core.proofs.Standing.{step_is}
 use Rattle.world_core.proofs.Acting.{group_at_is}
-use Rattle.world_core.proofs.Pools.{found_in}
-use Rattle.world_core.proofs.Places.{places_once}
+use Rattle.world_front.proofs.Pools.{found_in}
+use Rattle.world_front.proofs.Places.{places_once}
 use Rattle.world_core.proofs.Limits.{wrapped_none, once}
 use Rattle.world_core.specs.Sound.{FrontKept, WorldKept, GroupKept}
 use Rattle.world_laws.proofs.AcceptedLaws.{accepted_kept}

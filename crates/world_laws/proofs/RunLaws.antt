@@ -5,17 +5,17 @@ use Rattle.std.specs.Option.{option_map}
 use Rattle.std.proofs.lemmas.List.{take-append-le, drop-append-le, drop_all}
 use Rattle.std.proofs.lemmas.Grind.{flat_map-append}
 use Rattle.std.proofs.lemmas.Bool.{ltb-true, lt-ltb}
-use Rattle.entry_core.specs.declared.entry.Entry.{Entry}
-use Rattle.entry_core.specs.declared.sealed.GroupId.{GroupId}
+use Rattle.store_core.specs.declared.entry.Entry.{Entry}
+use Rattle.store_core.specs.declared.sealed.GroupId.{GroupId}
 use Rattle.whole_logs.specs.Each.{Each}
 use Rattle.whole_logs.specs.History.{Begins}
 use Rattle.suffix_core.specs.Group.{Group, Event, group_step}
 use Rattle.suffix_core.proofs.Additions.{audit_grows}
-use Rattle.world_core.specs.Groups.{is_same_group}
+use Rattle.world_front.specs.Groups.{is_same_group}
 use Rattle.world_core.specs.World.{World, Part, group_at, act, decided_in, created_by}
 use Rattle.world_core.specs.Standing.{audit_in, audit_at}
 use Rattle.world_laws.specs.Audit.{Run, entries_of, told_by, Fits, run_of, RunsTell}
-use Rattle.world_core.proofs.Merge.{same_group}
+use Rattle.world_front.proofs.Merge.{same_group}
 use Rattle.world_core.proofs.Standing.{step_is}
 use Rattle.world_core.proofs.Acting.{group_at_self, group_at_other, each_join, each_weaker}
 use Rattle.world_core.proofs.Worlds.{created_new, joined_audits}

@@ -3,15 +3,15 @@ use Rattle.std.proofs.Common.{◌≡◌, ◌∙◌, ℕ, ◌+◌, ◌<◌, ◌�
 use Rattle.std.specs.Prelude.{Contains, filter}
 use Rattle.std.proofs.lemmas.List.{get_or_append_left}
 use Rattle.verdict_core.specs.Verdict.{report_of}
-use Rattle.entry_core.specs.Request.{Sealed, target_of, needs_for}
-use Rattle.entry_core.specs.Deciding.{answer_on, answered, is_allowed_sealed, performed, store_of}
+use Rattle.store_core.specs.Request.{Sealed, target_of, needs_for}
+use Rattle.store_core.specs.Deciding.{answer_on, answered, is_allowed_sealed, performed, store_of}
 use Rattle.entry_core.specs.Log.{decide, ids, is_in, reply_in}
 use Rattle.entry_core.specs.Laws.{is_denied, is_done}
-use Rattle.entry_core.specs.declared.reply.Reply.{Reply}
-use Rattle.entry_core.specs.declared.reply.Reply.TheVariants.{Denied}
-use Rattle.entry_core.specs.declared.entry.Entry.{Entry}
+use Rattle.store_core.specs.declared.reply.Reply.{Reply}
+use Rattle.store_core.specs.declared.reply.Reply.TheVariants.{Denied}
+use Rattle.store_core.specs.declared.entry.Entry.{Entry}
 use Rattle.entry_core.proofs.Lawful.{verdict_is_sealed, refusals_leave_the_store}
-use Rattle.world_core.proofs.Bytes.{number_same}
+use Rattle.world_front.proofs.Bytes.{number_same}
 use Rattle.world_core.specs.Service.{Service, begun, AreNew, AreDecided, Step, Reaches, IsRight, ServiceKeepsItsWord, Grows, ServiceGrows}
 
 -- ---- one more

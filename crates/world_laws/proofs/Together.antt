@@ -11,28 +11,28 @@ use Rattle.map_core.specs.declared.pool.Pool.{Pool}
 use Rattle.map_core.specs.declared.command.MapCommand.{MapCommand}
 use Rattle.map_core.proofs.Kept.{pools_differ}
 use Rattle.entry_core.specs.Locality.{group_for}
-use Rattle.entry_core.specs.Request.{Sealed}
-use Rattle.entry_core.specs.declared.entry.Entry.{Entry}
-use Rattle.entry_core.specs.declared.sealed.GroupId.{GroupId}
+use Rattle.store_core.specs.Request.{Sealed}
+use Rattle.store_core.specs.declared.entry.Entry.{Entry}
+use Rattle.store_core.specs.declared.sealed.GroupId.{GroupId}
 use Rattle.whole_logs.specs.Each.{Each}
 use Rattle.whole_logs.specs.Asked.{IsAsked}
 use Rattle.suffix_core.specs.Group.{Group, submitted, is_submitted}
-use Rattle.world_core.specs.Groups.{is_same_group, is_for}
-use Rattle.world_core.specs.declared.session.Session.{Session}
-use Rattle.world_core.specs.Stands.{next_at, IsGiven, IsSealedWell, FrontStands}
+use Rattle.world_front.specs.Groups.{is_same_group, is_for, groups_of}
+use Rattle.world_front.specs.declared.session.Session.{Session}
+use Rattle.world_front.specs.Stands.{next_at, IsGiven, IsSealedWell, FrontStands}
 use Rattle.world_core.specs.Standing.{audit_in, audit_at}
-use Rattle.world_core.specs.Merging.{part_of}
-use Rattle.world_core.specs.World.{World, group_at, groups_of}
+use Rattle.world_front.specs.Merging.{part_of}
+use Rattle.world_core.specs.World.{World, group_at}
 use Rattle.world_core.specs.Sound.{IsSealedFor, FrontKept, Stands, GroupKept, IsSound}
-use Rattle.world_core.specs.Submitting.{AreNew}
-use Rattle.world_core.proofs.NewRequests.{new_joined}
+use Rattle.world_front.specs.Submitting.{AreNew}
+use Rattle.world_front.proofs.NewRequests.{new_joined}
 use Rattle.world_core.specs.Parts.{requests_of, decided_of, front_of, FitTogether}
 use Rattle.world_core.specs.declared.world.parts.WorldParts.{WorldParts}
-use Rattle.world_core.proofs.Merge.{same_group, group_refl}
-use Rattle.world_core.proofs.Bytes.{number_same}
+use Rattle.world_front.proofs.Merge.{same_group, group_refl}
+use Rattle.world_front.proofs.Bytes.{number_same}
 use Rattle.world_core.proofs.Standing.{found_each, stands_asked}
 use Rattle.world_core.proofs.Acting.{each_join, each_weaker, group_at_is, group_at_each}
-use Rattle.world_core.proofs.Places.{places_once}
+use Rattle.world_front.proofs.Places.{places_once}
 use Rattle.world_core.proofs.Limits.{named_once, few_submissions}
 use Rattle.world_core.proofs.GroupsOf.{HasPlace, all_places, at_place}
 use Rattle.world_core.proofs.Sounds.{ids_of}

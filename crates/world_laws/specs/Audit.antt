@@ -2,12 +2,12 @@
 -- The decided entries, told by where they stand in the groups' own lists: a world need not store them twice.
 use Rattle.std.specs.Prelude.{◌≡◌, ℕ, ◌≤◌, ◌-◌, List, [], ◌∷◌, ◌++◌, Option, None, Some, if◌then◌else◌, nat_lt, length, take, drop}
 use Rattle.std.specs.List.{flat_map}
-use Rattle.entry_core.specs.declared.entry.Entry.{Entry}
-use Rattle.entry_core.specs.declared.sealed.GroupId.{GroupId}
+use Rattle.store_core.specs.declared.entry.Entry.{Entry}
+use Rattle.store_core.specs.declared.sealed.GroupId.{GroupId}
 use Rattle.whole_logs.specs.Each.{Each}
 use Rattle.suffix_core.specs.Group.{Group, group_step}
 use Rattle.suffix_core.specs.Group as group
-use Rattle.world_core.specs.declared.event.Event.{Event}
+use Rattle.world_front.specs.declared.event.Event.{Event}
 use Rattle.world_core.specs.World.{World, Part, group_at, act, created_by}
 use Rattle.world_core.specs.Standing.{audit_at}
 

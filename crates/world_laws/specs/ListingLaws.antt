@@ -4,22 +4,23 @@ use Rattle.std.specs.Prelude.{◌≡◌, ℕ, ◌+◌, ◌<◌, ◌≤◌, ◌==
 use Rattle.std.specs.List.{flat_map, range_with_len}
 use Rattle.grant_core.specs.Flat.{Table}
 use Rattle.verdict_core.specs.Verdict.{report_of}
-use Rattle.entry_core.specs.Request.{Sealed, Listing, target_of, needs_for}
-use Rattle.entry_core.specs.Deciding.{store_of, is_allowed_sealed, names_in as names_decided}
+use Rattle.store_core.specs.Request.{Sealed, Listing, target_of, needs_for}
+use Rattle.store_core.specs.Deciding.{store_of, is_allowed_sealed, names_in as names_decided}
 use Rattle.entry_core.specs.Log.{is_in, ids}
-use Rattle.entry_core.specs.declared.entry.Entry.{Entry}
-use Rattle.entry_core.specs.declared.reply.Reply.{Reply}
-use Rattle.entry_core.specs.declared.reply.Reply.TheVariants.{Denied, Names}
+use Rattle.store_core.specs.declared.entry.Entry.{Entry}
+use Rattle.store_core.specs.declared.reply.Reply.{Reply}
+use Rattle.store_core.specs.declared.reply.Reply.TheVariants.{Denied, Names}
 use Rattle.whole_logs.specs.Each.{Each}
 use Rattle.suffix_core.specs.Group.{submitted}
-use Rattle.world_core.specs.declared.event.Event.{Event}
-use Rattle.world_core.specs.Front.{Front}
-use Rattle.world_core.specs.declared.session.Pieced.{Pieced}
+use Rattle.world_front.specs.declared.event.Event.{Event}
+use Rattle.world_front.specs.Front.{Front, list_at}
+use Rattle.world_front.specs.declared.session.Pieced.{Pieced}
 use Rattle.world_core.specs.World.{World, world_after}
-use Rattle.world_core.specs.Standing.{HasNumbers, group_count}
+use Rattle.world_core.specs.Standing.{HasNumbers}
+use Rattle.world_front.specs.Groups.{group_count}
 use Rattle.world_core.specs.Answers.{answer_at}
 use Rattle.world_core.specs.Holds.{AreAccepted}
-use Rattle.world_core.specs.Listing.{sorted, listing_of, list_at, listing_at}
+use Rattle.world_core.specs.Listing.{sorted, listing_of, listing_at}
 use Rattle.world_laws.specs.Pieces.{objects_of, IsPiece}
 
 -- ---- the pieces

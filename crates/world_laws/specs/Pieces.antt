@@ -4,12 +4,12 @@ use Rattle.std.specs.Prelude.{◌≡◌, true, ◌<◌, ◌≤◌, Bool, ◌&&�
 use Rattle.std.specs.List.{flat_map, filter, range_with_len}
 use Rattle.std.specs.Str.{bytes_eq}
 use Rattle.std.specs.FinMap.{keys}
-use Rattle.entry_core.specs.Request.{Sealed, Listing}
-use Rattle.entry_core.specs.Store.{Store, ObjectName}
-use Rattle.entry_core.specs.Deciding.{store_of, is_allowed_sealed, names_in as names_decided}
+use Rattle.store_core.specs.Request.{Sealed, Listing}
+use Rattle.store_core.specs.Store.{Store, ObjectName}
+use Rattle.store_core.specs.Deciding.{store_of, is_allowed_sealed, names_in as names_decided}
 use Rattle.entry_core.specs.Log.{decide}
-use Rattle.entry_core.specs.declared.entry.Entry.{Entry}
-use Rattle.entry_core.specs.declared.reply.Reply.TheVariants.{Names}
+use Rattle.store_core.specs.declared.entry.Entry.{Entry}
+use Rattle.store_core.specs.declared.reply.Reply.TheVariants.{Names}
 use Rattle.world_core.specs.Listing.{joined, sorted}
 
 abbrev pub is_there : List ℕ → List ℕ → ObjectName → Bool

@@ -6,11 +6,12 @@ use Rattle.grant_core.specs.Flat.{Table}
 use Rattle.map_core.specs.State.{History}
 use Rattle.map_core.specs.Map.{is_named, map_of}
 use Rattle.map_core.specs.declared.pool.Pool.{Pool}
-use Rattle.entry_core.specs.declared.sealed.GroupId.{GroupId}
+use Rattle.store_core.specs.declared.sealed.GroupId.{GroupId}
 use Rattle.suffix_core.specs.Group.{Group}
-use Rattle.world_core.specs.declared.event.Event.{Event}
-use Rattle.world_core.specs.Front.{group_refusal}
-use Rattle.world_core.specs.World.{World, group_at, groups_of, world_step, world_after}
+use Rattle.world_front.specs.declared.event.Event.{Event}
+use Rattle.world_front.specs.Front.{group_refusal}
+use Rattle.world_core.specs.World.{World, group_at, world_step, world_after}
+use Rattle.world_front.specs.Groups.{groups_of}
 use Rattle.world_core.specs.Holds.{AreAccepted}
 
 -- the places of the map: pool after pool in order of creation, each with its numbers from 0 on

@@ -4,17 +4,17 @@ use Prim.Native.Nat.{zero, suc}
 use Rattle.std.specs.Prelude.{◌≡◌, ℕ, ◌≤◌, List, [], ◌∷◌, ◌++◌, true, false, Option, None, Some, is_some, fold, map, length, replicate, slice_get}
 use Rattle.grant_core.specs.Flat.{Table}
 use Rattle.entry_core.specs.Locality.{group_for}
-use Rattle.entry_core.specs.Request.{Sealed}
-use Rattle.entry_core.specs.declared.sealed.GroupId.{GroupId}
+use Rattle.store_core.specs.Request.{Sealed}
+use Rattle.store_core.specs.declared.sealed.GroupId.{GroupId}
 use Rattle.suffix_core.specs.Types.{Sent}
 use Rattle.suffix_core.specs.Group.{Group, group_step, kick, submitted}
 use Rattle.suffix_core.specs.Group as group
 use Rattle.suffix_core.specs.Budget.{budget}
 use Rattle.suffix_core.specs.Recovery.{is_ready}
 use Rattle.group_laws.specs.Recovery.{lost_all}
-use Rattle.world_core.specs.declared.event.Event.{Event}
-use Rattle.world_core.specs.declared.event.Event.TheVariants.{Deliver, Lose, Kick}
-use Rattle.world_core.specs.Groups.{is_same_group}
+use Rattle.world_front.specs.declared.event.Event.{Event}
+use Rattle.world_front.specs.declared.event.Event.TheVariants.{Deliver, Lose, Kick}
+use Rattle.world_front.specs.Groups.{is_same_group}
 use Rattle.world_core.specs.World.{World, group_at, world_step, world_after}
 use Rattle.world_core.specs.Holds.{AcceptedFrom, AreAccepted}
 use Rattle.world_core.specs.Answers.{answer_at}

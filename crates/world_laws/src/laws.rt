@@ -1,11 +1,10 @@
 //! Laws of the world, each the contract of a function that does nothing.
 
-ghost use Rattle.world_core.specs.Merging.{PartsAreLegalTogether};
+ghost use Rattle.world_front.specs.Merging.{PartsAreLegalTogether};
 ghost use Rattle.world_core.specs.Answers.{DecidedIsOneList, AuditGrows, AnswersStand, AnswersAreDecided};
 ghost use Rattle.world_core.specs.Service.{ServiceKeepsItsWord, ServiceGrows};
-ghost use Rattle.world_laws.specs.Serving.{WorldsBegin, WorldsServe};
-ghost use Rattle.world_laws.specs.Serving.{PartsServe};
-ghost use Rattle.world_core.specs.Tickets.{TicketsAreRead};
+ghost use Rattle.world_laws.specs.Serving.{WorldsBegin, WorldsServe, PartsServe};
+ghost use Rattle.world_front.specs.Tickets.{TicketsAreRead};
 ghost use Rattle.world_laws.specs.Audit.{RunsTell};
 ghost use Rattle.world_core.specs.Holds.{WorldHolds, HoldsOn};
 ghost use Rattle.world_laws.specs.Accepted.{RequestsAreSubmissions, FrontTellsRequests, AcceptedHasNumbers, AcceptedHolds, AcceptedAnswers, IntervalsAreTheMaps, GroupsAreServed};

@@ -8,7 +8,7 @@ use Rattle.map_core.specs.Limits.{IsAccepted}
 use Rattle.map_core.specs.declared.pool.Pool.{Pool}
 use Rattle.map_core.proofs.Kept.{pools_differ}
 use Rattle.whole_logs.specs.Each.{Each}
-use Rattle.world_core.specs.World.{groups_of}
+use Rattle.world_front.specs.Groups.{groups_of}
 use Rattle.world_script.specs.Sweeping.{IsThere}
 use Rattle.world_core.proofs.Acting.{each_weaker}
 use Rattle.world_core.proofs.Limits.{named_once}

@@ -7,11 +7,11 @@ use Rattle.map_core.specs.Intervals.{set_of}
 use Rattle.map_core.specs.Refusal.{view_refusal}
 use Rattle.map_core.specs.declared.pool.PoolView.{PoolView}
 use Rattle.place_core.specs.Placement.{group_of}
-use Rattle.entry_core.specs.Request.{Sealed}
+use Rattle.store_core.specs.Request.{Sealed}
 use Rattle.suffix_core.specs.Group.{submitted}
-use Rattle.world_core.specs.declared.fault.WorldFault.{WorldFault as Fault}
-use Rattle.world_core.specs.declared.fault.WorldFault.TheVariants.{NoRequest, BadObjectName, Map as OfMap}
-use Rattle.world_core.specs.Front.{Front, is_object_name, is_namespace}
+use Rattle.world_front.specs.declared.fault.WorldFault.{WorldFault as Fault}
+use Rattle.world_front.specs.declared.fault.WorldFault.TheVariants.{NoRequest, BadObjectName, Map as OfMap}
+use Rattle.world_front.specs.Front.{Front, is_object_name, is_namespace}
 use Rattle.world_core.specs.World.{World}
 use Rattle.world_core.specs.Answers.{answer_at}
 use Rattle.world_core.specs.Calls.{answer_refusal}

@@ -4,7 +4,7 @@ use Rattle.std.proofs.Common.{◌≡◌, ◌∙◌, ◌⊎◌, inl, inr, ℕ, �
 use Rattle.std.specs.Prelude.{nat_lt}
 use Rattle.std.specs.Option.{option_map, option_or}
 use Rattle.std.proofs.lemmas.List.Sums.{fold-append}
-use Rattle.entry_core.specs.declared.sealed.GroupId.{GroupId}
+use Rattle.store_core.specs.declared.sealed.GroupId.{GroupId}
 use Rattle.suffix_core.specs.Types.{Sent, Party, Osd, Client}
 use Rattle.suffix_core.specs.Group.{Group, group_step, refusal_to, refusal_at}
 use Rattle.suffix_core.specs.Group as group
@@ -13,10 +13,10 @@ use Rattle.suffix_core.specs.Budget.{budget}
 use Rattle.group_types.specs.declared.fault.GroupFault.TheVariants.{Unreachable}
 use Rattle.suffix_core.specs.Reached.{IsReached}
 use Rattle.suffix_core.proofs.Lowering.{deliver_lowers, lose_lowers}
-use Rattle.world_core.specs.declared.event.Event.{Event}
-use Rattle.world_core.specs.declared.fault.WorldFault.{WorldFault as Fault}
-use Rattle.world_core.specs.declared.fault.WorldFault.TheVariants.{OutOfMemory, Group as OfGroup}
-use Rattle.world_core.specs.Front.{group_refusal}
+use Rattle.world_front.specs.declared.event.Event.{Event}
+use Rattle.world_front.specs.declared.fault.WorldFault.{WorldFault as Fault}
+use Rattle.world_front.specs.declared.fault.WorldFault.TheVariants.{OutOfMemory, Group as OfGroup}
+use Rattle.world_front.specs.Front.{group_refusal}
 use Rattle.world_core.specs.World.{World, group_at, at_group, world_step, refusal_of, refused_in, is_drop}
 use Rattle.world_core.specs.Calls.{KeepsPromises}
 use Rattle.world_script.specs.Script.{budget_in, has_messages, events_while, emptied_within, emptied, one_if_none, unrefused, on_each}

@@ -17,21 +17,23 @@ use Rattle.map_core.specs.Map.{map_of, epoch_of, view_at}
 use Rattle.map_core.specs.Refusal as map_tests
 use Rattle.map_core.specs.declared.pool.PoolView.{PoolView}
 use Rattle.place_core.specs.Placement.{group_of}
-use Rattle.entry_core.specs.Request.{Sealed}
-use Rattle.entry_core.specs.declared.reply.Reply.{Reply}
-use Rattle.entry_core.specs.declared.sealed.GroupId.{GroupId}
+use Rattle.store_core.specs.Request.{Sealed}
+use Rattle.store_core.specs.declared.reply.Reply.{Reply}
+use Rattle.store_core.specs.declared.sealed.GroupId.{GroupId}
 use Rattle.suffix_core.specs.Group.{Group, submitted}
 use Rattle.suffix_core.specs.Budget.{budget}
 use Rattle.suffix_core.specs.Recovery.{is_ready}
-use Rattle.world_core.specs.declared.event.Ask.{Ask}
-use Rattle.world_core.specs.declared.event.Event.{Event}
-use Rattle.world_core.specs.declared.fault.WorldFault.{WorldFault as Fault}
-use Rattle.world_core.specs.declared.fault.WorldFault.TheVariants.{NoRequest, BadObjectName, Auth as OfUsers, Map as OfMap}
-use Rattle.world_core.specs.declared.event.Event.TheVariants as happens
-use Rattle.world_core.specs.Front.{Front, told_of, is_object_name, is_namespace, group_refusal}
-use Rattle.world_core.specs.World.{World, first_world, group_at, groups_of, members_of, world_step, refusal_of, is_drop}
+use Rattle.world_front.specs.declared.event.Ask.{Ask}
+use Rattle.world_front.specs.declared.event.Event.{Event}
+use Rattle.world_front.specs.declared.fault.WorldFault.{WorldFault as Fault}
+use Rattle.world_front.specs.declared.fault.WorldFault.TheVariants.{NoRequest, BadObjectName, Auth as OfUsers, Map as OfMap}
+use Rattle.world_front.specs.declared.event.Event.TheVariants as happens
+use Rattle.world_front.specs.Front.{Front, told_of, is_object_name, is_namespace, group_refusal}
+use Rattle.world_core.specs.World.{World, first_world, group_at, members_of, world_step, refusal_of, is_drop}
+use Rattle.world_front.specs.Groups.{groups_of}
 use Rattle.world_core.specs.Answers.{answer_at}
-use Rattle.world_core.specs.Listing.{list_at, listing_of}
+use Rattle.world_front.specs.Front.{list_at}
+use Rattle.world_core.specs.Listing.{listing_of}
 use Rattle.script_commands.specs.declared.command.Command.{Command}
 use Rattle.script_commands.specs.declared.command.Command.TheVariants.{Osds, Happens, Submit, List as ListNames, Locate, ShowUser, ListUsers, Tick, Settle, KickAll, LoseAll, Answer, Listing, Ready}
 use Rattle.script_commands.specs.Command.{read_line}

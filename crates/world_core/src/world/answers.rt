@@ -3,18 +3,18 @@
 ghost use Rattle.std.specs.Prelude.{◌≡◌, ◌+◌, ◌<◌, ◌%◌, IfOk, IfSome, Ok, option_copied};
 ghost use Rattle.world_core.specs.Answers.{answer_at};
 ghost use Rattle.world_core.specs.Calls.{answer_refusal};
-ghost use Rattle.entry_core.specs.Request.{numbers};
-ghost use Rattle.world_core.specs.Front.{error_of};
+ghost use Rattle.store_core.specs.Request.{numbers};
+ghost use Rattle.world_front.specs.Front.{error_of};
 ghost use Rattle.world_core.specs.Listing.{listing_at};
 ghost use Rattle.common_types.specs.Refused.{RefusedExactly};
-ghost use Rattle.world_core.specs.Refusing.{RefusedOrMemory};
+ghost use Rattle.world_front.specs.Refusing.{RefusedOrMemory};
 ghost use Rattle.world_core.specs.Serving.{service_of};
 
-use crate::fault::WorldFault;
 use crate::group_places::place_of_request;
 use crate::joining::join_pieces;
 use crate::world::World;
 use entry_core::{Id, Reply};
+use world_front::WorldFault;
 
 impl World {
     /// The reply to the request of an id that reached the client first, or none yet (this project's profile).

@@ -5,18 +5,16 @@ ghost use Rattle.whole_logs.specs.Each.{Each};
 ghost use Rattle.world_core.specs.Inside.{entries_told};
 ghost use Rattle.world_core.specs.Parts.{FitTogether, decided_of, put_together, requests_of};
 ghost use Rattle.world_core.specs.Sound.{FitsAt, IsSound};
-ghost use Rattle.world_core.specs.Submitting.{AreNew};
+ghost use Rattle.world_front.specs.Submitting.{AreNew};
 
 use crate::audit::{Run, keep};
-use crate::front::Front;
-use crate::session::Session;
-use crate::submissions::Submissions;
 use crate::world::World;
 use auth_db::AuthDb;
 use entry_core::OutOfMemory;
 use group_core::Group;
 use map_core::ClusterMap;
 use std::alloc::Global;
+use world_front::{Front, Session, Submissions};
 
 /// What a world is put together of, as threads give it back.
 #[derive(Drop)]

@@ -1,6 +1,6 @@
 use Rattle.std.proofs.Common.{get_or, sym, ap}
-use Rattle.world_core.specs.Front.{error_of}
-use Rattle.cluster.proofs.Places.{at_read}
+use Rattle.world_front.specs.Front.{error_of}
+use Rattle.cluster_locks.proofs.Places.{at_read}
 use Rattle.cluster.proofs.OwnSessions.{no_session, read_session}
 use Rattle.cluster.proofs.Submitting.{session_none, session_stale, session_fine}
 use Rattle.cluster.proofs.asking.asking_session.Goals as goal

@@ -5,7 +5,8 @@ use Rattle.world_laws.proofs.Together.{fit_together}
 use Rattle.cluster.specs.declared.cluster.Seats.{Seats}
 use Rattle.cluster.specs.Passes.{AreSeatsOf, Gathers, Closed}
 use Rattle.cluster.specs.Asks.{IsPassOf, seats_of}
-use Rattle.cluster.proofs.Begun.{all_are, in_step_long}
+use Rattle.cluster.proofs.Begun.{all_are}
+use Rattle.cluster_locks.proofs.FreshRows.{in_step_long}
 use Rattle.cluster.proofs.Ending.{ran_apart}
 use Rattle.cluster.proofs.closing.end_all.Goals as goal
 

@@ -1,6 +1,6 @@
 use Rattle.std.proofs.Common.{◌≡◌, ◌≤◌, map, vec_len}
 use Rattle.std.specs.Vec.{vec_capacity}
-use Rattle.cluster.specs.Passes.{group_in}
+use Rattle.cluster_locks.specs.Groups.{group_in}
 use Rattle.cluster.proofs.closing.unlock.Given as goal
 
 abbrev pub invariant-loop-placed : goal.invariant-loop-placed

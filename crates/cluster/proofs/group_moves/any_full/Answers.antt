@@ -1,6 +1,6 @@
 use Rattle.std.proofs.Common.{◌≡◌, Some, arith}
 use Rattle.std.specs.Prelude.{slice_get}
-use Rattle.cluster.proofs.Places.{get_at}
+use Rattle.cluster_locks.proofs.Places.{get_at}
 use Rattle.cluster.proofs.Moved.{looked_nowhere, looked_through, none_full, none_more, found_through, goes_nowhere, begins_there}
 use Rattle.cluster.proofs.group_moves.any_full.Goals as goal
 

@@ -1,4 +1,4 @@
-use Rattle.cluster.specs.MapCommands.{full_entry, FullTells}
+use Rattle.cluster_locks.specs.Moves.{full_entry, FullTells}
 use Rattle.cluster.proofs.Moved.{inside_of, looked, found, still_monitor}
 use Rattle.cluster.proofs.group_moves.look_one.Goals as goal
 

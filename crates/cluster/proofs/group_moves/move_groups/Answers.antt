@@ -4,7 +4,7 @@ use Rattle.map_core.specs.Map.{map_of}
 use Rattle.suffix_core.specs.Group.{Event}
 use Rattle.cluster.specs.MapCommands.{move_in}
 use Rattle.cluster.specs.GroupMoves.{OneMoved, event_at}
-use Rattle.cluster.proofs.Places.{get_at}
+use Rattle.cluster_locks.proofs.Places.{get_at}
 use Rattle.cluster.proofs.Moved.{one_more, no_more, none_moved, at_place}
 use Rattle.cluster.proofs.group_moves.move_groups.Goals as goal
 

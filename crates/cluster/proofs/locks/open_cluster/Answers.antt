@@ -1,9 +1,11 @@
 use Rattle.std.proofs.Common.{rules, ◌≡◌, ◌+◌, ◌-◌, ◌<◌, Some, get_or, take, vec_len, arith, sym, ap, ◌∙◌, subst}
 use Rattle.std.specs.Prelude.{All}
 use Rattle.turn_lock.specs.Seats.{IsNewSeatOf}
-use Rattle.cluster.specs.Places.{Beside, IsFreshRow}
-use Rattle.cluster.specs.Passes.{AreSeatsOf, ArePassOf, HaveShare, HaveTheirOwn, AreAlone, AreFreshOf, pass_share, monitor_share, shares_of}
-use Rattle.cluster.proofs.Begun.{in_step_long, pairs_fresh, last_of, last_off, fresh_are, row_own, all_are}
+use Rattle.cluster_locks.specs.Places.{Beside, IsFreshRow}
+use Rattle.cluster.specs.Passes.{AreSeatsOf, ArePassOf, HaveShare, HaveTheirOwn, AreAlone, AreFreshOf}
+use Rattle.cluster_locks.specs.Shares.{pass_share, monitor_share, shares_of}
+use Rattle.cluster_locks.proofs.FreshRows.{in_step_long}
+use Rattle.cluster.proofs.Begun.{pairs_fresh, last_of, last_off, fresh_are, row_own, all_are}
 use Rattle.cluster.proofs.locks.open_cluster.Goals as goal
 
 all_long : (c : goal.After-pop) → vec_len c.in_ok-all.all ≡ c.args.passes + 1

@@ -1,7 +1,7 @@
 use Rattle.std.proofs.Common.{rules, ◌≡◌, ◌+◌, ◌-◌, Some, take, drop, length, vec_len, arith, sym, ap, ◌∙◌, subst}
 use Rattle.std.specs.Prelude.{reverse, slice_index_or}
-use Rattle.cluster.specs.Places.{InStep}
-use Rattle.cluster.proofs.Places.{popped_at, take_fewer, rest_at, one_built}
+use Rattle.cluster_locks.specs.Places.{InStep}
+use Rattle.cluster_locks.proofs.Places.{popped_at, take_fewer, rest_at, one_built}
 use Rattle.std.proofs.lemmas.Grind.{common_steps}
 use Rattle.cluster.proofs.locks.pair.Goals as goal
 

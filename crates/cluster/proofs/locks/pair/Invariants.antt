@@ -1,6 +1,6 @@
 use Rattle.std.proofs.Common.{◌≡◌, ◌≤◌, take, drop, length, vec_len}
 use Rattle.std.specs.Prelude.{reverse}
-use Rattle.cluster.specs.Places.{InStep}
+use Rattle.cluster_locks.specs.Places.{InStep}
 use Rattle.cluster.proofs.locks.pair.Given as goal
 
 abbrev pub invariant-loop-row : goal.invariant-loop-row

@@ -1,5 +1,5 @@
 use Rattle.std.proofs.Common.{◌≡◌, map, take}
-use Rattle.cluster.specs.Passes.{group_in}
+use Rattle.cluster_locks.specs.Groups.{group_in}
 use Rattle.cluster.proofs.starting.places_of.Given as goal
 
 abbrev pub invariant-loop-placed : goal.invariant-loop-placed

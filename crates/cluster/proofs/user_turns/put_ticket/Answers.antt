@@ -1,10 +1,10 @@
 use Rattle.std.proofs.Common.{◌≡◌, ◌==◌, ◌≤◌, ◌<◌, true, Some, length, get_or, arith, sym, ap, ◌∙◌, subst}
 use Rattle.std.specs.Prelude.{slice_get}
 use Rattle.std.proofs.lemmas.Option.{slice_get-get_or}
-use Rattle.world_core.specs.declared.session.Session.{Session}
+use Rattle.world_front.specs.declared.session.Session.{Session}
 use Rattle.cluster.specs.declared.pass.OwnSession.{OwnSession}
 use Rattle.cluster.specs.Sessions.{own_session_at}
-use Rattle.cluster.proofs.Places.{get_at}
+use Rattle.cluster_locks.proofs.Places.{get_at}
 use Rattle.cluster.proofs.OwnNumbers.{NoneBefore, is_same, not_same, none_next, changed_at, none_changed}
 use Rattle.cluster.proofs.user_turns.put_ticket.Goals as goal
 

@@ -1,9 +1,9 @@
 use Rattle.std.proofs.Common.{arith, refl, sym, ap, subst, ◌∙◌, ◌≡◌, map, length, inl, inr}
 use Rattle.std.specs.Prelude.{All}
-use Rattle.cluster.specs.Places.{Beside, InStep}
+use Rattle.cluster_locks.specs.Places.{Beside, InStep}
 use Rattle.cluster.specs.Asks.{IsPassOf}
 use Rattle.cluster.specs.Workers.{EndsBy, HasWorked, first_fault, pass_of, fault_of}
-use Rattle.cluster.proofs.Places.{spliced}
+use Rattle.cluster_locks.proofs.Places.{spliced}
 use Rattle.cluster.proofs.Rounds.{beside_itself, at_work, passes_after, passes_worked}
 use Rattle.cluster.proofs.FirstFaults.{all_end}
 use Rattle.cluster.proofs.workers.run_workers.Given as given

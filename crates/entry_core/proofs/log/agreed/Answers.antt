@@ -1,6 +1,6 @@
 use Rattle.std.proofs.Common.{◌≡◌, ◌∙◌, ◌+◌, ◌==◌, cond, suc, drop, sym, ap, add-one, arith}
 use Rattle.entry_core.specs.Fitting.{agreed}
-use Rattle.entry_core.specs.declared.entry.Entry.{Entry}
+use Rattle.store_core.specs.declared.entry.Entry.{Entry}
 use Rattle.entry_core.proofs.Fitting.{agreed_at, agreed_end, not_true, not_false}
 use Rattle.entry_core.proofs.log.agreed.Goals as goal
 

@@ -1,6 +1,6 @@
 use Rattle.std.proofs.Common.{◌∙◌, ◌++◌, ◌∷◌, [], sym, ap, take, arith}
 use Rattle.std.proofs.lemmas.List.{take_more}
-use Rattle.entry_core.specs.Deciding.{Decision}
+use Rattle.store_core.specs.Deciding.{Decision}
 use Rattle.entry_core.specs.Log.{decide, ids, is_in}
 use Rattle.entry_core.proofs.LegalLogs.{legal_at}
 use Rattle.std.proofs.lemmas.Grind.{common_steps}

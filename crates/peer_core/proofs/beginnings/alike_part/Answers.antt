@@ -1,7 +1,7 @@
 use Rattle.std.proofs.Common.{◌≡◌, ◌∙◌, ◌<◌, List, ℕ, length, get_or, map, min, sym, ap, arith}
 use Rattle.std.proofs.lemmas.List.{length-map}
 use Rattle.entry_core.specs.Log.{ids}
-use Rattle.entry_core.specs.declared.entry.Entry.{Entry}
+use Rattle.store_core.specs.declared.entry.Entry.{Entry}
 use Rattle.entry_core.proofs.Fitting.{not_true, not_false}
 use Rattle.peer_core.specs.Types.{Sealed}
 use Rattle.peer_core.proofs.Alike.{stops_at, goes_past, ends_at, ids-get, map-get, ids-length}

@@ -1,7 +1,7 @@
 use Rattle.std.proofs.Common.{◌∙◌, List, Some, take, ap}
 use Rattle.std.specs.Option.{option_map}
 use Rattle.entry_core.specs.Fitting.{last_id}
-use Rattle.entry_core.specs.declared.entry.Entry.{Entry}
+use Rattle.store_core.specs.declared.entry.Entry.{Entry}
 use Rattle.peer_core.proofs.beginnings.last_before.Goals as goal
 
 pub returns-in-None : goal.returns-in-None

@@ -2,7 +2,7 @@ use Rattle.std.proofs.Common.{◌∙◌, ◌∷◌, ◌++◌, [], sym, ap}
 use Rattle.map_core.specs.Map.{map_of, epoch_of, after}
 use Rattle.map_core.specs.Refusal.{refusal}
 use Rattle.world_core.specs.World.{begun_group}
-use Rattle.world_core.proofs.Places.{numbered}
+use Rattle.world_front.proofs.Places.{numbered}
 use Rattle.world_core.proofs.NewGroups.{one_made, least_needed}
 use Rattle.world_core.proofs.creating.new_groups.Goals as goal
 

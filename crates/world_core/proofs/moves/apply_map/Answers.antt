@@ -5,8 +5,8 @@ use Rattle.map_core.specs.Map.{map_of, epoch_of}
 use Rattle.map_core.specs.Limits.{IsAccepted}
 use Rattle.map_core.specs.Refusal.{refusal}
 use Rattle.suffix_core.specs.Group.{Group}
-use Rattle.world_core.specs.Event.{Fault, Map, OfMap, OfGroup}
-use Rattle.world_core.specs.Refusing.{RefusedOrMemory}
+use Rattle.world_front.specs.Event.{Fault, Map, OfMap, OfGroup}
+use Rattle.world_front.specs.Refusing.{RefusedOrMemory}
 use Rattle.world_core.specs.World.{parts_of, parts_refusal, created_by}
 use Rattle.world_core.specs.Moves.{stepped, moves_groups, move_of, all_moved, first_refusal}
 use Rattle.world_core.proofs.Stepped.{stepped_moved, refusals_moved, none_created}

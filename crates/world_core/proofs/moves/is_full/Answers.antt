@@ -1,7 +1,7 @@
 use Rattle.std.proofs.Common.{◌≡◌, ◌∙◌, ◌++◌, Some, None, if◌then◌else◌, option_to_list, sym, ap, subst}
 use Rattle.map_core.specs.Intervals.{intervals_of}
 use Rattle.group_types.specs.declared.fault.GroupFault.TheVariants as group_fault
-use Rattle.entry_core.specs.declared.sealed.GroupId.{GroupId}
+use Rattle.store_core.specs.declared.sealed.GroupId.{GroupId}
 use Rattle.world_core.proofs.Intervals.{later}
 use Rattle.world_core.proofs.FullMoves.{refused_as}
 use Rattle.world_core.proofs.moves.is_full.Goals as goal

@@ -1,5 +1,5 @@
 use Rattle.std.proofs.Common.{◌≡◌, take, flat_map}
-use Rattle.world_core.specs.World.{groups_of}
+use Rattle.world_front.specs.Groups.{groups_of}
 use Rattle.world_script.proofs.groups.places.Given as goal
 
 abbrev pub invariant-loop-pool : goal.invariant-loop-pool

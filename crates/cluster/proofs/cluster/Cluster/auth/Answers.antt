@@ -1,5 +1,5 @@
 use Rattle.std.proofs.Common.{refl, Some}
-use Rattle.cluster.specs.Users.{change_entry, ChangeTells}
+use Rattle.cluster_locks.specs.Users.{change_entry, ChangeTells}
 use Rattle.cluster.proofs.Held.{pass_turned, same_numbers}
 use Rattle.cluster.proofs.cluster.Cluster.auth.Goals as goal
 

@@ -1,7 +1,7 @@
 use Rattle.std.proofs.Common.{arith, [], ◌∷◌, ◌++◌, ap, ◌∙◌, refl}
-use Rattle.world_core.specs.declared.session.Session.{Session}
+use Rattle.world_front.specs.declared.session.Session.{Session}
 use Rattle.cluster.specs.declared.pass.OwnSession.{OwnSession}
-use Rattle.cluster.specs.Users.{open_entry, OpenTells}
+use Rattle.cluster_locks.specs.Users.{open_entry, OpenTells}
 use Rattle.cluster.proofs.Held.{pass_turned, same_numbers, opened_numbers}
 use Rattle.std.proofs.lemmas.Grind.{common_steps}
 use Rattle.cluster.proofs.cluster.Cluster.open.Goals as goal

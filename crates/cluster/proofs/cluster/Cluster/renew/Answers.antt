@@ -1,9 +1,9 @@
 use Rattle.std.proofs.Common.{◌≡◌, Some, Ok, length, sym, ap, ◌∙◌, refl, subst}
 use Rattle.std.specs.Vec.{with_items}
 use Rattle.std.proofs.lemmas.List.{with_items_is}
-use Rattle.world_core.specs.declared.session.Session.{Session}
+use Rattle.world_front.specs.declared.session.Session.{Session}
 use Rattle.cluster.specs.Sessions.{own_session, own_session_at}
-use Rattle.cluster.specs.Users.{renew_entry, RenewTells}
+use Rattle.cluster_locks.specs.Users.{renew_entry, RenewTells}
 use Rattle.cluster.specs.UserTurns.{RenewTurn}
 use Rattle.cluster.proofs.OwnNumbers.{same_count}
 use Rattle.cluster.proofs.Held.{pass_turned, same_numbers, renewed_numbers}

@@ -1,6 +1,6 @@
 use Rattle.std.proofs.Common.{◌≡◌, ◌<◌, ◌+◌, inl, refl, sym, subst, arith, Some}
-use Rattle.entry_core.specs.Request.{Sealed}
-use Rattle.world_core.specs.declared.session.Session.{Session}
+use Rattle.store_core.specs.Request.{Sealed}
+use Rattle.world_front.specs.declared.session.Session.{Session}
 use Rattle.cluster.specs.Sessions.{own_session}
 use Rattle.cluster.specs.ToAsk.{IsToAsk}
 use Rattle.cluster.proofs.OwnSessions.{stands_at, read_session}

@@ -1,11 +1,10 @@
 use Rattle.std.proofs.Common.{arith, ◌≡◌, ◌≤◌, List, refl, sym, subst}
 use Rattle.map_core.specs.Map.{map_of}
-use Rattle.entry_core.specs.declared.sealed.GroupId.{GroupId}
+use Rattle.store_core.specs.declared.sealed.GroupId.{GroupId}
 use Rattle.cluster.specs.Passes.{group_count}
 use Rattle.cluster.specs.MapCommands.{move_in}
 use Rattle.cluster.specs.GroupMoves.{HaveMoved, event_at}
-use Rattle.cluster.specs.Monitors.{HasBegun}
-use Rattle.cluster.specs.Monitors.{published_of}
+use Rattle.cluster.specs.Monitors.{HasBegun, published_of}
 use Rattle.cluster.proofs.GoingOn.{goes_on, either}
 use Rattle.cluster.proofs.Following.{places_long, follows_left, follows_lain}
 use Rattle.std.proofs.lemmas.Grind.{common_steps}

@@ -1,7 +1,6 @@
 use Rattle.std.proofs.Common.{◌∙◌, ap}
 use Rattle.std.proofs.lemmas.Result.{on_ok_weaker}
-use Rattle.entry_core.specs.Drafts.{all_changed}
-use Rattle.entry_core.specs.Laws.{changed}
+use Rattle.store_core.specs.Objects.{all_changed, changed}
 use Rattle.entry_core.proofs.Drafts.{changed-push}
 use Rattle.entry_core.proofs.draft.Draft.change.Goals as goal
 

@@ -1,9 +1,7 @@
 use Rattle.std.proofs.Common.{◌∙◌, get_or, sym, ap, subst, arith}
-use Rattle.entry_core.specs.Deciding.{name_of, store_of}
-use Rattle.entry_core.specs.Drafts.{AlikeFor, all_changed}
-use Rattle.entry_core.specs.Laws.{changed}
-use Rattle.entry_core.specs.Stored.{change_of}
-use Rattle.entry_core.specs.declared.entry.Entry.{Entry}
+use Rattle.store_core.specs.Deciding.{name_of, store_of}
+use Rattle.store_core.specs.Objects.{AlikeFor, all_changed, changed, change_of}
+use Rattle.store_core.specs.declared.entry.Entry.{Entry}
 use Rattle.entry_core.proofs.Drafts.{draft_none, draft_back}
 use Rattle.std.proofs.lemmas.Grind.{common_steps}
 use Rattle.entry_core.proofs.log.Log.begin.Goals as goal

@@ -1,6 +1,6 @@
 use Rattle.std.proofs.Common.{◌∙◌, ap}
 use Rattle.std.proofs.lemmas.Result.{IfOk-weaker}
-use Rattle.entry_core.specs.Deciding.{decision_on, store_of}
+use Rattle.store_core.specs.Deciding.{decision_on, store_of}
 use Rattle.entry_core.proofs.log.Log.decide.Goals as goal
 
 pub returns : goal.returns

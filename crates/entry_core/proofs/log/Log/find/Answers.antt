@@ -1,5 +1,5 @@
 use Rattle.std.proofs.Common.{◌∙◌, Some, get_or, sym, ap}
-use Rattle.entry_core.specs.declared.entry.Entry.{Entry}
+use Rattle.store_core.specs.declared.entry.Entry.{Entry}
 use Rattle.entry_core.proofs.Places.{found_at_all, none_at_all}
 use Rattle.entry_core.proofs.log.Log.find.Goals as goal
 

@@ -1,5 +1,5 @@
 use Rattle.std.proofs.Common.{◌∙◌, ◌<◌, ◌≤◌, ◌-◌, Some, length, get_or, sym, ap, arith}
-use Rattle.entry_core.specs.declared.entry.Entry.{Entry}
+use Rattle.store_core.specs.declared.entry.Entry.{Entry}
 use Rattle.entry_core.proofs.Places.{found_in_front, none_in_front, none_behind}
 use Rattle.entry_core.proofs.log.Log.find_before_last.Goals as goal
 

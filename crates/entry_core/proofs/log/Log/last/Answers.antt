@@ -1,6 +1,6 @@
 use Rattle.std.proofs.Common.{◌∙◌, Some, ap}
 use Rattle.std.specs.Option.{option_map}
-use Rattle.entry_core.specs.declared.entry.Entry.{Entry}
+use Rattle.store_core.specs.declared.entry.Entry.{Entry}
 use Rattle.entry_core.proofs.log.Log.last.Goals as goal
 
 pub returns-in-None : goal.returns-in-None

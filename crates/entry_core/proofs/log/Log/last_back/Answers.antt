@@ -3,10 +3,10 @@ use Rattle.std.proofs.lemmas.List.{take-append-drop}
 use Rattle.std.specs.Arc.{arc_value}
 use Rattle.std.specs.FinMap.{get}
 use Rattle.std.specs.Option.{option_map}
-use Rattle.entry_core.specs.Deciding.{name_of, store_of}
+use Rattle.store_core.specs.Deciding.{name_of, store_of}
 use Rattle.entry_core.specs.Log.{Legal}
-use Rattle.entry_core.specs.declared.decided.ObjectChange.TheVariants.{Became}
-use Rattle.entry_core.specs.declared.entry.Entry.{Entry}
+use Rattle.store_core.specs.declared.decided.ObjectChange.TheVariants.{Became}
+use Rattle.store_core.specs.declared.entry.Entry.{Entry}
 use Rattle.entry_core.proofs.Drafts.{back_from, put_back}
 use Rattle.entry_core.proofs.LegalLogs.{legal_front}
 use Rattle.entry_core.proofs.Pushing.{whole_of}

@@ -1,8 +1,7 @@
 use Rattle.std.proofs.Common.{◌≡◌, ◌∙◌, ◌++◌, ◌∷◌, [], ◌==◌, cond, Some, false, length, sym, ap, subst}
 use Rattle.std.specs.Map.{lookup}
-use Rattle.entry_core.specs.Laws.{changed}
+use Rattle.store_core.specs.Objects.{changed, change_of}
 use Rattle.entry_core.specs.Log.{decision, ids, is_in}
-use Rattle.entry_core.specs.Stored.{change_of}
 use Rattle.entry_core.proofs.Pushing.{after_push}
 use Rattle.entry_core.proofs.log.Log.push.Goals as goal
 

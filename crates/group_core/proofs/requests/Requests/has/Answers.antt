@@ -1,6 +1,6 @@
 use Rattle.std.proofs.Common.{◌∙◌, ◌==◌, ap}
 use Rattle.std.specs.List.{list_any}
-use Rattle.entry_core.specs.Request.{Sealed}
+use Rattle.store_core.specs.Request.{Sealed}
 use Rattle.suffix_core.specs.Group.{is_submitted}
 use Rattle.whole_logs.proofs.ById.{some_has}
 use Rattle.group_core.proofs.requests.Requests.has.Goals as goal

@@ -1,6 +1,6 @@
 use Rattle.std.proofs.Common.{◌∙◌, ap, map, sym, take}
 use Rattle.std.proofs.lemmas.List.{take-map}
-use Rattle.entry_core.specs.Request.{Sealed}
+use Rattle.store_core.specs.Request.{Sealed}
 use Rattle.group_core.proofs.requests.Requests.pop.Goals as goal
 
 pub invariant_of-self : goal.invariant_of-self

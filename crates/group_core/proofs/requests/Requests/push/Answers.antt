@@ -1,6 +1,6 @@
 use Rattle.std.proofs.Common.{◌≡◌, ◌∙◌, ◌∷◌, ◌++◌, [], false, map, nat_eq, sym, ap}
 use Rattle.indexmap.specs.IndexSet.{insert_key}
-use Rattle.entry_core.specs.Request.{Sealed}
+use Rattle.store_core.specs.Request.{Sealed}
 use Rattle.suffix_core.specs.Group.{is_submitted}
 use Rattle.whole_logs.proofs.ById.{one_more}
 use Rattle.group_core.proofs.requests.Requests.push.Goals as goal

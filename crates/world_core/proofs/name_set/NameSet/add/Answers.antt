@@ -1,6 +1,6 @@
 use Rattle.std.proofs.Common.{◌∙◌, ap, string_bytes}
 use Rattle.std.specs.BTreeSet.{insert_key}
-use Rattle.entry_core.specs.Store.{bytes_cmp}
+use Rattle.store_core.specs.Store.{bytes_cmp}
 use Rattle.world_core.proofs.JoinedPieces.{text_added}
 use Rattle.world_core.proofs.name_set.NameSet.add.Goals as goal
 

@@ -1,6 +1,0 @@
-use Rattle.std.proofs.Common.{arith}
-use Rattle.std.proofs.lemmas.Grind.{elements}
-use Rattle.cluster.proofs.locks.empty_rows.Goals as goal
-
-pub loop-made-preserved : goal.loop-made-preserved
-loop-made-preserved c = grind (arith, elements)

@@ -1,7 +1,0 @@
-use Rattle.std.proofs.Common.{sym, subst, ◌∙◌}
-use Rattle.turn_lock.specs.Seats.{AreShared}
-use Rattle.cluster.proofs.Begun.{shares_are}
-use Rattle.cluster.proofs.locks.open_lock.Goals as goal
-
-pub returns-in-Ok-clause-shares : goal.returns-in-Ok-clause-shares
-returns-in-Ok-clause-shares g c = let r = c.in-Ok.opened in λ passes is. shares_are passes r.1.items (subst (λ n. AreShared n r.1.items) (sym is) (c.in-Ok.ensures.shares)) (sym r.1.ok.0 ∙ (c.in-Ok.ensures.seats.0 ∙ sym is))

@@ -1,0 +1,5 @@
+pub mod Groups
+pub mod Users
+pub mod Moves
+pub mod Places
+pub mod Shares

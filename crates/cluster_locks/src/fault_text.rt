@@ -1,0 +1,30 @@
+//! The printed forms of the steps' faults: number, name, and what they carry.
+
+use crate::groups::AnswerFault;
+use crate::users::OpenFault;
+use std::error::Error;
+use std::fmt;
+
+/// As `W6 Limit`; a fault of the users prints itself.
+impl fmt::Display for OpenFault {
+    fn fmt<W: fmt::Write>(&self, f: &mut fmt::Formatter<W>) -> fmt::Result {
+        match self {
+            OpenFault::User(fault) => write!(f, "{fault}"),
+            OpenFault::Limit => write!(f, "W6 Limit"),
+        }
+    }
+}
+
+impl Error for OpenFault {}
+
+/// As `W5 NoRequest`.
+impl fmt::Display for AnswerFault {
+    fn fmt<W: fmt::Write>(&self, f: &mut fmt::Formatter<W>) -> fmt::Result {
+        match self {
+            AnswerFault::NoRequest => write!(f, "W5 NoRequest"),
+            AnswerFault::OutOfMemory => write!(f, "W7 OutOfMemory"),
+        }
+    }
+}
+
+impl Error for AnswerFault {}

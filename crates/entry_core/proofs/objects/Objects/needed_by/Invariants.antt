@@ -1,6 +1,0 @@
-use Rattle.std.proofs.Common.{take}
-use Rattle.entry_core.specs.Drafts.{AlikeFor}
-use Rattle.entry_core.proofs.objects.Objects.needed_by.Given as goal
-
-abbrev pub invariant-loop-sealed : goal.invariant-loop-sealed
-invariant-loop-sealed l = AlikeFor l.few l.self (take l.sealed-index l.part)

@@ -1,5 +1,0 @@
-use Rattle.std.proofs.Common.{rules}
-use Rattle.entry_core.proofs.sealed.Sealed.is_allowed.Goals as goal
-
-pub returns : goal.returns
-returns c = search rules

@@ -1,0 +1,4 @@
+pub mod AlikeStores
+pub mod Listing
+pub mod Stores
+pub mod TextSets

@@ -1,0 +1,10 @@
+pub mod Deciding
+pub mod IdHash
+pub mod Inside
+pub mod ListedTexts
+pub mod Names
+pub mod Objects
+pub mod Replies
+pub mod Request
+pub mod Sealing
+pub mod Store

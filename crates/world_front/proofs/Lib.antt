@@ -1,0 +1,13 @@
+pub mod Bytes
+pub mod Tickets
+pub mod Merge
+pub mod Pools
+pub mod Numbers
+pub mod Places
+pub mod Fronts
+pub mod Recording
+pub mod NewRequests
+pub mod Refused
+pub mod Views
+pub mod FrontSteps
+pub mod Submitted
