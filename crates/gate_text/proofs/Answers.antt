@@ -2,11 +2,11 @@
 use Rattle.std.proofs.Common.{◌≡◌, ℕ, ◌+◌, ◌<◌, ◌≤◌, List, [], ◌∷◌, ◌++◌, Result, get_or, take, length, refl, sym, ap, subst, ◌∙◌}
 use Rattle.std.proofs.lemmas.Grind.{take_at_read}
 use Rattle.std.proofs.lemmas.List.{take_all}
-use Rattle.gate_text.specs.Answer.{IsAnswer}
-use Rattle.gate_text.specs.Asked.{Asked}
+use Rattle.answer_text.specs.Answer.{IsAnswer}
+use Rattle.answer_text.specs.Asked.{Asked}
 use Rattle.gate_text.specs.Table.{AreAnswers}
-use Rattle.gate_text.specs.declared.verdict.Verdict.{Verdict}
-use Rattle.gate_text.specs.declared.verdict.VerdictFault.{VerdictFault}
+use Rattle.answer_text.specs.declared.verdict.Verdict.{Verdict}
+use Rattle.answer_text.specs.declared.verdict.VerdictFault.{VerdictFault}
 
 one_more : (caps : List ℕ) (requests : List Asked) (asked : Asked) (answers : List (Result Verdict VerdictFault)) (answer : Result Verdict VerdictFault)
     → AreAnswers caps requests answers → IsAnswer caps asked answer → AreAnswers caps (requests ++ asked ∷ []) (answers ++ answer ∷ [])

@@ -1,5 +1,5 @@
 -- What the examples of two tickets say of both.
-use Rattle.std.proofs.Common.{◌≡◌, ◌↔◌, ℕ, List, [], ◌∷◌, Bool, ◌&&◌, Result, Ok, Err, IfOk, ◌⊎◌, inl, inr, refl, arith}
+use Rattle.std.proofs.Common.{◌≡◌, ◌↔◌, ℕ, List, [], ◌∷◌, Bool, ◌&&◌, Result, Ok, Err, IfOk, inl, inr, refl, arith}
 use Rattle.std.specs.List.{All}
 use Rattle.grant_core.specs.Flat.{Flat}
 use Rattle.compare_core.specs.Widening.{IsGainedBy, WidensBy, request_of}

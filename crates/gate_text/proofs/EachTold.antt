@@ -3,7 +3,7 @@ use Rattle.std.proofs.Common.{◌≡◌, ℕ, ◌+◌, ◌<◌, ◌≤◌, List,
 use Rattle.std.proofs.lemmas.Grind.{take_at_read}
 use Rattle.std.proofs.lemmas.List.{take_all}
 use Rattle.gate_text.specs.Entities.{AreAllTold}
-use Rattle.gate_text.specs.declared.entity.Entity.{Entity}
+use Rattle.answer_text.specs.declared.entity.Entity.{Entity}
 
 append_nil : (text : List ℕ) → text ++ [] ≡ text
 append_nil [] = refl

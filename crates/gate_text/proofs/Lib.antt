@@ -2,8 +2,5 @@ pub mod Answers
 pub mod Comparisons
 pub mod EachTold
 pub mod Items
-pub mod FirstPlaces
 pub mod NoFloats
-pub mod Pieces
-pub mod Quotes
 pub mod Told

@@ -1,44 +1,14 @@
--- No document has a float.
-use Rattle.std.proofs.Common.{◌≡◌, ℕ, List, [], ◌∷◌, ◌||◌, false, Result, Ok, Err, map, refl, ap, ◌∙◌}
-use Rattle.serde_json.specs.Data.{Data}
-use Rattle.serde_json.specs.View.{items_of}
-use Rattle.serde_json.specs.Written.{has_float, items_have_float}
-use Rattle.cap_text.specs.declared.grant.Grant.{Grant}
-use Rattle.grant_core.specs.Flat.{Flat}
-use Rattle.gate_text.specs.Documents.{answer_document, condition_document, entity_document, explained_document, grant_document}
+-- No document of a comparison has a float.
+use Rattle.std.proofs.Common.{◌≡◌, ℕ, List, ◌||◌, false, refl, ap, ◌∙◌}
+use Rattle.serde_json.specs.Written.{has_float}
 use Rattle.compare_core.specs.declared.comparing.Example.{Example}
+use Rattle.answer_text.proofs.NoFloats.{each}
 use Rattle.gate_text.specs.Compared.{compared_document, example_document, examples_document, side_document}
 use Rattle.gate_text.specs.Entities.{change_document, unjudged_document}
-use Rattle.gate_text.specs.Table.{row_document}
 use Rattle.gate_text.specs.declared.compare.Relation.{Relation}
 use Rattle.gate_text.specs.declared.compare.TextFault.{TextFault}
 use Rattle.gate_text.specs.declared.compare.TextFault.TheVariants.{Spelling, Expansion, OutOfMemory}
 use Rattle.gate_text.specs.declared.compare_auth.Presence.{Presence}
-use Rattle.gate_text.specs.declared.verdict.Verdict.{Verdict}
-use Rattle.gate_text.specs.declared.verdict.Verdict.TheVariants.{Allowed, Denied}
-use Rattle.gate_text.specs.declared.verdict.VerdictFault.{VerdictFault}
-use Rattle.gate_text.specs.declared.verdict.VerdictFault.TheVariants.{Caps, Profiles, Calls}
-
--- a list of documents without floats
-pub each : {X : Type 0} (document : X → Data) → ((x : X) → has_float (document x) ≡ false) → (xs : List X) → items_have_float (items_of (map document xs)) ≡ false
-each document none [] = refl
-each document none (x ∷ xs) = ap (λ b. b || items_have_float (items_of (map document xs))) (none x) ∙ each document none xs
-
-pub of_answer : (answer : Result Verdict VerdictFault) → has_float (answer_document answer) ≡ false
-of_answer (Ok Allowed) = refl
-of_answer (Ok (Denied report)) = ap (λ b. b || false) (each condition_document (λ _. refl) report)
-of_answer (Err (Caps fault)) = refl
-of_answer (Err (Profiles fault)) = refl
-of_answer (Err (Calls fault)) = refl
-
-pub of_explained : (grants : List Grant) (ticket : Flat) → has_float (explained_document grants ticket) ≡ false
-of_explained grants ticket = ap (λ b. b || false) (each grant_document (λ _. refl) ticket)
-
-pub of_entity : (name : List ℕ) (answer : Result Verdict VerdictFault) → has_float (entity_document name answer) ≡ false
-of_entity name answer = ap (λ b. b || false) (of_answer answer)
-
-pub of_row : (name : List ℕ) (answers : List (Result Verdict VerdictFault)) → has_float (row_document name answers) ≡ false
-of_row name answers = ap (λ b. b || false) (each answer_document of_answer answers)
 
 pub of_examples : (examples : List Example) → has_float (examples_document examples) ≡ false
 of_examples examples = each example_document (λ _. refl) examples

@@ -5,14 +5,14 @@ use Rattle.std.proofs.lemmas.List.{take_all}
 use Rattle.cap_text.specs.Grammar.{Spells}
 use Rattle.cap_text.specs.declared.grant.Grant.{Grant}
 use Rattle.cap_text.proofs.Once.{at_most_one}
-use Rattle.gate_text.specs.Answer.{IsAnswer, answer_of}
-use Rattle.gate_text.specs.Asked.{Asked}
+use Rattle.answer_text.specs.Answer.{IsAnswer, answer_of}
+use Rattle.answer_text.specs.Asked.{Asked}
 use Rattle.gate_text.specs.Who.{AreInOrder, IsTold, May, told}
-use Rattle.gate_text.specs.declared.entity.Entity.{Entity}
-use Rattle.gate_text.specs.declared.format.Format.{Format}
-use Rattle.gate_text.specs.declared.verdict.Verdict.{Verdict}
-use Rattle.gate_text.specs.declared.verdict.Verdict.TheVariants.{Allowed, Denied}
-use Rattle.gate_text.specs.declared.verdict.VerdictFault.{VerdictFault}
+use Rattle.answer_text.specs.declared.entity.Entity.{Entity}
+use Rattle.answer_text.specs.declared.format.Format.{Format}
+use Rattle.answer_text.specs.declared.verdict.Verdict.{Verdict}
+use Rattle.answer_text.specs.declared.verdict.Verdict.TheVariants.{Allowed, Denied}
+use Rattle.answer_text.specs.declared.verdict.VerdictFault.{VerdictFault}
 
 abbrev answered : Verdict → Result Verdict VerdictFault
 answered verdict = Ok verdict

@@ -18,10 +18,10 @@ use Rattle.compare_core.specs.declared.comparing.Example.{Example}
 use Rattle.compare_core.specs.declared.registry.Registry.{Registry}
 use Rattle.serde_json.specs.Data.{Data, array, object, string, number, unsigned, member, no_members}
 use Rattle.serde_json.specs.View.{items_of}
-use Rattle.gate_text.specs.Documents.{json_line}
-use Rattle.gate_text.specs.Request.{example_line, needs_words, target_words}
-use Rattle.gate_text.specs.declared.format.Format.{Format}
-use Rattle.gate_text.specs.declared.format.Format.TheVariants.{Text, Json}
+use Rattle.answer_text.specs.Documents.{json_line}
+use Rattle.answer_text.specs.Request.{example_line, needs_words, target_words}
+use Rattle.answer_text.specs.declared.format.Format.{Format}
+use Rattle.answer_text.specs.declared.format.Format.TheVariants.{Text, Json}
 use Rattle.gate_text.specs.declared.comparison.Comparison.{Comparison}
 use Rattle.gate_text.specs.declared.compare.Change.{Change}
 use Rattle.gate_text.specs.declared.compare.Relation.{Relation}

@@ -2,7 +2,6 @@
 -- What is printed of two lists of entities, an old and a new one: whose rights change, and how (this project's profile).
 -- Every line ends with byte 10.
 use Rattle.std.specs.Prelude.{ℕ, ◌≡◌, ◌≢◌, ◌⊎◌, ◌&&◌, ◌||◌, List, [], ◌∷◌, ◌++◌, Bool, true, false, Option, Some, None, codes, string_bytes}
-use Rattle.std.specs.List.{find}
 use Rattle.std.specs.Str.{bytes_eq}
 use Rattle.serde_json.specs.Data.{Data, object, string, number, unsigned, member, no_members}
 use Rattle.cap_text.specs.FaultText as cap
@@ -10,23 +9,20 @@ use Rattle.grant_core.specs.Flat.{Flat}
 use Rattle.grant_core.specs.Text as profiles
 use Rattle.compare_core.specs.Widening.{AnswersBy}
 use Rattle.compare_core.specs.declared.comparing.Example.{Example}
-use Rattle.gate_text.specs.Caret.{shown}
+use Rattle.answer_text.specs.Caret.{shown}
+use Rattle.answer_text.specs.Named.{entity_in}
 use Rattle.gate_text.specs.Compared.{ComesTo, IsFaultOf, IsRelation, examples_document, fault_number, indented_lines, is_wider, relation_word}
-use Rattle.gate_text.specs.Documents.{entities_by, piece}
+use Rattle.answer_text.specs.Documents.{entities_by, piece}
 use Rattle.gate_text.specs.declared.comparison.Comparison.{Comparison}
-use Rattle.gate_text.specs.declared.format.Format.{Format}
-use Rattle.gate_text.specs.declared.format.Format.TheVariants.{Text, Json}
-use Rattle.gate_text.specs.declared.entity.Entity.{Entity}
+use Rattle.answer_text.specs.declared.format.Format.{Format}
+use Rattle.answer_text.specs.declared.format.Format.TheVariants.{Text, Json}
+use Rattle.answer_text.specs.declared.entity.Entity.{Entity}
 use Rattle.gate_text.specs.declared.compare.Relation.{Relation}
 use Rattle.gate_text.specs.declared.compare.Relation.TheVariants.{Same, Narrower, Wider, Different}
 use Rattle.gate_text.specs.declared.compare.TextFault.{TextFault}
 use Rattle.gate_text.specs.declared.compare.TextFault.TheVariants.{Spelling, Expansion, OutOfMemory}
 use Rattle.gate_text.specs.declared.compare_auth.Presence.{Presence}
 use Rattle.gate_text.specs.declared.compare_auth.Presence.TheVariants.{Both, New, Gone}
-
--- the entity of this name, the first where there are more
-abbrev pub entity_in : List Entity → List ℕ → Option Entity
-entity_in entities name = find (λ entity. bytes_eq (string_bytes entity.name) name) entities
 
 -- the word behind the name of an entity, which has none where both lists have it and its rights are the same
 abbrev pub word_of : Presence → Relation → Option (List ℕ)

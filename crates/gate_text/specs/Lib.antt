@@ -1,14 +1,4 @@
-pub mod Text
-pub mod Asked
-pub mod Answer
-pub mod Explain
-pub mod Caret
-pub mod Words
-pub mod Calls
-pub mod Request
 pub mod Compared
 pub mod Who
 pub mod Table
 pub mod Entities
-pub mod Documents
-pub mod FirstPlaces

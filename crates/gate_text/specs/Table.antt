@@ -1,22 +1,20 @@
 -- Statement: contracts of public calls use it.
 -- What is printed of some entities and some requests: a table, with a row for each entity and in it an answer to each request
 -- (this project's profile).
-use Rattle.std.specs.Prelude.{ℕ, zero, suc, ◌≡◌, List, [], ◌∷◌, ◌++◌, Result, Ok, Err, codes, decimal, flat_map, length, map, string_bytes}
-use Rattle.serde_json.specs.Data.{Data, array, object, string, member, no_members}
-use Rattle.serde_json.specs.View.{items_of}
-use Rattle.gate_text.specs.Answer.{IsAnswer}
-use Rattle.gate_text.specs.Asked.{Asked}
-use Rattle.gate_text.specs.Caret.{shown}
+use Rattle.std.specs.Prelude.{ℕ, zero, suc, ◌≡◌, List, [], ◌∷◌, ◌++◌, Result, Ok, Err, codes, decimal, flat_map, length, string_bytes}
+use Rattle.answer_text.specs.Answer.{IsAnswer}
+use Rattle.answer_text.specs.Asked.{Asked}
+use Rattle.answer_text.specs.Caret.{shown}
 use Rattle.gate_text.specs.Compared.{first_word}
-use Rattle.gate_text.specs.Documents.{answer_document, entities_by, piece}
-use Rattle.gate_text.specs.Text.{fault_text}
+use Rattle.answer_text.specs.Documents.{entities_by, piece, row_document}
+use Rattle.answer_text.specs.Text.{fault_text}
 use Rattle.gate_text.specs.Who.{AreInOrder}
-use Rattle.gate_text.specs.declared.entity.Entity.{Entity}
-use Rattle.gate_text.specs.declared.format.Format.{Format}
-use Rattle.gate_text.specs.declared.format.Format.TheVariants.{Text, Json}
-use Rattle.gate_text.specs.declared.verdict.Verdict.{Verdict}
-use Rattle.gate_text.specs.declared.verdict.Verdict.TheVariants.{Allowed, Denied}
-use Rattle.gate_text.specs.declared.verdict.VerdictFault.{VerdictFault}
+use Rattle.answer_text.specs.declared.entity.Entity.{Entity}
+use Rattle.answer_text.specs.declared.format.Format.{Format}
+use Rattle.answer_text.specs.declared.format.Format.TheVariants.{Text, Json}
+use Rattle.answer_text.specs.declared.verdict.Verdict.{Verdict}
+use Rattle.answer_text.specs.declared.verdict.Verdict.TheVariants.{Allowed, Denied}
+use Rattle.answer_text.specs.declared.verdict.VerdictFault.{VerdictFault}
 
 -- the answers of a text to some requests, in order
 abbrev pub AreAnswers : List ℕ → List Asked → List (Result Verdict VerdictFault) → Type 0
@@ -33,10 +31,6 @@ cell (Err fault) = codes " " ++ first_word (fault_text fault)
 
 abbrev pub row_line : List ℕ → List (Result Verdict VerdictFault) → List ℕ
 row_line name answers = shown name ++ (flat_map cell answers ++ codes "\n")
-
-abbrev pub row_document : List ℕ → List (Result Verdict VerdictFault) → Data
-row_document name answers =
-    object (member (codes "answers") (array (items_of (map answer_document answers))) (member (codes "entity") (string name) no_members))
 
 abbrev pub row_by : Format → List ℕ → List (Result Verdict VerdictFault) → List ℕ
 row_by Text name answers = row_line name answers

@@ -1,24 +1,23 @@
 -- Statement: contracts of public calls use it.
 -- Which entities may, and what is printed of each (this project's profile). Every line ends with byte 10.
 use Rattle.std.specs.Prelude.{ℕ, ◌≡◌, ◌⊎◌, Bool, true, false, List, [], ◌∷◌, ◌++◌, Option, Some, None, Result, Ok, Err, codes, flat_map, string_bytes, if◌then◌else◌}
-use Rattle.serde_json.specs.Data.{Data, object, string, member, no_members}
 use Rattle.cap_text.specs.Grammar.{Spells}
 use Rattle.cap_text.specs.declared.grant.Grant.{Grant}
 use Rattle.object_core.specs.Faults as vectors
 use Rattle.object_core.specs.declared.needs.NeedsFault.{NeedsFault}
 use Rattle.verdict_core.specs.Text.{report_line}
 use Rattle.verdict_core.specs.declared.request.Condition.{Condition}
-use Rattle.gate_text.specs.Answer.{IsAnswer, answer_of}
-use Rattle.gate_text.specs.Asked.{Asked, calls_fault}
-use Rattle.gate_text.specs.Caret.{shown}
-use Rattle.gate_text.specs.Documents.{entities_by, entity_document, json_line, piece}
-use Rattle.gate_text.specs.Text.{fault_text, refused_text}
-use Rattle.gate_text.specs.declared.entity.Entity.{Entity}
-use Rattle.gate_text.specs.declared.format.Format.{Format}
-use Rattle.gate_text.specs.declared.format.Format.TheVariants.{Text, Json}
-use Rattle.gate_text.specs.declared.verdict.Verdict.{Verdict}
-use Rattle.gate_text.specs.declared.verdict.Verdict.TheVariants.{Allowed, Denied}
-use Rattle.gate_text.specs.declared.verdict.VerdictFault.{VerdictFault}
+use Rattle.answer_text.specs.Answer.{IsAnswer, answer_of}
+use Rattle.answer_text.specs.Asked.{Asked, calls_fault}
+use Rattle.answer_text.specs.Caret.{shown}
+use Rattle.answer_text.specs.Documents.{calls_document, entities_by, entity_document, json_line, piece}
+use Rattle.answer_text.specs.Text.{fault_text, refused_text}
+use Rattle.answer_text.specs.declared.entity.Entity.{Entity}
+use Rattle.answer_text.specs.declared.format.Format.{Format}
+use Rattle.answer_text.specs.declared.format.Format.TheVariants.{Text, Json}
+use Rattle.answer_text.specs.declared.verdict.Verdict.{Verdict}
+use Rattle.answer_text.specs.declared.verdict.Verdict.TheVariants.{Allowed, Denied}
+use Rattle.answer_text.specs.declared.verdict.VerdictFault.{VerdictFault}
 
 -- the text comes to grants that allow the request
 abbrev pub May : List ℕ → Asked → Type 0
@@ -89,9 +88,6 @@ AreTold format all asked entities text =
     (pieces : List ℕ) × AreInOrder (IsTold format all asked) entities pieces × (text ≡ entities_by format pieces)
 
 -- why calls are refused
-abbrev pub calls_document : NeedsFault → Data
-calls_document fault = object (member (codes "fault") (string (vectors.text_of fault)) no_members)
-
 abbrev pub calls_by : Format → NeedsFault → List ℕ
 calls_by Text fault = refused_text (vectors.text_of fault)
 calls_by Json fault = json_line (calls_document fault)

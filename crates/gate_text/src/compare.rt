@@ -5,14 +5,11 @@ ghost use Rattle.std.specs.List.{flat_map};
 ghost use Rattle.grant_core.specs.BuiltIn.{built_in};
 ghost use Rattle.gate_text.specs.Compared as spec;
 ghost use Rattle.gate_text.specs.Compared.{ComesTo, IsChange, IsCompareAnswer, IsFaultOf};
-ghost use Rattle.gate_text.specs.Request.{example_line};
+ghost use Rattle.answer_text.specs.Request.{example_line};
 
 use crate::compare_json::{compared_json, side_json};
 use crate::comparison::Comparison;
-use crate::expanded;
-use crate::format::Format;
-use crate::printed::Printed;
-use crate::request::push_example;
+use answer_text::{Format, Printed, push_example};
 use cap_text::{CapFault, CapList, FaultKind, parse};
 use common_types::OutOfMemory;
 use compare_core::{Example, Registry, widening_by};
@@ -183,7 +180,7 @@ fn ticket_of_list(
     ensures ticket { IfOk result (λ ticket. spec.Expands list.now ticket.grants) }
     ensures refused { IfErr result (λ fault. spec.IsExpansionFault list.now fault) }
 {
-    match expanded::ticket_of(alloc, profiles, list, None) {
+    match answer_text::ticket_of(alloc, profiles, list, None) {
         Ok(ticket) => Ok(ticket),
         Err(ExpandFault::OutOfMemory) => Err(TextFault::OutOfMemory),
         Err(fault) => Err(TextFault::Expansion(fault)),

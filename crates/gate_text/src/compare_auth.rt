@@ -6,15 +6,10 @@ ghost use Rattle.grant_core.specs.BuiltIn.{built_in};
 ghost use Rattle.gate_text.specs.Entities as spec;
 ghost use Rattle.gate_text.specs.Entities.{AreAllTold, AreListsTold, IsBothTold, IsChangeTold, IsEntitiesAnswer, IsNewTold, IsOldTold, IsPairTold};
 
-use crate::caret::push_shown_text;
 use crate::compare::{Change, Relation, TextFault, changes, fails_check, push_number, ticket_of};
 use crate::compare_json::{change_piece, unjudged_piece};
 use crate::comparison::Comparison;
-use crate::document::entities_by;
-use crate::entity::Entity;
-use crate::format::Format;
-use crate::named::NamedEntities;
-use crate::printed::Printed;
+use answer_text::{Entity, Format, NamedEntities, Printed, entities_by, push_shown_text};
 use common_types::OutOfMemory;
 use grant_core::ProfileTable;
 use std::alloc::{AllocError, Global};

@@ -3,14 +3,13 @@
 ghost use Rattle.std.specs.Prelude.{◌≡◌, IfOk, string_bytes};
 ghost use Rattle.serde_json.specs.View.{view};
 ghost use Rattle.gate_text.specs.Compared.{compared_document, example_document, examples_document, side_document};
-ghost use Rattle.gate_text.specs.Documents.{json_line, piece};
+ghost use Rattle.answer_text.specs.Documents.{json_line, piece};
 ghost use Rattle.gate_text.specs.Entities.{change_document, unjudged_document};
 ghost use Rattle.gate_text.specs.declared.compare.TextFault.TheVariants.{Spelling};
 
 use crate::compare::{Change, Relation, TextFault};
 use crate::compare_auth::{Presence, became};
-use crate::document::{json_line, piece_of};
-use crate::request::push_request;
+use answer_text::{json_line, piece_of, push_request};
 use cap_text::CapFault;
 use common_types::OutOfMemory;
 use compare_core::Example;

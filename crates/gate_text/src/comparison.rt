@@ -1,6 +1,6 @@
 //! How texts are compared.
 
-use crate::format::Format;
+use answer_text::Format;
 use compare_core::Registry;
 
 /// Over which class registries texts are compared, whether a gain fails, and how the answer is printed.

@@ -5,16 +5,14 @@ ghost use Rattle.grant_core.specs.BuiltIn.{built_in};
 ghost use Rattle.gate_text.specs.Compared.{first_word};
 ghost use Rattle.gate_text.specs.Table as spec;
 ghost use Rattle.gate_text.specs.Table.{AreAnswers, IsRow, IsTable};
-ghost use Rattle.gate_text.specs.Text.{fault_text};
+ghost use Rattle.answer_text.specs.Text.{fault_text};
 ghost use Rattle.gate_text.specs.Who.{AreInOrder};
 
-use crate::asked::Asked;
-use crate::caret::push_shown_text;
 use crate::compare::first_word;
-use crate::document::{entities_by, row_piece};
-use crate::entity::Entity;
-use crate::format::Format;
-use crate::verdict::{Answer, Verdict, VerdictFault, answer_by};
+use answer_text::{
+    Answer, Asked, Entity, Format, Verdict, VerdictFault, answer_by, entities_by, push_shown_text,
+    row_piece,
+};
 use common_types::OutOfMemory;
 use grant_core::ProfileTable;
 use std::alloc::Global;

@@ -2,16 +2,13 @@
 
 ghost use Rattle.std.specs.Prelude.{◌≡◌, ◌++◌, true, false, IfOk, OnOk, flat_map, string_bytes};
 ghost use Rattle.grant_core.specs.BuiltIn.{built_in};
-ghost use Rattle.gate_text.specs.Documents.{entity_document, piece};
+ghost use Rattle.answer_text.specs.Documents.{entity_document, piece};
 ghost use Rattle.gate_text.specs.Who.{AreInOrder, AreTold, IsTold, IsWho, answer_lines, answered_by, answered_lines, calls_by, indented_line, listed, listed_by, name_line, told};
 
-use crate::asked::{Asked, needs_asked};
-use crate::caret::push_shown_text;
-use crate::document::{calls_json, entities_by, entity_piece};
-use crate::entity::Entity;
-use crate::format::Format;
-use crate::printed::Printed;
-use crate::verdict::{Answer, Verdict, answer_by};
+use answer_text::{
+    Answer, Asked, Entity, Format, Printed, Verdict, answer_by, calls_json, entities_by,
+    entity_piece, needs_asked, push_shown_text,
+};
 use common_types::OutOfMemory;
 use grant_core::{Path, ProfileTable};
 use object_core::NeedsFault;

@@ -13,13 +13,13 @@ use Rattle.lint_core.specs.Pools.{without_pools}
 use Rattle.lint_core.specs.declared.findings.Standing.{Standing}
 use Rattle.lint_core.specs.declared.findings.Standing.TheVariants.{Needed, Needless, Covered}
 use Rattle.share_core.specs.declared.pools.Pool.{Pool}
-use Rattle.gate_text.specs.Caret.{shown}
+use Rattle.answer_text.specs.Caret.{shown}
 use Rattle.gate_text.specs.Compared.{IsFaultOf, fault_text}
 use Rattle.gate_text.specs.Entities.{AreAllTold}
-use Rattle.gate_text.specs.Text.{refused_text}
+use Rattle.answer_text.specs.Text.{refused_text}
 use Rattle.gate_text.specs.declared.compare.TextFault.{TextFault}
 use Rattle.gate_text.specs.declared.compare.TextFault.TheVariants.{OutOfMemory}
-use Rattle.gate_text.specs.declared.entity.Entity.{Entity}
+use Rattle.answer_text.specs.declared.entity.Entity.{Entity}
 
 -- the line of a grant's number, behind what stands before it; a grant that is needed has none
 abbrev pub standing_line : List ℕ → ℕ → Standing → List ℕ

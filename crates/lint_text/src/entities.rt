@@ -1,7 +1,7 @@
 //! What is printed of the entities of a cluster.
 
 ghost use Rattle.std.specs.Prelude.{◌≡◌, ◌++◌, ◌&&◌, codes, length, option_copied, IfOk, string_bytes};
-ghost use Rattle.gate_text.specs.Caret.{shown};
+ghost use Rattle.answer_text.specs.Caret.{shown};
 ghost use Rattle.grant_core.specs.BuiltIn.{built_in};
 ghost use Rattle.lint_text.specs.Linted.{AreLinted, IsEntityTold, has_mistake, lines_from};
 

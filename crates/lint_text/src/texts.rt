@@ -3,7 +3,7 @@
 ghost use Rattle.std.specs.Prelude.{◌≡◌, ◌&&◌, ◌++◌, ◌==◌, [], not, true, codes, length, option_copied, IfOk, string_bytes};
 ghost use Rattle.cap_text.specs.Printed.{printed as printed_list};
 ghost use Rattle.gate_text.specs.Compared.{fault_text};
-ghost use Rattle.gate_text.specs.Text.{refused_text};
+ghost use Rattle.answer_text.specs.Text.{refused_text};
 ghost use Rattle.lint_text.specs.Linted.{IsLintAnswer, IsTidyAnswer, has_mistake, lines_from, or_nothing};
 
 use crate::lines::{is_mistaken, push_lines};

@@ -8,7 +8,7 @@ use Rattle.std.proofs.lemmas.List.Elements.{Contains-append_left, Contains-push,
 use Rattle.std.proofs.lemmas.Option.{slice_get-get_or}
 use Rattle.flow_core.specs.Chains.{IsStep}
 use Rattle.flow_core.proofs.Listing.{in_none}
-use Rattle.gate_text.specs.Caret.{shown}
+use Rattle.answer_text.specs.Caret.{shown}
 use Rattle.grant_core.specs.Flat.{Flat}
 use Rattle.share_core.specs.Near.{AreApart, AreNear}
 use Rattle.share_core.specs.declared.pools.Pool.{Pool}

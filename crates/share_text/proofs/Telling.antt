@@ -1,7 +1,7 @@
 -- What is told of tenants, one after another.
 use Rattle.std.proofs.Common.{◌≡◌, ℕ, ◌+◌, ◌<◌, ◌≤◌, List, [], ◌∷◌, ◌++◌, Bool, true, false, ◌||◌, get_or, drop, length, refl, sym, ap, subst, ◌∙◌, inl, inr, append_assoc}
 use Rattle.std.proofs.lemmas.List.{drop_all, drop_more}
-use Rattle.gate_text.specs.declared.entity.Entity.{Entity}
+use Rattle.answer_text.specs.declared.entity.Entity.{Entity}
 use Rattle.share_text.specs.Tenants.{AreTenants, InTurn, IsTenant, IsUnjudged}
 use Rattle.share_text.specs.declared.tenants.Tenant.{Tenant}
 

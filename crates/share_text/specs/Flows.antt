@@ -5,8 +5,8 @@ use Rattle.std.specs.Prelude.{ℕ, zero, suc, ◌≡◌, ◌≢◌, ◌<◌, ◌
 use Rattle.std.specs.List.{slice_index_or}
 use Rattle.flow_core.specs.Chains.{IsChain, IsShortest, IsStep}
 use Rattle.grant_core.specs.Flat.{Flat}
-use Rattle.gate_text.specs.Caret.{shown}
-use Rattle.gate_text.specs.declared.entity.Entity.{Entity}
+use Rattle.answer_text.specs.Caret.{shown}
+use Rattle.answer_text.specs.declared.entity.Entity.{Entity}
 use Rattle.share_core.specs.declared.pools.Pool.{Pool}
 use Rattle.share_text.specs.Kinds.{ShareWithin}
 use Rattle.share_text.specs.Tenants.{AreTenants}

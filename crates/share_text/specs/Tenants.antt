@@ -4,15 +4,15 @@ use Rattle.std.specs.Prelude.{ℕ, ◌≡◌, ◌≢◌, ◌⊎◌, ◌&&◌, �
 use Rattle.serde_json.specs.Data.{Data, object, string, member, no_members}
 use Rattle.grant_core.specs.Flat.{Flat}
 use Rattle.verdict_core.specs.Target.{Target}
-use Rattle.gate_text.specs.Caret.{shown}
+use Rattle.answer_text.specs.Caret.{shown}
 use Rattle.gate_text.specs.Compared.{ComesTo, IsFaultOf}
-use Rattle.gate_text.specs.Documents.{list_by, piece}
-use Rattle.gate_text.specs.Request.{target_words}
+use Rattle.answer_text.specs.Documents.{list_by, piece}
+use Rattle.answer_text.specs.Request.{target_words}
 use Rattle.gate_text.specs.declared.compare.TextFault.{TextFault}
 use Rattle.gate_text.specs.declared.compare.TextFault.TheVariants.{OutOfMemory}
-use Rattle.gate_text.specs.declared.entity.Entity.{Entity}
-use Rattle.gate_text.specs.declared.format.Format.{Format}
-use Rattle.gate_text.specs.declared.format.Format.TheVariants.{Text, Json}
+use Rattle.answer_text.specs.declared.entity.Entity.{Entity}
+use Rattle.answer_text.specs.declared.format.Format.{Format}
+use Rattle.answer_text.specs.declared.format.Format.TheVariants.{Text, Json}
 use Rattle.share_core.specs.declared.pools.Pool.{Pool}
 use Rattle.share_text.specs.Kinds.{IsSharedWithin, ShareWithin, is_written, kind_words}
 use Rattle.share_text.specs.declared.kind.Kind.{Kind}

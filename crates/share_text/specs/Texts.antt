@@ -7,8 +7,8 @@ use Rattle.grant_core.specs.Text.{printed_path}
 use Rattle.share_core.specs.Sharing.{Answers, pairs}
 use Rattle.share_core.specs.declared.reaching.Shared.{Shared}
 use Rattle.gate_text.specs.Compared.{ComesTo, IsSideRefused}
-use Rattle.gate_text.specs.Request.{target_words}
-use Rattle.gate_text.specs.declared.format.Format.TheVariants.{Text}
+use Rattle.answer_text.specs.Request.{target_words}
+use Rattle.answer_text.specs.declared.format.Format.TheVariants.{Text}
 use Rattle.share_text.specs.Kinds.{IsSharedSo, ShareSo, kind_words, one_touch, other_touch}
 use Rattle.share_text.specs.declared.kind.Kind.{Kind}
 use Rattle.share_text.specs.declared.kind.Kind.TheVariants.{WritesWrites, WritesReads, ReadsWrites, ReadsReads}

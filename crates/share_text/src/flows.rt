@@ -2,7 +2,7 @@
 
 ghost use Rattle.std.specs.Prelude.{ℕ, ◌≡◌, ◌++◌, ◌<◌, ◌↔◌, map, length, codes, string_bytes, option_copied, IfOk, OnOk};
 ghost use Rattle.std.specs.List.{Contains};
-ghost use Rattle.gate_text.specs.Caret.{shown};
+ghost use Rattle.answer_text.specs.Caret.{shown};
 ghost use Rattle.share_core.specs.Near.{AreNear};
 ghost use Rattle.share_text.specs.Behind.{grants_of};
 ghost use Rattle.share_text.specs.Kinds.{ShareWithin};

@@ -2,8 +2,8 @@
 
 ghost use Rattle.std.specs.Prelude.{◌≡◌, ◌++◌, ◌&&◌, ◌||◌, [], false, None, Some, codes, drop, string_bytes, option_copied, IfOk, OnOk, ◌↔◌, IsTrue};
 ghost use Rattle.serde_json.specs.View.{view};
-ghost use Rattle.gate_text.specs.Documents.{piece};
-ghost use Rattle.gate_text.specs.Request.{target_words};
+ghost use Rattle.answer_text.specs.Documents.{piece};
+ghost use Rattle.answer_text.specs.Request.{target_words};
 ghost use Rattle.share_core.specs.Near.{AreNear};
 ghost use Rattle.share_core.specs.Sharing.{IsExampleIn, ShareIn};
 ghost use Rattle.share_text.specs.Behind.{grants_of};

@@ -1,6 +1,6 @@
 use Rattle.std.proofs.Common.{◌≡◌, ◌++◌, string_bytes, drop}
 use Rattle.std.specs.List.{flat_map}
-use Rattle.gate_text.specs.Request.{example_line}
+use Rattle.answer_text.specs.Request.{example_line}
 use Rattle.gate_text.proofs.compare.push_examples.Given as goal
 
 -- what is written, and what the rest gives, is the whole

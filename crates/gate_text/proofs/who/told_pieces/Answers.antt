@@ -1,6 +1,6 @@
 use Rattle.std.proofs.Common.{arith, subst, ap, ◌∙◌, ◌++◌, string_bytes}
-use Rattle.gate_text.specs.Answer.{IsAnswer}
-use Rattle.gate_text.specs.Asked.{Asked}
+use Rattle.answer_text.specs.Answer.{IsAnswer}
+use Rattle.answer_text.specs.Asked.{Asked}
 use Rattle.gate_text.specs.Who.{IsTold, told}
 use Rattle.gate_text.proofs.Told.{next_in_order, told_is, whole_order}
 use Rattle.gate_text.proofs.who.told_pieces.Goals as goal

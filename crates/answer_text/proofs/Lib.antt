@@ -1,0 +1,4 @@
+pub mod FirstPlaces
+pub mod NoFloats
+pub mod Pieces
+pub mod Quotes

@@ -1,0 +1,11 @@
+pub mod Text
+pub mod Asked
+pub mod Answer
+pub mod Explain
+pub mod Caret
+pub mod Words
+pub mod Calls
+pub mod Request
+pub mod Named
+pub mod Documents
+pub mod FirstPlaces

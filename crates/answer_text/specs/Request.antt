@@ -1,0 +1,38 @@
+-- Statement: contracts of public calls use it.
+-- Requests as the words of a shell that `osdgate verdict` takes (this project's profile; quotes as POSIX shells read them).
+use Rattle.std.specs.Prelude.{ℕ, List, [], ◌∷◌, ◌++◌, ◌==◌, codes, if◌then◌else◌, length}
+use Rattle.std.specs.List.{flat_map}
+use Rattle.common_types.specs.declared.tags.AppTags.{AppTags}
+use Rattle.grant_core.specs.Text.{printed_path}
+use Rattle.verdict_core.specs.declared.request.Needs.{Needs}
+use Rattle.verdict_core.specs.Target.{Target}
+use Rattle.compare_core.specs.declared.comparing.Example.{Example}
+use Rattle.answer_text.specs.Calls.{call_words}
+use Rattle.answer_text.specs.Words.{flag_words, shell_word}
+
+-- the option of a pair of an application
+abbrev pub pair_words : List ℕ → List ℕ × List ℕ → List ℕ
+pair_words application pair =
+    (codes " --tag " ++ shell_word application) ++ ((codes ":" ++ shell_word pair.0) ++ (codes "=" ++ shell_word pair.1))
+
+-- an option takes one pair, so each has its own; an application without pairs has one too
+abbrev pub tag_words : AppTags → List ℕ
+tag_words app =
+    if length app.pairs == 0 then codes " --tag " ++ shell_word app.application else flat_map (pair_words app.application) app.pairs
+
+-- none for the empty namespace, which is the one where none is given
+abbrev pub namespace_words : List ℕ → List ℕ
+namespace_words [] = []
+namespace_words (b ∷ bs) = codes " --namespace " ++ shell_word (b ∷ bs)
+
+abbrev pub target_words : Target → List ℕ
+target_words target =
+    codes "--pool " ++ (shell_word target.pool ++ (namespace_words target.namespace ++ (codes " --object " ++ (shell_word target.object ++ flat_map tag_words target.tags))))
+
+abbrev pub needs_words : Needs → List ℕ
+needs_words needs = flag_words needs.reads (codes " --read") ++ (flag_words needs.writes (codes " --write") ++ flat_map call_words needs.calls)
+
+-- a sign, the grant's path, and the request
+abbrev pub example_line : List ℕ → Example → List ℕ
+example_line sign example =
+    sign ++ (printed_path example.path ++ (codes " " ++ (target_words example.target ++ (needs_words example.needs ++ codes "\n"))))

@@ -1,0 +1,33 @@
+//! What is printed of one capability text: verdicts, explanations, requests, and where a fault stands.
+//!
+//! Each text is a value, made of a capability text, entities and a request. Each call borrows what it is given, and what is
+//! wrong with a capability text or with calls is part of what is printed. The forms of the lines are this project's
+//! profile.
+#![tactic(auto)]
+
+mod asked;
+mod call_words;
+mod caret;
+mod document;
+mod entity;
+mod expanded;
+mod explain;
+mod format;
+mod named;
+mod printed;
+mod request;
+mod verdict;
+
+pub use asked::{Asked, Times, needs_asked};
+pub use caret::{point_at_fault, push_shown_text};
+pub use document::{
+    calls_json, entities_by, entity_piece, json_line, list_by, piece_of, row_piece,
+};
+pub use entity::Entity;
+pub use expanded::ticket_of;
+pub use explain::explain_text;
+pub use format::Format;
+pub use named::NamedEntities;
+pub use printed::Printed;
+pub use request::{push_example, push_request, push_target};
+pub use verdict::{Answer, Verdict, VerdictFault, answer, answer_by, text_of, verdict_text};

@@ -1,0 +1,169 @@
+//! Requests as the words of a shell.
+
+ghost use Rattle.std.specs.Prelude.{◌≡◌, ◌++◌, string_bytes, OnOk};
+ghost use Rattle.std.specs.List.{flat_map};
+ghost use Rattle.answer_text.specs.Calls.{call_words};
+ghost use Rattle.answer_text.specs.Request.{example_line, needs_words, namespace_words, pair_words, target_words, tag_words};
+ghost use Rattle.answer_text.specs.Words.{flag_words, quoted, quoted_byte, shell_word};
+
+use crate::call_words::push_call;
+use common_types::{AppTags, Name, OutOfMemory, are_word_bytes};
+use compare_core::{Example, OwnedTarget};
+use std::fmt::Write;
+use verdict_core::{ClassCall, Needs};
+
+/// Adds a text's bytes as they stand between single quotes.
+pub(crate) fn push_inside(line: &mut String, text: &str) -> Result<(), OutOfMemory>
+    ensures { OnOk result (string_bytes line.new ≡ string_bytes line.old ++ flat_map quoted_byte text.now) }
+{
+    let mut rest = text;
+    while let Some((front, behind)) = rest.split_once('\'') {
+        line.push_str(front)?;
+        line.push_str("'\\''")?;
+        rest = behind;
+    }
+    line.push_str(rest)
+}
+
+fn push_quoted(line: &mut String, text: &str) -> Result<(), OutOfMemory>
+    ensures { OnOk result (string_bytes line.new ≡ string_bytes line.old ++ quoted text.now) }
+{
+    line.push_str("'")?;
+    push_inside(line, text)?;
+    line.push_str("'")
+}
+
+/// Adds a word that a shell reads as the name.
+pub(crate) fn push_word(line: &mut String, name: &Name) -> Result<(), OutOfMemory>
+    ensures { OnOk result (string_bytes line.new ≡ string_bytes line.old ++ shell_word name.now) }
+{
+    let text = name.as_str();
+    if !text.is_empty() && are_word_bytes(text.as_bytes()) {
+        line.push_str(text)
+    } else {
+        push_quoted(line, text)
+    }
+}
+
+/// Adds an option and its value.
+fn push_option(line: &mut String, option: &str, value: &Name) -> Result<(), OutOfMemory>
+    ensures { OnOk result (string_bytes line.new ≡ string_bytes line.old ++ (option.now ++ shell_word value.now)) }
+{
+    line.push_str(option)?;
+    push_word(line, value)
+}
+
+/// Adds the option of a pair of an application.
+fn push_pair(line: &mut String, application: &Name, pair: &(Name, Name)) -> Result<(), OutOfMemory>
+    ensures { OnOk result (string_bytes line.new ≡ string_bytes line.old ++ pair_words application.now pair.now) }
+{
+    push_option(line, " --tag ", application)?;
+    push_option(line, ":", &pair.0)?;
+    push_option(line, "=", &pair.1)
+}
+
+fn push_pairs(
+    line: &mut String,
+    application: &Name,
+    pairs: &[(Name, Name)],
+) -> Result<(), OutOfMemory>
+    ensures { OnOk result (string_bytes line.new ≡ string_bytes line.old ++ flat_map (pair_words application.now) pairs.now) }
+{
+    for pair in pairs {
+        push_pair(line, application, pair)?;
+    }
+    Ok(())
+}
+
+/// Adds the options of an application: one for each pair, since an option takes one alone.
+fn push_tag(line: &mut String, app: &AppTags) -> Result<(), OutOfMemory>
+    ensures { OnOk result (string_bytes line.new ≡ string_bytes line.old ++ tag_words app.now) }
+{
+    if app.pairs.as_slice().is_empty() {
+        push_option(line, " --tag ", &app.application)
+    } else {
+        push_pairs(line, &app.application, app.pairs.as_slice())
+    }
+}
+
+fn push_tags(line: &mut String, tags: &[AppTags]) -> Result<(), OutOfMemory>
+    ensures { OnOk result (string_bytes line.new ≡ string_bytes line.old ++ flat_map tag_words tags.now) }
+{
+    for app in tags {
+        push_tag(line, app)?;
+    }
+    Ok(())
+}
+
+fn push_namespace(line: &mut String, namespace: &Name) -> Result<(), OutOfMemory>
+    ensures { OnOk result (string_bytes line.new ≡ string_bytes line.old ++ namespace_words namespace.now) }
+{
+    if namespace.is_empty() {
+        return Ok(());
+    }
+    push_option(line, " --namespace ", namespace)
+}
+
+/// Adds a target in the words that `osdgate verdict` takes, quoted for a shell: `--pool`, `--namespace` but for the empty
+/// one, `--object`, and a `--tag` for each pair of an application, or for the application alone. The words are this
+/// project's profile. An `Err` leaves a front of them behind the line.
+///
+/// An application with a `:`, or a key with a `=`, is printed, but `--tag` is cut there.
+pub fn push_target(line: &mut String, target: &OwnedTarget) -> Result<(), OutOfMemory>
+    ensures { OnOk result (string_bytes line.new ≡ string_bytes line.old ++ target_words target.now) }
+{
+    line.push_str("--pool ")?;
+    push_word(line, &target.pool)?;
+    push_namespace(line, &target.namespace)?;
+    line.push_str(" --object ")?;
+    push_word(line, &target.object)?;
+    push_tags(line, target.tags.as_slice())
+}
+
+fn push_calls(line: &mut String, calls: &[ClassCall]) -> Result<(), OutOfMemory>
+    ensures { OnOk result (string_bytes line.new ≡ string_bytes line.old ++ flat_map call_words calls.now) }
+{
+    for call in calls {
+        push_call(line, call)?;
+    }
+    Ok(())
+}
+
+/// Adds a word where it is set.
+pub(crate) fn push_flag(line: &mut String, set: bool, word: &str) -> Result<(), OutOfMemory>
+    ensures { OnOk result (string_bytes line.new ≡ string_bytes line.old ++ flag_words set word.now) }
+{
+    if set { line.push_str(word) } else { Ok(()) }
+}
+
+fn push_needs(line: &mut String, needs: &Needs) -> Result<(), OutOfMemory>
+    ensures { OnOk result (string_bytes line.new ≡ string_bytes line.old ++ needs_words needs.now) }
+{
+    push_flag(line, needs.reads, " --read")?;
+    push_flag(line, needs.writes, " --write")?;
+    push_calls(line, needs.calls.as_slice())
+}
+
+/// Adds the request of an example in words of a shell: its target, as [`push_target`] writes it, `--read` and `--write`,
+/// and its calls, by their names or by the option `--call`. An `Err` is want of memory alone, and leaves a front of them
+/// behind the line.
+pub fn push_request(line: &mut String, example: &Example) -> Result<(), OutOfMemory>
+    ensures { OnOk result (string_bytes line.new ≡ string_bytes line.old ++ (target_words example.now.target ++ needs_words example.now.needs)) }
+{
+    push_target(line, &example.target)?;
+    push_needs(line, &example.needs)
+}
+
+/// Adds the line of an example: the sign, the grant's path, and the request in words of a shell, as [`push_request`] writes
+/// it, and a line feed. An `Err` is want of memory alone, and leaves a front of it behind the line.
+pub fn push_example(line: &mut String, sign: &str, example: &Example) -> Result<(), OutOfMemory>
+    ensures { OnOk result (string_bytes line.new ≡ string_bytes line.old ++ example_line sign.now example.now) }
+{
+    line.push_str(sign)?;
+    let path = &example.path;
+    write!(line, "{path}")?;
+    line.push_str(" ")?;
+    push_target(line, &example.target)?;
+    push_needs(line, &example.needs)?;
+    line.push_str("\n")
+}
