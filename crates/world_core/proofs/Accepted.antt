@@ -28,10 +28,15 @@ use Rattle.whole_logs.specs.Within.{ActsWithin}
 use Rattle.group_types.specs.declared.fault.GroupFault.{GroupFault}
 use Rattle.group_types.specs.declared.fault.GroupFault.TheVariants as group_fault
 use Rattle.suffix_core.proofs.Runs.{run-append}
-use Rattle.world_front.specs.Event.{Ask, Event, Auth, Map, Open, Renew, Close, Submit, ListNames, Deliver, Lose, Repeat, Kick, Fault, OfMap, OfGroup}
+use Rattle.world_front.specs.declared.event.Ask.{Ask}
+use Rattle.world_front.specs.declared.event.Event.{Event}
+use Rattle.world_front.specs.declared.event.Event.TheVariants.{Auth, Map, Open, Renew, Close, Submit, List as ListNames, Deliver, Lose, Repeat, Kick}
+use Rattle.world_front.specs.declared.fault.WorldFault.{WorldFault as Fault}
+use Rattle.world_front.specs.declared.fault.WorldFault.TheVariants.{Map as OfMap, Group as OfGroup}
 use Rattle.entry_core.specs.Locality.{group_for}
 use Rattle.world_front.specs.Groups.{is_same_group, is_for, groups_of}
-use Rattle.world_front.specs.Front.{Front, Session, front_step, front_refusal, asking_refusal, is_full, requests_of, requests_in, sealed_by, if_ok}
+use Rattle.world_front.specs.Front.{Front, front_step, front_refusal, asking_refusal, is_full, requests_of, requests_in, sealed_by, if_ok}
+use Rattle.world_front.specs.declared.session.Session.{Session}
 use Rattle.world_core.specs.World.{World, Part, part, group_at, members_of, map_parts, asked_parts, parts_of, begun_group, created_by, refused_in, parts_refusal, is_accepted, world_step}
 use Rattle.world_core.specs.Holds.{events_in, group_step_alone}
 use Rattle.world_core.specs.Accepted.{FrontTells, IsServed}

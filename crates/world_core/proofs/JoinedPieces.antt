@@ -13,7 +13,7 @@ use Rattle.entry_core.specs.Laws.{is_denied}
 use Rattle.store_core.specs.Store.{bytes_cmp}
 use Rattle.store_core.specs.declared.reply.Reply.{Reply}
 use Rattle.store_core.specs.declared.reply.Reply.TheVariants.{Names}
-use Rattle.world_front.specs.Front.{Pieced}
+use Rattle.world_front.specs.declared.session.Pieced.{Pieced}
 use Rattle.world_core.specs.Listing.{names_in, consed, all_of, joined, listing_of}
 use Rattle.world_core.specs.Joining.{with_names, with_reply, reply_of, joined_with}
 use Rattle.world_core.specs.declared.joining.Joined.{Joined}

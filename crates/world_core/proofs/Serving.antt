@@ -11,7 +11,9 @@ use Rattle.whole_logs.specs.Each.{Each}
 use Rattle.suffix_core.specs.Group.{submitted}
 use Rattle.whole_logs.specs.Asked.{IsAsked}
 use Rattle.whole_logs.proofs.Audits.{legal_rest}
-use Rattle.world_front.specs.Event.{Event, Told, Fault}
+use Rattle.world_front.specs.declared.event.Event.{Event}
+use Rattle.world_front.specs.declared.event.Told.{Told}
+use Rattle.world_front.specs.declared.fault.WorldFault.{WorldFault as Fault}
 use Rattle.world_front.specs.Front.{sealed_by}
 use Rattle.world_core.specs.World.{World, counts, is_accepted, world_step}
 use Rattle.world_core.specs.Answers.{answer_at}

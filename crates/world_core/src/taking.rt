@@ -7,7 +7,7 @@ ghost use Rattle.whole_logs.specs.Each.{Each};
 ghost use Rattle.suffix_core.specs.Group as group;
 ghost use Rattle.group_types.specs.declared.fault.GroupFault.TheVariants as group_fault;
 ghost use Rattle.map_core.specs.Map.{map_of};
-ghost use Rattle.world_front.specs.Event as events;
+ghost use Rattle.world_front.specs.declared.fault.WorldFault.TheVariants as faults;
 ghost use Rattle.world_core.specs.Taking.{Takes, TakesAll, is_full_at, places_for};
 
 use crate::group_places::place_for;
@@ -130,7 +130,7 @@ pub(crate) fn take_requests(
     ensures places { IfOk result (λ places. places.items ≡ places_for (map_of map.now).pools requests.now) }
     ensures room { OnOk result (list_any (is_full_at groups.old.items) (places_for (map_of map.now).pools requests.now) ≡ false) }
     ensures taken { OnOk result (TakesAll groups.old.items (places_for (map_of map.now).pools requests.now) requests.now groups.new.items) }
-    ensures refused { IfErr result (λ fault. (fault ≡ events.OutOfMemory) ⊎ ((fault ≡ events.OfGroup group_fault.Full) × (list_any (is_full_at groups.old.items) (places_for (map_of map.now).pools requests.now) ≡ true))) }
+    ensures refused { IfErr result (λ fault. (fault ≡ faults.OutOfMemory) ⊎ ((fault ≡ faults.Group group_fault.Full) × (list_any (is_full_at groups.old.items) (places_for (map_of map.now).pools requests.now) ≡ true))) }
     ensures unchanged { OnErr result (groups.new.items ≡ groups.old.items) }
 {
     let alloc = *groups.allocator();
