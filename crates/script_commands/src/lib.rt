@@ -1,13 +1,12 @@
-//! What a line of a script says, and what is printed of a step. The definitions are in `specs/`.
+//! What a line of a script says. The definitions are in `specs/`.
 //!
-//! The commands and the printed texts are this project's profile, after Ceph's command line. What a command does to a world is said
-//! by the crates above.
+//! The commands are this project's profile, after Ceph's command line. What a command does to a world is said by the crates above, and
+//! what is printed of it by `script_printing`.
 #![tactic(auto)]
 
 mod command;
 mod map_commands;
 mod operations;
-mod printing;
 mod reading;
 mod session_commands;
 mod taking;
@@ -15,8 +14,8 @@ mod texts;
 mod user_commands;
 
 pub use command::Command;
-pub use printing::{
+pub use reading::read_line;
+pub use script_printing::{
     push_answer, push_counted, push_located, push_ready, push_refused, push_settled, push_told,
     push_user, push_users,
 };
-pub use reading::read_line;

@@ -88,12 +88,6 @@ pub fn read_line(alloc: Global, line: &[u8]) -> Result<Option<Command>, OutOfMem
     let Some(mut words) = Words::of(line) else {
         return Ok(None);
     };
-    let Some(command) = command(alloc, &mut words)? else {
-        return Ok(None);
-    };
-    if words.is_empty() {
-        Ok(Some(command))
-    } else {
-        Ok(None)
-    }
+    let found = command(alloc, &mut words)?;
+    Ok(words.whole(found))
 }

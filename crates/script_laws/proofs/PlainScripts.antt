@@ -32,7 +32,7 @@ use Rattle.world_laws.specs.Places.{IsFoundByPlace}
 use Rattle.script_commands.specs.declared.command.Command.{Command}
 use Rattle.script_commands.specs.declared.command.Command.TheVariants.{Osds, Happens, Submit, List as ListNames, Locate, ShowUser, ListUsers, Tick, Settle, KickAll, LoseAll, Answer as AskAnswer, Listing, Ready}
 use Rattle.script_commands.specs.Command.{read_line}
-use Rattle.script_commands.specs.Text.{id_text, told_text, refused_text, or_refused, asked_text, users_text, ready_text}
+use Rattle.script_printing.specs.Text.{id_text, told_text, refused_text, or_refused, asked_text, users_text, ready_text}
 use Rattle.world_script.specs.Script.{Step, Goes, IsBad, IsOther, stepped, line_step, behind, onward, outputs, kept, begins, ask_now, places, locate_text, show_text, answer_in, listing_in, Machine, prints, does, event_told, event_line, ready_in, ready_line_text, goes, machine_step, script_step, Wrote}
 use Rattle.script_laws.specs.Plain.{Plain, Settled, decides, serves, settles, first_plain, is_enough, least_of, is_move, is_message, asks, judged, plain_event, tells, ready_plain, plain_step, IsPlain, PlainScriptsPrint, PlainBeginnings, PlainScriptsWrite}
 use Rattle.world_front.proofs.Bytes.{number_same}

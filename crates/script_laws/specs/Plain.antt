@@ -32,7 +32,7 @@ use Rattle.world_front.specs.Front.{Front, first_front, front_step, front_refusa
 use Rattle.world_core.specs.World.{members_of}
 use Rattle.script_commands.specs.declared.command.Command.{Command}
 use Rattle.script_commands.specs.declared.command.Command.TheVariants.{Osds, Happens, Submit, List as ListNames, Locate, ShowUser, ListUsers, Tick, Settle, KickAll, LoseAll, Answer as AskAnswer, Listing, Ready}
-use Rattle.script_commands.specs.Text.{id_text, told_text, refused_text, or_refused, asked_text, users_text, ready_text}
+use Rattle.script_printing.specs.Text.{id_text, told_text, refused_text, or_refused, asked_text, users_text, ready_text}
 use Rattle.world_script.specs.Script.{Step, Goes, IsOther, Ending, Whole, BadAt, OtherAt, Output, output_of, begins, ask_now, places, locate_text, show_text, answer_in, listing_in, script_output, Wrote, WroteOf}
 
 -- how objects are kept: what is decided on a request, and what is kept then

@@ -68,3 +68,8 @@ three_of ws = None
 abbrev pub four_of : List (List ℕ) → Option (List ℕ × List ℕ × List ℕ × List ℕ)
 four_of (a ∷ b ∷ c ∷ d ∷ []) = Some (a, b, c, d)
 four_of ws = None
+
+-- what was read, where these words are left behind it: it counts where there are none
+abbrev pub whole_of : {A : Type 0} → List (List ℕ) → Option A → Option A
+whole_of [] found = found
+whole_of (w ∷ ws) found = None

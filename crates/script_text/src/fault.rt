@@ -3,6 +3,7 @@
 ghost use Rattle.std.specs.Prelude.{◌≡◌, Some};
 ghost use Rattle.script_text.specs.Faults.{fault_text};
 
+use std::alloc::AllocError;
 use std::fmt;
 
 /// How a script ends before its last line. It prints as its number, its name, and the line where it has one.
@@ -37,3 +38,18 @@ impl fmt::Display for ScriptFault {
 }
 
 impl std::error::Error for ScriptFault {}
+
+/// Why a script does not go on behind a line.
+#[derive(Clone, Copy, Debug)]
+pub enum LineFault {
+    /// The line is no command.
+    BadLine,
+    /// Memory was wanting.
+    OutOfMemory,
+}
+
+impl From<AllocError> for LineFault {
+    fn from(_error: AllocError) -> LineFault {
+        LineFault::OutOfMemory
+    }
+}

@@ -13,7 +13,7 @@ mod streams;
 mod words;
 
 pub use counts::{Count, push_count};
-pub use fault::ScriptFault;
+pub use fault::{LineFault, ScriptFault};
 pub use laws::{
     lines_are_read_back, lines_are_the_text, numbers_are_read_back, numerals_are_decimal,
     pairs_are_read_back, quoted_is_read_back,
@@ -22,5 +22,5 @@ pub use lines::{Line, Lines};
 pub use numbers::{number_of, pair_of};
 pub use printing::{push_item, push_number, push_quoted};
 pub use std::alloc::AllocError as OutOfMemory;
-pub use streams::{read_script, write_text};
+pub use streams::{end_line, read_script, write_text};
 pub use words::Words;

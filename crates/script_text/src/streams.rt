@@ -2,9 +2,9 @@
 
 ghost use Rattle.std.specs.Prelude.{◌≡◌, ◌≤◌, IfOk, IfErr, OnOk, IfSome, Err, length};
 ghost use Rattle.std.specs.Io.KnownBytes.{Appends};
-ghost use Rattle.script_text.specs.Streams.{fits, IsUnread, AppendsPart};
+ghost use Rattle.script_text.specs.Streams.{fits, IsUnread, AppendsPart, EndsLine};
 
-use crate::fault::ScriptFault;
+use crate::fault::{LineFault, ScriptFault};
 use std::alloc::Global;
 use std::io::{Read, Write};
 
@@ -55,4 +55,22 @@ pub fn write_text<W: Write>(writer: &mut W, text: &str) -> Result<(), ScriptFaul
         }
     }
     Ok(())
+}
+
+/// Writes what a line prints where the script goes on behind it, and else tells how the script ends there, by the line's number.
+///
+/// S3 and S5 where the line does not go on: nothing was written. S4: a write failed, or took no byte.
+pub fn end_line<W: Write>(
+    writer: &mut W,
+    number: usize,
+    text: &str,
+    ended: Result<(), LineFault>,
+) -> Result<(), ScriptFault>
+    ensures { EndsLine ended number text.now (W.contents writer.old) (W.contents writer.new) result }
+{
+    match ended {
+        Ok(()) => write_text(writer, text),
+        Err(LineFault::BadLine) => Err(ScriptFault::BadLine(number)),
+        Err(LineFault::OutOfMemory) => Err(ScriptFault::OutOfMemory(number)),
+    }
 }

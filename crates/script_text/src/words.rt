@@ -4,7 +4,7 @@ ghost use Rattle.std.specs.Prelude.{◌≡◌, ◌+◌, ◌<◌, ◌≤◌, ◌=
 ghost use Rattle.std.specs.List.{prefix_len, list_all};
 ghost use Rattle.std.specs.Str.{IsAscii};
 ghost use Rattle.script_text.specs.Words as spec;
-ghost use Rattle.script_text.specs.Words.{words_of, words_from, is_quote, Bare, Quoted, Behind, Between, one_of, two_of, three_of, four_of};
+ghost use Rattle.script_text.specs.Words.{words_of, words_from, is_quote, Bare, Quoted, Behind, Between, one_of, two_of, three_of, four_of, whole_of};
 ghost use Rattle.script_text.specs.Inside.{is_space, is_bare, is_inside, ends_word, words_by, GoesOn, IsShorter};
 
 use std::marker::Model;
@@ -213,6 +213,13 @@ impl<'a> Words<'a> {
             }
             _ => None,
         }
+    }
+
+    /// What was read, where no word is left behind it.
+    pub fn whole<T: Drop>(&self, found: Option<T>) -> Option<T>
+        ensures { result ≡ whole_of self.now found }
+    {
+        if self.is_empty() { found } else { None }
     }
 
     /// The word that is left, where it is the only one.

@@ -16,7 +16,7 @@ use Rattle.world_core.specs.World.{World}
 use Rattle.world_core.specs.Answers.{answer_at}
 use Rattle.world_core.specs.Calls.{answer_refusal}
 use Rattle.world_script.specs.Script.{answer_found, answer_in, located, locate_text, name_refusal}
-use Rattle.script_commands.specs.Text.{or_refused, located_text}
+use Rattle.script_printing.specs.Text.{or_refused, located_text}
 use Rattle.world_core.proofs.Answering.{asked_for}
 
 -- ---- where an object is

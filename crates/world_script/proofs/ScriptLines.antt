@@ -2,10 +2,12 @@
 use Rattle.std.proofs.Common.{◌≡◌, ◌∙◌, ℕ, ◌+◌, List, [], ◌∷◌, ◌++◌, Bool, true, false, Option, Some, Result, Ok, Err, OnOk, IfErr, refl, sym, ap, subst, fold, append-nil, append_assoc, if◌then◌else◌}
 use Rattle.std.specs.Prelude.{codes}
 use Rattle.std.specs.Io.KnownBytes.{Appends}
-use Rattle.script_text.specs.Streams.{AppendsPart}
+use Rattle.script_text.specs.Streams.{AppendsPart, EndsLine}
 use Rattle.script_text.specs.Text.{line, numeral}
 use Rattle.script_text.specs.declared.fault.ScriptFault.{ScriptFault}
 use Rattle.script_text.specs.declared.fault.ScriptFault.TheVariants as ends
+use Rattle.script_text.specs.declared.fault.LineFault.{LineFault}
+use Rattle.script_text.specs.declared.fault.LineFault.TheVariants as line_fault
 use Rattle.script_text.proofs.Known.{appends_kept, appends_more}
 use Rattle.object_core.specs.declared.op.Op.{Op}
 use Rattle.store_core.specs.declared.sealed.GroupId.{GroupId}
@@ -16,9 +18,9 @@ use Rattle.world_front.specs.declared.event.Event.TheVariants as happens
 use Rattle.world_core.specs.World.{World, world_step, refusal_of, is_drop}
 use Rattle.script_commands.specs.declared.command.Command.{Command}
 use Rattle.script_commands.specs.declared.command.Command.TheVariants.{Submit, List as ListNames, Ready}
-use Rattle.script_commands.specs.Text.{refused_text}
+use Rattle.script_printing.specs.Text.{refused_text}
 use Rattle.world_script.specs.Script.{Step, Goes, IsBad, IsOther, BadAt, Output, Machine, event_told, event_line, line_step, script_step, onward, behind, outputs, script_output, WroteOf, ask_now, ready_line_text, unrefused, settle_events, settle_line}
-use Rattle.world_script.specs.Steps.{Does, at, GoesTo, LineWrote}
+use Rattle.world_script.specs.Steps.{Does, at, GoesTo, IsFaultOf, LineWrote}
 
 pub on_ok : {A E : Type 0} {P Q : Type 0} (r : Result A E) → (P → Q) → OnOk r P → OnOk r Q
 on_ok (Ok x) f p = f p
@@ -75,6 +77,14 @@ line_written before line number after old new result start printed given goes em
     go p (Err (ends.OutOfMemory n)) all only = absurd (cc)
     go p (Err ends.Read) all only = absurd (cc)
     go p (Err ends.TooMuch) all only = absurd (cc)
+
+-- a line that has ended
+pub line_ended : (before : Option Machine) (line : List ℕ) (number : ℕ) (after : Option Machine) (old new : Option (List ℕ)) (ended : Result (Unit {0}) LineFault) (result : Result (Unit {0}) ScriptFault) (start printed given : List ℕ)
+    → OnOk ended (GoesTo (line_step script_step before line) start printed after) → IfErr ended (IsFaultOf (line_step script_step before line)) → start ≡ [] → given ≡ printed
+    → EndsLine ended number given old new result → LineWrote before line number after old new result
+line_ended before line number after old new (Ok done) result start printed given goes fault empty same ends = line_written before line number after old new result start printed given goes empty same ends.0 ends.1 ends.2
+line_ended before line number after old new (Err line_fault.BadLine) result start printed given goes fault empty same ends = subst (LineWrote before line number after old new) (sym ends.0) (refl, fault, ends.1)
+line_ended before line number after old new (Err line_fault.OutOfMemory) result start printed given goes fault empty same ends = subst (LineWrote before line number after old new) (sym ends.0) (refl, ends.1)
 
 pub ended_by : (input : List ℕ) (old mid new : Option (List ℕ)) (done line : List ℕ) (rest lines : List (List ℕ)) (taken number : ℕ) (s after : Option Machine) (fault : ScriptFault) → Appends old mid done
     → script_output input ≡ behind done (outputs script_step lines taken s) → lines ≡ line ∷ rest → number ≡ taken + 1

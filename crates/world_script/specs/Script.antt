@@ -37,7 +37,7 @@ use Rattle.world_core.specs.Listing.{listing_of}
 use Rattle.script_commands.specs.declared.command.Command.{Command}
 use Rattle.script_commands.specs.declared.command.Command.TheVariants.{Osds, Happens, Submit, List as ListNames, Locate, ShowUser, ListUsers, Tick, Settle, KickAll, LoseAll, Answer, Listing, Ready}
 use Rattle.script_commands.specs.Command.{read_line}
-use Rattle.script_commands.specs.Text.{id_text, told_text, refused_text, or_refused, asked_text, user_shown, users_text, located_text, ready_text}
+use Rattle.script_printing.specs.Text.{id_text, told_text, refused_text, or_refused, asked_text, user_shown, users_text, located_text, ready_text}
 
 -- ---- lines, one after another
 

@@ -9,8 +9,8 @@ use Rattle.world_core.specs.World.{World}
 use Rattle.script_commands.specs.declared.command.Command.{Command}
 use Rattle.script_commands.specs.declared.command.Command.TheVariants.{Osds}
 use Rattle.world_script.specs.Script.{Step, Goes, IsBad, IsOther, Machine, Line, after_line, line_step, script_step}
-use Rattle.world_script.specs.declared.machine.LineFault.{LineFault}
-use Rattle.world_script.specs.declared.machine.LineFault.TheVariants.{BadLine, OutOfMemory}
+use Rattle.script_text.specs.declared.fault.LineFault.{LineFault}
+use Rattle.script_text.specs.declared.fault.LineFault.TheVariants.{BadLine, OutOfMemory}
 
 abbrev pub at : ℕ → World → Machine
 at tick world = record { world = world; tick = tick }

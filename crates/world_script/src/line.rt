@@ -5,9 +5,9 @@ ghost use Rattle.script_commands.specs.declared.command.Command.TheVariants.{Osd
 ghost use Rattle.world_script.specs.Script.{line_step, script_step};
 ghost use Rattle.world_script.specs.Steps.{GoesTo, IsFaultOf, LineWrote, HasFewDaemons};
 
-use crate::machine::{LineFault, Machine};
+use crate::machine::Machine;
 use script_commands::{Command, read_line};
-use script_text::{Line, ScriptFault, write_text};
+use script_text::{Line, LineFault, ScriptFault, end_line};
 use std::alloc::Global;
 use std::io::Write;
 
@@ -100,11 +100,6 @@ pub(crate) fn write_line<W: Write>(
     ensures { LineWrote state.old line.now.text.now line.now.number state.new (W.contents writer.old) (W.contents writer.new) result }
 {
     let mut text = String::new(alloc);
-    match run_line(alloc, state, line, &mut text) {
-        Ok(()) => write_text(writer, text.as_str()),
-        Err(fault) => match fault {
-            LineFault::BadLine => Err(ScriptFault::BadLine(line.number)),
-            LineFault::OutOfMemory => Err(ScriptFault::OutOfMemory(line.number)),
-        },
-    }
+    let ended = run_line(alloc, state, line, &mut text);
+    end_line(writer, line.number, text.as_str(), ended)
 }

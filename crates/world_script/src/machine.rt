@@ -11,22 +11,10 @@ use crate::questions::{answer, list_users, listing, locate, ready, show_user};
 use common_types::{Name, OutOfMemory};
 use grant_core::ProfileTable;
 use script_commands::{Command, push_counted, push_refused, push_settled, push_told};
+use script_text::LineFault;
 use std::alloc::{AllocError, Global};
 use std::marker::Model;
 use world_core::{Ask, Event, World, WorldFault};
-
-/// How a line ends that does not go on.
-#[derive(Clone, Copy, Debug)]
-pub(crate) enum LineFault {
-    BadLine,
-    OutOfMemory,
-}
-
-impl From<AllocError> for LineFault {
-    fn from(_error: AllocError) -> LineFault {
-        LineFault::OutOfMemory
-    }
-}
 
 /// A world, and the stamp of the requests that follow.
 #[derive(Drop)]

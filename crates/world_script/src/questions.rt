@@ -4,7 +4,7 @@ ghost use Rattle.std.specs.Prelude.{◌≡◌, ◌≢◌, ◌++◌, OnOk, string
 ghost use Rattle.world_front.specs.declared.fault.WorldFault.TheVariants.{Map as OfMap};
 ghost use Rattle.world_core.specs.Answers.{answer_at};
 ghost use Rattle.world_script.specs.Script as spec;
-ghost use Rattle.script_commands.specs.Text.{id_text, asked_text, refused_text, users_text};
+ghost use Rattle.script_printing.specs.Text.{id_text, asked_text, refused_text, users_text};
 
 use common_types::{Name, OutOfMemory};
 use entry_core::{GroupId, Id};

@@ -1,5 +1,5 @@
 use Rattle.std.proofs.Common.{◌≡◌, ◌∙◌, ◌++◌, OnOk, Ok, sym, ap, subst, string_bytes}
-use Rattle.script_commands.specs.Text.{id_text, asked_text}
+use Rattle.script_printing.specs.Text.{id_text, asked_text}
 use Rattle.world_script.proofs.QuestionLines.{answered, unasked}
 use Rattle.world_script.proofs.questions.answer.Goals as goal
 

@@ -1,5 +1,5 @@
 use Rattle.std.proofs.Common.{◌≡◌, ◌∙◌, ◌++◌, OnOk, None, Some, sym, ap, subst, string_bytes}
-use Rattle.script_commands.specs.Text.{located_text}
+use Rattle.script_printing.specs.Text.{located_text}
 use Rattle.world_script.proofs.QuestionLines.{located_by}
 use Rattle.world_script.proofs.questions.locate.Goals as goal
 

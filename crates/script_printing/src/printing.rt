@@ -2,7 +2,7 @@
 
 ghost use Rattle.std.specs.Prelude.{◌≡◌, ◌++◌, OnOk, string_bytes, codes, decimal, flat_map, length, option_copied};
 ghost use Rattle.script_text.specs.Text.{line, numeral};
-ghost use Rattle.script_commands.specs.Text as spec;
+ghost use Rattle.script_printing.specs.Text as spec;
 
 use auth_db::Caps;
 use common_types::{Name, OutOfMemory};
@@ -12,10 +12,10 @@ use object_core::Bytes;
 use script_text::{Count, push_count, push_item, push_number, push_quoted};
 use std::fmt::Write;
 use verdict_core::Condition;
-use world_core::{Told, WorldFault};
+use world_front::{Told, WorldFault};
 
 /// Adds a request's session and its number there.
-pub(crate) fn push_id(text: &mut String, id: Id) -> Result<(), OutOfMemory>
+fn push_id(text: &mut String, id: Id) -> Result<(), OutOfMemory>
     ensures { OnOk result (string_bytes text.new ≡ string_bytes text.old ++ spec.id_text id) }
 {
     push_number(text, u64::from(id.session()))?;
