@@ -3,7 +3,7 @@ use Rattle.std.proofs.Common.{◌≡◌, ℕ, List, [], ◌∷◌, ◌||◌, fal
 use Rattle.serde_json.specs.Data.{Data}
 use Rattle.serde_json.specs.View.{items_of}
 use Rattle.serde_json.specs.Written.{has_float, items_have_float}
-use Rattle.cap_text.specs.declared.grant.Grant.{Grant}
+use Rattle.cap_grants.specs.declared.grant.Grant.{Grant}
 use Rattle.grant_core.specs.Flat.{Flat}
 use Rattle.answer_text.specs.Documents.{answer_document, condition_document, entity_document, explained_document, grant_document, row_document}
 use Rattle.answer_text.specs.declared.verdict.Verdict.{Verdict}

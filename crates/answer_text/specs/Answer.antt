@@ -3,9 +3,9 @@
 use Rattle.std.specs.Prelude.{ℕ, ◌≡◌, ◌≢◌, ◌⊎◌, List, Option, Some, None, Result, Ok, Err, if◌then◌else◌}
 use Rattle.cap_text.specs.Faults.{IsFirstFault}
 use Rattle.cap_text.specs.Grammar.{Spells}
-use Rattle.cap_text.specs.declared.grant.Grant.{Grant}
+use Rattle.cap_grants.specs.declared.grant.Grant.{Grant}
 use Rattle.cap_text.specs.declared.fault.CapFault.{CapFault}
-use Rattle.cap_text.specs.declared.fault.FaultKind.TheVariants as kinds
+use Rattle.cap_grants.specs.declared.fault_kind.FaultKind.TheVariants as kinds
 use Rattle.grant_core.specs.BuiltIn.{built_in}
 use Rattle.grant_core.specs.Flat.{flat}
 use Rattle.grant_core.specs.Refusal.{expand_refusal}

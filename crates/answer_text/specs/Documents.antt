@@ -8,8 +8,8 @@ use Rattle.serde_json.specs.Written.{compact_text}
 use Rattle.cap_text.specs.FaultText as cap
 use Rattle.cap_text.specs.Printed.{printed, printed_allow}
 use Rattle.cap_text.specs.declared.fault.CapFault.{CapFault}
-use Rattle.cap_text.specs.declared.grant.AllowGrant.{AllowGrant}
-use Rattle.cap_text.specs.declared.grant.Grant.{Grant}
+use Rattle.cap_grants.specs.declared.grant.AllowGrant.{AllowGrant}
+use Rattle.cap_grants.specs.declared.grant.Grant.{Grant}
 use Rattle.grant_core.specs.Flat.{Flat}
 use Rattle.grant_core.specs.Text as profiles
 use Rattle.grant_core.specs.Text.{printed_path}

@@ -2,9 +2,9 @@
 use Rattle.std.proofs.Common.{◌≡◌, ℕ, ◌<◌, List, length, nat_le, not, Bool, true, false, cond, Option, None, Some, Result, Ok, Err, IfOk, refl, sym, ap, subst, arith, unwrap_or}
 use Rattle.std.proofs.lemmas.Bool.Decides.{nat_tests}
 use Rattle.cap_text.specs.declared.fault.CapFault.{CapFault}
-use Rattle.cap_text.specs.declared.fault.FaultKind.{FaultKind}
-use Rattle.cap_text.specs.declared.fault.FaultKind.TheVariants as kinds
-use Rattle.cap_text.specs.declared.grant.Grant.{Grant}
+use Rattle.cap_grants.specs.declared.fault_kind.FaultKind.{FaultKind}
+use Rattle.cap_grants.specs.declared.fault_kind.FaultKind.TheVariants as kinds
+use Rattle.cap_grants.specs.declared.grant.Grant.{Grant}
 use Rattle.cap_text.specs.Grammar.{Spells}
 use Rattle.cap_text.specs.Faults.{MemoryOr, IsFirstFault}
 use Rattle.grant_core.specs.declared.fault.ExpandFault.{ExpandFault}

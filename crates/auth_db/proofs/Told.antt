@@ -2,9 +2,9 @@
 use Rattle.std.proofs.Common.{◌≡◌, ◌∙◌, ℕ, ◌⊎◌, inl, inr, List, Option, None, Some, Ok, Err, refl, ap, unwrap_or}
 use Rattle.std.specs.Prelude.{option_map, MatchOption, MatchResult}
 use Rattle.cap_text.specs.declared.fault.CapFault.{CapFault}
-use Rattle.cap_text.specs.declared.fault.FaultKind.{FaultKind}
-use Rattle.cap_text.specs.declared.fault.FaultKind.TheVariants as kinds
-use Rattle.cap_text.specs.declared.grant.Grant.{Grant}
+use Rattle.cap_grants.specs.declared.fault_kind.FaultKind.{FaultKind}
+use Rattle.cap_grants.specs.declared.fault_kind.FaultKind.TheVariants as kinds
+use Rattle.cap_grants.specs.declared.grant.Grant.{Grant}
 use Rattle.cap_text.specs.Grammar.{Spells}
 use Rattle.cap_text.specs.Faults.{MemoryOr, IsFirstFault}
 use Rattle.cap_text.specs.ReadText.{Read, read_text}

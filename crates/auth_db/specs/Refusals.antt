@@ -4,9 +4,9 @@ use Rattle.std.specs.Prelude.{◌≡◌, ◌⊎◌, ℕ, List, [], ◌∷◌, Bo
 use Rattle.std.specs.Option.{option_or}
 use Rattle.std.specs.Result.{result_err}
 use Rattle.cap_text.specs.declared.fault.CapFault.{CapFault}
-use Rattle.cap_text.specs.declared.fault.FaultKind.{FaultKind}
-use Rattle.cap_text.specs.declared.fault.FaultKind.TheVariants as kinds
-use Rattle.cap_text.specs.declared.grant.Grant.{Grant}
+use Rattle.cap_grants.specs.declared.fault_kind.FaultKind.{FaultKind}
+use Rattle.cap_grants.specs.declared.fault_kind.FaultKind.TheVariants as kinds
+use Rattle.cap_grants.specs.declared.grant.Grant.{Grant}
 use Rattle.cap_text.specs.Grammar.{Spells}
 use Rattle.cap_text.specs.ReadText.{Read, read_text}
 use Rattle.grant_core.specs.declared.fault.ExpandFault.{ExpandFault}

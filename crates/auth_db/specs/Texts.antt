@@ -3,8 +3,8 @@
 use Rattle.std.specs.Prelude.{◌≡◌, ℕ, List, [], Bool, true, false, ◌&&◌, ◌||◌, not, Option, None, Some, length, nat_lt, is_some}
 use Rattle.std.specs.Str.{bytes_eq}
 use Rattle.cap_text.specs.declared.fault.CapFault.{CapFault}
-use Rattle.cap_text.specs.declared.fault.FaultKind.TheVariants.{TooLong}
-use Rattle.cap_text.specs.declared.grant.Grant.{Grant}
+use Rattle.cap_grants.specs.declared.fault_kind.FaultKind.TheVariants.{TooLong}
+use Rattle.cap_grants.specs.declared.grant.Grant.{Grant}
 use Rattle.cap_text.specs.Grammar.{Spells}
 use Rattle.cap_text.specs.Faults.{IsFirstFault}
 use Rattle.grant_core.specs.Flat.{Table, Flat, flat}

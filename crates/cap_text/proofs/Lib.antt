@@ -1,8 +1,4 @@
-pub mod Spans
-pub mod Tokens
-pub mod Reading
 pub mod Keywords
-pub mod LastBytes
 pub mod Stars
 pub mod Forth
 pub mod Once

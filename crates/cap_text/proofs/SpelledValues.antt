@@ -5,12 +5,12 @@ use Rattle.std.specs.List.{list_all}
 use Rattle.std.proofs.lemmas.Bool.{eqb-true}
 use Rattle.std.proofs.lemmas.Bool.Decides.{nat_tests}
 use Rattle.common_types.specs.WordBytes.{is_word_byte}
-use Rattle.cap_text.specs.Bytes.{is_quote, is_quotable, Each, is_empty}
-use Rattle.cap_text.specs.declared.token.Token.{Token}
-use Rattle.cap_text.specs.declared.token.Token.TheVariants.{Comma, Semicolon, Equals, Star, Word, Quoted}
-use Rattle.cap_text.specs.Reads.{Stands, is_word, Reads}
+use Rattle.cap_grants.specs.Bytes.{is_quote, is_quotable, Each, is_empty}
+use Rattle.cap_grants.specs.declared.token.Token.{Token}
+use Rattle.cap_grants.specs.declared.token.Token.TheVariants.{Comma, Semicolon, Equals, Star, Word, Quoted}
+use Rattle.cap_grants.specs.Reads.{Stands, is_word, Reads}
 use Rattle.cap_text.specs.Grammar.{before_star}
-use Rattle.cap_text.specs.Spellable.{can_be_quoted, is_value, ends_in_star}
+use Rattle.cap_grants.specs.Spellable.{can_be_quoted, is_value, ends_in_star}
 
 pub and_both : (a b : Bool) → (a && b) ≡ true → (a ≡ true) × (b ≡ true)
 and_both true b h = (refl, h)

@@ -4,7 +4,7 @@ use Rattle.std.specs.Prelude.{option_map}
 use Rattle.std.proofs.lemmas.List.{nil_from_length}
 use Rattle.std.proofs.lemmas.Bool.Decides.{nat_tests}
 use Rattle.cap_text.specs.Grammar.{before_star, namespace_of}
-use Rattle.cap_text.specs.declared.grant.NsMatch.TheVariants.{Exact, Prefix}
+use Rattle.cap_grants.specs.declared.grant.NsMatch.TheVariants.{Exact, Prefix}
 
 eq_true : (b : ℕ) → b ≡ 42 → eqb b 42 ≡ true
 eq_true b e = ap (λ x. eqb x 42) e

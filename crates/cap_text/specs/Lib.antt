@@ -1,14 +1,9 @@
-pub mod Bytes
-pub mod Reads
-pub mod Words
 pub mod Grammar
-pub mod Gives
 pub mod Faults
-pub mod Spellable
+pub mod Spelled
 pub mod Printed
-pub mod Draft
 pub mod Stage
 pub mod Machine
 pub mod FaultText
-pub mod Sheet
+pub mod Kept
 pub mod ReadText

@@ -1,32 +1,30 @@
 -- Statement: contracts of public calls use it.
 -- The grammar, token by token.
 use Rattle.std.specs.Prelude.{ℕ, Bool, true, false, List, [], ◌∷◌, ◌++◌, Option, Some, None, Result, Ok, Err}
-use Rattle.cap_text.specs.declared.token.Token.{Token}
-use Rattle.cap_text.specs.declared.token.Token.TheVariants.{Comma, Semicolon, Equals, Star, Word, Quoted}
-use Rattle.cap_text.specs.declared.grant.Access.{Access}
-use Rattle.cap_text.specs.declared.grant.Access.TheVariants as accesses
-use Rattle.cap_text.specs.declared.grant.Flags.{Flags}
-use Rattle.cap_text.specs.declared.grant.NsMatch.{NsMatch}
-use Rattle.cap_text.specs.declared.grant.NsMatch.TheVariants.{Exact, Prefix}
-use Rattle.cap_text.specs.declared.grant.Part.{Part}
-use Rattle.cap_text.specs.declared.grant.Part.TheVariants.{Any}
-use Rattle.cap_text.specs.declared.grant.Tag.{Tag}
-use Rattle.cap_text.specs.declared.grant.AllowGrant.{AllowGrant}
-use Rattle.cap_text.specs.declared.grant.Grant.{Grant}
-use Rattle.cap_text.specs.declared.grant.Grant.TheVariants.{Allow, Profile}
-use Rattle.cap_text.specs.declared.fault.FaultKind.{FaultKind}
-use Rattle.cap_text.specs.declared.fault.FaultKind.TheVariants.{UnknownWord, BadAccess, BadMatch, BadWord, NetworkClause, OutOfMemory}
+use Rattle.cap_grants.specs.declared.token.Token.{Token}
+use Rattle.cap_grants.specs.declared.token.Token.TheVariants.{Comma, Semicolon, Equals, Star, Word, Quoted}
+use Rattle.cap_grants.specs.declared.grant.Access.{Access}
+use Rattle.cap_grants.specs.declared.grant.Access.TheVariants as accesses
+use Rattle.cap_grants.specs.declared.grant.Flags.{Flags}
+use Rattle.cap_grants.specs.declared.grant.NsMatch.{NsMatch}
+use Rattle.cap_grants.specs.declared.grant.NsMatch.TheVariants.{Exact, Prefix}
+use Rattle.cap_grants.specs.declared.grant.Part.{Part}
+use Rattle.cap_grants.specs.declared.grant.Part.TheVariants.{Any}
+use Rattle.cap_grants.specs.declared.grant.Grant.{Grant}
+use Rattle.cap_grants.specs.declared.fault_kind.FaultKind.{FaultKind}
+use Rattle.cap_grants.specs.declared.fault_kind.FaultKind.TheVariants.{UnknownWord, BadAccess, BadMatch, BadWord, NetworkClause, OutOfMemory}
 use Rattle.cap_text.specs.declared.fault.CapFault.{CapFault}
-use Rattle.cap_text.specs.declared.keyword.Keyword.{Keyword}
-use Rattle.cap_text.specs.declared.keyword.Keyword.TheVariants as kw
-use Rattle.cap_text.specs.declared.stage.ClauseSet.{ClauseSet}
-use Rattle.cap_text.specs.Draft.{Head, Draft}
-use Rattle.cap_text.specs.Draft as heads
-use Rattle.cap_text.specs.declared.stage.Slot.{Slot}
-use Rattle.cap_text.specs.declared.stage.Slot.TheVariants as slots
+use Rattle.cap_grants.specs.declared.keyword.Keyword.{Keyword}
+use Rattle.cap_grants.specs.declared.keyword.Keyword.TheVariants as kw
+use Rattle.cap_grants.specs.declared.stage.ClauseSet.{ClauseSet}
+use Rattle.cap_grants.specs.Draft.{Draft}
+use Rattle.cap_grants.specs.Draft as heads
+use Rattle.cap_grants.specs.declared.stage.Slot.{Slot}
+use Rattle.cap_grants.specs.declared.stage.Slot.TheVariants as slots
 use Rattle.cap_text.specs.Stage.{Stage, State}
 use Rattle.cap_text.specs.Stage as stages
-use Rattle.cap_text.specs.Words.{keyword_of}
+use Rattle.cap_grants.specs.Words.{keyword_of}
+use Rattle.cap_grants.specs.Assembly.{no_more, after_pool, after_namespace, fresh, with_access, after_access, wants_access, grant_of, ended}
 use Rattle.cap_text.specs.Grammar.{namespace_of, part_of}
 
 -- ---- clauses
@@ -37,39 +35,10 @@ every = record { pool = true; namespace = true; prefix = true; tag = true }
 abbrev pub of_profile : ClauseSet
 of_profile = record { pool = true; namespace = true; prefix = false; tag = false }
 
-abbrev pub no_more : ClauseSet
-no_more = record { pool = false; namespace = false; prefix = false; tag = false }
-
-abbrev pub after_pool : ClauseSet → ClauseSet
-after_pool may = record { pool = false; namespace = may.namespace; prefix = may.prefix; tag = false }
-
-abbrev pub after_namespace : ClauseSet → ClauseSet
-after_namespace may = record { pool = false; namespace = false; prefix = may.prefix; tag = may.tag }
-
-abbrev pub draft : Head → Option (List ℕ) → Option NsMatch → Option (List ℕ) → Option Tag → Draft
-draft h pool namespace prefix tag = record { head = h; pool = pool; namespace = namespace; prefix = prefix; tag = tag }
-
-abbrev pub fresh : Head → Draft
-fresh h = draft h None None None None
-
 -- ---- accesses
-
-abbrev pub with_access : Draft → Access → Draft
-with_access d a = record d { head = heads.Allow (Some a) }
-
-abbrev pub kept_if : Bool → ClauseSet → ClauseSet
-kept_if true may = may
-kept_if false may = no_more
-
-abbrev pub after_access : ClauseSet → ClauseSet
-after_access may = kept_if may.pool may
 
 abbrev pub accessed : ClauseSet → Draft → Access → Stage
 accessed may d a = stages.Clauses (after_access may) (with_access d a)
-
-abbrev pub wants_access : Head → Bool
-wants_access (heads.Allow None) = true
-wants_access h = false
 
 abbrev pub flags : Bool → Bool → Bool → Bool → Flags
 flags r w k l = record { read = r; write = w; class_read = k; class_write = l }
@@ -220,17 +189,6 @@ step (stages.KeyEquals a k d) Equals = Ok (stages.KeyValue a k d)
 step (stages.KeyEquals a k d) t = Err BadMatch
 step (stages.KeyValue a k d) t = key_value_step a k d t
 
-abbrev pub made : Draft → Access → AllowGrant
-made d a = record { access = a; pool = d.pool; namespace = d.namespace; prefix = d.prefix; tag = d.tag }
-
-abbrev pub grant_with : Head → Draft → Result Grant FaultKind
-grant_with (heads.Allow None) d = Err BadAccess
-grant_with (heads.Allow (Some a)) d = Ok (Allow (made d a))
-grant_with (heads.Profile n) d = Ok (Profile (record { name = n; pool = d.pool; namespace = d.namespace }))
-
-abbrev pub grant_of : Draft → Result Grant FaultKind
-grant_of d = grant_with d.head d
-
 -- the grant that is whole here
 abbrev pub close : Stage → Result Grant FaultKind
 close stages.Start = Err UnknownWord
@@ -257,10 +215,6 @@ abbrev pub advance : State → Token → Result State FaultKind
 advance s Comma = after_grant s.done (close s.stage)
 advance s Semicolon = after_grant s.done (close s.stage)
 advance s t = in_grant s.done (step s.stage t)
-
-abbrev pub ended : List Grant → Result Grant FaultKind → Result (List Grant) FaultKind
-ended done (Ok g) = Ok (done ++ g ∷ [])
-ended done (Err k) = Err k
 
 abbrev pub finish_at : Stage → List Grant → Result (List Grant) FaultKind
 finish_at stages.Start done = Ok done

@@ -3,18 +3,18 @@
 use Prim.Native.Nat.{zero, suc}
 use Rattle.std.specs.Prelude.{◌≡◌, ℕ, ◌+◌, ◌-◌, Bool, false, ◌&&◌, ◌==◌, nat_lt, List, [], ◌∷◌, Option, Some, None, Result, Ok, Err, if◌then◌else◌, length, take, drop, MatchResult}
 use Rattle.std.specs.List.{prefix_len}
-use Rattle.cap_text.specs.Bytes.{is_space, is_quote, is_quotable, is_empty}
+use Rattle.cap_grants.specs.Bytes.{is_space, is_quote, is_quotable, is_empty}
 use Rattle.common_types.specs.WordBytes.{is_word_byte}
-use Rattle.cap_text.specs.Reads.{is_word}
+use Rattle.cap_grants.specs.Reads.{is_word}
 use Rattle.cap_text.specs.Machine.{advance, finish, placed}
-use Rattle.cap_text.specs.declared.token.Token.{Token}
-use Rattle.cap_text.specs.declared.token.Token.TheVariants.{Comma, Semicolon, Equals, Star, Word, Quoted}
+use Rattle.cap_grants.specs.declared.token.Token.{Token}
+use Rattle.cap_grants.specs.declared.token.Token.TheVariants.{Comma, Semicolon, Equals, Star, Word, Quoted}
 use Rattle.cap_text.specs.Stage as stages
 use Rattle.cap_text.specs.Stage.{State}
 use Rattle.cap_text.specs.declared.fault.CapFault.{CapFault}
-use Rattle.cap_text.specs.declared.fault.FaultKind.{FaultKind}
-use Rattle.cap_text.specs.declared.fault.FaultKind.TheVariants.{TooLong, TooManyGrants, BadWord, OutOfMemory}
-use Rattle.cap_text.specs.declared.grant.Grant.{Grant}
+use Rattle.cap_grants.specs.declared.fault_kind.FaultKind.{FaultKind}
+use Rattle.cap_grants.specs.declared.fault_kind.FaultKind.TheVariants.{TooLong, TooManyGrants, BadWord, OutOfMemory}
+use Rattle.cap_grants.specs.declared.grant.Grant.{Grant}
 use Rattle.cap_text.specs.Grammar.{Spells}
 use Rattle.cap_text.specs.Faults.{IsFirstFault}
 

@@ -2,10 +2,9 @@
 
 ghost use Rattle.std.specs.Prelude.{◌≡◌, ◌≤◌, [], true, length, IfOk, IsTrue, ◌↔◌};
 ghost use Rattle.std.specs.List.{list_all};
-ghost use Rattle.cap_text.specs.Spellable.{is_spellable};
+ghost use Rattle.cap_grants.specs.Spellable.{is_spellable};
 
-use crate::grant::Grant;
-use crate::spelling::are_spellable;
+use cap_grants::{Grant, are_spellable};
 use common_types::OutOfMemory;
 use std::alloc::Global;
 use std::marker::Model;
@@ -19,8 +18,8 @@ pub struct CapList {
 impl Model for CapList {
     ghost use Rattle.std.specs.Prelude.{List, true, length, ◌≡◌, ◌≤◌};
     ghost use Rattle.std.specs.List.{list_all};
-    ghost use Rattle.cap_text.specs.declared.grant.Grant.{Grant};
-    ghost use Rattle.cap_text.specs.Spellable.{is_spellable};
+    ghost use Rattle.cap_grants.specs.declared.grant.Grant.{Grant};
+    ghost use Rattle.cap_grants.specs.Spellable.{is_spellable};
 
     ghost Value = { List Grant };
 

@@ -3,7 +3,8 @@
 ghost use Rattle.std.specs.Prelude.{◌≡◌, Some};
 ghost use Rattle.cap_text.specs.FaultText.{kind_text, fault_text};
 
-use crate::fault::{CapFault, FaultKind};
+use crate::fault::CapFault;
+use cap_grants::FaultKind;
 use std::error::Error;
 use std::fmt;
 

@@ -1,16 +1,16 @@
 //! Reads capability texts.
 
 ghost use Rattle.std.specs.Prelude.{◌≡◌, ◌≤◌, List, IfOk, IfErr, length};
-ghost use Rattle.cap_text.specs.declared.grant.Grant.{Grant};
+ghost use Rattle.cap_grants.specs.declared.grant.Grant.{Grant};
 ghost use Rattle.cap_text.specs.Grammar.{Spells, AtMostOneList};
 ghost use Rattle.cap_text.specs.Machine.{placed};
 ghost use Rattle.cap_text.specs.Faults.{OrMemory, IsFirstFault};
 ghost use Rattle.cap_text.specs.ReadText.{ReadsNothingElse, ReadsTheGrammar, TellsTheFirstFault};
 
 use crate::caps::CapList;
-use crate::fault::{CapFault, FaultKind};
-use crate::lexer::look;
+use crate::fault::CapFault;
 use crate::state::Reading;
+use cap_grants::{FaultKind, look};
 use std::alloc::Global;
 
 /// The most bytes that a text may have.

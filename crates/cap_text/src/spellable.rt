@@ -1,6 +1,6 @@
 //! The laws of what the grammar can spell.
 
-ghost use Rattle.cap_text.specs.Spellable.{SpelledIsSpellable, SpellableIsSpelled};
+ghost use Rattle.cap_text.specs.Spelled.{SpelledIsSpellable, SpellableIsSpelled};
 
 /// A law: whatever a text spells passes the test of what the grammar can spell. It does nothing.
 pub fn spelled_is_spellable()

@@ -1,67 +1,15 @@
 //! What was read of a text.
 
-ghost use Rattle.std.specs.Prelude.{◌≡◌, ◌∷◌, ◌++◌, [], List, length, IfOk, Ok};
-ghost use Rattle.cap_text.specs.Gives.{Gives, GivesIn};
+ghost use Rattle.std.specs.Prelude.{◌≡◌, length, IfOk};
+ghost use Rattle.cap_grants.specs.Gives.{Gives, GivesIn};
 ghost use Rattle.cap_text.specs.Machine.{advance, finish};
-ghost use Rattle.cap_text.specs.Sheet.{nothing_read};
+ghost use Rattle.cap_text.specs.Kept.{nothing_read};
 
-use crate::draft::Sheet;
-use crate::fault::FaultKind;
-use crate::grant::Grant;
 use crate::machine::{close, step};
-use crate::stage::Next;
-use crate::token::Token;
+use cap_grants::{FaultKind, Grants, Next, Sheet, Token};
 use common_types::OutOfMemory;
 use std::alloc::Global;
 use std::marker::Model;
-
-/// Grants one after the other, which contracts see as the list of them.
-#[derive(Drop)]
-pub struct Grants {
-    items: Vec<Grant>,
-}
-
-impl Model for Grants {
-    ghost use Rattle.std.specs.Prelude.{List};
-    ghost use Rattle.cap_text.specs.declared.grant.Grant.{Grant};
-
-    ghost Value = { List Grant };
-
-    ghost view = { λ g. g.items.items };
-}
-
-impl Grants {
-    /// No grants, with room for so many.
-    pub fn with_room(alloc: Global, count: usize) -> Result<Grants, OutOfMemory>
-        ensures { IfOk result (λ grants. grants ≡ []) }
-    {
-        Ok(Grants {
-            items: Vec::with_capacity(alloc, count)?,
-        })
-    }
-
-    pub fn len(&self) -> usize
-        ensures { result ≡ length self.now }
-    {
-        self.items.len()
-    }
-
-    #[inline(always)]
-    pub fn push(&mut self, grant: Grant) -> Result<(), FaultKind>
-        ensures { GivesIn result self.new (Ok (self.old ++ grant ∷ [])) }
-    {
-        self.items.reserve(1)?;
-        self.items.push_reserved(grant);
-        Ok(())
-    }
-
-    pub fn into_vec(self) -> Vec<Grant>
-        ensures { result.items ≡ self }
-    {
-        let Grants { items } = self;
-        items
-    }
-}
 
 /// The grants that are whole, what was read of the next one, and what may come next.
 #[derive(Drop)]
@@ -73,7 +21,7 @@ pub struct Reading {
 
 impl Model for Reading {
     ghost use Rattle.cap_text.specs.Stage.{State};
-    ghost use Rattle.cap_text.specs.Sheet.{state_of};
+    ghost use Rattle.cap_text.specs.Kept.{state_of};
 
     ghost Value = { State };
 

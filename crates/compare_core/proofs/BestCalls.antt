@@ -4,10 +4,10 @@ use Rattle.std.specs.List.{All, Contains}
 use Rattle.std.specs.Str.{bytes_eq}
 use Rattle.std.proofs.lemmas.Bool.{false≢true}
 use Rattle.std.proofs.lemmas.List.Elements.{All-nil, All-cons}
-use Rattle.cap_text.specs.declared.grant.Access.{Access}
-use Rattle.cap_text.specs.declared.grant.Access.TheVariants as accesses
-use Rattle.cap_text.specs.declared.grant.Flags.{Flags}
-use Rattle.cap_text.specs.declared.grant.AllowGrant.{AllowGrant}
+use Rattle.cap_grants.specs.declared.grant.Access.{Access}
+use Rattle.cap_grants.specs.declared.grant.Access.TheVariants as accesses
+use Rattle.cap_grants.specs.declared.grant.Flags.{Flags}
+use Rattle.cap_grants.specs.declared.grant.AllowGrant.{AllowGrant}
 use Rattle.verdict_core.specs.Verdict.{covers, names}
 use Rattle.verdict_core.specs.declared.request.ClassCall.{ClassCall}
 use Rattle.object_core.specs.Needs.{IsRegistered}

@@ -4,12 +4,12 @@ use Rattle.std.specs.List.{list_any, starts_with}
 use Rattle.std.specs.Option.{option_map_or}
 use Rattle.std.specs.Str.{bytes_eq}
 use Rattle.std.proofs.lemmas.Bool.{false≢true}
-use Rattle.cap_text.specs.declared.grant.AllowGrant.{AllowGrant}
-use Rattle.cap_text.specs.declared.grant.NsMatch.{NsMatch}
-use Rattle.cap_text.specs.declared.grant.NsMatch.TheVariants.{Exact, Prefix}
-use Rattle.cap_text.specs.declared.grant.Part.{Part}
-use Rattle.cap_text.specs.declared.grant.Part.TheVariants.{Any, Is}
-use Rattle.cap_text.specs.declared.grant.Tag.{Tag}
+use Rattle.cap_grants.specs.declared.grant.AllowGrant.{AllowGrant}
+use Rattle.cap_grants.specs.declared.grant.NsMatch.{NsMatch}
+use Rattle.cap_grants.specs.declared.grant.NsMatch.TheVariants.{Exact, Prefix}
+use Rattle.cap_grants.specs.declared.grant.Part.{Part}
+use Rattle.cap_grants.specs.declared.grant.Part.TheVariants.{Any, Is}
+use Rattle.cap_grants.specs.declared.grant.Tag.{Tag}
 use Rattle.common_types.specs.declared.tags.AppTags.{AppTags}
 use Rattle.verdict_core.specs.Target.{Target}
 use Rattle.verdict_core.specs.Verdict.{names, matches_namespace, matches_tag, matches_prefix, matches_part, matches_pairs, matches_application, matches}

@@ -2,9 +2,9 @@
 -- The calls that are tried for a grant.
 use Rattle.std.specs.Prelude.{◌≡◌, ℕ, List, [], ◌||◌, Bool, true, false, Option, None, Some}
 use Rattle.std.specs.List.{All, Contains, slice_get}
-use Rattle.cap_text.specs.declared.grant.Access.{Access}
-use Rattle.cap_text.specs.declared.grant.Access.TheVariants as accesses
-use Rattle.cap_text.specs.declared.grant.AllowGrant.{AllowGrant}
+use Rattle.cap_grants.specs.declared.grant.Access.{Access}
+use Rattle.cap_grants.specs.declared.grant.Access.TheVariants as accesses
+use Rattle.cap_grants.specs.declared.grant.AllowGrant.{AllowGrant}
 use Rattle.verdict_core.specs.Verdict.{covers}
 use Rattle.verdict_core.specs.declared.request.ClassCall.{ClassCall}
 use Rattle.compare_core.specs.Fresh.{IsFresh, name_of}

@@ -3,7 +3,7 @@ use Rattle.std.proofs.Common.{◌≡◌, ℕ, ◌+◌, ◌<◌, ◌≤◌, List,
 use Rattle.std.proofs.lemmas.Grind.{take_at_read}
 use Rattle.std.proofs.lemmas.List.{take_all}
 use Rattle.cap_text.specs.Grammar.{Spells}
-use Rattle.cap_text.specs.declared.grant.Grant.{Grant}
+use Rattle.cap_grants.specs.declared.grant.Grant.{Grant}
 use Rattle.cap_text.proofs.Once.{at_most_one}
 use Rattle.answer_text.specs.Answer.{IsAnswer, answer_of}
 use Rattle.answer_text.specs.Asked.{Asked}

@@ -6,8 +6,8 @@ use Rattle.std.specs.List.{All, before_first, flat_map}
 use Rattle.cap_text.specs.FaultText as cap
 use Rattle.cap_text.specs.Faults.{IsFirstFault}
 use Rattle.cap_text.specs.Grammar.{Spells}
-use Rattle.cap_text.specs.declared.grant.Grant.{Grant}
-use Rattle.cap_text.specs.declared.fault.FaultKind.TheVariants as kinds
+use Rattle.cap_grants.specs.declared.grant.Grant.{Grant}
+use Rattle.cap_grants.specs.declared.fault_kind.FaultKind.TheVariants as kinds
 use Rattle.grant_core.specs.BuiltIn.{built_in}
 use Rattle.grant_core.specs.Flat.{Flat, flat}
 use Rattle.grant_core.specs.Refusal.{expand_refusal}

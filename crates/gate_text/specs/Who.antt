@@ -2,7 +2,7 @@
 -- Which entities may, and what is printed of each (this project's profile). Every line ends with byte 10.
 use Rattle.std.specs.Prelude.{ℕ, ◌≡◌, ◌⊎◌, Bool, true, false, List, [], ◌∷◌, ◌++◌, Option, Some, None, Result, Ok, Err, codes, flat_map, string_bytes, if◌then◌else◌}
 use Rattle.cap_text.specs.Grammar.{Spells}
-use Rattle.cap_text.specs.declared.grant.Grant.{Grant}
+use Rattle.cap_grants.specs.declared.grant.Grant.{Grant}
 use Rattle.object_core.specs.Faults as vectors
 use Rattle.object_core.specs.declared.needs.NeedsFault.{NeedsFault}
 use Rattle.verdict_core.specs.Text.{report_line}

@@ -6,8 +6,8 @@ use Rattle.std.specs.List.{list_any}
 use Rattle.std.specs.Map.{lookup}
 use Rattle.std.specs.Str.{bytes_eq}
 use Rattle.std.proofs.lemmas.List.{length-map, take_all}
-use Rattle.cap_text.specs.declared.grant.Grant.TheVariants.{Profile as Used}
-use Rattle.cap_text.specs.declared.grant.ProfileUse.{ProfileUse}
+use Rattle.cap_grants.specs.declared.grant.Grant.TheVariants.{Profile as Used}
+use Rattle.cap_grants.specs.declared.grant.ProfileUse.{ProfileUse}
 use Rattle.grant_core.specs.Flat.{Flat, filled_use, flat, parts_of}
 use Rattle.grant_core.specs.Table.{Entries, table_of, IsSized}
 use Rattle.grant_core.specs.Found.{parts_before, IsFound}

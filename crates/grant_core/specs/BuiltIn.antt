@@ -1,9 +1,9 @@
 -- Statement: contracts of public calls use it.
 -- The profiles that every table begins with. The names are those of Ceph User Management; what they grant is this project's profile.
 use Rattle.std.specs.Prelude.{List, [], ◌∷◌, Bool, true, false, None, codes}
-use Rattle.cap_text.specs.declared.grant.Access.TheVariants.{Flags}
-use Rattle.cap_text.specs.declared.grant.Grant.{Grant}
-use Rattle.cap_text.specs.declared.grant.Grant.TheVariants.{Allow, Profile}
+use Rattle.cap_grants.specs.declared.grant.Access.TheVariants.{Flags}
+use Rattle.cap_grants.specs.declared.grant.Grant.{Grant}
+use Rattle.cap_grants.specs.declared.grant.Grant.TheVariants.{Allow, Profile}
 use Rattle.grant_core.specs.Flat.{Table}
 
 -- an allow with these flags, everywhere

@@ -2,7 +2,7 @@
 -- Where a name stands in a table.
 use Rattle.std.specs.Prelude.{◌≡◌, ℕ, ◌<◌, List, map, reverse, take, Some, slice_get, String}
 use Rattle.std.specs.declared.alloc.Global.{Global}
-use Rattle.cap_text.specs.declared.grant.ProfileUse.{ProfileUse}
+use Rattle.cap_grants.specs.declared.grant.ProfileUse.{ProfileUse}
 use Rattle.grant_core.specs.Flat.{Flat, parts_of, numbered, filled}
 use Rattle.grant_core.specs.Table.{Entries, table_of}
 use Rattle.grant_core.specs.declared.table.Profile.{Profile}

@@ -1,7 +1,7 @@
 -- Refinement: only contracts inside the crate use it.
 -- What a tree of grants stands for.
 use Rattle.std.specs.Prelude.{ℕ, List, [], ◌∷◌, ◌++◌, map}
-use Rattle.cap_text.specs.declared.grant.AllowGrant.{AllowGrant}
+use Rattle.cap_grants.specs.declared.grant.AllowGrant.{AllowGrant}
 use Rattle.grant_core.specs.Flat.{Flat, under}
 use Rattle.grant_core.specs.declared.tree.Branches.{Branches, End, Leaf', Use'}
 

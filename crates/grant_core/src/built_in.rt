@@ -2,8 +2,8 @@
 
 ghost use Rattle.std.specs.Prelude.{◌≡◌, ◌++◌, [], ◌∷◌, true, IfOk, OnOk, None};
 ghost use Rattle.std.specs.List.{list_all};
-ghost use Rattle.cap_text.specs.Spellable.{is_spellable};
-ghost use Rattle.cap_text.specs.declared.grant.Grant.TheVariants.{Profile};
+ghost use Rattle.cap_grants.specs.Spellable.{is_spellable};
+ghost use Rattle.cap_grants.specs.declared.grant.Grant.TheVariants.{Profile};
 ghost use Rattle.grant_core.specs.BuiltIn.{allow_flags, built_in, rbd_body};
 ghost use Rattle.grant_core.specs.Refusal.{add_refusal};
 

@@ -1,7 +1,7 @@
 //! The table of profiles.
 
 ghost use Rattle.std.specs.Prelude.{◌≡◌, ◌+◌, ◌<◌, ◌≤◌, ◌++◌, [], ◌∷◌, length, OnOk, OnErr, MatchOption, false};
-ghost use Rattle.cap_text.specs.declared.grant.ProfileUse.{ProfileUse};
+ghost use Rattle.cap_grants.specs.declared.grant.ProfileUse.{ProfileUse};
 ghost use Rattle.grant_core.specs.Flat.{flat};
 ghost use Rattle.grant_core.specs.Found.{IsFound, parts_before};
 ghost use Rattle.common_types.specs.Refused.{RefusedFirst};
@@ -32,7 +32,7 @@ pub struct ProfileTable {
 
 impl Model for ProfileTable {
     ghost use Rattle.std.specs.Prelude.{List, ℕ};
-    ghost use Rattle.cap_text.specs.declared.grant.Grant.{Grant};
+    ghost use Rattle.cap_grants.specs.declared.grant.Grant.{Grant};
     ghost use Rattle.grant_core.specs.Table.{table_of, IsSized};
 
     ghost Value = { List (List ℕ × List Grant) };

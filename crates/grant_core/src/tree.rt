@@ -30,7 +30,7 @@ pub struct GrantTree {
 
 impl Model for GrantTree {
     ghost use Rattle.std.specs.Prelude.{List, ℕ, length, ◌≤◌};
-    ghost use Rattle.cap_text.specs.declared.grant.AllowGrant.{AllowGrant};
+    ghost use Rattle.cap_grants.specs.declared.grant.AllowGrant.{AllowGrant};
     ghost use Rattle.grant_core.specs.Tree.{flat_branches};
 
     ghost Value = { List (List ℕ × AllowGrant) };

@@ -3,10 +3,10 @@ use Rattle.std.proofs.Common.{◌≡◌, ℕ, ◌+◌, List, [], ◌∷◌, ◌+
 use Rattle.std.specs.List.{list_any}
 use Rattle.std.proofs.lemmas.Bool.{false≢true}
 use Rattle.std.proofs.lemmas.List.Folds.{list_any-append}
-use Rattle.cap_text.specs.declared.grant.AllowGrant.{AllowGrant}
-use Rattle.cap_text.specs.declared.grant.Grant.{Grant}
-use Rattle.cap_text.specs.declared.grant.Grant.TheVariants.{Allow, Profile}
-use Rattle.cap_text.specs.declared.grant.ProfileUse.{ProfileUse}
+use Rattle.cap_grants.specs.declared.grant.AllowGrant.{AllowGrant}
+use Rattle.cap_grants.specs.declared.grant.Grant.{Grant}
+use Rattle.cap_grants.specs.declared.grant.Grant.TheVariants.{Allow, Profile}
+use Rattle.cap_grants.specs.declared.grant.ProfileUse.{ProfileUse}
 use Rattle.grant_core.specs.Flat.{Flat, Table, flat, numbered, parts_of, under}
 use Rattle.verdict_core.specs.Verdict.{covers, grants_allow, is_covered, is_usable}
 use Rattle.compare_core.specs.Widening.{Widens}

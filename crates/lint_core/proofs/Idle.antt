@@ -4,19 +4,19 @@ use Rattle.std.specs.List.{list_any, list_all}
 use Rattle.std.specs.Str.{bytes_eq}
 use Rattle.std.proofs.lemmas.List.Elements.{All-nil, All-cons}
 use Rattle.std.proofs.lemmas.List.Folds.{list_any-append}
-use Rattle.cap_text.specs.Spellable.{is_access}
-use Rattle.cap_text.specs.declared.grant.Access.{Access}
-use Rattle.cap_text.specs.declared.grant.Access.TheVariants.{All, Flags, Class}
-use Rattle.cap_text.specs.declared.grant.Flags.{Flags as FourFlags}
-use Rattle.cap_text.specs.declared.grant.AllowGrant.{AllowGrant}
-use Rattle.cap_text.specs.declared.grant.Grant.{Grant}
-use Rattle.cap_text.specs.declared.grant.Grant.TheVariants.{Allow, Profile}
-use Rattle.cap_text.specs.declared.grant.NsMatch.{NsMatch}
-use Rattle.cap_text.specs.declared.grant.NsMatch.TheVariants.{Exact, Prefix}
-use Rattle.cap_text.specs.declared.grant.Part.{Part}
-use Rattle.cap_text.specs.declared.grant.Part.TheVariants.{Any, Is}
-use Rattle.cap_text.specs.declared.grant.ProfileUse.{ProfileUse}
-use Rattle.cap_text.specs.declared.grant.Tag.{Tag}
+use Rattle.cap_grants.specs.Spellable.{is_access}
+use Rattle.cap_grants.specs.declared.grant.Access.{Access}
+use Rattle.cap_grants.specs.declared.grant.Access.TheVariants.{All, Flags, Class}
+use Rattle.cap_grants.specs.declared.grant.Flags.{Flags as FourFlags}
+use Rattle.cap_grants.specs.declared.grant.AllowGrant.{AllowGrant}
+use Rattle.cap_grants.specs.declared.grant.Grant.{Grant}
+use Rattle.cap_grants.specs.declared.grant.Grant.TheVariants.{Allow, Profile}
+use Rattle.cap_grants.specs.declared.grant.NsMatch.{NsMatch}
+use Rattle.cap_grants.specs.declared.grant.NsMatch.TheVariants.{Exact, Prefix}
+use Rattle.cap_grants.specs.declared.grant.Part.{Part}
+use Rattle.cap_grants.specs.declared.grant.Part.TheVariants.{Any, Is}
+use Rattle.cap_grants.specs.declared.grant.ProfileUse.{ProfileUse}
+use Rattle.cap_grants.specs.declared.grant.Tag.{Tag}
 use Rattle.cap_text.proofs.SpelledGrants.{text_is_spellable}
 use Rattle.common_types.specs.declared.tags.AppTags.{AppTags}
 use Rattle.grant_core.specs.BuiltIn.{built_in}

@@ -6,7 +6,7 @@ use Rattle.std.proofs.lemmas.Grind.{take_at_read}
 use Rattle.std.proofs.lemmas.List.{append-nil, append_assoc, take_all}
 use Rattle.std.proofs.Math.Seq.{drop-cons}
 use Rattle.std.proofs.Math.Numerals.{add-one}
-use Rattle.cap_text.specs.declared.grant.Grant.{Grant}
+use Rattle.cap_grants.specs.declared.grant.Grant.{Grant}
 use Rattle.grant_core.specs.Flat.{Table, flat}
 use Rattle.lint_core.specs.Lint.{AllowsAll, Covers, IsFirstCover, IsSublist, IsTidied}
 use Rattle.lint_core.specs.declared.findings.Standing.{Standing}

@@ -8,10 +8,10 @@ use Rattle.std.proofs.lemmas.List.Edits.{split_between}
 use Rattle.std.proofs.lemmas.List.Folds.{list_all-append}
 use Rattle.std.proofs.lemmas.List.Sums.{sum_by-append, sum_by-cons}
 use Rattle.std.proofs.Math.Numerals.{add-one}
-use Rattle.cap_text.specs.declared.grant.Grant.{Grant}
-use Rattle.cap_text.specs.declared.grant.Grant.TheVariants.{Allow, Profile}
-use Rattle.cap_text.specs.declared.grant.ProfileUse.{ProfileUse}
-use Rattle.cap_text.specs.Spellable.{is_spellable}
+use Rattle.cap_grants.specs.declared.grant.Grant.{Grant}
+use Rattle.cap_grants.specs.declared.grant.Grant.TheVariants.{Allow, Profile}
+use Rattle.cap_grants.specs.declared.grant.ProfileUse.{ProfileUse}
+use Rattle.cap_grants.specs.Spellable.{is_spellable}
 use Rattle.grant_core.specs.Flat.{Flat, Table, flat, numbered, parts_of, under}
 use Rattle.grant_core.specs.Refusal.{first_fault, has_profile, list_fault}
 use Rattle.grant_core.specs.declared.fault.ExpandFault.{ExpandFault}

@@ -2,7 +2,7 @@
 -- Grants that can allow nothing, of which no text has one (this project's profile).
 use Rattle.std.specs.Prelude.{◌≡◌, ◌||◌, ◌==◌, ◌<◌, ℕ, List, Bool, true, None, not, length}
 use Rattle.cap_text.specs.Grammar.{Spells}
-use Rattle.cap_text.specs.declared.grant.Grant.{Grant}
+use Rattle.cap_grants.specs.declared.grant.Grant.{Grant}
 use Rattle.grant_core.specs.BuiltIn.{built_in}
 use Rattle.grant_core.specs.Flat.{Flat, flat}
 use Rattle.grant_core.specs.Refusal.{expand_refusal}

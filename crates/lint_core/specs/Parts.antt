@@ -2,8 +2,8 @@
 -- Parts of a list that can be expanded, and a list that is tidied from a place on.
 use Rattle.std.specs.Prelude.{◌≡◌, ℕ, ◌<◌, ◌≤◌, List, ◌++◌, true, None, length, take, drop}
 use Rattle.std.specs.List.{list_all, remove}
-use Rattle.cap_text.specs.declared.grant.Grant.{Grant}
-use Rattle.cap_text.specs.Spellable.{is_spellable}
+use Rattle.cap_grants.specs.declared.grant.Grant.{Grant}
+use Rattle.cap_grants.specs.Spellable.{is_spellable}
 use Rattle.grant_core.specs.Flat.{Table, flat}
 use Rattle.grant_core.specs.Refusal.{expand_refusal}
 use Rattle.lint_core.specs.Lint.{AllowsAll, IsSublist}

@@ -2,7 +2,7 @@
 -- Which grants of a list match no pool of a cluster (this project's profile).
 use Rattle.std.specs.Prelude.{List, [], ◌∷◌, Bool, map, not}
 use Rattle.std.specs.List.{list_any}
-use Rattle.cap_text.specs.declared.grant.Grant.{Grant}
+use Rattle.cap_grants.specs.declared.grant.Grant.{Grant}
 use Rattle.grant_core.specs.Flat.{Table, flat}
 use Rattle.share_core.specs.Pools.{is_for}
 use Rattle.share_core.specs.declared.pools.Pool.{Pool}

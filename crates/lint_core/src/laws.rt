@@ -1,7 +1,7 @@
 //! What is so of all texts: functions that do nothing, whose clauses are the laws.
 
 ghost use Rattle.std.specs.Prelude.{ℕ, List};
-ghost use Rattle.cap_text.specs.declared.grant.Grant.{Grant};
+ghost use Rattle.cap_grants.specs.declared.grant.Grant.{Grant};
 ghost use Rattle.lint_core.specs.Idle.{NoneIsIdle};
 
 /// Each grant of a text, by the built-in profiles, allows some request that asks for something: to read, to write, or one

@@ -3,7 +3,7 @@ use Rattle.std.proofs.Common.{◌≡◌, ℕ, ◌+◌, ◌<◌, List, ◌∷◌,
 use Rattle.std.proofs.lemmas.List.{length-map, length-replicate}
 use Rattle.std.proofs.Math.Numerals.{add-one}
 use Rattle.std.proofs.Math.Seq.{drop-cons}
-use Rattle.cap_text.specs.declared.grant.Grant.{Grant}
+use Rattle.cap_grants.specs.declared.grant.Grant.{Grant}
 use Rattle.grant_core.specs.BuiltIn.{built_in}
 use Rattle.lint_core.specs.Pools.{matches_no_pool}
 use Rattle.share_core.specs.declared.pools.Pool.{Pool}

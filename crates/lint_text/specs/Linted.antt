@@ -4,8 +4,8 @@ use Rattle.std.specs.Prelude.{ℕ, ◌≡◌, ◌≢◌, ◌⊎◌, ◌+◌, ◌
 use Rattle.std.specs.List.{list_any}
 use Rattle.cap_text.specs.Grammar.{Spells}
 use Rattle.cap_text.specs.Printed.{printed}
-use Rattle.cap_text.specs.declared.grant.Grant.{Grant}
-use Rattle.cap_text.specs.declared.grant.Grant.TheVariants.{Allow, Profile}
+use Rattle.cap_grants.specs.declared.grant.Grant.{Grant}
+use Rattle.cap_grants.specs.declared.grant.Grant.TheVariants.{Allow, Profile}
 use Rattle.grant_core.specs.BuiltIn.{built_in}
 use Rattle.grant_core.specs.Refusal.{expand_refusal}
 use Rattle.lint_core.specs.Lint.{AreStandings, IsTidied}

@@ -2,7 +2,7 @@
 use Rattle.std.proofs.Common.{◌≡◌, ℕ, List, Bool, true, false, ◌&&◌, Option, None, Some, slice_get, refl, sym, ◌∙◌}
 use Rattle.std.specs.List.{list_any}
 use Rattle.std.proofs.lemmas.Bool.{false≢true}
-use Rattle.cap_text.specs.declared.grant.AllowGrant.{AllowGrant}
+use Rattle.cap_grants.specs.declared.grant.AllowGrant.{AllowGrant}
 use Rattle.compare_core.proofs.Bools.{both_left, both_right, any_at, some_pass}
 use Rattle.compare_core.proofs.Fronts.{same_text, text_same}
 use Rattle.share_core.specs.declared.pools.Pool.{Pool}

@@ -6,12 +6,12 @@ use Rattle.std.specs.Str.{bytes_eq}
 use Rattle.std.proofs.lemmas.Bool.{false≢true}
 use Rattle.std.proofs.lemmas.Bool.Decides.{Decides-eqb}
 use Rattle.std.proofs.lemmas.List.Elements.{All-nil, All-cons}
-use Rattle.cap_text.specs.declared.grant.AllowGrant.{AllowGrant}
-use Rattle.cap_text.specs.declared.grant.NsMatch.{NsMatch}
-use Rattle.cap_text.specs.declared.grant.NsMatch.TheVariants.{Exact, Prefix}
-use Rattle.cap_text.specs.declared.grant.Part.{Part}
-use Rattle.cap_text.specs.declared.grant.Part.TheVariants.{Any, Is}
-use Rattle.cap_text.specs.declared.grant.Tag.{Tag}
+use Rattle.cap_grants.specs.declared.grant.AllowGrant.{AllowGrant}
+use Rattle.cap_grants.specs.declared.grant.NsMatch.{NsMatch}
+use Rattle.cap_grants.specs.declared.grant.NsMatch.TheVariants.{Exact, Prefix}
+use Rattle.cap_grants.specs.declared.grant.Part.{Part}
+use Rattle.cap_grants.specs.declared.grant.Part.TheVariants.{Any, Is}
+use Rattle.cap_grants.specs.declared.grant.Tag.{Tag}
 use Rattle.common_types.specs.declared.tags.AppTags.{AppTags}
 use Rattle.verdict_core.specs.Target.{Target}
 use Rattle.verdict_core.specs.Verdict.{names, matches, matches_namespace, matches_prefix, matches_part, matches_pairs, matches_application, matches_tag}

@@ -2,9 +2,9 @@
 use Rattle.std.proofs.Common.{◌≡◌, ℕ, zero, suc, List, [], ◌∷◌, Bool, true, false, not, ◌&&◌, ◌||◌, Option, None, Some, slice_get, refl, sym, ap, inl, inr}
 use Rattle.std.specs.List.{list_any}
 use Rattle.std.proofs.lemmas.Bool.{false≢true}
-use Rattle.cap_text.specs.declared.grant.AllowGrant.{AllowGrant}
-use Rattle.cap_text.specs.declared.grant.Access.{Access}
-use Rattle.cap_text.specs.declared.grant.Access.TheVariants.{All, Flags, Class}
+use Rattle.cap_grants.specs.declared.grant.AllowGrant.{AllowGrant}
+use Rattle.cap_grants.specs.declared.grant.Access.{Access}
+use Rattle.cap_grants.specs.declared.grant.Access.TheVariants.{All, Flags, Class}
 use Rattle.verdict_core.specs.Target.{Target}
 use Rattle.verdict_core.specs.Verdict.{matches, names, can_read, can_write, covers, is_usable, grants_allow, is_covered}
 use Rattle.verdict_core.specs.declared.request.ClassCall.{ClassCall}

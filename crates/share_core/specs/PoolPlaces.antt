@@ -5,7 +5,7 @@ use Rattle.std.specs.List.{Contains, flat_map, list_any, slice_get}
 use Rattle.std.specs.Map.{lookup}
 use Rattle.std.specs.Str.{bytes_eq}
 use Rattle.std.specs.declared.alloc.Global.{Global}
-use Rattle.cap_text.specs.declared.grant.AllowGrant.{AllowGrant}
+use Rattle.cap_grants.specs.declared.grant.AllowGrant.{AllowGrant}
 use Rattle.grant_core.specs.Flat.{Flat}
 use Rattle.share_core.specs.declared.pool_places.PoolPlaces.{PoolPlaces}
 

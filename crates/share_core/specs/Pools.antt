@@ -1,7 +1,7 @@
 -- Statement: contracts of public calls use it.
 -- Which pools of a cluster a grant is for. What pools a cluster has is the Ceph manual's Pools chapter.
 use Rattle.std.specs.Prelude.{◌&&◌, Bool}
-use Rattle.cap_text.specs.declared.grant.AllowGrant.{AllowGrant}
+use Rattle.cap_grants.specs.declared.grant.AllowGrant.{AllowGrant}
 use Rattle.verdict_core.specs.Verdict.{matches_tag, names}
 use Rattle.share_core.specs.declared.pools.Pool.{Pool}
 

@@ -3,7 +3,7 @@
 -- Source: this project's profile. What tags a pool can have is the Ceph manual's Pools chapter, "Associating a pool with an application".
 use Rattle.std.specs.Prelude.{◌≡◌, ◌≢◌, ℕ, List, [], ◌∷◌, map, flat_map, Bool, true, false, ◌||◌, ◌⊎◌, AllPairs, Option, Some, None}
 use Rattle.std.specs.List.{All, list_any}
-use Rattle.cap_text.specs.declared.grant.AllowGrant.{AllowGrant}
+use Rattle.cap_grants.specs.declared.grant.AllowGrant.{AllowGrant}
 use Rattle.common_types.specs.declared.tags.AppTags.{AppTags}
 pub use Rattle.map_core.specs.PossibleTags.{ArePossible}
 use Rattle.verdict_core.specs.Target.{Target}

@@ -3,7 +3,7 @@
 -- the verdict alone.
 use Rattle.std.specs.Prelude.{◌≡◌, ◌≢◌, ℕ, ◌<◌, ◌≤◌, List, Bool, false, Option, None, Some, ◌&&◌, length, slice_index}
 use Rattle.std.specs.List.{slice_get}
-use Rattle.cap_text.specs.declared.grant.AllowGrant.{AllowGrant}
+use Rattle.cap_grants.specs.declared.grant.AllowGrant.{AllowGrant}
 use Rattle.common_types.specs.declared.tags.AppTags.{AppTags}
 use Rattle.verdict_core.specs.declared.kinds.Kind.{Kind}
 use Rattle.verdict_core.specs.Hash.{folded}

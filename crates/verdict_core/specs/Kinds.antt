@@ -2,12 +2,12 @@
 -- By which of its parts a grant is found. Only inner contracts use this.
 use Rattle.std.specs.Prelude.{ℕ, ◌+◌, ◌%◌, ◌^◌, List, [], ◌∷◌, Option, None, Some, if◌then◌else◌, nat_le, length, map, take}
 use Rattle.std.specs.Option.{unwrap_or, option_map}
-use Rattle.cap_text.specs.declared.grant.AllowGrant.{AllowGrant}
-use Rattle.cap_text.specs.declared.grant.Access.{Access}
-use Rattle.cap_text.specs.declared.grant.Access.TheVariants.{All, Flags, Class}
-use Rattle.cap_text.specs.declared.grant.Part.{Part}
-use Rattle.cap_text.specs.declared.grant.Part.TheVariants.{Any, Is}
-use Rattle.cap_text.specs.declared.grant.Tag.{Tag}
+use Rattle.cap_grants.specs.declared.grant.AllowGrant.{AllowGrant}
+use Rattle.cap_grants.specs.declared.grant.Access.{Access}
+use Rattle.cap_grants.specs.declared.grant.Access.TheVariants.{All, Flags, Class}
+use Rattle.cap_grants.specs.declared.grant.Part.{Part}
+use Rattle.cap_grants.specs.declared.grant.Part.TheVariants.{Any, Is}
+use Rattle.cap_grants.specs.declared.grant.Tag.{Tag}
 use Rattle.common_types.specs.declared.tags.AppTags.{AppTags}
 use Rattle.verdict_core.specs.declared.kinds.Kind.{Kind}
 use Rattle.verdict_core.specs.declared.kinds.Named.{Named}

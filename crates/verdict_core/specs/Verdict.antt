@@ -6,14 +6,14 @@ use Rattle.std.specs.Prelude.{ℕ, ◌+◌, List, [], ◌∷◌, Bool, true, fal
 use Rattle.std.specs.Option.{option_map_or, option_map}
 use Rattle.std.specs.List.{list_any, list_all, filter_map, starts_with}
 use Rattle.std.specs.Str.{bytes_eq}
-use Rattle.cap_text.specs.declared.grant.AllowGrant.{AllowGrant}
-use Rattle.cap_text.specs.declared.grant.Access.{Access}
-use Rattle.cap_text.specs.declared.grant.Access.TheVariants.{All, Flags, Class}
-use Rattle.cap_text.specs.declared.grant.NsMatch.{NsMatch}
-use Rattle.cap_text.specs.declared.grant.NsMatch.TheVariants.{Exact, Prefix}
-use Rattle.cap_text.specs.declared.grant.Part.{Part}
-use Rattle.cap_text.specs.declared.grant.Part.TheVariants.{Any, Is}
-use Rattle.cap_text.specs.declared.grant.Tag.{Tag}
+use Rattle.cap_grants.specs.declared.grant.AllowGrant.{AllowGrant}
+use Rattle.cap_grants.specs.declared.grant.Access.{Access}
+use Rattle.cap_grants.specs.declared.grant.Access.TheVariants.{All, Flags, Class}
+use Rattle.cap_grants.specs.declared.grant.NsMatch.{NsMatch}
+use Rattle.cap_grants.specs.declared.grant.NsMatch.TheVariants.{Exact, Prefix}
+use Rattle.cap_grants.specs.declared.grant.Part.{Part}
+use Rattle.cap_grants.specs.declared.grant.Part.TheVariants.{Any, Is}
+use Rattle.cap_grants.specs.declared.grant.Tag.{Tag}
 use Rattle.common_types.specs.declared.tags.AppTags.{AppTags}
 use Rattle.verdict_core.specs.declared.request.Needs.{Needs}
 use Rattle.verdict_core.specs.declared.request.ClassCall.{ClassCall}

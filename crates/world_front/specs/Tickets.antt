@@ -2,7 +2,7 @@
 -- What a user's osd text comes to, as a function.
 use Rattle.std.specs.Prelude.{◌≡◌, ℕ, List, [], Option, Some, None, Ok, Err}
 use Rattle.cap_text.specs.ReadText.{Read, read_text}
-use Rattle.cap_text.specs.declared.grant.Grant.{Grant}
+use Rattle.cap_grants.specs.declared.grant.Grant.{Grant}
 use Rattle.grant_core.specs.Flat.{Table, Flat, flat}
 use Rattle.verdict_core.specs.Ticket.{Ticket}
 use Rattle.auth_db.specs.Texts.{IsTicket}

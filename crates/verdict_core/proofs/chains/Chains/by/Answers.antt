@@ -1,4 +1,4 @@
-use Rattle.cap_text.specs.declared.grant.AllowGrant.{AllowGrant}
+use Rattle.cap_grants.specs.declared.grant.AllowGrant.{AllowGrant}
 use Rattle.std.proofs.Common.{ℕ, List, ap, ◌≡◌, sym, subst, ◌∙◌, ◌-◌, get_or, length, Some, slice_set, arith}
 use Rattle.std.specs.List.{slice_get}
 use Rattle.std.proofs.lemmas.List.{get_or_read}

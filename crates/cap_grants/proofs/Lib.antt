@@ -1,0 +1,4 @@
+pub mod Spans
+pub mod Tokens
+pub mod Reading
+pub mod LastBytes
