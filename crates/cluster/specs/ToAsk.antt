@@ -9,7 +9,7 @@ use Rattle.map_core.specs.Refusal.{is_word, view_refusal}
 use Rattle.map_core.specs.declared.fault.MapFault.{MapFault}
 use Rattle.map_core.specs.declared.fault.MapFault.TheVariants as map_fault
 use Rattle.map_core.specs.declared.pool.PoolView.{PoolView}
-use Rattle.object_core.specs.declared.op.Op.{Op}
+use Rattle.object_ops.specs.declared.op.Op.{Op}
 use Rattle.store_core.specs.Request.{Sealed, numbers}
 use Rattle.world_front.specs.declared.event.Ask.{Ask}
 use Rattle.world_front.specs.Front.{id_of}

@@ -1,9 +1,5 @@
-pub mod Bytes
-pub mod Content
-pub mod Digits
 pub mod Effect
 pub mod Faults
 pub mod Laws
 pub mod Needs
-pub mod Number
-pub mod ToldEffects
+pub mod ToldSteps

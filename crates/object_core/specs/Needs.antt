@@ -9,8 +9,8 @@ use Rattle.verdict_core.specs.declared.request.Needs.{Needs}
 use Rattle.verdict_core.specs.declared.request.ClassCall.{ClassCall}
 use Rattle.object_core.specs.declared.class.Method.{Method}
 use Rattle.object_core.specs.declared.class.Method.TheVariants.{CounterGet, CounterAdd, VaultPeek}
-use Rattle.object_core.specs.declared.op.Op.{Op}
-use Rattle.object_core.specs.declared.op.Op.TheVariants.{Read, Stat, Write, WriteFull, Append, Truncate, Remove, Create, GetAttribute, SetAttribute, RemoveAttribute, Call}
+use Rattle.object_ops.specs.declared.op.Op.{Op}
+use Rattle.object_ops.specs.declared.op.Op.TheVariants.{Read, Stat, Write, WriteFull, Append, Truncate, Remove, Create, GetAttribute, SetAttribute, RemoveAttribute, Call}
 use Rattle.object_core.specs.declared.needs.NeedsFault.{NeedsFault}
 use Rattle.object_core.specs.declared.needs.NeedsFault.TheVariants.{EmptyVector, TooManyOps, NoMethod}
 

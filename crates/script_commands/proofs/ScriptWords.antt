@@ -5,7 +5,7 @@ use Rattle.world_front.proofs.Bytes.{bytes_same}
 use Rattle.std.specs.Prelude.{codes}
 use Rattle.std.specs.Option.{option_map}
 use Rattle.std.specs.Str.{bytes_eq}
-use Rattle.object_core.specs.declared.op.Op.{Op}
+use Rattle.object_ops.specs.declared.op.Op.{Op}
 use Rattle.auth_db.specs.declared.caps.Caps.{Caps}
 use Rattle.script_commands.specs.TakenWords.{Takes}
 use Rattle.script_commands.specs.Command.{Word, Reads, an_op, ops_within, ops_behind, ops_next, ops, said_if, no_texts, with_text, texts_onto, texts}

@@ -8,8 +8,8 @@ use Rattle.script_text.specs.Words.{words_of}
 use Rattle.script_text.specs.Numbers.{number_of, pair_of}
 use Rattle.map_core.specs.declared.command.MapCommand.{MapCommand}
 use Rattle.map_core.specs.declared.command.MapCommand.TheVariants.{PoolCreate, AppEnable, AppSet, AppRm, OsdUp, OsdDown, OsdRestart}
-use Rattle.object_core.specs.declared.op.Op.{Op}
-use Rattle.object_core.specs.declared.op.Op.TheVariants as op
+use Rattle.object_ops.specs.declared.op.Op.{Op}
+use Rattle.object_ops.specs.declared.op.Op.TheVariants as op
 use Rattle.auth_db.specs.declared.caps.Caps.{Caps}
 use Rattle.store_core.specs.declared.sealed.GroupId.{GroupId}
 use Rattle.world_front.specs.Front.{id_of}

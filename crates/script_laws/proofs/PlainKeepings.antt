@@ -6,10 +6,10 @@ use Rattle.std.specs.Ordering.{eq_by_cmp}
 use Rattle.std.specs.declared.cmp.Ordering.TheVariants.{Equal}
 use Rattle.std.specs.FinMap.{get, entries, remove, get-entries, entries_sorted, entries-insert, get-remove, empty, get-empty}
 use Rattle.std.specs.FinMap.Entries.{where_key, is_sorted-where_key, find-where_key, same_entries}
-use Rattle.object_core.specs.Content.{Content}
+use Rattle.object_ops.specs.Content.{Content}
 use Rattle.object_core.specs.Effect.{effect}
-use Rattle.object_core.specs.declared.outcome.Change.{Change}
-use Rattle.object_core.specs.declared.outcome.Change.TheVariants.{Kept, Became}
+use Rattle.object_ops.specs.declared.outcome.Change.{Change}
+use Rattle.object_ops.specs.declared.outcome.Change.TheVariants.{Kept, Became}
 use Rattle.verdict_core.specs.Verdict.{report_of}
 use Rattle.store_core.specs.Request.{Sealed, Work, Vector, Listing, target_of, needs_for}
 use Rattle.store_core.specs.Store.{Store, ObjectName, name_cmp}

@@ -5,7 +5,7 @@ use Rattle.verdict_core.specs.Target.{Target}
 use Rattle.verdict_core.specs.Ticket.{Ticket}
 use Rattle.verdict_core.specs.declared.request.Needs.{Needs}
 use Rattle.map_core.specs.declared.pool.PoolView.{PoolView}
-use Rattle.object_core.specs.declared.op.Op.{Op}
+use Rattle.object_ops.specs.declared.op.Op.{Op}
 use Rattle.object_core.specs.Needs.{needs_of, needs_fault}
 
 -- what is asked: operations on the object of a name, or the names of the objects that a group holds

@@ -4,7 +4,7 @@ use Rattle.std.specs.Prelude.{nat_le, nat_lt, slice_set}
 use Rattle.std.specs.List.{flat_map, list_any}
 use Rattle.std.specs.Option.{option_map, option_map_or, option_or}
 use Rattle.std.proofs.lemmas.Bool.Decides.{nat_tests}
-use Rattle.object_core.specs.declared.op.Op.{Op}
+use Rattle.object_ops.specs.declared.op.Op.{Op}
 use Rattle.map_core.specs.State.{History}
 use Rattle.map_core.specs.Map.{map_of}
 use Rattle.map_core.specs.declared.pool.Pool.{Pool}

@@ -12,7 +12,7 @@ use Rattle.map_core.specs.Map.{view_at, epoch_of}
 use Rattle.map_core.specs.declared.pool.PoolView.{PoolView}
 use Rattle.map_core.specs.declared.command.MapCommand.{MapCommand}
 use Rattle.object_core.specs.Needs.{needs_fault}
-use Rattle.object_core.specs.declared.op.Op.{Op}
+use Rattle.object_ops.specs.declared.op.Op.{Op}
 use Rattle.store_core.specs.Request.{Sealed, Listing}
 use Rattle.whole_logs.specs.Each.{Each}
 use Rattle.whole_logs.specs.Asked.{IsAsked}

@@ -7,8 +7,8 @@ use Rattle.std.specs.Cmp.{unsigned_Decides}
 use Rattle.std.proofs.lemmas.List.Elements.{filter-append}
 use Rattle.std.proofs.lemmas.Slice.Eq.{bytes_eq-Decides}
 use Rattle.place_core.specs.Placement.{group_of}
-use Rattle.object_core.specs.declared.outcome.Change.{Change}
-use Rattle.object_core.specs.declared.outcome.Change.TheVariants.{Kept, Became}
+use Rattle.object_ops.specs.declared.outcome.Change.{Change}
+use Rattle.object_ops.specs.declared.outcome.Change.TheVariants.{Kept, Became}
 use Rattle.store_core.specs.Request.{Sealed, Work, Vector, Listing, object_of}
 use Rattle.store_core.specs.Store.{Store, ObjectName, name_cmp}
 use Rattle.store_core.specs.Names.{name_cmp_total}

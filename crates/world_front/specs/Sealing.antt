@@ -8,7 +8,7 @@ use Rattle.map_core.specs.Map.{epoch_of, view_at}
 use Rattle.map_core.specs.declared.pool.PoolView.{PoolView}
 use Rattle.place_core.specs.Placement.{group_of}
 use Rattle.object_core.specs.Needs.{needs_fault}
-use Rattle.object_core.specs.declared.op.Op.{Op}
+use Rattle.object_ops.specs.declared.op.Op.{Op}
 use Rattle.store_core.specs.Request.{Sealed, Work, Vector, Listing, numbers}
 use Rattle.world_front.specs.Event.{Ask, Event, Submit, ListNames, Fault, NoSession, NoPool, BadObjectName, StaleEpoch, StaleTick, OfNeeds}
 pub use Rattle.world_front.specs.declared.session.Session.{Session}

@@ -1,7 +1,7 @@
 //! Users, map, sessions, submissions and lists: what no group, message or copy has a part in.
 
 ghost use Rattle.std.specs.Prelude.{◌≡◌, ◌≤◌, ◌<◌, ℕ, List, [], ◌∷◌, None, Ok, OnOk, OnErr, IfOk, length, option_copied};
-ghost use Rattle.object_core.specs.declared.op.Op as op;
+ghost use Rattle.object_ops.specs.declared.op.Op as op;
 ghost use Rattle.whole_logs.specs.Each.{Each};
 ghost use Rattle.suffix_core.specs.Group.{submitted};
 ghost use Rattle.world_front.specs.Event.{Auth, Map, Open, Renew, Close, Submit, ListNames};

@@ -12,7 +12,7 @@ use Rattle.std.specs.BTreeSet.{insert_key}
 use Rattle.std.specs.FinMap.{keys, entries, entries_sorted, slice_cmp-IsAntisymmetric, nat_cmp-IsAntisymmetric}
 use Rattle.std.specs.FinMap.Entries.{find, put, by_order, below_all, is_sorted, where_key, is_sorted-put, is_sorted-where_key, find-put, same_entries}
 use Rattle.place_core.specs.Placement.{fnv, group_of}
-use Rattle.object_core.specs.Content.{Content}
+use Rattle.object_ops.specs.Content.{Content}
 use Rattle.store_core.specs.Request.{Sealed, Listing, target_of, needs_for}
 use Rattle.store_core.specs.Store.{Store, ObjectName, name_cmp, bytes_cmp}
 use Rattle.store_core.specs.Deciding.{names_in, answered, performed, answer_on, is_allowed_sealed, store_of}

@@ -9,7 +9,7 @@ use Rattle.script_text.specs.declared.fault.ScriptFault.TheVariants as ends
 use Rattle.script_text.specs.declared.fault.LineFault.{LineFault}
 use Rattle.script_text.specs.declared.fault.LineFault.TheVariants as line_fault
 use Rattle.script_text.proofs.Known.{appends_kept, appends_more}
-use Rattle.object_core.specs.declared.op.Op.{Op}
+use Rattle.object_ops.specs.declared.op.Op.{Op}
 use Rattle.store_core.specs.declared.sealed.GroupId.{GroupId}
 use Rattle.world_front.specs.declared.event.Ask.{Ask}
 use Rattle.world_front.specs.declared.event.Event.{Event}

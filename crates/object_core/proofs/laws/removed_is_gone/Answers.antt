@@ -1,4 +1,4 @@
-use Rattle.object_core.proofs.AttributeNames.{removed_is_gone as law}
+use Rattle.object_core.proofs.RemovedAttributes.{removed_is_gone as law}
 use Rattle.object_core.proofs.laws.removed_is_gone.Goals as goal
 
 pub returns : goal.returns

@@ -1,6 +1,6 @@
 use Rattle.std.proofs.Common.{◌≡◌, ◌++◌, ◌∷◌, [], List, Some, refl, sym, ap, subst, ◌∙◌, arith, length, ◌<◌}
 use Rattle.std.proofs.lemmas.Bool.{eqb-true}
-use Rattle.object_core.specs.declared.op.Op.{Op}
+use Rattle.object_ops.specs.declared.op.Op.{Op}
 use Rattle.script_commands.specs.Command.{an_op}
 use Rattle.script_commands.proofs.ScriptWords.{IsReadTo, read_none, nothing_read, at_the_end, last_read, bad_behind, more_behind}
 use Rattle.script_commands.proofs.operations.ops.Goals as goal

@@ -1,0 +1,4 @@
+pub mod AttributeNames
+pub mod Lengths
+pub mod Numbers
+pub mod Overwrites
