@@ -4,7 +4,7 @@ ghost use Rattle.std.specs.Prelude.{◌≡◌, OnOk, OnErr, IfOk};
 ghost use Rattle.std.specs.Option.{option_map};
 ghost use Rattle.auth_db.specs.Refusals.{auth_refusal, known_refusal};
 ghost use Rattle.auth_db.specs.Refusals as refusals;
-ghost use Rattle.auth_db.specs.Users.{after, user_at, GetOrCreate};
+ghost use Rattle.auth_db.specs.Users.{after, user_at, GetOrCreate, SetCaps};
 ghost use Rattle.world_front.specs.Event.{OfUsers};
 ghost use Rattle.world_front.specs.Front.{command_of, told_auth, told_creation};
 ghost use Rattle.world_front.specs.Front as spec;
@@ -30,10 +30,7 @@ pub fn change_users(users: &mut AuthDb, command: AuthCommand) -> Result<Told, Au
             Err(fault) => Err(fault),
         },
         AuthCommand::GetOrCreate { name, caps } => get_or_create(users, name.as_str(), caps),
-        AuthCommand::SetCaps { name, caps } => match users.caps(name.as_str(), caps) {
-            Ok(()) => Ok(Told::Done),
-            Err(fault) => Err(fault),
-        },
+        AuthCommand::SetCaps { name, caps } => set_caps(users, name.as_str(), caps),
         AuthCommand::Delete { name } => match users.del(name.as_str()) {
             Ok(()) => Ok(Told::Done),
             Err(fault) => Err(fault),
@@ -51,6 +48,19 @@ fn get_or_create(users: &mut AuthDb, name: &str, caps: Caps) -> Result<Told, Aut
     match users.get_or_create(name, caps) {
         Ok(Creation::Made) => Ok(Told::Made),
         Ok(Creation::There) => Ok(Told::There),
+        Err(fault) => Err(fault),
+    }
+}
+
+// Gives a user other texts.
+fn set_caps(users: &mut AuthDb, name: &str, caps: Caps) -> Result<Told, AuthFault>
+    ensures steps { OnOk result (users.new ≡ after users.old (SetCaps name.now caps)) }
+    ensures tells { IfOk result (λ told. told ≡ Told.Done) }
+    ensures refused { refusals.RefusedOrMemory (auth_refusal users.old (SetCaps name.now caps)) result }
+    ensures unchanged { OnErr result (users.new ≡ users.old) }
+{
+    match users.caps(name, caps) {
+        Ok(()) => Ok(Told::Done),
         Err(fault) => Err(fault),
     }
 }
