@@ -2,7 +2,7 @@
 use Rattle.std.proofs.Common.{◌≡◌, ℕ, ◌<◌, List, [], ◌∷◌, refl, Some}
 use Rattle.std.specs.Prelude.{Option, None, Result, Ok, Err}
 use Rattle.std.specs.Option.{option_to_list}
-use Rattle.map_core.specs.State.{History}
+use Rattle.map_commands.specs.State.{History}
 use Rattle.store_core.specs.declared.reply.Reply.{Reply}
 use Rattle.store_core.specs.declared.sealed.GroupId.{GroupId}
 use Rattle.whole_logs.specs.Each.{Each}

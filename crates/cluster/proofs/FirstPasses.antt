@@ -3,7 +3,7 @@ use Rattle.std.proofs.Common.{◌≡◌, ℕ, true, List, [], ◌∷◌, map, fo
 use Rattle.std.specs.Prelude.{Option, Some, IsNone}
 use Rattle.std.proofs.lemmas.List.Sums.{fold-append}
 use Rattle.grant_core.specs.Flat.{Table}
-use Rattle.map_core.specs.State.{History, GoesOn}
+use Rattle.map_commands.specs.State.{History, GoesOn}
 use Rattle.whole_logs.specs.Each.{Each}
 use Rattle.suffix_core.specs.Group.{Event, is_submitted}
 use Rattle.world_front.specs.declared.event.Event.{Event as WorldEvent}

@@ -11,8 +11,8 @@ use Rattle.turn_lock.specs.declared.rule.Joined.{Joined}
 use Rattle.std.proofs.lemmas.Option.{slice_get-get_or}
 use Rattle.turn_lock.specs.Seats.{Seated, HasItsOwn, seen_by, mine_of, lock_of, seat_lock}
 use Rattle.turn_lock.specs.Turns.{StartsWith, made, made_by, state_after}
-use Rattle.map_core.specs.State.{History}
-use Rattle.map_core.specs.declared.command.MapCommand.{MapCommand}
+use Rattle.map_commands.specs.State.{History}
+use Rattle.map_commands.specs.declared.command.MapCommand.{MapCommand}
 use Rattle.store_core.specs.declared.sealed.GroupId.{GroupId}
 use Rattle.suffix_core.specs.Group.{Group, Event, has_all_intervals}
 use Rattle.group_core.specs.Moves.{event_of}

@@ -6,12 +6,12 @@ use mathlib.Core.Logic.{dite}
 use native.Mathlib.Decide.{ℕ_discrete}
 use Rattle.std.proofs.lemmas.Bool.Decides.{nat_tests}
 use Rattle.std.proofs.lemmas.List.{length-map}
-use Rattle.map_core.specs.State.{History}
-use Rattle.map_core.specs.Map.{map_of, pool_in}
+use Rattle.map_commands.specs.State.{History}
+use Rattle.map_commands.specs.Map.{map_of, pool_in}
 use Rattle.map_core.specs.Refusal.{is_word, has_pool, groups_in, first_of, acting_refusal}
-use Rattle.map_core.specs.declared.fault.MapFault.{MapFault}
-use Rattle.map_core.specs.declared.fault.MapFault.TheVariants as map_fault
-use Rattle.map_core.specs.declared.pool.Pool.{Pool}
+use Rattle.map_commands.specs.declared.fault.MapFault.{MapFault}
+use Rattle.map_commands.specs.declared.fault.MapFault.TheVariants as map_fault
+use Rattle.map_commands.specs.declared.pool.Pool.{Pool}
 use Rattle.entry_core.specs.Locality.{group_for}
 use Rattle.store_core.specs.Request.{Sealed}
 use Rattle.store_core.specs.declared.sealed.GroupId.{GroupId}

@@ -2,7 +2,7 @@
 -- What a cluster began with, what a pass makes on its groups, and what a pass is.
 use Rattle.std.specs.Prelude.{◌≡◌, ℕ, ◌<◌, ◌≤◌, true, List, [], ◌∷◌, Some, slice_get}
 use Rattle.left_right.specs.Sides.{view as known}
-use Rattle.map_core.specs.State.{History, GoesOn}
+use Rattle.map_commands.specs.State.{History, GoesOn}
 use Rattle.entry_core.specs.Locality.{group_for}
 use Rattle.store_core.specs.Request.{Sealed}
 use Rattle.store_core.specs.declared.sealed.GroupId.{GroupId}

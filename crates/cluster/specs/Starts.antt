@@ -2,7 +2,7 @@
 -- What a cluster begins with.
 use Rattle.std.specs.Prelude.{◌≡◌, ℕ, List, [], ◌++◌, map}
 use Rattle.grant_core.specs.Flat.{Table}
-use Rattle.map_core.specs.declared.command.MapCommand.TheVariants.{PoolCreate}
+use Rattle.map_commands.specs.declared.command.MapCommand.TheVariants.{PoolCreate}
 use Rattle.world_front.specs.declared.event.AuthCommand.TheVariants.{Add}
 use Rattle.world_front.specs.declared.event.Event.{Event}
 use Rattle.world_front.specs.declared.event.Event.TheVariants.{Auth, Map}

@@ -3,7 +3,7 @@
 ghost use Rattle.std.specs.Prelude.{◌≡◌, ◌<◌, ◌≤◌, None, length, IfErr, OnOk};
 ghost use Rattle.std.specs.Bool.{MatchBool};
 ghost use Rattle.std.specs.Option.{option_map};
-ghost use Rattle.map_core.specs.Map.{map_of, epoch_of};
+ghost use Rattle.map_commands.specs.Map.{map_of, epoch_of};
 ghost use Rattle.map_core.specs.Refusal.{refusal};
 ghost use Rattle.suffix_core.specs.Group.{has_all_intervals};
 ghost use Rattle.group_core.specs.Moves.{event_of};

@@ -2,7 +2,7 @@
 
 ghost use Rattle.std.specs.Prelude.{◌≡◌, None};
 ghost use Rattle.std.specs.Option.{option_map};
-ghost use Rattle.map_core.specs.Map.{map_of, epoch_of};
+ghost use Rattle.map_commands.specs.Map.{map_of, epoch_of};
 ghost use Rattle.map_core.specs.Refusal.{refusal};
 ghost use Rattle.group_core.specs.Moves.{event_of};
 ghost use Rattle.world_core.specs.World.{members_of};

@@ -7,10 +7,10 @@ use Rattle.store_core.specs.declared.sealed.GroupId.{GroupId}
 use Rattle.store_core.specs.Request.{Sealed}
 use Rattle.entry_core.specs.Locality.{group_for}
 use Rattle.place_core.specs.Placement.{numbers_of}
-use Rattle.map_core.specs.State.{MapState}
-use Rattle.map_core.specs.Map.{map_of, after}
-use Rattle.map_core.specs.declared.command.MapCommand.{MapCommand}
-use Rattle.map_core.specs.declared.command.MapCommand.TheVariants.{PoolCreate, AppEnable, AppSet, AppRm, OsdUp, OsdDown, OsdRestart}
+use Rattle.map_commands.specs.State.{MapState}
+use Rattle.map_commands.specs.Map.{map_of, after}
+use Rattle.map_commands.specs.declared.command.MapCommand.{MapCommand}
+use Rattle.map_commands.specs.declared.command.MapCommand.TheVariants.{PoolCreate, AppEnable, AppSet, AppRm, OsdUp, OsdDown, OsdRestart}
 use Rattle.suffix_core.specs.Types.{Sent}
 use Rattle.whole_logs.specs.Each.{Each}
 use Rattle.suffix_core.specs.Group.{Group, group_step, run}

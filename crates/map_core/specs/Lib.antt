@@ -1,11 +1,6 @@
 pub mod Inside
-pub mod Intervals
 pub mod Laws
 pub mod Limits
-pub mod Map
 pub mod Refusal
-pub mod Replay
 pub mod ActingSets
-pub mod State
-pub mod Printed
 pub mod PossibleTags

@@ -3,19 +3,11 @@
 //! A map is what its accepted commands made of it. Each command makes an epoch, and a pool can be seen as it was at any of them.
 #![tactic(auto)]
 
-mod acting_sets;
-mod command;
-mod edits;
-mod fault;
 mod laws;
 mod map;
-mod pool;
 mod refusals;
-mod replay;
 
-pub use command::MapCommand;
 pub use common_types::OutOfMemory;
-pub use fault::MapFault;
 pub use laws::{intervals_follow_the_sets, pools_differ, pools_stay, sets_are_acting};
 pub use map::ClusterMap;
-pub use pool::{Epoch, Pool, PoolView};
+pub use map_commands::{Epoch, MapCommand, MapFault, Pool, PoolView};

@@ -4,12 +4,10 @@ ghost use Rattle.std.specs.Prelude.{◌≡◌, option_copied};
 ghost use Rattle.std.specs.List.{find};
 ghost use Rattle.map_core.specs.Refusal.{first_of, create_tests, enable_tests, set_tests, remove_tests, daemon_tests, acting_tests};
 ghost use Rattle.map_core.specs.Refusal as spec;
-ghost use Rattle.map_core.specs.Map as map;
+ghost use Rattle.map_commands.specs.Map as map;
 
-use crate::command::MapCommand;
-use crate::fault::MapFault;
-use crate::pool::Pool;
 use common_types::{AppTags, Name, are_word_bytes};
+use map_commands::{MapCommand, MapFault, Pool, find_pool};
 use place_core::DaemonSet;
 
 const LAST_EPOCH: u32 = 65535;
@@ -27,14 +25,6 @@ pub(crate) fn is_word(name: &Name) -> bool
 {
     let bytes = name.as_str().as_bytes();
     bytes.len() >= 1 && bytes.len() <= 64 && are_word_bytes(bytes)
-}
-
-// The pool of this name.
-#[tactic(auto, unfolding(crate::specs::Map::pool_in))]
-pub(crate) fn find_pool<'a>(pools: &'a [Pool], name: &Name) -> Option<&'a Pool>
-    ensures { option_copied result ≡ map.pool_in pools.now name.now }
-{
-    pools.iter().find(|pool| pool.name.equals(name))
 }
 
 // The applications of the pool of this name.

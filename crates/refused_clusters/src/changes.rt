@@ -1,7 +1,7 @@
 //! A daemon goes down in a cluster of four groups, and the change is left in part where memory is refused.
 
 ghost use Rattle.std.specs.Prelude.{All, IfSome};
-ghost use Rattle.map_core.specs.State.{History};
+ghost use Rattle.map_commands.specs.State.{History};
 ghost use Rattle.cluster.specs.Asks.{IsBegun, IsPassOf};
 ghost use Rattle.cluster.specs.Monitors.{IsMonitorOf, Follows, FollowsStart};
 

@@ -6,8 +6,8 @@ use Rattle.std.specs.Option.{option_map, option_and_then}
 use Rattle.std.specs.Str.{bytes_eq}
 use Rattle.script_text.specs.Words.{words_of}
 use Rattle.script_text.specs.Numbers.{number_of, pair_of}
-use Rattle.map_core.specs.declared.command.MapCommand.{MapCommand}
-use Rattle.map_core.specs.declared.command.MapCommand.TheVariants.{PoolCreate, AppEnable, AppSet, AppRm, OsdUp, OsdDown, OsdRestart}
+use Rattle.map_commands.specs.declared.command.MapCommand.{MapCommand}
+use Rattle.map_commands.specs.declared.command.MapCommand.TheVariants.{PoolCreate, AppEnable, AppSet, AppRm, OsdUp, OsdDown, OsdRestart}
 use Rattle.object_ops.specs.declared.op.Op.{Op}
 use Rattle.object_ops.specs.declared.op.Op.TheVariants as op
 use Rattle.auth_db.specs.declared.caps.Caps.{Caps}

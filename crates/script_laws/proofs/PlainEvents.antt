@@ -5,16 +5,16 @@ use Rattle.std.specs.Option.{option_map, option_map_or, option_or}
 use Rattle.std.specs.Str.{bytes_eq}
 use Rattle.std.proofs.lemmas.List.Elements.{filter-append}
 use Rattle.grant_core.specs.BuiltIn.{built_in}
-use Rattle.map_core.specs.State.{MapState}
-use Rattle.map_core.specs.Map.{is_named, created, after, map_of, epoch_of}
+use Rattle.map_commands.specs.State.{MapState}
+use Rattle.map_commands.specs.Map.{is_named, created, after, map_of, epoch_of}
 use Rattle.map_core.specs.Refusal.{refusal}
-use Rattle.map_core.specs.Limits.{IsPool}
-use Rattle.map_core.specs.Replay.{pool_step}
-use Rattle.map_core.specs.declared.pool.Pool.{Pool}
-use Rattle.map_core.specs.declared.command.MapCommand.{MapCommand}
-use Rattle.map_core.specs.declared.command.MapCommand.TheVariants.{PoolCreate, AppEnable, AppSet, AppRm, OsdUp, OsdDown, OsdRestart}
+use Rattle.map_commands.specs.PoolLimits.{IsPool}
+use Rattle.map_commands.specs.Replay.{pool_step}
+use Rattle.map_commands.specs.declared.pool.Pool.{Pool}
+use Rattle.map_commands.specs.declared.command.MapCommand.{MapCommand}
+use Rattle.map_commands.specs.declared.command.MapCommand.TheVariants.{PoolCreate, AppEnable, AppSet, AppRm, OsdUp, OsdDown, OsdRestart}
 use Rattle.map_core.proofs.Current.{after_push}
-use Rattle.map_core.proofs.OnePool.{pool_after_step}
+use Rattle.map_commands.proofs.OnePool.{pool_after_step}
 use Rattle.place_core.specs.Placement.{numbers_of}
 use Rattle.store_core.specs.Deciding.{store_of}
 use Rattle.entry_core.specs.Locality.{group_for}

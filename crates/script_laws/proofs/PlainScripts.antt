@@ -7,7 +7,7 @@ use Rattle.std.proofs.lemmas.Bool.Decides.{nat_tests}
 use Rattle.script_text.specs.Lines.{script_lines, is_blank}
 use Rattle.script_text.specs.Text.{line, numeral}
 use Rattle.grant_core.specs.BuiltIn.{built_in}
-use Rattle.map_core.specs.Map.{map_of}
+use Rattle.map_commands.specs.Map.{map_of}
 use Rattle.entry_core.specs.Log.{find, is_in}
 use Rattle.store_core.specs.Request.{Sealed}
 use Rattle.store_core.specs.declared.entry.Entry.{Entry}

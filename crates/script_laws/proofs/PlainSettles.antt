@@ -5,8 +5,8 @@ use Rattle.std.specs.List.{filter, list_any}
 use Rattle.std.proofs.lemmas.List.Elements.{filter-append}
 use Rattle.std.proofs.lemmas.List.Sums.{fold-append}
 use Rattle.grant_core.specs.BuiltIn.{built_in}
-use Rattle.map_core.specs.State.{MapState}
-use Rattle.map_core.specs.Map.{map_of}
+use Rattle.map_commands.specs.State.{MapState}
+use Rattle.map_commands.specs.Map.{map_of}
 use Rattle.store_core.specs.Deciding.{store_of}
 use Rattle.entry_core.specs.Log.{Legal, LegalFrom}
 use Rattle.store_core.specs.Request.{Sealed}

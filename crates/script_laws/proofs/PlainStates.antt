@@ -6,11 +6,11 @@ use Rattle.std.specs.Str.{bytes_eq}
 use Rattle.std.proofs.lemmas.List.Elements.{filter-append}
 use Rattle.std.proofs.lemmas.List.Sums.{fold-append}
 use Rattle.grant_core.specs.BuiltIn.{built_in}
-use Rattle.map_core.specs.State.{MapState}
-use Rattle.map_core.specs.Map.{is_named, after, map_of}
-use Rattle.map_core.specs.Intervals.{set_of, begun, restarts}
-use Rattle.map_core.specs.declared.pool.Pool.{Pool}
-use Rattle.map_core.specs.declared.command.MapCommand.{MapCommand}
+use Rattle.map_commands.specs.State.{MapState}
+use Rattle.map_commands.specs.Map.{is_named, after, map_of}
+use Rattle.map_commands.specs.Intervals.{set_of, begun, restarts}
+use Rattle.map_commands.specs.declared.pool.Pool.{Pool}
+use Rattle.map_commands.specs.declared.command.MapCommand.{MapCommand}
 use Rattle.map_core.specs.Laws.{HasPool}
 use Rattle.map_core.proofs.Current.{after_push}
 use Rattle.map_core.proofs.Kept.{pools_stay}

@@ -8,11 +8,11 @@ use Rattle.std.specs.FinMap.{empty}
 use Rattle.script_text.specs.Text.{line, numeral}
 use Rattle.script_text.specs.declared.fault.ScriptFault.{ScriptFault}
 use Rattle.grant_core.specs.BuiltIn.{built_in}
-use Rattle.map_core.specs.State.{MapState}
-use Rattle.map_core.specs.Map.{map_of, after, is_named}
-use Rattle.map_core.specs.Intervals.{set_of, begun}
-use Rattle.map_core.specs.declared.pool.Pool.{Pool}
-use Rattle.map_core.specs.declared.command.MapCommand.{MapCommand}
+use Rattle.map_commands.specs.State.{MapState}
+use Rattle.map_commands.specs.Map.{map_of, after, is_named}
+use Rattle.map_commands.specs.Intervals.{set_of, begun}
+use Rattle.map_commands.specs.declared.pool.Pool.{Pool}
+use Rattle.map_commands.specs.declared.command.MapCommand.{MapCommand}
 use Rattle.store_core.specs.Request.{Sealed}
 use Rattle.store_core.specs.Store.{Store}
 use Rattle.store_core.specs.Deciding.{Decision, decision_on, name_of}

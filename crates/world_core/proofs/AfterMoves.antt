@@ -6,17 +6,17 @@ use Rattle.std.specs.Option.{option_map}
 use Rattle.std.proofs.lemmas.List.{map-append}
 use Rattle.std.proofs.lemmas.Grind.{flat_map-append}
 use Rattle.place_core.specs.Placement.{acting_of, numbers_of}
-use Rattle.map_core.specs.State.{MapState, History}
-use Rattle.map_core.specs.Map.{change_first, is_named, tagged, created, after, map_of, epoch_of, pool_in}
+use Rattle.map_commands.specs.State.{MapState, History}
+use Rattle.map_commands.specs.Map.{change_first, is_named, tagged, created, after, map_of, epoch_of, pool_in}
 use Rattle.map_core.specs.Refusal.{refusal}
-use Rattle.map_core.specs.Intervals.{size_in, set_of}
-use Rattle.map_core.specs.Replay.{pool_step}
-use Rattle.map_core.specs.declared.pool.Pool.{Pool}
-use Rattle.map_core.specs.declared.command.MapCommand.{MapCommand}
-use Rattle.map_core.specs.declared.command.MapCommand.TheVariants.{PoolCreate, AppEnable, AppSet, AppRm, OsdUp, OsdDown, OsdRestart}
+use Rattle.map_commands.specs.Intervals.{size_in, set_of}
+use Rattle.map_commands.specs.Replay.{pool_step}
+use Rattle.map_commands.specs.declared.pool.Pool.{Pool}
+use Rattle.map_commands.specs.declared.command.MapCommand.{MapCommand}
+use Rattle.map_commands.specs.declared.command.MapCommand.TheVariants.{PoolCreate, AppEnable, AppSet, AppRm, OsdUp, OsdDown, OsdRestart}
 use Rattle.map_core.proofs.Current.{after_push}
 use Rattle.map_core.proofs.Kept.{others_leave_sets}
-use Rattle.map_core.proofs.OnePool.{pool_after_step}
+use Rattle.map_commands.proofs.OnePool.{pool_after_step}
 use Rattle.entry_core.specs.Log.{is_in}
 use Rattle.store_core.specs.declared.sealed.GroupId.{GroupId}
 use Rattle.whole_logs.specs.Each.{Each}

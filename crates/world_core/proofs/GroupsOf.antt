@@ -4,9 +4,9 @@ use Rattle.std.proofs.Common.{◌≡◌, ◌∙◌, ℕ, ◌+◌, ◌<◌, ◌�
 use Rattle.std.specs.Prelude.{slice_get}
 use Rattle.std.specs.List.{filter, flat_map, find, range_with_len}
 use Rattle.place_core.specs.Placement.{numbers_of}
-use Rattle.map_core.specs.Map.{is_named, map_of}
-use Rattle.map_core.specs.Intervals.{set_of}
-use Rattle.map_core.specs.declared.pool.Pool.{Pool}
+use Rattle.map_commands.specs.Map.{is_named, map_of}
+use Rattle.map_commands.specs.Intervals.{set_of}
+use Rattle.map_commands.specs.declared.pool.Pool.{Pool}
 use Rattle.store_core.specs.declared.sealed.GroupId.{GroupId}
 use Rattle.whole_logs.specs.Each.{Each}
 use Rattle.suffix_core.specs.Group.{Group, last_set}
@@ -16,7 +16,7 @@ use Rattle.world_core.specs.Moves.{AreGroupsOf, IsAt}
 use Rattle.world_core.specs.Sound.{GroupKept, IsSound, IsKept}
 use Rattle.std.proofs.lemmas.Option.{slice_get_read}
 use Rattle.std.specs.Option.{option_map}
-use Rattle.map_core.specs.State.{History}
+use Rattle.map_commands.specs.State.{History}
 use Rattle.map_core.specs.Refusal.{acting_refusal}
 use Rattle.group_types.specs.declared.fault.GroupFault.{GroupFault}
 use Rattle.world_front.specs.declared.fault.WorldFault.{WorldFault as Fault}

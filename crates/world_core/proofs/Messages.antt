@@ -19,7 +19,7 @@ use Rattle.world_front.specs.declared.fault.WorldFault.{WorldFault as Fault}
 use Rattle.world_front.specs.declared.fault.WorldFault.TheVariants.{OutOfMemory, Map as OfMap, Group as OfGroup}
 use Rattle.world_front.specs.declared.event.Told.TheVariants.{Done}
 use Rattle.map_core.specs.Refusal.{acting_refusal}
-use Rattle.map_core.specs.declared.fault.MapFault.{MapFault}
+use Rattle.map_commands.specs.declared.fault.MapFault.{MapFault}
 use Rattle.world_front.specs.Front.{Front, front_step, front_refusal, group_refusal, told_of, requests_of, requests_in}
 use Rattle.world_core.specs.World.{World, Part, part, group_at, at_group, act, acted, counts, is_drop, accepts, is_accepted, created_by, decided_in, part_refusal, parts_refusal, parts_of, refused_in, refusal_of, world_step}
 use Rattle.world_core.specs.Moves.{IsAt}

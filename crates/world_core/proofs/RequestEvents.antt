@@ -5,9 +5,9 @@ use Rattle.std.specs.List.{flat_map, list_any}
 use Rattle.std.specs.Option.{option_map, option_map_or, option_or}
 use Rattle.std.proofs.lemmas.Bool.Decides.{nat_tests}
 use Rattle.object_ops.specs.declared.op.Op.{Op}
-use Rattle.map_core.specs.State.{History}
-use Rattle.map_core.specs.Map.{map_of}
-use Rattle.map_core.specs.declared.pool.Pool.{Pool}
+use Rattle.map_commands.specs.State.{History}
+use Rattle.map_commands.specs.Map.{map_of}
+use Rattle.map_commands.specs.declared.pool.Pool.{Pool}
 use Rattle.entry_core.specs.Locality.{group_for}
 use Rattle.store_core.specs.Request.{Sealed}
 use Rattle.whole_logs.specs.Each.{Each}

@@ -3,7 +3,7 @@ use Rattle.std.proofs.Common.{◌≡◌, ◌∙◌, ℕ, ◌==◌, List, [], ◌
 use Rattle.std.specs.Prelude.{slice_get}
 use Rattle.std.specs.List.{filter, flat_map}
 use Rattle.place_core.specs.Placement.{numbers_of}
-use Rattle.map_core.specs.State.{MapState}
+use Rattle.map_commands.specs.State.{MapState}
 use Rattle.entry_core.specs.Log.{is_in}
 use Rattle.store_core.specs.Request.{Sealed}
 use Rattle.store_core.specs.declared.sealed.GroupId.{GroupId}

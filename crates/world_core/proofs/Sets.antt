@@ -7,12 +7,12 @@ use Rattle.std.proofs.lemmas.List.Elements.{All-head, All-tail, All-contains}
 use Rattle.place_core.specs.Placement.{IsActingSet, numbers_of}
 use Rattle.place_core.proofs.Distinct.{distinct-from_pairs}
 use Rattle.place_core.proofs.Numbers.{numbers_below}
-use Rattle.map_core.specs.State.{MapState, History}
-use Rattle.map_core.specs.Map.{initial, after, map_of}
+use Rattle.map_commands.specs.State.{MapState, History}
+use Rattle.map_commands.specs.Map.{initial, after, map_of}
 use Rattle.map_core.specs.Limits.{IsAccepted}
-use Rattle.map_core.specs.Intervals.{set_of}
-use Rattle.map_core.specs.declared.command.MapCommand.{MapCommand}
-use Rattle.map_core.specs.declared.command.MapCommand.TheVariants.{PoolCreate, AppEnable, AppSet, AppRm, OsdUp, OsdDown, OsdRestart}
+use Rattle.map_commands.specs.Intervals.{set_of}
+use Rattle.map_commands.specs.declared.command.MapCommand.{MapCommand}
+use Rattle.map_commands.specs.declared.command.MapCommand.TheVariants.{PoolCreate, AppEnable, AppSet, AppRm, OsdUp, OsdDown, OsdRestart}
 use Rattle.map_core.proofs.Current.{daemons_stay}
 use Rattle.map_core.proofs.Daemons.{sets_are_acting, up_are_there}
 use Rattle.entry_core.specs.Log.{is_in}

@@ -5,10 +5,10 @@ use Rattle.std.specs.List.{flat_map}
 use Rattle.std.specs.Option.{option_map}
 use Rattle.place_core.specs.Placement.{numbers_of}
 use Rattle.grant_core.specs.Flat.{Table}
-use Rattle.map_core.specs.State.{MapState}
-use Rattle.map_core.specs.Map.{map_of, after}
-use Rattle.map_core.specs.declared.command.MapCommand.{MapCommand}
-use Rattle.map_core.specs.declared.command.MapCommand.TheVariants.{PoolCreate, AppEnable, AppSet, AppRm, OsdUp, OsdDown, OsdRestart}
+use Rattle.map_commands.specs.State.{MapState}
+use Rattle.map_commands.specs.Map.{map_of, after}
+use Rattle.map_commands.specs.declared.command.MapCommand.{MapCommand}
+use Rattle.map_commands.specs.declared.command.MapCommand.TheVariants.{PoolCreate, AppEnable, AppSet, AppRm, OsdUp, OsdDown, OsdRestart}
 use Rattle.store_core.specs.Request.{Sealed}
 use Rattle.entry_core.specs.Log.{Legal, find}
 use Rattle.store_core.specs.declared.entry.Entry.{Entry}

@@ -4,8 +4,8 @@ use Rattle.std.specs.Prelude.{◌≡◌, ℕ, List, Some}
 use Rattle.std.specs.List.{filter}
 use Rattle.place_core.specs.Placement.{IsActingSet, numbers_of}
 use Rattle.object_ops.specs.declared.op.Op.{Op}
-use Rattle.map_core.specs.Map.{map_of}
-use Rattle.map_core.specs.Intervals.{set_of}
+use Rattle.map_commands.specs.Map.{map_of}
+use Rattle.map_commands.specs.Intervals.{set_of}
 use Rattle.store_core.specs.declared.sealed.GroupId.{GroupId}
 use Rattle.suffix_core.specs.Within.{IsReachedWithin}
 use Rattle.suffix_core.specs.Group.{Group, last_set}

@@ -3,10 +3,10 @@
 use Rattle.std.specs.Prelude.{◌≡◌, ℕ, ◌<◌, ◌≤◌, List, [], Some, length, map, slice_get}
 use Rattle.std.specs.List.{filter, flat_map}
 use Rattle.place_core.specs.Placement.{numbers_of}
-use Rattle.map_core.specs.State.{History}
-use Rattle.map_core.specs.Map.{map_of}
+use Rattle.map_commands.specs.State.{History}
+use Rattle.map_commands.specs.Map.{map_of}
 use Rattle.map_core.specs.Limits.{IsAccepted}
-use Rattle.map_core.specs.Intervals.{set_of, intervals_of}
+use Rattle.map_commands.specs.Intervals.{set_of, intervals_of}
 use Rattle.entry_core.specs.Locality.{group_for}
 use Rattle.store_core.specs.Request.{Sealed}
 use Rattle.store_core.specs.declared.sealed.GroupId.{GroupId}

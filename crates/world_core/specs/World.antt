@@ -5,12 +5,12 @@ use Rattle.std.specs.List.{flat_map}
 use Rattle.std.specs.Option.{option_map, option_or}
 use Rattle.grant_core.specs.Flat.{Table}
 use Rattle.place_core.specs.Placement.{numbers_of}
-use Rattle.map_core.specs.State.{MapState}
-use Rattle.map_core.specs.Map.{map_of, after}
-use Rattle.map_core.specs.Intervals.{set_of}
-use Rattle.map_core.specs.declared.pool.Pool.{Pool}
-use Rattle.map_core.specs.declared.command.MapCommand.{MapCommand}
-use Rattle.map_core.specs.declared.command.MapCommand.TheVariants.{PoolCreate, OsdUp, OsdDown, OsdRestart}
+use Rattle.map_commands.specs.State.{MapState}
+use Rattle.map_commands.specs.Map.{map_of, after}
+use Rattle.map_commands.specs.Intervals.{set_of}
+use Rattle.map_commands.specs.declared.pool.Pool.{Pool}
+use Rattle.map_commands.specs.declared.command.MapCommand.{MapCommand}
+use Rattle.map_commands.specs.declared.command.MapCommand.TheVariants.{PoolCreate, OsdUp, OsdDown, OsdRestart}
 use Rattle.store_core.specs.Request.{Sealed}
 use Rattle.store_core.specs.declared.entry.Entry.{Entry}
 use Rattle.store_core.specs.declared.sealed.GroupId.{GroupId}

@@ -1,7 +1,7 @@
 //! The groups of a new pool.
 
 ghost use Rattle.std.specs.Prelude.{◌≡◌, ◌≤◌, ◌++◌, None, IfOk, IfErr, OnOk, OnErr};
-ghost use Rattle.map_core.specs.Map.{map_of, epoch_of, after};
+ghost use Rattle.map_commands.specs.Map.{map_of, epoch_of, after};
 ghost use Rattle.map_core.specs.Refusal.{refusal};
 ghost use Rattle.world_front.specs.declared.event.Event.TheVariants.{Map};
 ghost use Rattle.world_front.specs.declared.fault.WorldFault.TheVariants.{OutOfMemory};

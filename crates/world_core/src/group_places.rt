@@ -4,7 +4,7 @@ ghost use Rattle.std.specs.Prelude.{◌≡◌, ◌≤◌, ◌+◌, ℕ, List, Al
 ghost use Rattle.std.specs.Option.{option_map};
 ghost use Rattle.entry_core.specs.Locality.{group_for};
 ghost use Rattle.suffix_core.specs.Group.{Group};
-ghost use Rattle.map_core.specs.Limits.{IsPool};
+ghost use Rattle.map_commands.specs.PoolLimits.{IsPool};
 ghost use Rattle.map_core.specs.Refusal.{acting_refusal, groups_in};
 ghost use Rattle.world_front.specs.declared.fault.WorldFault.TheVariants.{Map as OfMap};
 ghost use Rattle.world_front.specs.Front.{error_of};
@@ -48,7 +48,7 @@ pub(crate) fn place_of_request(map: &ClusterMap, request: &Sealed) -> usize
 }
 
 /// How many groups the pools before the one of a name have, and how many it has itself: none where there is no such pool.
-#[tactic(auto, unfolding(map_core::specs::Refusal::groups_in, map_core::specs::Map::pool_in))]
+#[tactic(auto, unfolding(map_core::specs::Refusal::groups_in, map_commands::specs::Map::pool_in))]
 fn groups_before(pools: &[Pool], name: &Name) -> (usize, u32)
     requires limits { All IsPool pools.now }
     requires few { length pools.now ≤ 32 }

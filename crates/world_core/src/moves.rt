@@ -5,8 +5,8 @@
 
 ghost use Rattle.std.specs.Prelude.{◌≡◌, ◌≤◌, ◌<◌, ◌+◌, ◌++◌, [], ◌∷◌, Bool, true, length, map, reverse, OnOk, OnErr, IfOk, IfErr, None, Some, if◌then◌else◌, vec_len, vec_capacity};
 ghost use Rattle.std.specs.Option.{option_map, option_or};
-ghost use Rattle.map_core.specs.Intervals.{set_of};
-ghost use Rattle.map_core.specs.Map.{map_of, epoch_of};
+ghost use Rattle.map_commands.specs.Intervals.{set_of};
+ghost use Rattle.map_commands.specs.Map.{map_of, epoch_of};
 ghost use Rattle.map_core.specs.Refusal as map_tests;
 ghost use Rattle.whole_logs.specs.Each.{Each};
 ghost use Rattle.suffix_core.specs.Group.{last_set, refusal_of};

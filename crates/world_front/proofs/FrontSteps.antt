@@ -2,8 +2,8 @@
 use Rattle.std.proofs.Common.{◌≡◌, ◌∙◌, ℕ, ◌-◌, ◌≤◌, ◌<◌, true, List, [], ◌∷◌, ◌++◌, Option, is_some, length, refl, sym, ap, subst, arith, append-nil}
 use Rattle.std.specs.Prelude.{Ok, slice_set}
 use Rattle.auth_db.specs.Users.{Database, after}
-use Rattle.map_core.specs.State.{History}
-use Rattle.map_core.specs.declared.command.MapCommand.{MapCommand}
+use Rattle.map_commands.specs.State.{History}
+use Rattle.map_commands.specs.declared.command.MapCommand.{MapCommand}
 use Rattle.store_core.specs.Request.{Sealed}
 use Rattle.whole_logs.specs.Each.{Each}
 use Rattle.suffix_core.specs.Group.{submitted}

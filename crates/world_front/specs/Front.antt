@@ -11,8 +11,8 @@ use Rattle.auth_db.specs.Refusals.{known_refusal, auth_refusal}
 use Rattle.auth_db.specs.declared.caps.Caps.{Caps}
 use Rattle.auth_db.specs.declared.fault.AuthFault.{AuthFault}
 use Rattle.auth_db.specs.declared.fault.AuthFault.TheVariants as auth_fault
-use Rattle.map_core.specs.State.{History}
-use Rattle.map_core.specs.Map.{map_of, epoch_of}
+use Rattle.map_commands.specs.State.{History}
+use Rattle.map_commands.specs.Map.{map_of, epoch_of}
 use Rattle.map_core.specs.Refusal as map_tests
 use Rattle.store_core.specs.Request.{Sealed}
 use Rattle.store_core.specs.declared.sealed.GroupId.{GroupId}

@@ -2,7 +2,7 @@
 -- The printed text of a fault: this project's profile.
 use Rattle.std.specs.Prelude.{ℕ, List, codes}
 use Rattle.auth_db.specs.Printed as auth_text
-use Rattle.map_core.specs.Printed as map_text
+use Rattle.map_commands.specs.Printed as map_text
 use Rattle.object_core.specs.Faults as needs_text
 use Rattle.group_types.specs.Printed as group_text
 use Rattle.world_front.specs.Event.{Fault, NoSession, NoPool, BadObjectName, StaleEpoch, NoRequest, Limit, OutOfMemory, StaleTick, OfUsers, OfMap, OfNeeds, OfGroup}

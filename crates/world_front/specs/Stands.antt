@@ -1,7 +1,7 @@
 -- Statement: contracts of public calls use it.
 -- What every front keeps: each request was sealed well, under a number of a session that was given once.
 use Rattle.std.specs.Prelude.{◌≡◌, ℕ, ◌+◌, ◌-◌, ◌<◌, ◌≤◌, List, Option, Some, None, true, length, slice_get, is_some}
-use Rattle.map_core.specs.State.{History}
+use Rattle.map_commands.specs.State.{History}
 use Rattle.map_core.specs.Laws.{HasPool}
 use Rattle.store_core.specs.Request.{Sealed}
 use Rattle.entry_core.specs.Locality.{Hashes}

@@ -5,7 +5,7 @@ ghost use Rattle.object_ops.specs.declared.op.Op as op;
 ghost use Rattle.whole_logs.specs.Each.{Each};
 ghost use Rattle.suffix_core.specs.Group.{submitted};
 ghost use Rattle.world_front.specs.Event.{Auth, Map, Open, Renew, Close, Submit, ListNames};
-ghost use Rattle.map_core.specs.Limits.{HasLimits};
+ghost use Rattle.map_commands.specs.PoolLimits.{HasLimits};
 ghost use Rattle.world_front.specs.Front.{asker_of, error_of, first_front, front_refusal, front_step, requests_of, told_of, list_at};
 ghost use Rattle.world_front.specs.Asking.{IsOfList, IsOfVector};
 ghost use Rattle.world_front.specs.Refusing.{RefusedOrMemory};

@@ -6,8 +6,8 @@ use Rattle.std.specs.Option.{option_map}
 use Rattle.std.specs.Cmp.{unsigned_Decides}
 use Rattle.std.proofs.lemmas.List.FromFn.{length-map-range_with_len}
 use Rattle.grant_core.specs.Flat.{Table}
-use Rattle.map_core.specs.State.{History}
-use Rattle.map_core.specs.declared.command.MapCommand.{MapCommand}
+use Rattle.map_commands.specs.State.{History}
+use Rattle.map_commands.specs.declared.command.MapCommand.{MapCommand}
 use Rattle.store_core.specs.Request.{Sealed, Listing}
 use Rattle.store_core.specs.Deciding.{store_of, is_allowed_sealed, answer_on, answered as replied, performed}
 use Rattle.entry_core.specs.Log.{Legal, LegalFrom, decide, is_in, ids}

@@ -4,11 +4,11 @@ use Rattle.std.proofs.Common.{◌≡◌, ◌∙◌, ℕ, ◌+◌, ◌*◌, ◌<�
 use Rattle.std.specs.Prelude.{slice_get}
 use Rattle.std.specs.List.{filter, flat_map}
 use Rattle.std.proofs.lemmas.List.Elements.{filter-append}
-use Rattle.map_core.specs.State.{History}
-use Rattle.map_core.specs.Map.{map_of}
+use Rattle.map_commands.specs.State.{History}
+use Rattle.map_commands.specs.Map.{map_of}
 use Rattle.map_core.specs.Limits.{IsAccepted}
-use Rattle.map_core.specs.declared.pool.Pool.{Pool}
-use Rattle.map_core.specs.declared.command.MapCommand.{MapCommand}
+use Rattle.map_commands.specs.declared.pool.Pool.{Pool}
+use Rattle.map_commands.specs.declared.command.MapCommand.{MapCommand}
 use Rattle.map_core.proofs.Kept.{pools_differ}
 use Rattle.entry_core.specs.Locality.{group_for}
 use Rattle.store_core.specs.Request.{Sealed}

@@ -13,9 +13,9 @@ use Rattle.script_text.specs.declared.fault.ScriptFault.TheVariants as ends
 use Rattle.grant_core.specs.BuiltIn.{built_in}
 use Rattle.auth_db.specs.Users.{user_at}
 use Rattle.auth_db.specs.Refusals.{known_refusal}
-use Rattle.map_core.specs.Map.{map_of, epoch_of, view_at}
+use Rattle.map_commands.specs.Map.{map_of, epoch_of, view_at}
 use Rattle.map_core.specs.Refusal as map_tests
-use Rattle.map_core.specs.declared.pool.PoolView.{PoolView}
+use Rattle.map_commands.specs.declared.pool.PoolView.{PoolView}
 use Rattle.place_core.specs.Placement.{group_of}
 use Rattle.store_core.specs.Request.{Sealed}
 use Rattle.store_core.specs.declared.reply.Reply.{Reply}

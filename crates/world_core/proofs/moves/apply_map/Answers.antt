@@ -1,7 +1,7 @@
 use Rattle.std.proofs.Common.{◌≡◌, ◌∙◌, ◌++◌, Option, None, Some, List, inr, refl, append-nil, sym, ap, subst}
 use Rattle.std.specs.Prelude.{OnOk, true, false}
 use Rattle.std.specs.Option.{option_map, option_or}
-use Rattle.map_core.specs.Map.{map_of, epoch_of}
+use Rattle.map_commands.specs.Map.{map_of, epoch_of}
 use Rattle.map_core.specs.Limits.{IsAccepted}
 use Rattle.map_core.specs.Refusal.{refusal}
 use Rattle.suffix_core.specs.Group.{Group}
