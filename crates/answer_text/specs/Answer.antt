@@ -10,8 +10,8 @@ use Rattle.grant_core.specs.BuiltIn.{built_in}
 use Rattle.grant_core.specs.Flat.{flat}
 use Rattle.grant_core.specs.Refusal.{expand_refusal}
 use Rattle.grant_core.specs.declared.fault.ExpandFault.{ExpandFault}
-use Rattle.verdict_core.specs.declared.request.Needs.{Needs}
-use Rattle.verdict_core.specs.Target.{Target}
+use Rattle.verdict_types.specs.declared.request.Needs.{Needs}
+use Rattle.verdict_types.specs.Target.{Target}
 use Rattle.verdict_core.specs.Ticket.{Ticket}
 use Rattle.verdict_core.specs.Verdict.{is_allowed, report_of}
 use Rattle.object_core.specs.declared.needs.NeedsFault.{NeedsFault}

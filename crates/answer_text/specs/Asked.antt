@@ -5,9 +5,9 @@ use Rattle.object_core.specs.Needs.{needs_of, needs_fault}
 use Rattle.object_core.specs.declared.needs.NeedsFault.{NeedsFault}
 use Rattle.object_core.specs.declared.needs.NeedsFault.TheVariants.{TooManyOps}
 use Rattle.object_ops.specs.declared.op.Op.{Op}
-use Rattle.verdict_core.specs.Target.{Target}
-use Rattle.verdict_core.specs.declared.request.ClassCall.{ClassCall}
-use Rattle.verdict_core.specs.declared.request.Needs.{Needs}
+use Rattle.verdict_types.specs.Target.{Target}
+use Rattle.verdict_types.specs.declared.request.ClassCall.{ClassCall}
+use Rattle.verdict_types.specs.declared.request.Needs.{Needs}
 
 -- what a verdict is asked of, beside the capability text
 pub record Asked : Type 0 where

@@ -6,7 +6,7 @@ use Rattle.std.specs.Option.{option_map_or}
 use Rattle.cap_text.specs.Printed as cap
 use Rattle.common_types.specs.WordBytes.{is_word_byte}
 use Rattle.object_core.specs.Needs.{method_of, registered}
-use Rattle.verdict_core.specs.declared.request.ClassCall.{ClassCall}
+use Rattle.verdict_types.specs.declared.request.ClassCall.{ClassCall}
 use Rattle.answer_text.specs.Words.{flag_words, quoted, shell_word}
 
 abbrev pub agree : Bool → Bool → Bool

@@ -16,8 +16,8 @@ use Rattle.grant_core.specs.Text.{printed_path}
 use Rattle.grant_core.specs.declared.fault.ExpandFault.{ExpandFault}
 use Rattle.object_core.specs.Faults as vectors
 use Rattle.object_core.specs.declared.needs.NeedsFault.{NeedsFault}
-use Rattle.verdict_core.specs.Text.{condition_text}
-use Rattle.verdict_core.specs.declared.request.Condition.{Condition}
+use Rattle.verdict_types.specs.Text.{condition_text}
+use Rattle.verdict_types.specs.declared.request.Condition.{Condition}
 use Rattle.answer_text.specs.Text.{answer_text}
 use Rattle.answer_text.specs.declared.format.Format.{Format}
 use Rattle.answer_text.specs.declared.format.Format.TheVariants.{Text, Json}

@@ -4,8 +4,8 @@ use Rattle.std.specs.Prelude.{ℕ, List, [], ◌∷◌, ◌++◌, ◌==◌, code
 use Rattle.std.specs.List.{flat_map}
 use Rattle.common_types.specs.declared.tags.AppTags.{AppTags}
 use Rattle.grant_core.specs.Text.{printed_path}
-use Rattle.verdict_core.specs.declared.request.Needs.{Needs}
-use Rattle.verdict_core.specs.Target.{Target}
+use Rattle.verdict_types.specs.declared.request.Needs.{Needs}
+use Rattle.verdict_types.specs.Target.{Target}
 use Rattle.compare_core.specs.declared.comparing.Example.{Example}
 use Rattle.answer_text.specs.Calls.{call_words}
 use Rattle.answer_text.specs.Words.{flag_words, shell_word}

@@ -4,7 +4,7 @@ use Rattle.std.specs.Prelude.{ℕ, List, ◌++◌, codes, Result, Ok, Err}
 use Rattle.cap_text.specs.FaultText as cap
 use Rattle.grant_core.specs.Text as profiles
 use Rattle.object_core.specs.Faults as vectors
-use Rattle.verdict_core.specs.Text.{report_text}
+use Rattle.verdict_types.specs.Text.{report_text}
 use Rattle.answer_text.specs.declared.verdict.Verdict.{Verdict}
 use Rattle.answer_text.specs.declared.verdict.Verdict.TheVariants.{Allowed, Denied}
 use Rattle.answer_text.specs.declared.verdict.VerdictFault.{VerdictFault}

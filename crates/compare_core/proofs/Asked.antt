@@ -7,10 +7,10 @@ use Rattle.std.specs.Option.{option_to_list}
 use Rattle.std.specs.List.{list_any, All, Contains}
 use Rattle.std.proofs.lemmas.Bool.{false≢true}
 use Rattle.cap_grants.specs.declared.grant.AllowGrant.{AllowGrant}
-use Rattle.verdict_core.specs.Target.{Target}
+use Rattle.verdict_types.specs.Target.{Target}
 use Rattle.verdict_core.specs.Verdict.{matches, grants_allow}
-use Rattle.verdict_core.specs.declared.request.Needs.{Needs}
-use Rattle.verdict_core.specs.declared.request.ClassCall.{ClassCall}
+use Rattle.verdict_types.specs.declared.request.Needs.{Needs}
+use Rattle.verdict_types.specs.declared.request.ClassCall.{ClassCall}
 use Rattle.compare_core.specs.Fresh.{IsBest}
 use Rattle.compare_core.specs.Calls.{AreCallsFor}
 use Rattle.compare_core.specs.Questions.{asks, asks_one, questions, AreEnough, shows}

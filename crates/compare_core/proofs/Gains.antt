@@ -7,10 +7,10 @@ use Rattle.std.proofs.lemmas.List.{take_all}
 use Rattle.std.proofs.lemmas.List.Elements.{All-contains}
 use Rattle.std.proofs.lemmas.Option.{slice_get-get_or}
 use Rattle.cap_grants.specs.declared.grant.AllowGrant.{AllowGrant}
-use Rattle.verdict_core.specs.Target.{Target}
+use Rattle.verdict_types.specs.Target.{Target}
 use Rattle.verdict_core.specs.Verdict.{matches, is_usable, is_covered, covers, grants_allow}
-use Rattle.verdict_core.specs.declared.request.Needs.{Needs}
-use Rattle.verdict_core.specs.declared.request.ClassCall.{ClassCall}
+use Rattle.verdict_types.specs.declared.request.Needs.{Needs}
+use Rattle.verdict_types.specs.declared.request.ClassCall.{ClassCall}
 use Rattle.compare_core.specs.declared.comparing.Example.{Example}
 use Rattle.compare_core.specs.Widening.{IsAskedBy, IsCallBy, IsGainedBy, WidensBy, IsExampleBy, AnswersBy, request_of}
 use Rattle.compare_core.specs.declared.registry.Registry.{Registry}

@@ -11,7 +11,7 @@ use Rattle.cap_grants.specs.declared.grant.Part.{Part}
 use Rattle.cap_grants.specs.declared.grant.Part.TheVariants.{Any, Is}
 use Rattle.cap_grants.specs.declared.grant.Tag.{Tag}
 use Rattle.common_types.specs.declared.tags.AppTags.{AppTags}
-use Rattle.verdict_core.specs.Target.{Target}
+use Rattle.verdict_types.specs.Target.{Target}
 use Rattle.verdict_core.specs.Verdict.{names, matches_namespace, matches_tag, matches_prefix, matches_part, matches_pairs, matches_application, matches}
 use Rattle.compare_core.specs.declared.field.Field.{Field}
 use Rattle.compare_core.specs.declared.field.Field.TheVariants as fields

@@ -3,9 +3,9 @@
 use Rattle.std.specs.Prelude.{◌≡◌, List, [], ◌∷◌, ◌++◌, map, Bool, true, false, not, ◌&&◌, Option, None, Some, ℕ}
 use Rattle.std.specs.List.{list_any, All, Contains}
 use Rattle.cap_grants.specs.declared.grant.AllowGrant.{AllowGrant}
-use Rattle.verdict_core.specs.Target.{Target}
-use Rattle.verdict_core.specs.declared.request.Needs.{Needs}
-use Rattle.verdict_core.specs.declared.request.ClassCall.{ClassCall}
+use Rattle.verdict_types.specs.Target.{Target}
+use Rattle.verdict_types.specs.declared.request.Needs.{Needs}
+use Rattle.verdict_types.specs.declared.request.ClassCall.{ClassCall}
 use Rattle.verdict_core.specs.Verdict.{covers, grants_allow}
 use Rattle.compare_core.specs.Calls.{StandsFor}
 use Rattle.compare_core.specs.Widening.{IsAskedBy, IsCallBy}

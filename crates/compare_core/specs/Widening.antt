@@ -3,10 +3,10 @@
 use Rattle.std.specs.Prelude.{◌≡◌, ℕ, List, [], ◌∷◌, ◌||◌, true, false, ◌⊎◌}
 use Rattle.std.specs.List.{All}
 use Rattle.cap_grants.specs.declared.grant.AllowGrant.{AllowGrant}
-use Rattle.verdict_core.specs.Target.{Target}
+use Rattle.verdict_types.specs.Target.{Target}
 use Rattle.verdict_core.specs.Verdict.{grants_allow}
-use Rattle.verdict_core.specs.declared.request.Needs.{Needs}
-use Rattle.verdict_core.specs.declared.request.ClassCall.{ClassCall}
+use Rattle.verdict_types.specs.declared.request.Needs.{Needs}
+use Rattle.verdict_types.specs.declared.request.ClassCall.{ClassCall}
 use Rattle.object_core.specs.Needs.{IsRegistered}
 use Rattle.compare_core.specs.declared.comparing.Example.{Example}
 use Rattle.compare_core.specs.declared.registry.Registry.{Registry}

@@ -29,7 +29,7 @@ impl Drop for OwnedTarget {
 }
 
 impl Model for OwnedTarget {
-    ghost use Rattle.verdict_core.specs.Target as verdict_core;
+    ghost use Rattle.verdict_types.specs.Target as verdict_core;
 
     ghost Value = { verdict_core.Target };
 

@@ -5,8 +5,8 @@ use Rattle.cap_text.specs.Grammar.{Spells}
 use Rattle.cap_grants.specs.declared.grant.Grant.{Grant}
 use Rattle.object_core.specs.Faults as vectors
 use Rattle.object_core.specs.declared.needs.NeedsFault.{NeedsFault}
-use Rattle.verdict_core.specs.Text.{report_line}
-use Rattle.verdict_core.specs.declared.request.Condition.{Condition}
+use Rattle.verdict_types.specs.Text.{report_line}
+use Rattle.verdict_types.specs.declared.request.Condition.{Condition}
 use Rattle.answer_text.specs.Answer.{IsAnswer, answer_of}
 use Rattle.answer_text.specs.Asked.{Asked, calls_fault}
 use Rattle.answer_text.specs.Caret.{shown}

@@ -22,10 +22,10 @@ use Rattle.common_types.specs.declared.tags.AppTags.{AppTags}
 use Rattle.grant_core.specs.BuiltIn.{built_in}
 use Rattle.grant_core.specs.Flat.{Flat, filled_use, flat, parts_of, under}
 use Rattle.grant_core.specs.Refusal.{has_profile}
-use Rattle.verdict_core.specs.Target.{Target}
+use Rattle.verdict_types.specs.Target.{Target}
 use Rattle.verdict_core.specs.Verdict.{can_read, can_write, covers, is_covered, is_usable, matches, matches_namespace, matches_pairs, matches_prefix, matches_tag, names}
-use Rattle.verdict_core.specs.declared.request.ClassCall.{ClassCall}
-use Rattle.verdict_core.specs.declared.request.Needs.{Needs}
+use Rattle.verdict_types.specs.declared.request.ClassCall.{ClassCall}
+use Rattle.verdict_types.specs.declared.request.Needs.{Needs}
 use Rattle.compare_core.specs.Widening.{IsAskedBy, IsCallBy}
 use Rattle.compare_core.specs.declared.registry.Registry.TheVariants.{Every}
 use Rattle.compare_core.proofs.Bools.{all_also, both, both_left, either_first}

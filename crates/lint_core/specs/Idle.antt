@@ -6,9 +6,9 @@ use Rattle.cap_grants.specs.declared.grant.Grant.{Grant}
 use Rattle.grant_core.specs.BuiltIn.{built_in}
 use Rattle.grant_core.specs.Flat.{Flat, flat}
 use Rattle.grant_core.specs.Refusal.{expand_refusal}
-use Rattle.verdict_core.specs.Target.{Target}
+use Rattle.verdict_types.specs.Target.{Target}
 use Rattle.verdict_core.specs.Verdict.{grants_allow}
-use Rattle.verdict_core.specs.declared.request.Needs.{Needs}
+use Rattle.verdict_types.specs.declared.request.Needs.{Needs}
 use Rattle.compare_core.specs.Widening.{IsAskedBy}
 use Rattle.compare_core.specs.declared.registry.Registry.TheVariants.{Every}
 use Rattle.lint_core.specs.Lint.{alone}

@@ -5,9 +5,9 @@ use Rattle.std.specs.Prelude.{◌≡◌, ◌≢◌, ℕ, ◌+◌, ◌<◌, ◌�
 use Rattle.std.specs.List.{remove, slice_get, slice_range}
 use Rattle.cap_grants.specs.declared.grant.Grant.{Grant}
 use Rattle.grant_core.specs.Flat.{Flat, Table, flat}
-use Rattle.verdict_core.specs.Target.{Target}
+use Rattle.verdict_types.specs.Target.{Target}
 use Rattle.verdict_core.specs.Verdict.{grants_allow}
-use Rattle.verdict_core.specs.declared.request.Needs.{Needs}
+use Rattle.verdict_types.specs.declared.request.Needs.{Needs}
 use Rattle.compare_core.specs.Widening.{IsAskedBy}
 use Rattle.compare_core.specs.declared.registry.Registry.TheVariants.{Every}
 use Rattle.lint_core.specs.declared.findings.Standing.{Standing}

@@ -22,7 +22,7 @@ use Rattle.map_commands.specs.declared.pool.Pool.{Pool}
 use Rattle.map_commands.specs.declared.pool.PoolView.{PoolView}
 use Rattle.map_commands.specs.declared.command.MapCommand.{MapCommand}
 use Rattle.map_commands.specs.declared.command.MapCommand.TheVariants.{PoolCreate, AppEnable, AppSet}
-use Rattle.verdict_core.specs.Target.{Target}
+use Rattle.verdict_types.specs.Target.{Target}
 use Rattle.share_core.specs.Held.{IsHeld, IsPairOfWords, HasWords, CanBeNamed, TargetsAreHeld}
 
 abbrev Pair : Type 0

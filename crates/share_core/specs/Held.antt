@@ -9,7 +9,7 @@ use Rattle.map_core.specs.Limits.{IsAccepted}
 use Rattle.map_core.specs.PossibleTags.{ArePossible}
 use Rattle.map_core.specs.Refusal.{is_word}
 use Rattle.map_commands.specs.declared.pool.PoolView.{PoolView}
-use Rattle.verdict_core.specs.Target.{Target}
+use Rattle.verdict_types.specs.Target.{Target}
 
 -- some map has a pool of that name with just these tags
 pub record IsHeld (target : Target) : Type 0 where

@@ -6,10 +6,10 @@ use Rattle.std.specs.List.{All, list_any}
 use Rattle.cap_grants.specs.declared.grant.AllowGrant.{AllowGrant}
 use Rattle.common_types.specs.declared.tags.AppTags.{AppTags}
 pub use Rattle.map_core.specs.PossibleTags.{ArePossible}
-use Rattle.verdict_core.specs.Target.{Target}
+use Rattle.verdict_types.specs.Target.{Target}
 use Rattle.verdict_core.specs.Verdict.{grants_allow}
-use Rattle.verdict_core.specs.declared.request.ClassCall.{ClassCall}
-use Rattle.verdict_core.specs.declared.request.Needs.{Needs}
+use Rattle.verdict_types.specs.declared.request.ClassCall.{ClassCall}
+use Rattle.verdict_types.specs.declared.request.Needs.{Needs}
 use Rattle.share_core.specs.declared.touches.Touch.{Touch}
 use Rattle.share_core.specs.declared.touches.Touch.TheVariants.{Read, Write, Call, AnyRead, AnyWrite}
 use Rattle.share_core.specs.declared.reaching.Shared.{Shared}

@@ -2,7 +2,7 @@
 -- In what ways two share an object (this project's profile): what the one does, and what the other does, both at one target.
 use Rattle.std.specs.Prelude.{ℕ, List, Bool, true, false, Option, Some, None, codes}
 use Rattle.grant_core.specs.Flat.{Flat}
-use Rattle.verdict_core.specs.Target.{Target}
+use Rattle.verdict_types.specs.Target.{Target}
 use Rattle.share_core.specs.Sharing.{IsExampleIn, IsShared, Share, ShareIn}
 use Rattle.share_core.specs.declared.pools.Pool.{Pool}
 use Rattle.share_core.specs.declared.touches.Touch.{Touch}

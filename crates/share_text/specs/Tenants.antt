@@ -3,7 +3,7 @@
 use Rattle.std.specs.Prelude.{ℕ, ◌≡◌, ◌≢◌, ◌⊎◌, ◌&&◌, ◌||◌, List, [], ◌∷◌, ◌++◌, Bool, true, false, Option, Some, None, codes, string_bytes}
 use Rattle.serde_json.specs.Data.{Data, object, string, member, no_members}
 use Rattle.grant_core.specs.Flat.{Flat}
-use Rattle.verdict_core.specs.Target.{Target}
+use Rattle.verdict_types.specs.Target.{Target}
 use Rattle.answer_text.specs.Caret.{shown}
 use Rattle.gate_text.specs.Compared.{ComesTo, IsFaultOf}
 use Rattle.answer_text.specs.Documents.{list_by, piece}

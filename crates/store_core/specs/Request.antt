@@ -1,9 +1,9 @@
 -- Statement: contracts of public calls use it.
 -- Requests, with all that they are decided by. Source: this project's profile, after the object operations of RADOS.
 use Rattle.std.specs.Prelude.{◌≡◌, ℕ, List, [], true, false, None}
-use Rattle.verdict_core.specs.Target.{Target}
+use Rattle.verdict_types.specs.Target.{Target}
 use Rattle.verdict_core.specs.Ticket.{Ticket}
-use Rattle.verdict_core.specs.declared.request.Needs.{Needs}
+use Rattle.verdict_types.specs.declared.request.Needs.{Needs}
 use Rattle.map_commands.specs.declared.pool.PoolView.{PoolView}
 use Rattle.object_ops.specs.declared.op.Op.{Op}
 use Rattle.object_core.specs.Needs.{needs_of, needs_fault}

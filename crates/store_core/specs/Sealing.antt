@@ -1,7 +1,7 @@
 -- Statement: contracts of public calls use it.
 -- What the parts of a sealed request stand for.
 use Rattle.std.specs.Prelude.{◌≡◌, ℕ, ◌≤◌, List, [], Option, Some, None}
-use Rattle.verdict_core.specs.Target.{Target}
+use Rattle.verdict_types.specs.Target.{Target}
 use Rattle.object_ops.specs.declared.op.Op.{Op}
 use Rattle.store_core.specs.Request.{Sealed, Work, Vector, Listing, needs_for, IsSound}
 use Rattle.store_core.specs.declared.sealed_parts.Parts.{Parts}

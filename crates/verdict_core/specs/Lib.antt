@@ -1,7 +1,3 @@
-pub mod Target
 pub mod Ticket
 pub mod Verdict
-pub mod Text
-pub mod Hash
-pub mod Kinds
 pub mod Chains

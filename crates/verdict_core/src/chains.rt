@@ -4,19 +4,20 @@ ghost use Rattle.std.specs.Prelude.{◌≡◌, ◌+◌, ◌<◌, ◌≤◌, ◌�
 ghost use Rattle.std.specs.List.{list_any, list_all};
 ghost use Rattle.std.specs.Option.{ForSome};
 ghost use Rattle.verdict_core.specs.Chains.{AreChained, NoneBefore, NoneOfKind, NoneOfPairs, NoneOfTags};
-ghost use Rattle.verdict_core.specs.Kinds.{chains_of};
+ghost use Rattle.verdict_types.specs.Kinds.{chains_of};
 ghost use Rattle.verdict_core.specs.Chains as spec;
 ghost use Rattle.verdict_core.specs.Verdict.{grants_allow, is_covered, is_usable};
 
-use crate::hashing::{folded, hash};
 use crate::judging;
-use crate::kinds::{Kind, NO_KIND, Named, chain_of, front_hash, kinds_of, only_number, pair_hash};
 use crate::matching::{CHAINED, allows, is_usable_at_once, is_usable_in_turn};
-use crate::request::{ClassCall, Needs, Target};
 use cap_text::AllowGrant;
 use common_types::{AppTags, OutOfMemory};
 use grant_core::Path;
 use std::alloc::Global;
+use verdict_types::{
+    ClassCall, Kind, NO_KIND, Named, Needs, Target, chain_of, folded, front_hash, hash, kinds_of,
+    only_number, pair_hash,
+};
 
 /// How many chains there are.
 const CHAINS: usize = NO_KIND + 1;

@@ -5,13 +5,13 @@ ghost use Rattle.verdict_core.specs.Verdict.{is_allowed, report_of};
 
 use crate::judging::judge;
 use crate::reporting;
-use crate::request::{Needs, Target};
 use crate::ticket::{Report, Ticket};
 use cap_text::AllowGrant;
 use common_types::OutOfMemory;
 use grant_core::Path;
 use std::alloc::Global;
 use std::marker::Model;
+use verdict_types::{Needs, Target};
 
 /// The most grants that are looked at one by one.
 const FEW: usize = 4;

@@ -6,20 +6,16 @@
 #![tactic(auto)]
 
 mod chains;
-mod hashing;
 mod indexed;
 mod judging;
-mod kinds;
 mod matching;
 mod reporting;
-mod request;
 mod shared;
-mod texts;
 mod ticket;
 
 pub use indexed::IndexedTicket;
 pub use judging::{grants_allow, judge};
 pub use reporting::report;
-pub use request::{Calls, ClassCall, Condition, Needs, Target};
 pub use shared::SharedTicket;
 pub use ticket::{Report, Ticket};
+pub use verdict_types::{Calls, ClassCall, Condition, Needs, Target};

@@ -6,10 +6,12 @@ ghost use Rattle.std.specs.Option.{ForSome};
 ghost use Rattle.std.specs.Str.{bytes_eq};
 ghost use Rattle.verdict_core.specs.Verdict as spec;
 
-use crate::request::{ClassCall, Condition, Needs, Target};
-use crate::texts::{begins_with, begins_with_at_once, is_name_at_once, is_text, is_text_at_once};
 use cap_text::{Access, AllowGrant, NsMatch, Part, Tag};
 use common_types::{AppTags, Name, Pairs, Tags};
+use verdict_types::{
+    ClassCall, Condition, Needs, Target, begins_with, begins_with_at_once, is_name_at_once,
+    is_text, is_text_at_once,
+};
 
 /// No name, or this one.
 #[inline(always)]

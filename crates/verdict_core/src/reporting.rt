@@ -5,11 +5,11 @@ ghost use Rattle.std.specs.Option.{option_map, option_to_list};
 ghost use Rattle.verdict_core.specs.Verdict.{is_allowed, report_of};
 
 use crate::matching::first_failure;
-use crate::request::{Condition, Needs, Target};
 use crate::ticket::{Report, Ticket};
 use common_types::OutOfMemory;
 use grant_core::Path;
 use std::alloc::Global;
+use verdict_types::{Condition, Needs, Target};
 
 /// Adds the line of a grant, if the request fails a condition of it.
 fn push_line(

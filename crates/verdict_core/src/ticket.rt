@@ -1,18 +1,18 @@
 //! Tickets and reports.
 
 ghost use Rattle.std.specs.Prelude.{◌≡◌, ◌≤◌, [], length, Some, IfOk, IfErr};
-ghost use Rattle.verdict_core.specs.Text.{report_text};
+ghost use Rattle.verdict_types.specs.Text.{report_text};
 ghost use Rattle.verdict_core.specs.Verdict as spec;
 
 use crate::chains::Chains;
 use crate::judging::allow_by;
-use crate::request::{Condition, Needs, Target};
 use cap_text::AllowGrant;
 use common_types::OutOfMemory;
 use grant_core::{GrantTree, Path};
 use std::alloc::Global;
 use std::fmt;
 use std::marker::Model;
+use verdict_types::{Condition, Needs, Target};
 
 /// The grants of an entity with their paths, at most 256, and until when they hold.
 ///
@@ -40,7 +40,7 @@ impl Model for Ticket {
     ghost use Rattle.std.specs.Prelude.{length, ◌≤◌};
     ghost use Rattle.std.specs.Option.{ForSome};
     ghost use Rattle.verdict_core.specs.Chains.{AreChained};
-    ghost use Rattle.verdict_core.specs.Kinds.{chains_of};
+    ghost use Rattle.verdict_types.specs.Kinds.{chains_of};
     ghost use Rattle.verdict_core.specs.Ticket as seen;
 
     ghost Value = { seen.Ticket };
@@ -60,7 +60,7 @@ pub struct Report {
 
 impl Model for Report {
     ghost use Rattle.std.specs.Prelude.{List, ℕ};
-    ghost use Rattle.verdict_core.specs.declared.request.Condition.{Condition};
+    ghost use Rattle.verdict_types.specs.declared.request.Condition.{Condition};
 
     ghost Value = { List (List ℕ × Condition) };
 

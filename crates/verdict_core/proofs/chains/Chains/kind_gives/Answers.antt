@@ -1,7 +1,7 @@
 use Rattle.std.proofs.Common.{◌≡◌, ℕ, ap, sym, subst, ◌∙◌, length, None, Some, option_copied}
-use Rattle.verdict_core.specs.Target.{Target}
-use Rattle.verdict_core.specs.Hash.{hash}
-use Rattle.verdict_core.specs.Kinds.{front_hash}
+use Rattle.verdict_types.specs.Target.{Target}
+use Rattle.verdict_types.specs.Hash.{hash}
+use Rattle.verdict_types.specs.Kinds.{front_hash}
 use Rattle.verdict_core.specs.Chains.{NoneBefore}
 use Rattle.verdict_core.proofs.Walks.{IsNamed, none_of_short, none_of_tags, none_of_unasked, none_of_named, by_nothing, by_pool, by_class}
 use Rattle.verdict_core.proofs.chains.Chains.kind_gives.Goals as goal

@@ -1,6 +1,6 @@
 use Rattle.std.proofs.Common.{◌≡◌, drop}
-use Rattle.verdict_core.specs.Kinds.{chain_of}
-use Rattle.verdict_core.proofs.kinds.chain_of.Given as goal
+use Rattle.verdict_types.specs.Kinds.{chain_of}
+use Rattle.verdict_types.proofs.kinds.chain_of.Given as goal
 
 -- the grant is of none of the kinds so far
 abbrev pub invariant-loop-kind : goal.invariant-loop-kind

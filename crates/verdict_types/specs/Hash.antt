@@ -1,5 +1,5 @@
--- Refinement: only contracts inside the crate use it.
--- Numbers that are the same for equal texts. Only inner contracts use this.
+-- Statement: contracts of public calls use it.
+-- Numbers that are the same for equal texts. In verdict_core only inner contracts use this.
 use Rattle.std.specs.Prelude.{ℕ, ◌+◌, ◌-◌, ◌*◌, ◌/◌, ◌%◌, ◌^◌, List, if◌then◌else◌, nat_eq, nat_lt, nat_le, length, slice_index, slice_range}
 use Rattle.std.specs.Int.{w32, w64, from_le_bytes}
 

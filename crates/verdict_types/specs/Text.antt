@@ -2,8 +2,8 @@
 -- The printed texts: this project's profile.
 use Rattle.std.specs.Prelude.{ℕ, List, ◌++◌, codes, decimal, flat_map}
 use Rattle.grant_core.specs.Text.{printed_path}
-use Rattle.verdict_core.specs.declared.request.Condition.{Condition}
-use Rattle.verdict_core.specs.declared.request.Condition.TheVariants.{Expired, Pool, Namespace, Tag, Prefix, Read, Write, Call}
+use Rattle.verdict_types.specs.declared.request.Condition.{Condition}
+use Rattle.verdict_types.specs.declared.request.Condition.TheVariants.{Expired, Pool, Namespace, Tag, Prefix, Read, Write, Call}
 
 -- a condition's word, and the number of the call
 abbrev pub condition_text : Condition → List ℕ

@@ -1,7 +1,7 @@
 //! What a request asks for, and where.
 
 ghost use Rattle.std.specs.Prelude.{Some};
-ghost use Rattle.verdict_core.specs.Text.{condition_text};
+ghost use Rattle.verdict_types.specs.Text.{condition_text};
 
 use common_types::{Items, Name, OutOfMemory, Tags, TryCopy};
 use std::fmt;
@@ -19,7 +19,7 @@ pub struct Target<'a> {
 }
 
 impl<'a> Model for Target<'a> {
-    ghost use Rattle.verdict_core.specs.Target as seen;
+    ghost use Rattle.verdict_types.specs.Target as seen;
 
     ghost Value = { seen.Target };
 

@@ -2,7 +2,7 @@
 
 ghost use Rattle.std.specs.Prelude.{◌≡◌, ◌<◌, ◌≤◌, length};
 ghost use Rattle.std.specs.Int.{w32, w64, from_le_bytes};
-ghost use Rattle.verdict_core.specs.Hash as spec;
+ghost use Rattle.verdict_types.specs.Hash as spec;
 
 /// An odd number with many bits, by which words are multiplied.
 const FACTOR: u64 = 11400714819323198485;
@@ -22,7 +22,7 @@ pub(crate) fn mix(first: u64, second: u64) -> u64
 /// A number below 256 that is made of two.
 #[tactic(auto, unfolding(crate::specs::Hash::folded, crate::specs::Hash::mix))]
 #[inline(always)]
-pub(crate) fn folded(first: u64, second: u64) -> usize
+pub fn folded(first: u64, second: u64) -> usize
     ensures value { result ≡ spec.folded first second }
     ensures small { result < 256 }
 {
@@ -118,7 +118,7 @@ fn long_hash(text: &[u8]) -> u64
 /// A number that is the same for equal texts. It calls nothing.
 #[tactic(auto, unfolding(crate::specs::Hash::hash))]
 #[inline(always)]
-pub(crate) fn hash(text: &[u8]) -> u64
+pub fn hash(text: &[u8]) -> u64
     ensures { result ≡ spec.hash text.now }
 {
     let length = text.len();

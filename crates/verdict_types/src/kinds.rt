@@ -2,8 +2,8 @@
 
 ghost use Rattle.std.specs.Prelude.{◌≡◌, ◌<◌, ◌≤◌, [], option_copied};
 ghost use Rattle.std.specs.Option.{unwrap_or, option_map, ForSome};
-ghost use Rattle.verdict_core.specs.Hash as hashes;
-ghost use Rattle.verdict_core.specs.Kinds as spec;
+ghost use Rattle.verdict_types.specs.Hash as hashes;
+ghost use Rattle.verdict_types.specs.Kinds as spec;
 
 use crate::hashing::{folded, hash, mix};
 use cap_text::{Access, AllowGrant, Part, Tag};
@@ -15,11 +15,11 @@ use std::alloc::Global;
 const MANY: usize = 8;
 
 /// The chain of the grants that are of no kind.
-pub(crate) const NO_KIND: usize = 256;
+pub const NO_KIND: usize = 256;
 
 /// What a grant of a kind names.
 #[derive(Clone, Copy, Debug, PartialEq, Eq)]
-pub(crate) enum Named {
+pub enum Named {
     Nothing,
     ThePool,
     /// The application, the key and the value of its tag.
@@ -29,15 +29,15 @@ pub(crate) enum Named {
 
 /// Grants that are found alike: by what they name, and by so many of the first bytes of their prefixes.
 #[derive(Clone, Copy, Debug, PartialEq, Eq)]
-pub(crate) struct Kind {
-    pub(crate) named: Named,
-    pub(crate) front: usize,
+pub struct Kind {
+    pub named: Named,
+    pub front: usize,
 }
 
 /// The number of an application with a pair.
 #[tactic(auto, unfolding(crate::specs::Kinds::pair_hash))]
 #[inline(always)]
-pub(crate) fn pair_hash(application: &Name, key: &Name, value: &Name) -> u64
+pub fn pair_hash(application: &Name, key: &Name, value: &Name) -> u64
     ensures { result ≡ spec.pair_hash application.now key.now value.now }
 {
     let application = hash(application.as_str().as_bytes());
@@ -47,7 +47,7 @@ pub(crate) fn pair_hash(application: &Name, key: &Name, value: &Name) -> u64
 }
 
 /// The number of the only application with its only pair, as a pool of CephFS has them, if there is but one.
-pub(crate) fn only_number(tags: &Tags) -> Option<u64>
+pub fn only_number(tags: &Tags) -> Option<u64>
     ensures { result ≡ spec.only_number tags.now }
 {
     let [app] = tags.as_slice() else {
@@ -110,7 +110,7 @@ fn named_hash(named: Named, grant: &AllowGrant) -> Option<u64>
 
 /// The number of the first bytes of a text, if it has so many.
 #[inline(always)]
-pub(crate) fn front_hash(text: &[u8], front: usize) -> Option<u64>
+pub fn front_hash(text: &[u8], front: usize) -> Option<u64>
     ensures { result ≡ spec.front_hash text.now front }
 {
     if front <= text.len() {
@@ -142,7 +142,7 @@ fn chain_in(kind: Kind, grant: &AllowGrant) -> Option<usize>
 }
 
 /// The chain that a grant is in.
-pub(crate) fn chain_of(kinds: &[Kind], grant: &AllowGrant) -> usize
+pub fn chain_of(kinds: &[Kind], grant: &AllowGrant) -> usize
     ensures value { result ≡ spec.chain_of kinds.now grant.now }
     ensures small { result < 257 }
 {
@@ -210,11 +210,9 @@ fn add(kinds: &mut Vec<Kind>, kind: Kind) -> Result<(), OutOfMemory> {
     Ok(())
 }
 
-/// The kinds of these grants, those with longer fronts first. No verdict depends on which they are.
-pub(crate) fn kinds_of(
-    alloc: Global,
-    grants: &[(Path, AllowGrant)],
-) -> Result<Vec<Kind>, OutOfMemory> {
+/// The kinds of these grants, those with longer fronts first. No verdict depends on which they are. It fails where no memory
+/// is left for the list.
+pub fn kinds_of(alloc: Global, grants: &[(Path, AllowGrant)]) -> Result<Vec<Kind>, OutOfMemory> {
     let mut kinds = Vec::new(alloc);
     for entry in grants {
         if let Some(kind) = kind_of(&entry.1) {

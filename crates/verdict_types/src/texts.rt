@@ -79,7 +79,7 @@ fn are_same(left: &[u8], right: &[u8]) -> bool
 
 /// Whether a name is this text.
 #[inline(always)]
-pub(crate) fn is_text(name: &Name, text: &str) -> bool
+pub fn is_text(name: &Name, text: &str) -> bool
     ensures { result ≡ bytes_eq name.now text.now }
 {
     are_same(name.as_str().as_bytes(), text.as_bytes())
@@ -87,7 +87,7 @@ pub(crate) fn is_text(name: &Name, text: &str) -> bool
 
 /// The same, if two comparisons of words tell.
 #[inline(always)]
-pub(crate) fn is_text_at_once(name: &Name, text: &str) -> Option<bool>
+pub fn is_text_at_once(name: &Name, text: &str) -> Option<bool>
     ensures { ForSome result (λ same. same ≡ bytes_eq name.now text.now) }
 {
     are_same_at_once(name.as_str().as_bytes(), text.as_bytes())
@@ -104,7 +104,7 @@ fn end_differently(left: &[u8], right: &[u8]) -> bool
 
 /// Whether a name is this text, if its end or two comparisons of words tell.
 #[inline(always)]
-pub(crate) fn is_name_at_once(name: &Name, text: &str) -> Option<bool>
+pub fn is_name_at_once(name: &Name, text: &str) -> Option<bool>
     ensures { ForSome result (λ same. same ≡ bytes_eq name.now text.now) }
 {
     let (name, text) = (name.as_str().as_bytes(), text.as_bytes());
@@ -116,7 +116,7 @@ pub(crate) fn is_name_at_once(name: &Name, text: &str) -> Option<bool>
 
 /// Whether a text begins with a prefix.
 #[inline(always)]
-pub(crate) fn begins_with(text: &str, prefix: &Name) -> bool
+pub fn begins_with(text: &str, prefix: &Name) -> bool
     ensures { result ≡ starts_with nat_eq text.now prefix.now }
 {
     let (text, prefix) = (text.as_bytes(), prefix.as_str().as_bytes());
@@ -125,7 +125,7 @@ pub(crate) fn begins_with(text: &str, prefix: &Name) -> bool
 
 /// The same, if two comparisons of words tell.
 #[inline(always)]
-pub(crate) fn begins_with_at_once(text: &str, prefix: &Name) -> Option<bool>
+pub fn begins_with_at_once(text: &str, prefix: &Name) -> Option<bool>
     ensures { ForSome result (λ begins. begins ≡ starts_with nat_eq text.now prefix.now) }
 {
     let (text, prefix) = (text.as_bytes(), prefix.as_str().as_bytes());

@@ -1,6 +1,6 @@
 use Rattle.std.proofs.Common.{arith}
 use Rattle.std.proofs.lemmas.Grind.{common_steps}
-use Rattle.verdict_core.proofs.kinds.chain_of.Goals as goal
+use Rattle.verdict_types.proofs.kinds.chain_of.Goals as goal
 
 pub returns-in-Some-clause-value : goal.returns-in-Some-clause-value
 returns-in-Some-clause-value c = grind (arith, common_steps)

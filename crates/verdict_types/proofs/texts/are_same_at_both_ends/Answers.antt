@@ -1,6 +1,6 @@
 use Rattle.std.proofs.Common.{◌-◌, length}
-use Rattle.verdict_core.proofs.Ends.{first_tell, last_tell}
-use Rattle.verdict_core.proofs.texts.are_same_at_both_ends.Goals as goal
+use Rattle.verdict_types.proofs.Ends.{first_tell, last_tell}
+use Rattle.verdict_types.proofs.texts.are_same_at_both_ends.Goals as goal
 
 pub returns-then-are_same_words : goal.returns-then-are_same_words
 returns-then-are_same_words g c =

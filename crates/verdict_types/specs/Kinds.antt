@@ -1,5 +1,5 @@
--- Refinement: only contracts inside the crate use it.
--- By which of its parts a grant is found. Only inner contracts use this.
+-- Statement: contracts of public calls use it.
+-- By which of its parts a grant is found. In verdict_core only inner contracts use this.
 use Rattle.std.specs.Prelude.{ℕ, ◌+◌, ◌%◌, ◌^◌, List, [], ◌∷◌, Option, None, Some, if◌then◌else◌, nat_le, length, map, take}
 use Rattle.std.specs.Option.{unwrap_or, option_map}
 use Rattle.cap_grants.specs.declared.grant.AllowGrant.{AllowGrant}
@@ -9,10 +9,10 @@ use Rattle.cap_grants.specs.declared.grant.Part.{Part}
 use Rattle.cap_grants.specs.declared.grant.Part.TheVariants.{Any, Is}
 use Rattle.cap_grants.specs.declared.grant.Tag.{Tag}
 use Rattle.common_types.specs.declared.tags.AppTags.{AppTags}
-use Rattle.verdict_core.specs.declared.kinds.Kind.{Kind}
-use Rattle.verdict_core.specs.declared.kinds.Named.{Named}
-use Rattle.verdict_core.specs.declared.kinds.Named.TheVariants.{Nothing, ThePool, TheTag, TheClass}
-use Rattle.verdict_core.specs.Hash.{mix, hash, folded}
+use Rattle.verdict_types.specs.declared.kinds.Kind.{Kind}
+use Rattle.verdict_types.specs.declared.kinds.Named.{Named}
+use Rattle.verdict_types.specs.declared.kinds.Named.TheVariants.{Nothing, ThePool, TheTag, TheClass}
+use Rattle.verdict_types.specs.Hash.{mix, hash, folded}
 
 -- of an application with a pair
 unfoldable pub pair_hash : List ℕ → List ℕ → List ℕ → ℕ

@@ -1,0 +1,4 @@
+pub mod Target
+pub mod Text
+pub mod Hash
+pub mod Kinds
