@@ -6,12 +6,13 @@ use Rattle.entry_core.specs.Log.{decide, decide-sealed, find, is_in, ids}
 use Rattle.store_core.specs.Request.{Sealed}
 use Rattle.store_core.specs.declared.entry.Entry.{Entry}
 use Rattle.peer_core.specs.Steps.{Stepped, still, send}
-use Rattle.peer_core.specs.Copy.{promise_interval, on_request, on_request_as, busy_request, waits, on_query, info, start_for, query, uninformed, learn_sets, leads, lead, on_interval, on_append, acknowledged, queries, retransmit, retransmit_as, append_again, complete, on_installed, on_appended, on_install, install_fitted, install_from, on_body, install_chosen, fit_chosen, try_choice, on_info, on_info_as}
+use Rattle.peer_core.specs.Copy.{promise_interval, on_request, on_request_as, busy_request, waits, on_query, info, query, uninformed, learn_sets, leads, lead, on_interval, on_append, acknowledged, queries, retransmit, retransmit_as, append_again, complete, on_installed, on_appended, on_install, install_fitted, install_from, on_body, install_chosen, fit_chosen, try_choice, on_info, on_info_as}
+use Rattle.peer_messages.specs.Starts.{start_for}
 use Rattle.peer_core.specs.ActingSets.{others, asked, all_count, counted, missing}
 use Rattle.peer_core.specs.Serve.{serve, push_new, serve_one}
 use Rattle.whole_logs.specs.Decided.{not_in_flight, last}
 use Rattle.peer_core.specs.Decided.{with_entry}
-use Rattle.peer_core.specs.Beginnings.{common_of, count_at}
+use Rattle.peer_messages.specs.Beginnings.{common_of, count_at}
 use Rattle.entry_core.specs.Fitting.{part_of, fitted, decided_behind, kept, agreed, can_fit}
 use Rattle.peer_core.specs.Choice.{can_choose, best, own_offer, is_better, is_informed}
 use Rattle.suffix_core.specs.Types.{Offer, Role, Idle, Peering, Installing, Active, Copy, Body, Interval, Query, Info, Install, Installed, Append, Appended, Request, Reply, NotHere, Party, Osd, Client, Sent}

@@ -6,8 +6,6 @@ pub mod Asking
 pub mod Whole
 pub mod Messages
 mod Passing
-mod Known
-mod Alike
 mod Told
 mod Fittings
 mod Installs

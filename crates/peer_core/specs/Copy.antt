@@ -1,6 +1,6 @@
 -- Statement: contracts of public calls use it.
 -- One daemon's copy of one group, where peering sends suffixes: what each message makes of it, and what it sends (Ceph Peering, the RADOS paper, and this project's profile).
-use Rattle.std.specs.Prelude.{ℕ, ◌+◌, ◌-◌, Bool, true, false, ◌==◌, ◌||◌, ◌&&◌, not, nat_lt, nat_le, min, List, [], ◌∷◌, ◌++◌, map, filter, length, take, Option, Some, None, if◌then◌else◌}
+use Rattle.std.specs.Prelude.{ℕ, ◌+◌, Bool, ◌==◌, ◌&&◌, not, nat_lt, List, [], ◌∷◌, ◌++◌, map, filter, length, Option, Some, None, if◌then◌else◌}
 use Rattle.std.specs.List.{list_any}
 use Rattle.store_core.specs.Request.{Sealed}
 use Rattle.entry_core.specs.Log.{find, is_in, ids}
@@ -14,7 +14,8 @@ use Rattle.peer_core.specs.ActingSets.{others, counted, all_count, missing, aske
 use Rattle.peer_core.specs.Decided.{with_entry}
 use Rattle.peer_core.specs.Serve.{reply_with, serve}
 use Rattle.peer_core.specs.Choice.{best, own_offer, is_informed, can_choose}
-use Rattle.peer_core.specs.Beginnings.{common_of, count_at}
+use Rattle.peer_messages.specs.Beginnings.{common_of, count_at}
+use Rattle.peer_messages.specs.Starts.{start_for}
 
 -- a copy that hears of an interval promises it, and drops its role if that is new
 abbrev pub promise_interval : Copy → ℕ → Copy
@@ -94,20 +95,6 @@ on_interval c sets =
     if nat_lt (length c.known) (length sets)
     then (if leads c sets then lead (record (learn_sets c sets) { promise = length sets }) else still (learn_sets c sets))
     else still c
-
-abbrev pub same_id : Option ℕ → Option ℕ → Bool
-same_id None None = true
-same_id None (Some y) = false
-same_id (Some x) None = false
-same_id (Some x) (Some y) = x == y
-
--- the asker's log of that length, whose last number is this, begins this log
-abbrev pub agrees_at : List Entry → ℕ → Option ℕ → Bool
-agrees_at log len end = nat_le len (length log) && ((len == 0) || same_id (last_id (take len log)) end)
-
--- up to where the asker has the same: all its log, or else all but the last place that both have
-abbrev pub start_for : List Entry → ℕ → Option ℕ → ℕ
-start_for log len end = if agrees_at log len end then len else min len (length log) - 1
 
 abbrev pub info : Copy → ℕ → ℕ → Body
 info c interval start = Info interval c.base start (part_of c.log start)

@@ -2,10 +2,8 @@ pub mod Types
 pub mod ActingSets
 pub mod Decided
 pub mod Choice
-pub mod Beginnings
 pub mod Steps
 pub mod Serve
 pub mod Copy
 pub mod Stages
-pub mod Waiting
 pub mod Fittings

@@ -1,10 +1,9 @@
 //! What a message makes of a copy.
 
-use crate::message::{Body, Message, Sent};
-use crate::role::PeerInfo;
 use crate::state::State;
 use entry_core::{Items, OutOfMemory, Sealed};
 use group_types::Party;
+use peer_messages::{Body, Message, PeerInfo, Sent};
 
 impl State {
     ghost use Rattle.std.specs.Prelude.{◌≡◌, IfOk, OnErr};

@@ -3,9 +3,9 @@
 ghost use Rattle.std.specs.Prelude.{◌≡◌, ◌+◌, length, IfOk};
 ghost use Rattle.peer_core.specs.Choice.{is_better};
 
-use crate::role::PeerInfo;
 use crate::state::State;
 use entry_core::{Items, OutOfMemory, Sealed, TryCopy};
+use peer_messages::PeerInfo;
 use place_core::ActingSet;
 use std::alloc::Global;
 

@@ -5,10 +5,9 @@ ghost use Rattle.peer_core.specs.Steps.{blank, restarted};
 ghost use Rattle.peer_core.specs.Decided.{decided_by};
 ghost use Rattle.peer_core.specs.Copy.{copy_step, retransmit};
 
-use crate::message::{Message, Sent};
-use crate::role::Role;
 use crate::state::State;
 use entry_core::{Entry, Items, Log, OutOfMemory, TryCopy};
+use peer_messages::{Message, Role, Sent};
 use std::alloc::Global;
 use std::marker::Model;
 

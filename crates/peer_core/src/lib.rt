@@ -3,20 +3,15 @@
 #![tactic(auto)]
 
 mod arrival;
-mod beginnings;
 mod choice;
 mod daemon;
 mod fitting;
 mod installing;
-mod message;
 mod peering;
 mod peers;
-mod queue;
 mod requests;
-mod role;
 mod serve;
 mod state;
 
 pub use daemon::Daemon;
-pub use message::{Body, Message, Sent};
-pub use role::{Common, PeerInfo, Role};
+pub use peer_messages::{Body, Common, Message, PeerInfo, Role, Sent};

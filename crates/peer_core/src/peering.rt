@@ -1,13 +1,10 @@
 //! How the members of an interval agree on a log.
 
-use crate::beginnings::{part_from, start_for};
-use crate::message::{Body, Sent};
 use crate::peers::{is_primary, set_of};
-use crate::queue::Queue;
-use crate::role::{PeerInfo, Role};
 use crate::state::State;
 use entry_core::{Id, Items, OutOfMemory};
 use group_types::{IntervalSets, Party};
+use peer_messages::{Body, PeerInfo, Queue, Role, Sent, part_from, start_for};
 use place_core::ActingSet;
 use std::mem;
 

@@ -6,13 +6,11 @@ ghost use Rattle.entry_core.specs.Log.{is_in};
 ghost use Rattle.place_core.specs.Distinct.{is_distinct};
 ghost use Rattle.group_types.specs.ActingSets.{set_of, is_primary};
 
-use crate::beginnings::count_at;
 use crate::fitting::Fitting;
-use crate::message::{Body, Sent};
-use crate::role::{Common, PeerInfo};
 use crate::state::State;
 use entry_core::{Items, OutOfMemory, Sealed, TryCopy};
 use group_types::Party;
+use peer_messages::{Body, Common, PeerInfo, Sent, count_at};
 use place_core::ActingSet;
 
 /// The numbers that daemons have.
@@ -67,7 +65,7 @@ impl State {
     ghost use Rattle.peer_core.specs.Types as types;
     ghost use Rattle.group_types.specs.ActingSets.{set_of};
     ghost use Rattle.peer_core.specs.ActingSets.{others, counted, all_count, missing, is_asked};
-    ghost use Rattle.peer_core.specs.Beginnings.{count_at};
+    ghost use Rattle.peer_messages.specs.Beginnings.{count_at};
     ghost use Rattle.peer_core.specs.Choice.{is_informed};
     ghost use Rattle.peer_core.specs.Steps.{send};
     ghost use Rattle.peer_core.specs.Copy.{uninformed, query, install_from};

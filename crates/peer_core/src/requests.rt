@@ -1,12 +1,11 @@
 //! How the entries of an interval are decided.
 
 use crate::fitting::Fitting;
-use crate::message::{Body, Sent};
-use crate::role::Role;
 use crate::serve::reply_to;
 use crate::state::State;
 use entry_core::{Items, OutOfMemory, Sealed};
 use group_types::Party;
+use peer_messages::{Body, Role, Sent};
 use place_core::ActingSet;
 
 impl State {

@@ -2,10 +2,9 @@
 
 ghost use Rattle.std.specs.Prelude.{◌≡◌};
 
-use crate::queue::Queue;
-use crate::role::Role;
 use entry_core::{Log, OutOfMemory, TryCopy};
 use group_types::IntervalSets;
+use peer_messages::{Queue, Role};
 use std::alloc::Global;
 
 /// A daemon's copy of a group: the promise, the base and the log, which a restart keeps, and what it does at present.

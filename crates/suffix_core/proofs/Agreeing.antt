@@ -12,7 +12,7 @@ use Rattle.suffix_core.specs.Types.{Body, Interval, Query, Info, Install, Instal
 use Rattle.entry_core.specs.Fitting.{part_of, last_id}
 use Rattle.peer_core.specs.Steps.{Stepped}
 use Rattle.peer_core.specs.ActingSets.{others}
-use Rattle.peer_core.specs.Beginnings.{count_at}
+use Rattle.peer_messages.specs.Beginnings.{count_at}
 use Rattle.suffix_core.specs.Standing.{Both}
 
 -- the log that daemon m had when it promised interval n, or a later one, first

@@ -16,7 +16,7 @@ use Rattle.whole_logs.specs.Asked.{IsAsked, InLog}
 use Rattle.whole_logs.specs.History.{History}
 use Rattle.suffix_core.specs.Types.{Offer, Active, Copy}
 use Rattle.peer_core.specs.ActingSets.{others}
-use Rattle.peer_core.specs.Beginnings.{told_ids, common, common_of, count_at}
+use Rattle.peer_messages.specs.Beginnings.{told_ids, common, common_of, count_at}
 use Rattle.peer_core.specs.Copy.{install_from, install_chosen}
 use Rattle.suffix_core.specs.Standing.{Both}
 use Rattle.suffix_core.proofs.Agreeing.{IsPart, OfferAgrees, InstallAgrees, SentAgrees, StepAgrees, whole}

@@ -20,7 +20,7 @@ use Rattle.suffix_core.specs.Types.{Append, Offer, Role, Idle, Peering, Installi
 use Rattle.peer_core.specs.Steps.{send}
 use Rattle.peer_core.specs.ActingSets.{others, asked, missing}
 use Rattle.peer_core.specs.Choice.{is_informed}
-use Rattle.peer_core.specs.Beginnings.{count_at}
+use Rattle.peer_messages.specs.Beginnings.{count_at}
 use Rattle.peer_core.specs.Copy.{query, install_from, append_again, uninformed, retransmit_as}
 use Rattle.suffix_core.specs.Standing.{Both}
 use Rattle.suffix_core.proofs.Agreeing.{Past, InstallAgrees, QueryAgrees, SentAgrees, RoleAgrees, whole}

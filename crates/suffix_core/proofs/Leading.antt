@@ -13,7 +13,7 @@ use Rattle.whole_logs.specs.Asked.{IsAsked, InLog}
 use Rattle.whole_logs.specs.History.{Begins}
 use Rattle.whole_logs.proofs.Eaches.{Each-get}
 use Rattle.whole_logs.proofs.Logs.{LegalFrom-at, LegalFrom-front}
-use Rattle.peer_core.specs.Beginnings.{common}
+use Rattle.peer_messages.specs.Beginnings.{common}
 use Rattle.suffix_core.proofs.Lists.{Each-front, Each-rest, get-split}
 
 pub legal_of : (xs ys : List Entry) → Begins xs ys → Legal ys → Legal xs

@@ -17,7 +17,8 @@ use Rattle.whole_logs.proofs.Invariant.{StateOk, CopyOk}
 use Rattle.suffix_core.specs.Types.{Idle, Copy}
 use Rattle.peer_core.specs.Steps.{still, send}
 use Rattle.peer_core.specs.ActingSets.{others}
-use Rattle.peer_core.specs.Copy.{promise_interval, info, same_id, agrees_at, start_for, on_query}
+use Rattle.peer_core.specs.Copy.{promise_interval, info, on_query}
+use Rattle.peer_messages.specs.Starts.{same_id, agrees_at, start_for}
 use Rattle.suffix_core.proofs.Agreeing.{Past, IsPart, QueryAgrees, OfBoth, ToldAgrees, InfoStands, RoleAgrees, CopyAgrees, StepAgrees, whole}
 use Rattle.suffix_core.proofs.Lists.{get-take, take-next, At, at_place}
 use Rattle.suffix_core.proofs.Leading.{legal_of, asked_of, same_at}

@@ -9,7 +9,7 @@ use Rattle.whole_logs.specs.History.{History}
 use Rattle.whole_logs.proofs.Invariant.{OfOsd}
 use Rattle.suffix_core.specs.Types.{Body, Interval, Query, Info, Install, Installed, Append, Appended, Request, Reply, NotHere, Sent, Offer, Role, Idle, Peering, Installing, Active, Copy}
 use Rattle.peer_core.specs.ActingSets.{others}
-use Rattle.peer_core.specs.Beginnings.{count_at}
+use Rattle.peer_messages.specs.Beginnings.{count_at}
 use Rattle.suffix_core.specs.Standing.{Both}
 use Rattle.suffix_core.proofs.Agreeing.{Past, QueryAgrees, InfoAgrees, ToldAgrees, OfferAgrees, InstallAgrees, OfBoth, BodyAgrees, SentAgrees, RoleAgrees, CopyAgrees}
 use Rattle.suffix_core.proofs.Lists.{Both-weaker}

@@ -1,0 +1,4 @@
+pub mod Types
+pub mod Beginnings
+pub mod Starts
+pub mod Waiting
