@@ -6,7 +6,7 @@ use Rattle.grant_core.specs.Flat.{Table}
 use Rattle.map_commands.specs.State.{History, GoesOn}
 use Rattle.whole_logs.specs.Each.{Each}
 use Rattle.suffix_core.specs.Group.{Event, is_submitted}
-use Rattle.world_front.specs.declared.event.Event.{Event as WorldEvent}
+use Rattle.world_events.specs.declared.event.Event.{Event as WorldEvent}
 use Rattle.world_core.specs.World.{World}
 use Rattle.world_core.specs.Holds.{Holds}
 use Rattle.world_front.specs.Front.{Front, first_front, front_step, front_after, requests_of, requests_in}

@@ -7,9 +7,9 @@ use Rattle.map_commands.specs.declared.pool.PoolView.{PoolView}
 use Rattle.store_core.specs.Request.{Sealed}
 use Rattle.world_front.specs.Front.{◌>>=◌, refuse_if, error_of, id_of, Asker, is_namespace, asks_more}
 use Rattle.world_front.specs.Stands.{next_in}
-use Rattle.world_front.specs.declared.event.Ask.{Ask}
-use Rattle.world_front.specs.declared.fault.WorldFault.{WorldFault as Fault}
-use Rattle.world_front.specs.declared.fault.WorldFault.TheVariants.{NoPool, BadObjectName}
+use Rattle.world_events.specs.declared.event.Ask.{Ask}
+use Rattle.world_events.specs.declared.fault.WorldFault.{WorldFault as Fault}
+use Rattle.world_events.specs.declared.fault.WorldFault.TheVariants.{NoPool, BadObjectName}
 use Rattle.world_front.specs.declared.session.Session.{Session}
 use Rattle.cluster.specs.declared.asking.Asking.{Asking}
 use Rattle.cluster.specs.declared.asking.Asked.{Asked}

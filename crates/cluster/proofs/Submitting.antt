@@ -21,13 +21,13 @@ use Rattle.group_types.specs.declared.fault.GroupFault.{GroupFault}
 use Rattle.world_front.specs.Front.{◌>>=◌, need, refuse_if, id_of, asks_more}
 use Rattle.world_core.specs.Moves.{IsAt}
 use Rattle.world_core.specs.Sound.{IsSealedFor}
-use Rattle.world_front.specs.declared.event.Ask.{Ask}
+use Rattle.world_events.specs.declared.event.Ask.{Ask}
 use Rattle.world_core.proofs.Acting.{group_at_is}
 use Rattle.world_front.proofs.Bytes.{number_same}
 use Rattle.world_front.proofs.Merge.{number_refl}
 use Rattle.turn_lock.specs.Seats.{lock_of, first_of as began, seat_lock}
-use Rattle.world_front.specs.declared.fault.WorldFault.{WorldFault as Fault}
-use Rattle.world_front.specs.declared.fault.WorldFault.TheVariants.{NoSession, StaleTick}
+use Rattle.world_events.specs.declared.fault.WorldFault.{WorldFault as Fault}
+use Rattle.world_events.specs.declared.fault.WorldFault.TheVariants.{NoSession, StaleTick}
 use Rattle.world_front.specs.declared.session.Session.{Session}
 use Rattle.cluster.specs.declared.asking.Asking.{Asking}
 use Rattle.cluster.specs.declared.cluster.Cluster.{Cluster}

@@ -13,9 +13,9 @@ use Rattle.entry_core.specs.Locality.{Hashes}
 use Rattle.store_core.specs.Request.{Sealed, Work, Vector, Listing}
 use Rattle.world_front.specs.Front.{◌>>=◌, need, refuse_if, lower, error_of, id_of, Asker, is_object_name, is_namespace, sealed_of, vector_of}
 use Rattle.world_front.specs.Stands.{next_in}
-use Rattle.world_front.specs.declared.event.Ask.{Ask}
-use Rattle.world_front.specs.declared.fault.WorldFault.{WorldFault as Fault}
-use Rattle.world_front.specs.declared.fault.WorldFault.TheVariants.{NoSession, NoPool, BadObjectName, StaleTick, Needs as OfNeeds}
+use Rattle.world_events.specs.declared.event.Ask.{Ask}
+use Rattle.world_events.specs.declared.fault.WorldFault.{WorldFault as Fault}
+use Rattle.world_events.specs.declared.fault.WorldFault.TheVariants.{NoSession, NoPool, BadObjectName, StaleTick, Needs as OfNeeds}
 use Rattle.world_front.specs.declared.session.Session.{Session}
 use Rattle.cluster.specs.declared.asking.Asking.{Asking}
 use Rattle.cluster.specs.declared.asking.Asked.{Asked}

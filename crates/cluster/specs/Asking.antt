@@ -9,9 +9,9 @@ use Rattle.object_ops.specs.declared.op.Op.{Op}
 use Rattle.store_core.specs.Request.{Sealed, Listing}
 use Rattle.entry_core.specs.Locality.{group_for}
 use Rattle.group_types.specs.declared.fault.GroupFault.{GroupFault}
-use Rattle.world_front.specs.declared.event.Ask.{Ask}
-use Rattle.world_front.specs.declared.fault.WorldFault.{WorldFault as Fault}
-use Rattle.world_front.specs.declared.fault.WorldFault.TheVariants.{NoSession, NoPool, BadObjectName, StaleTick, Needs as OfNeeds}
+use Rattle.world_events.specs.declared.event.Ask.{Ask}
+use Rattle.world_events.specs.declared.fault.WorldFault.{WorldFault as Fault}
+use Rattle.world_events.specs.declared.fault.WorldFault.TheVariants.{NoSession, NoPool, BadObjectName, StaleTick, Needs as OfNeeds}
 use Rattle.world_front.specs.Front.{◌>>=◌, need, refuse_if, lower, Asker, is_object_name, is_namespace, sealed_of, vector_of, id_of, asks_more}
 use Rattle.world_core.specs.Moves.{IsAt}
 use Rattle.world_front.specs.declared.session.Session.{Session}

@@ -6,7 +6,7 @@ use Rattle.store_core.specs.declared.sealed.GroupId.{GroupId}
 use Rattle.suffix_core.specs.Group.{Group}
 use Rattle.group_types.specs.declared.fault.GroupFault.{GroupFault}
 use Rattle.group_types.specs.declared.fault.GroupFault.TheVariants as group_fault
-use Rattle.world_front.specs.declared.fault.WorldFault.TheVariants.{NoRequest, Group as OfGroup}
+use Rattle.world_events.specs.declared.fault.WorldFault.TheVariants.{NoRequest, Group as OfGroup}
 use Rattle.world_core.specs.Moves.{IsAt}
 use Rattle.cluster_locks.specs.declared.groups.GroupEntry.{GroupEntry}
 use Rattle.cluster_locks.specs.declared.groups.Worked.{Worked}

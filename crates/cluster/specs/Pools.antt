@@ -6,7 +6,7 @@ use Rattle.map_commands.specs.Map.{map_of, epoch_of, view_at}
 use Rattle.map_core.specs.Refusal.{has_pool, is_word}
 use Rattle.map_commands.specs.PoolLimits.{HasLimits}
 use Rattle.map_commands.specs.declared.pool.PoolView.{PoolView}
-use Rattle.world_front.specs.declared.fault.WorldFault.TheVariants.{NoPool}
+use Rattle.world_events.specs.declared.fault.WorldFault.TheVariants.{NoPool}
 use Rattle.world_front.specs.Stands.{InMap}
 use Rattle.cluster.specs.declared.fault.ClusterFault.{ClusterFault}
 use Rattle.cluster.specs.declared.fault.ClusterFault.TheVariants as faults

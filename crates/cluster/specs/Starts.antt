@@ -3,9 +3,9 @@
 use Rattle.std.specs.Prelude.{◌≡◌, ℕ, List, [], ◌++◌, map}
 use Rattle.grant_core.specs.Flat.{Table}
 use Rattle.map_commands.specs.declared.command.MapCommand.TheVariants.{PoolCreate}
-use Rattle.world_front.specs.declared.event.AuthCommand.TheVariants.{Add}
-use Rattle.world_front.specs.declared.event.Event.{Event}
-use Rattle.world_front.specs.declared.event.Event.TheVariants.{Auth, Map}
+use Rattle.world_events.specs.declared.event.AuthCommand.TheVariants.{Add}
+use Rattle.world_events.specs.declared.event.Event.{Event}
+use Rattle.world_events.specs.declared.event.Event.TheVariants.{Auth, Map}
 use Rattle.world_core.specs.World.{World}
 use Rattle.world_core.specs.Sound.{IsSound}
 use Rattle.world_core.specs.Holds.{Holds}

@@ -12,7 +12,7 @@ use Rattle.map_commands.specs.declared.fault.MapFault.TheVariants as map_fault
 use Rattle.map_commands.specs.declared.pool.PoolView.{PoolView}
 use Rattle.object_ops.specs.declared.op.Op.{Op}
 use Rattle.store_core.specs.Request.{Sealed, numbers}
-use Rattle.world_front.specs.declared.event.Ask.{Ask}
+use Rattle.world_events.specs.declared.event.Ask.{Ask}
 use Rattle.world_front.specs.Front.{id_of}
 use Rattle.world_core.specs.Sound.{IsSealedFor}
 use Rattle.world_front.specs.declared.session.Session.{Session}
@@ -20,7 +20,7 @@ use Rattle.cluster.specs.declared.asking.Asking.{Asking}
 use Rattle.cluster.specs.declared.asking.Asked.{Asked}
 use Rattle.cluster.specs.declared.fault.ClusterFault.{ClusterFault}
 use Rattle.cluster.specs.declared.fault.ClusterFault.TheVariants as faults
-use Rattle.world_front.specs.declared.fault.WorldFault.TheVariants.{NoPool}
+use Rattle.world_events.specs.declared.fault.WorldFault.TheVariants.{NoPool}
 use Rattle.cluster.specs.declared.cluster.Cluster.{Cluster}
 use Rattle.cluster.specs.declared.pass.OwnSession.{OwnSession}
 use Rattle.cluster.specs.declared.pass.Pass.{Pass}

@@ -4,11 +4,11 @@ use Rattle.std.specs.Prelude.{◌≡◌, ◌⊎◌, ℕ, List, [], ◌∷◌, �
 use Rattle.verdict_core.specs.Ticket.{Ticket}
 use Rattle.auth_db.specs.declared.fault.AuthFault.{AuthFault}
 use Rattle.auth_db.specs.declared.fault.AuthFault.TheVariants as auth_fault
-use Rattle.world_front.specs.declared.fault.WorldFault.TheVariants.{Limit, Auth as OfUsers}
+use Rattle.world_events.specs.declared.fault.WorldFault.TheVariants.{Limit, Auth as OfUsers}
 use Rattle.world_front.specs.Front.{opened}
 use Rattle.world_front.specs.declared.session.Session.{Session}
-use Rattle.world_front.specs.declared.event.AuthCommand.{AuthCommand}
-use Rattle.world_front.specs.declared.event.Told.{Told}
+use Rattle.world_events.specs.declared.event.AuthCommand.{AuthCommand}
+use Rattle.world_events.specs.declared.event.Told.{Told}
 use Rattle.cluster.specs.declared.cluster.Cluster.{Cluster}
 use Rattle.cluster.specs.declared.fault.ClusterFault.{ClusterFault}
 use Rattle.cluster.specs.declared.fault.ClusterFault.TheVariants as faults

@@ -9,7 +9,7 @@ use Rattle.map_core.specs.Refusal as tests
 use Rattle.map_commands.specs.declared.fault.MapFault.{MapFault}
 use Rattle.map_commands.specs.declared.fault.MapFault.TheVariants as map_fault
 use Rattle.map_commands.specs.declared.pool.PoolView.{PoolView}
-use Rattle.world_front.specs.declared.fault.WorldFault.TheVariants.{BadObjectName, Map as OfMap}
+use Rattle.world_events.specs.declared.fault.WorldFault.TheVariants.{BadObjectName, Map as OfMap}
 use Rattle.cluster.specs.declared.fault.ClusterFault.{ClusterFault}
 use Rattle.cluster.specs.declared.fault.ClusterFault.TheVariants as faults
 use Rattle.published_map.specs.declared.published.Knowledge.{Knowledge}

@@ -3,8 +3,8 @@
 ghost use Rattle.std.specs.Prelude.{◌≡◌, ◌⊎◌, ◌<◌, ◌≤◌, ◌+◌, Ok, None, Some, IfOk, IfErr, IfSome, length};
 ghost use Rattle.std.specs.Option.{option_map};
 ghost use Rattle.object_core.specs.Needs.{needs_fault};
-ghost use Rattle.world_front.specs.declared.fault.WorldFault.{WorldFault as Fault};
-ghost use Rattle.world_front.specs.declared.fault.WorldFault.TheVariants.{Needs as OfNeeds};
+ghost use Rattle.world_events.specs.declared.fault.WorldFault.{WorldFault as Fault};
+ghost use Rattle.world_events.specs.declared.fault.WorldFault.TheVariants.{Needs as OfNeeds};
 ghost use Rattle.world_front.specs.Front.{error_of, vector_of, asks_more};
 ghost use Rattle.common_types.specs.Refused.{RefusedExactly};
 ghost use Rattle.cluster.specs.declared.fault.ClusterFault.TheVariants as faults;

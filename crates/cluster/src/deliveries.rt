@@ -3,7 +3,7 @@
 ghost use Rattle.std.specs.Prelude.{◌≡◌, ◌<◌, Option, None, Some, Ok, Err};
 ghost use Rattle.map_core.specs.Refusal.{acting_refusal};
 ghost use Rattle.map_commands.specs.declared.fault.MapFault as map;
-ghost use Rattle.world_front.specs.declared.fault.WorldFault.TheVariants.{NoRequest, Map as OfMap};
+ghost use Rattle.world_events.specs.declared.fault.WorldFault.TheVariants.{NoRequest, Map as OfMap};
 ghost use Rattle.cluster.specs.declared.fault.ClusterFault.TheVariants as faults;
 ghost use Rattle.cluster.specs.Passes.{group_count, start_of};
 ghost use Rattle.cluster.specs.Asks.{IsPassOf};

@@ -1,7 +1,7 @@
 //! Sessions of a pass, and the users.
 
 ghost use Rattle.std.specs.Prelude.{◌≡◌, None, Some, Err, MatchOption};
-ghost use Rattle.world_front.specs.declared.fault.WorldFault.TheVariants.{NoSession};
+ghost use Rattle.world_events.specs.declared.fault.WorldFault.TheVariants.{NoSession};
 ghost use Rattle.cluster.specs.declared.fault.ClusterFault.TheVariants as faults;
 ghost use Rattle.cluster.specs.Asks.{IsPassOf, sessions_of};
 ghost use Rattle.cluster.specs.UserTurns.{fault_of_users, fault_of_opening, Opens, Renews, Changes};

@@ -7,8 +7,8 @@ use Rattle.auth_db.specs.declared.fault.AuthFault.{AuthFault}
 use Rattle.auth_db.specs.declared.fault.AuthFault.TheVariants as auth
 use Rattle.auth_db.specs.Users.{after, HasTicket}
 use Rattle.auth_db.specs.Refusals.{known_refusal, auth_refusal, RefusedOrMemory}
-use Rattle.world_front.specs.declared.event.AuthCommand.{AuthCommand}
-use Rattle.world_front.specs.declared.event.Told.{Told}
+use Rattle.world_events.specs.declared.event.AuthCommand.{AuthCommand}
+use Rattle.world_events.specs.declared.event.Told.{Told}
 use Rattle.world_front.specs.Front.{command_of, most_sessions, told_auth}
 use Rattle.cluster_locks.specs.declared.users.UserTable.{UserTable}
 use Rattle.cluster_locks.specs.declared.users.UserEntry.{UserEntry}

@@ -17,9 +17,9 @@ use Rattle.suffix_core.specs.Group.{Group, group_step, run}
 use Rattle.suffix_core.specs.Group as group
 use Rattle.wire_steps.specs.Wire.{kept, place_of, TellsStep}
 use Rattle.wire_steps.proofs.Steps.{Sends, nothing, sends}
-use Rattle.world_front.specs.declared.event.Event.{Event}
-use Rattle.world_front.specs.declared.event.Event.TheVariants.{Auth, Map, Open, Renew, Close, Submit, List as ListNames, Deliver, Lose, Repeat, Kick}
-use Rattle.world_front.specs.declared.fault.WorldFault.{WorldFault as Fault}
+use Rattle.world_events.specs.declared.event.Event.{Event}
+use Rattle.world_events.specs.declared.event.Event.TheVariants.{Auth, Map, Open, Renew, Close, Submit, List as ListNames, Deliver, Lose, Repeat, Kick}
+use Rattle.world_events.specs.declared.fault.WorldFault.{WorldFault as Fault}
 use Rattle.world_front.specs.Groups.{is_same_group}
 use Rattle.world_front.specs.Front.{Front, group_refusal, sealed_by}
 use Rattle.world_core.specs.World.{World, Part, part, group_at, members_of, parts_of, map_parts, moved_parts, restarted_parts, asked_parts, created_by, world_step}

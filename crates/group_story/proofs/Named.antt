@@ -13,9 +13,9 @@ use Rattle.map_commands.specs.declared.pool.Pool.{Pool}
 use Rattle.map_commands.specs.declared.command.MapCommand.{MapCommand}
 use Rattle.map_core.specs.Laws.{HasPool, later}
 use Rattle.map_core.proofs.Kept.{pools_stay}
-use Rattle.world_front.specs.declared.event.Event.{Event}
-use Rattle.world_front.specs.declared.event.Event.TheVariants.{Auth, Map, Open, Renew, Close, Submit, List as ListNames, Deliver, Lose, Repeat, Kick}
-use Rattle.world_front.specs.declared.fault.WorldFault.TheVariants.{Map as OfMap}
+use Rattle.world_events.specs.declared.event.Event.{Event}
+use Rattle.world_events.specs.declared.event.Event.TheVariants.{Auth, Map, Open, Renew, Close, Submit, List as ListNames, Deliver, Lose, Repeat, Kick}
+use Rattle.world_events.specs.declared.fault.WorldFault.TheVariants.{Map as OfMap}
 use Rattle.world_front.specs.Front.{Front, front_step, group_refusal}
 use Rattle.world_front.proofs.Bytes.{bytes_same}
 

@@ -13,9 +13,9 @@ use Rattle.object_ops.specs.declared.op.Op.TheVariants as op
 use Rattle.auth_db.specs.declared.caps.Caps.{Caps}
 use Rattle.store_core.specs.declared.sealed.GroupId.{GroupId}
 use Rattle.world_front.specs.Front.{id_of}
-use Rattle.world_front.specs.declared.event.AuthCommand.{AuthCommand}
-use Rattle.world_front.specs.declared.event.Event.TheVariants as happens
-use Rattle.world_front.specs.declared.event.AuthCommand.TheVariants as on_users
+use Rattle.world_events.specs.declared.event.AuthCommand.{AuthCommand}
+use Rattle.world_events.specs.declared.event.Event.TheVariants as happens
+use Rattle.world_events.specs.declared.event.AuthCommand.TheVariants as on_users
 pub use Rattle.script_commands.specs.declared.command.Command.{Command}
 pub use Rattle.script_commands.specs.declared.command.Command.TheVariants.{Osds, Happens, Submit, List as ListNames, Locate, ShowUser, ListUsers, Tick, Settle, KickAll, LoseAll, Answer, Listing, Ready}
 

@@ -18,9 +18,9 @@ use Rattle.suffix_core.specs.Group as group
 use Rattle.group_types.specs.declared.fault.GroupFault.TheVariants as group_fault
 use Rattle.whole_laws.specs.Calm.{answer_with}
 use Rattle.suffix_core.proofs.Runs.{delivered_idle}
-use Rattle.world_front.specs.declared.event.Event.{Event}
-use Rattle.world_front.specs.declared.event.Event.TheVariants.{Deliver}
-use Rattle.world_front.specs.declared.fault.WorldFault.TheVariants.{Group as OfGroup}
+use Rattle.world_events.specs.declared.event.Event.{Event}
+use Rattle.world_events.specs.declared.event.Event.TheVariants.{Deliver}
+use Rattle.world_events.specs.declared.fault.WorldFault.TheVariants.{Group as OfGroup}
 use Rattle.world_front.specs.Front.{group_refusal}
 use Rattle.world_core.specs.World.{World, group_at, decided_in, acted, refused_in, refusal_of, world_step}
 use Rattle.world_laws.specs.Recovery.{if_sent, deliveries_of}

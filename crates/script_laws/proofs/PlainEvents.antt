@@ -29,11 +29,11 @@ use Rattle.group_types.specs.declared.fault.GroupFault.{GroupFault}
 use Rattle.group_types.specs.declared.fault.GroupFault.TheVariants as group_fault
 use Rattle.whole_laws.specs.Calm.{IsCalm, answer_with}
 use Rattle.group_laws.proofs.CalmGroups.{begins_calm}
-use Rattle.world_front.specs.declared.event.Ask.{Ask}
-use Rattle.world_front.specs.declared.event.Event.{Event}
-use Rattle.world_front.specs.declared.event.Event.TheVariants.{Auth, Map, Open, Renew, Close, Submit, List as ListNames, Deliver, Lose, Repeat, Kick}
-use Rattle.world_front.specs.declared.fault.WorldFault.{WorldFault as Fault}
-use Rattle.world_front.specs.declared.fault.WorldFault.TheVariants.{Map as OfMap, Group as OfGroup}
+use Rattle.world_events.specs.declared.event.Ask.{Ask}
+use Rattle.world_events.specs.declared.event.Event.{Event}
+use Rattle.world_events.specs.declared.event.Event.TheVariants.{Auth, Map, Open, Renew, Close, Submit, List as ListNames, Deliver, Lose, Repeat, Kick}
+use Rattle.world_events.specs.declared.fault.WorldFault.{WorldFault as Fault}
+use Rattle.world_events.specs.declared.fault.WorldFault.TheVariants.{Map as OfMap, Group as OfGroup}
 use Rattle.world_front.specs.Groups.{is_same_group, is_for}
 use Rattle.world_front.specs.Front.{Front, front_step, front_refusal, requests_of, requests_in, sealed_by, if_ok}
 use Rattle.world_core.specs.World.{World, Part, part, group_at, members_of, moved_parts, asked_parts, parts_of, created_by, decided_in, act, acted, refused_in, parts_refusal, refusal_of, world_step}

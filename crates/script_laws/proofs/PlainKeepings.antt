@@ -18,9 +18,9 @@ use Rattle.store_core.specs.Deciding.{name_of, ran, answered, names_in, performe
 use Rattle.store_core.specs.Objects.{changed}
 use Rattle.store_core.specs.declared.reply.Reply.TheVariants.{Denied}
 use Rattle.store_core.specs.declared.sealed.GroupId.{GroupId}
-use Rattle.world_front.specs.declared.event.Event.{Event}
-use Rattle.world_front.specs.declared.fault.WorldFault.{WorldFault as Fault}
-use Rattle.world_front.specs.declared.event.Event.TheVariants as happens
+use Rattle.world_events.specs.declared.event.Event.{Event}
+use Rattle.world_events.specs.declared.fault.WorldFault.{WorldFault as Fault}
+use Rattle.world_events.specs.declared.event.Event.TheVariants as happens
 use Rattle.world_front.specs.Groups.{is_for}
 use Rattle.world_front.specs.Front.{front_refusal}
 use Rattle.script_commands.specs.declared.command.Command.{Command}

@@ -19,10 +19,10 @@ use Rattle.suffix_core.specs.Group.{Group, answer_of, submitted, last_set}
 use Rattle.whole_laws.specs.Calm.{answer_with}
 use Rattle.suffix_core.specs.Recovery.{is_ready, greatest_base}
 use Rattle.entry_core.specs.Locality.{group_for}
-use Rattle.world_front.specs.declared.event.Event.{Event}
-use Rattle.world_front.specs.declared.fault.WorldFault.{WorldFault as Fault}
-use Rattle.world_front.specs.declared.event.Event.TheVariants.{Auth, Map, Open, Renew, Close, Submit as SubmitEvent, List as ListEvent, Deliver, Lose, Repeat, Kick}
-use Rattle.world_front.specs.declared.fault.WorldFault.TheVariants.{Group as OfGroup}
+use Rattle.world_events.specs.declared.event.Event.{Event}
+use Rattle.world_events.specs.declared.fault.WorldFault.{WorldFault as Fault}
+use Rattle.world_events.specs.declared.event.Event.TheVariants.{Auth, Map, Open, Renew, Close, Submit as SubmitEvent, List as ListEvent, Deliver, Lose, Repeat, Kick}
+use Rattle.world_events.specs.declared.fault.WorldFault.TheVariants.{Group as OfGroup}
 use Rattle.world_front.specs.Groups.{is_for}
 use Rattle.world_front.specs.Front.{front_refusal, group_refusal, told_of}
 use Rattle.world_core.specs.World.{World, first_world, group_at, members_of, parts_of, parts_refusal, refusal_of, is_drop}

@@ -20,8 +20,8 @@ use Rattle.whole_laws.specs.Quiet.{request_cost}
 use Rattle.whole_laws.specs.Calm.{answer_with, unserved_cost}
 use Rattle.whole_logs.proofs.Audits.{legal_rest}
 use Rattle.group_laws.proofs.SameGroups.{same_settle}
-use Rattle.world_front.specs.declared.event.Event.{Event}
-use Rattle.world_front.specs.declared.event.Event.TheVariants.{Deliver}
+use Rattle.world_events.specs.declared.event.Event.{Event}
+use Rattle.world_events.specs.declared.event.Event.TheVariants.{Deliver}
 use Rattle.world_front.specs.Groups.{is_same_group, is_for}
 use Rattle.world_front.specs.Front.{Front, group_refusal}
 use Rattle.world_core.specs.World.{World, group_at, members_of, world_step, world_after}

@@ -25,7 +25,7 @@ use Rattle.suffix_core.specs.Group as group
 use Rattle.suffix_core.specs.Budget.{settle_count}
 use Rattle.whole_laws.specs.Calm.{IsCalm, answer_with}
 use Rattle.group_laws.proofs.SameGroups.{same_step, takes_last}
-use Rattle.world_front.specs.declared.event.Event.{Event}
+use Rattle.world_events.specs.declared.event.Event.{Event}
 use Rattle.world_front.specs.Groups.{is_same_group, is_for}
 use Rattle.world_front.specs.Front.{Front}
 use Rattle.world_core.specs.World.{World, group_at, members_of, world_step, world_after, refusal_of, accepts, is_accepted}

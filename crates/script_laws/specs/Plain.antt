@@ -23,10 +23,10 @@ use Rattle.suffix_core.specs.Group.{answer_of}
 use Rattle.group_types.specs.Answers.{Answer}
 use Rattle.whole_laws.specs.Quiet.{opening_cost, request_cost}
 use Rattle.whole_laws.specs.Calm.{unserved_cost}
-use Rattle.world_front.specs.declared.event.Event.{Event}
-use Rattle.world_front.specs.declared.fault.WorldFault.{WorldFault as Fault}
-use Rattle.world_front.specs.declared.event.Event.TheVariants.{Map, Deliver, Lose, Repeat, Kick}
-use Rattle.world_front.specs.declared.event.Event.TheVariants as happens
+use Rattle.world_events.specs.declared.event.Event.{Event}
+use Rattle.world_events.specs.declared.fault.WorldFault.{WorldFault as Fault}
+use Rattle.world_events.specs.declared.event.Event.TheVariants.{Map, Deliver, Lose, Repeat, Kick}
+use Rattle.world_events.specs.declared.event.Event.TheVariants as happens
 use Rattle.world_front.specs.Groups.{is_same_group, is_for}
 use Rattle.world_front.specs.Front.{Front, first_front, front_step, front_refusal, sealed_by, told_of, group_refusal}
 use Rattle.world_core.specs.World.{members_of}

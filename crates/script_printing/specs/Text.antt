@@ -11,10 +11,10 @@ use Rattle.auth_db.specs.declared.caps.Caps.{Caps}
 use Rattle.store_core.specs.declared.reply.Reply.{Reply}
 use Rattle.store_core.specs.declared.reply.Reply.TheVariants as reply
 use Rattle.store_core.specs.Request.{numbers}
-use Rattle.world_front.specs.declared.event.Told.{Told}
-use Rattle.world_front.specs.declared.event.Told.TheVariants.{Done, Made, There, Epoch, Session as OfSession, Request, List as Pieces}
-use Rattle.world_front.specs.declared.fault.WorldFault.{WorldFault as Fault}
-use Rattle.world_front.specs.Printed.{fault_text}
+use Rattle.world_events.specs.declared.event.Told.{Told}
+use Rattle.world_events.specs.declared.event.Told.TheVariants.{Done, Made, There, Epoch, Session as OfSession, Request, List as Pieces}
+use Rattle.world_events.specs.declared.fault.WorldFault.{WorldFault as Fault}
+use Rattle.world_events.specs.Printed.{fault_text}
 
 -- a request's session, and its number there
 abbrev pub id_text : ℕ → List ℕ

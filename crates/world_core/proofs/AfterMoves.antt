@@ -22,9 +22,9 @@ use Rattle.store_core.specs.declared.sealed.GroupId.{GroupId}
 use Rattle.whole_logs.specs.Each.{Each}
 use Rattle.suffix_core.specs.Group.{Group, group_step, refusal_of, last_set, same_set}
 use Rattle.suffix_core.specs.Group as group
-use Rattle.world_front.specs.declared.fault.WorldFault.{WorldFault as Fault}
-use Rattle.world_front.specs.declared.event.Event.TheVariants.{Map}
-use Rattle.world_front.specs.declared.fault.WorldFault.TheVariants.{Group as OfGroup}
+use Rattle.world_events.specs.declared.fault.WorldFault.{WorldFault as Fault}
+use Rattle.world_events.specs.declared.event.Event.TheVariants.{Map}
+use Rattle.world_events.specs.declared.fault.WorldFault.TheVariants.{Group as OfGroup}
 use Rattle.world_front.specs.Front.{Front, front_step}
 use Rattle.world_front.specs.Refusing.{RefusedOrMemory}
 use Rattle.world_front.specs.Groups.{groups_of}

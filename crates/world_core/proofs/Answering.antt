@@ -9,8 +9,8 @@ use Rattle.store_core.specs.Request.{Sealed}
 use Rattle.entry_core.specs.Locality.{group_for}
 use Rattle.store_core.specs.declared.reply.Reply.{Reply}
 use Rattle.suffix_core.specs.Group.{Group, submitted, is_submitted, answer_of}
-use Rattle.world_front.specs.declared.fault.WorldFault.{WorldFault as Fault}
-use Rattle.world_front.specs.declared.fault.WorldFault.TheVariants.{NoRequest}
+use Rattle.world_events.specs.declared.fault.WorldFault.{WorldFault as Fault}
+use Rattle.world_events.specs.declared.fault.WorldFault.TheVariants.{NoRequest}
 use Rattle.world_front.specs.Front.{Front}
 use Rattle.world_core.specs.World.{group_at}
 use Rattle.world_core.specs.Moves.{AreGroupsOf, IsAt, place_in}

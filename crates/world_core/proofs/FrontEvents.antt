@@ -3,10 +3,10 @@ use Rattle.std.proofs.Common.{◌≡◌, ◌∙◌, inl, inr, List, [], ◌++◌
 use Rattle.std.specs.Prelude.{OnOk, OnErr, IfOk}
 use Rattle.std.specs.Option.{option_map, option_or}
 use Rattle.suffix_core.specs.Group.{Group}
-use Rattle.world_front.specs.declared.event.Event.{Event}
-use Rattle.world_front.specs.declared.event.Told.{Told}
-use Rattle.world_front.specs.declared.fault.WorldFault.{WorldFault as Fault}
-use Rattle.world_front.specs.declared.fault.WorldFault.TheVariants.{Group as OfGroup}
+use Rattle.world_events.specs.declared.event.Event.{Event}
+use Rattle.world_events.specs.declared.event.Told.{Told}
+use Rattle.world_events.specs.declared.fault.WorldFault.{WorldFault as Fault}
+use Rattle.world_events.specs.declared.fault.WorldFault.TheVariants.{Group as OfGroup}
 use Rattle.world_front.specs.Front.{Front, front_step, front_refusal, told_of}
 use Rattle.world_core.specs.World.{World, Part, acted, is_drop, created_by, parts_of, parts_refusal, refusal_of, world_step}
 use Rattle.world_front.specs.Refusing.{RefusedOrMemory}

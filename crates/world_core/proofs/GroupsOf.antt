@@ -19,8 +19,8 @@ use Rattle.std.specs.Option.{option_map}
 use Rattle.map_commands.specs.State.{History}
 use Rattle.map_core.specs.Refusal.{acting_refusal}
 use Rattle.group_types.specs.declared.fault.GroupFault.{GroupFault}
-use Rattle.world_front.specs.declared.fault.WorldFault.{WorldFault as Fault}
-use Rattle.world_front.specs.declared.fault.WorldFault.TheVariants.{Map as OfMap}
+use Rattle.world_events.specs.declared.fault.WorldFault.{WorldFault as Fault}
+use Rattle.world_events.specs.declared.fault.WorldFault.TheVariants.{Map as OfMap}
 use Rattle.world_front.specs.Front.{Front, group_refusal}
 use Rattle.world_core.specs.declared.audit.Run.{Run}
 use Rattle.world_core.specs.declared.calls.GroupCall.{GroupCall}

@@ -6,7 +6,7 @@ use Rattle.std.specs.List.{filter}
 use Rattle.std.specs.Option.{option_map}
 use Rattle.store_core.specs.declared.sealed.GroupId.{GroupId}
 use Rattle.suffix_core.specs.Group.{Group, run, group_step}
-use Rattle.world_front.specs.declared.event.Event.{Event}
+use Rattle.world_events.specs.declared.event.Event.{Event}
 use Rattle.world_front.specs.Groups.{is_same_group}
 use Rattle.world_front.specs.Front.{front_step}
 use Rattle.world_core.specs.World.{World, Part, group_at, act, acted, parts_of, created_by, world_step, first_world, world_after}

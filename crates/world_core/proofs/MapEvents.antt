@@ -6,10 +6,10 @@ use Rattle.map_commands.specs.Map.{map_of}
 use Rattle.map_commands.specs.declared.command.MapCommand.{MapCommand}
 use Rattle.whole_logs.specs.Each.{Each}
 use Rattle.suffix_core.specs.Group.{Group}
-use Rattle.world_front.specs.declared.event.Event.TheVariants.{Map}
-use Rattle.world_front.specs.declared.event.Told.{Told}
-use Rattle.world_front.specs.declared.fault.WorldFault.{WorldFault as Fault}
-use Rattle.world_front.specs.declared.fault.WorldFault.TheVariants.{Group as OfGroup}
+use Rattle.world_events.specs.declared.event.Event.TheVariants.{Map}
+use Rattle.world_events.specs.declared.event.Told.{Told}
+use Rattle.world_events.specs.declared.fault.WorldFault.{WorldFault as Fault}
+use Rattle.world_events.specs.declared.fault.WorldFault.TheVariants.{Group as OfGroup}
 use Rattle.world_front.specs.Front.{Front, front_step, front_refusal, told_of}
 use Rattle.world_core.specs.World.{World, Part, acted, created_by, parts_of, parts_refusal}
 use Rattle.world_core.specs.Moves.{stepped}

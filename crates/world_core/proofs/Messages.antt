@@ -12,12 +12,12 @@ use Rattle.suffix_core.specs.Group as group
 use Rattle.group_types.specs.declared.fault.GroupFault.{GroupFault}
 use Rattle.group_types.specs.declared.fault.GroupFault.TheVariants as group_fault
 use Rattle.suffix_core.proofs.Additions.{audit_grows}
-use Rattle.world_front.specs.declared.event.Event.{Event}
-use Rattle.world_front.specs.declared.event.Event.TheVariants.{Auth, Map, Open, Renew, Close, Submit, List as ListNames, Deliver, Lose, Repeat, Kick}
-use Rattle.world_front.specs.declared.event.Told.{Told}
-use Rattle.world_front.specs.declared.fault.WorldFault.{WorldFault as Fault}
-use Rattle.world_front.specs.declared.fault.WorldFault.TheVariants.{OutOfMemory, Map as OfMap, Group as OfGroup}
-use Rattle.world_front.specs.declared.event.Told.TheVariants.{Done}
+use Rattle.world_events.specs.declared.event.Event.{Event}
+use Rattle.world_events.specs.declared.event.Event.TheVariants.{Auth, Map, Open, Renew, Close, Submit, List as ListNames, Deliver, Lose, Repeat, Kick}
+use Rattle.world_events.specs.declared.event.Told.{Told}
+use Rattle.world_events.specs.declared.fault.WorldFault.{WorldFault as Fault}
+use Rattle.world_events.specs.declared.fault.WorldFault.TheVariants.{OutOfMemory, Map as OfMap, Group as OfGroup}
+use Rattle.world_events.specs.declared.event.Told.TheVariants.{Done}
 use Rattle.map_core.specs.Refusal.{acting_refusal}
 use Rattle.map_commands.specs.declared.fault.MapFault.{MapFault}
 use Rattle.world_front.specs.Front.{Front, front_step, front_refusal, group_refusal, told_of, requests_of, requests_in}

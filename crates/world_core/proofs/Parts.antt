@@ -7,7 +7,7 @@ use Rattle.std.proofs.lemmas.Grind.{flat_map-append}
 use Rattle.store_core.specs.Request.{Sealed}
 use Rattle.whole_logs.specs.Each.{Each}
 use Rattle.suffix_core.specs.Group.{Group}
-use Rattle.world_front.specs.Submitting.{AreNew}
+use Rattle.world_events.specs.Submitting.{AreNew}
 use Rattle.world_core.specs.Inside.{run_entries, entries_told}
 use Rattle.world_core.specs.Sound.{FitsAt}
 use Rattle.world_core.specs.Applying.{runs_from}

@@ -4,10 +4,10 @@ use Rattle.std.proofs.Common.{◌≡◌, ◌∙◌, ◌⊎◌, inl, inr, ℕ, �
 use Rattle.std.specs.Prelude.{fold, slice_get}
 use Rattle.std.proofs.lemmas.List.{take_more}
 use Rattle.grant_core.specs.Flat.{Table}
-use Rattle.world_front.specs.declared.event.Event.{Event}
-use Rattle.world_front.specs.declared.event.Told.{Told}
-use Rattle.world_front.specs.declared.fault.WorldFault.{WorldFault as Fault}
-use Rattle.world_front.specs.declared.fault.WorldFault.TheVariants.{OutOfMemory}
+use Rattle.world_events.specs.declared.event.Event.{Event}
+use Rattle.world_events.specs.declared.event.Told.{Told}
+use Rattle.world_events.specs.declared.fault.WorldFault.{WorldFault as Fault}
+use Rattle.world_events.specs.declared.fault.WorldFault.TheVariants.{OutOfMemory}
 use Rattle.world_core.specs.World.{World, accepts, first_world, is_accepted, refusal_of, world_after, world_step}
 use Rattle.world_core.specs.Holds.{AcceptedFrom, AreAccepted, Holds}
 use Rattle.world_front.specs.Refusing.{RefusedOrMemory}

@@ -11,15 +11,15 @@ use Rattle.whole_logs.specs.Each.{Each}
 use Rattle.suffix_core.specs.Group.{submitted}
 use Rattle.whole_logs.specs.Asked.{IsAsked}
 use Rattle.whole_logs.proofs.Audits.{legal_rest}
-use Rattle.world_front.specs.declared.event.Event.{Event}
-use Rattle.world_front.specs.declared.event.Told.{Told}
-use Rattle.world_front.specs.declared.fault.WorldFault.{WorldFault as Fault}
+use Rattle.world_events.specs.declared.event.Event.{Event}
+use Rattle.world_events.specs.declared.event.Told.{Told}
+use Rattle.world_events.specs.declared.fault.WorldFault.{WorldFault as Fault}
 use Rattle.world_front.specs.Front.{sealed_by}
 use Rattle.world_core.specs.World.{World, counts, is_accepted, world_step}
 use Rattle.world_core.specs.Answers.{answer_at}
 use Rattle.world_core.specs.Applying.{Applies}
 use Rattle.world_core.specs.Sound.{IsSound}
-use Rattle.world_front.specs.Submitting as submitting
+use Rattle.world_events.specs.Submitting as submitting
 use Rattle.world_core.specs.Service.{AreNew, AreDecided, Step, Reaches, begun}
 use Rattle.world_core.specs.Serving.{service_of, submitted_by, submitted_through}
 use Rattle.world_core.proofs.Limits.{few_submissions}

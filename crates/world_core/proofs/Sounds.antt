@@ -13,8 +13,8 @@ use Rattle.map_core.proofs.Current.{after_push}
 use Rattle.store_core.specs.Request.{Sealed}
 use Rattle.store_core.specs.declared.sealed.GroupId.{GroupId}
 use Rattle.suffix_core.specs.Group.{Group, group_step}
-use Rattle.world_front.specs.declared.event.Event.{Event}
-use Rattle.world_front.specs.declared.event.Event.TheVariants.{Auth, Map, Open, Renew, Close, Submit, List as ListNames, Deliver, Lose, Repeat, Kick}
+use Rattle.world_events.specs.declared.event.Event.{Event}
+use Rattle.world_events.specs.declared.event.Event.TheVariants.{Auth, Map, Open, Renew, Close, Submit, List as ListNames, Deliver, Lose, Repeat, Kick}
 use Rattle.world_front.specs.Groups.{is_same_group, groups_of}
 use Rattle.world_front.specs.Front.{Front, front_step, sealed_by}
 use Rattle.world_core.specs.World.{World, Part, first_world, at_group, act, acted, parts_of, begun_group, created_by, is_accepted, world_step}

@@ -17,7 +17,7 @@ use Rattle.suffix_core.specs.Group.{Group, group_step, refusal_of}
 use Rattle.suffix_core.specs.Group as group
 use Rattle.world_front.specs.Groups.{is_same_group, groups_of}
 use Rattle.world_core.specs.World.{Part, part, group_at, at_group, map_parts, parts_of, created_by, refused_in, part_refusal, parts_refusal}
-use Rattle.world_front.specs.declared.event.Event.TheVariants.{Map}
+use Rattle.world_events.specs.declared.event.Event.TheVariants.{Map}
 use Rattle.world_front.specs.Front.{Front}
 use Rattle.world_core.specs.Moves.{stepped, stepped_by, moves_groups, move_of, all_moved, first_refusal}
 use Rattle.world_front.proofs.Bytes.{number_same}

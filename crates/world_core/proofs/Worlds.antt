@@ -22,8 +22,8 @@ use Rattle.suffix_core.specs.Group as group
 use Rattle.whole_logs.proofs.Kept.{answer_replied}
 use Rattle.suffix_core.proofs.Additions.{answer_stands}
 use Rattle.suffix_core.proofs.Twins.{run_replied}
-use Rattle.world_front.specs.declared.event.Event.{Event}
-use Rattle.world_front.specs.declared.event.Event.TheVariants.{Auth, Map, Open, Renew, Close, Submit, List as ListNames, Deliver, Lose, Repeat, Kick}
+use Rattle.world_events.specs.declared.event.Event.{Event}
+use Rattle.world_events.specs.declared.event.Event.TheVariants.{Auth, Map, Open, Renew, Close, Submit, List as ListNames, Deliver, Lose, Repeat, Kick}
 use Rattle.entry_core.specs.Locality.{group_for, IsPlaced}
 use Rattle.world_front.specs.Groups.{is_same_group, is_of, groups_of, group_count}
 use Rattle.world_front.specs.Merging.{part_of, IsKnown}

@@ -9,8 +9,8 @@ use Rattle.map_commands.specs.Intervals.{set_of}
 use Rattle.store_core.specs.declared.sealed.GroupId.{GroupId}
 use Rattle.suffix_core.specs.Within.{IsReachedWithin}
 use Rattle.suffix_core.specs.Group.{Group, last_set}
-use Rattle.world_front.specs.declared.event.Ask.{Ask}
-use Rattle.world_front.specs.declared.event.Event.TheVariants.{Submit, List as ListNames}
+use Rattle.world_events.specs.declared.event.Ask.{Ask}
+use Rattle.world_events.specs.declared.event.Event.TheVariants.{Submit, List as ListNames}
 use Rattle.world_front.specs.Front.{front_refusal}
 use Rattle.world_core.specs.World.{World, group_at, refusal_of}
 use Rattle.world_front.specs.Groups.{is_for}

@@ -11,7 +11,7 @@ use Rattle.suffix_core.specs.Types.{EntryReply}
 use Rattle.suffix_core.specs.Group.{Group, answer_of, submitted}
 use Rattle.whole_logs.specs.Asked.{IsReplied}
 use Rattle.whole_logs.specs.History.{Begins}
-use Rattle.world_front.specs.declared.event.Event.{Event}
+use Rattle.world_events.specs.declared.event.Event.{Event}
 use Rattle.entry_core.specs.Locality.{group_for}
 use Rattle.world_core.specs.World.{World, world_after, world_step, group_at}
 use Rattle.world_core.specs.Standing.{IsMerged, AllSubmitted, HasNumbers}

@@ -7,9 +7,9 @@ use Rattle.store_core.specs.declared.sealed.GroupId.{GroupId}
 use Rattle.suffix_core.specs.Group.{Group, is_submitted}
 use Rattle.suffix_core.specs.Replicated.{IsReplicated}
 use Rattle.suffix_core.specs.Types.{EntryReply}
-use Rattle.world_front.specs.declared.event.Event.{Event}
-use Rattle.world_front.specs.declared.fault.WorldFault.{WorldFault as Fault}
-use Rattle.world_front.specs.declared.fault.WorldFault.TheVariants.{NoRequest, OutOfMemory}
+use Rattle.world_events.specs.declared.event.Event.{Event}
+use Rattle.world_events.specs.declared.fault.WorldFault.{WorldFault as Fault}
+use Rattle.world_events.specs.declared.fault.WorldFault.TheVariants.{NoRequest, OutOfMemory}
 use Rattle.world_core.specs.World.{World, first_world, group_at, refusal_of, world_after, world_step}
 use Rattle.world_core.specs.Holds.{AreAccepted, HasIntervals}
 use Rattle.world_core.specs.Standing.{HasNumbers}

@@ -7,7 +7,7 @@ use Rattle.map_commands.specs.Intervals.{intervals_of}
 use Rattle.store_core.specs.declared.sealed.GroupId.{GroupId}
 use Rattle.suffix_core.specs.Group.{Group, run}
 use Rattle.suffix_core.specs.Group as group
-use Rattle.world_front.specs.declared.event.Event.{Event}
+use Rattle.world_events.specs.declared.event.Event.{Event}
 use Rattle.world_front.specs.Groups.{is_same_group}
 use Rattle.world_front.specs.Front.{Front, first_front, front_step, front_after}
 use Rattle.world_core.specs.World.{World, Part, group_at, parts_of, created_by, world_after, world_step, first_world, is_accepted}

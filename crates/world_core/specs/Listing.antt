@@ -9,8 +9,8 @@ use Rattle.std.specs.BTreeSet.{insert_key}
 use Rattle.entry_core.specs.Laws.{is_denied}
 use Rattle.store_core.specs.declared.reply.Reply.{Reply}
 use Rattle.store_core.specs.declared.reply.Reply.TheVariants.{Denied, Done, Failed, Names}
-use Rattle.world_front.specs.declared.fault.WorldFault.{WorldFault as Fault}
-use Rattle.world_front.specs.declared.fault.WorldFault.TheVariants.{NoRequest}
+use Rattle.world_events.specs.declared.fault.WorldFault.{WorldFault as Fault}
+use Rattle.world_events.specs.declared.fault.WorldFault.TheVariants.{NoRequest}
 use Rattle.world_front.specs.declared.session.Pieced.{Pieced}
 use Rattle.world_front.specs.Front.{list_at}
 use Rattle.world_core.specs.World.{World}

@@ -2,9 +2,9 @@
 -- A world as the service: which of its parts are seen, and which requests an event submits.
 use Rattle.std.specs.Prelude.{List, [], ◌∷◌, if◌then◌else◌, Result}
 use Rattle.store_core.specs.Request.{Sealed}
-use Rattle.world_front.specs.declared.event.Event.{Event}
-use Rattle.world_front.specs.declared.event.Told.{Told}
-use Rattle.world_front.specs.declared.fault.WorldFault.{WorldFault as Fault}
+use Rattle.world_events.specs.declared.event.Event.{Event}
+use Rattle.world_events.specs.declared.event.Told.{Told}
+use Rattle.world_events.specs.declared.fault.WorldFault.{WorldFault as Fault}
 use Rattle.world_front.specs.Front.{Front, front_step, sealed_by}
 use Rattle.world_core.specs.World.{World, counts}
 use Rattle.world_core.specs.Answers.{answer_at}

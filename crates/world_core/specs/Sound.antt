@@ -21,7 +21,7 @@ use Rattle.world_core.specs.Standing.{audit_in, IsMerged}
 use Rattle.world_front.specs.Stands.{InMap, IsSealedWell, FrontStands}
 use Rattle.world_core.specs.declared.audit.Run.{Run}
 use Rattle.world_core.specs.Inside.{world_of}
-use Rattle.world_front.specs.Submitting.{AreNew}
+use Rattle.world_events.specs.Submitting.{AreNew}
 
 -- ---- the front
 

@@ -18,11 +18,11 @@ use Rattle.suffix_core.specs.Group.{Group, group_step, start}
 use Rattle.suffix_core.specs.Group as group
 use Rattle.group_types.specs.declared.fault.GroupFault.{GroupFault}
 use Rattle.group_types.specs.declared.fault.GroupFault.TheVariants as group_fault
-use Rattle.world_front.specs.declared.event.Event.{Event}
-use Rattle.world_front.specs.declared.event.Event.TheVariants.{Map, Submit, List as ListNames, Deliver, Lose, Repeat, Kick}
-use Rattle.world_front.specs.declared.event.Told.{Told}
-use Rattle.world_front.specs.declared.fault.WorldFault.{WorldFault as Fault}
-use Rattle.world_front.specs.declared.fault.WorldFault.TheVariants.{Group as OfGroup}
+use Rattle.world_events.specs.declared.event.Event.{Event}
+use Rattle.world_events.specs.declared.event.Event.TheVariants.{Map, Submit, List as ListNames, Deliver, Lose, Repeat, Kick}
+use Rattle.world_events.specs.declared.event.Told.{Told}
+use Rattle.world_events.specs.declared.fault.WorldFault.{WorldFault as Fault}
+use Rattle.world_events.specs.declared.fault.WorldFault.TheVariants.{Group as OfGroup}
 use Rattle.world_front.specs.Front.{Front, first_front, front_step, front_refusal, sealed_by}
 use Rattle.entry_core.specs.Locality.{group_for}
 use Rattle.world_front.specs.Groups.{is_same_group, groups_of}

@@ -3,8 +3,8 @@
 ghost use Rattle.std.specs.Prelude.{◌≡◌, ◌≤◌, ◌++◌, None, IfOk, IfErr, OnOk, OnErr};
 ghost use Rattle.map_commands.specs.Map.{map_of, epoch_of, after};
 ghost use Rattle.map_core.specs.Refusal.{refusal};
-ghost use Rattle.world_front.specs.declared.event.Event.TheVariants.{Map};
-ghost use Rattle.world_front.specs.declared.fault.WorldFault.TheVariants.{OutOfMemory};
+ghost use Rattle.world_events.specs.declared.event.Event.TheVariants.{Map};
+ghost use Rattle.world_events.specs.declared.fault.WorldFault.TheVariants.{OutOfMemory};
 ghost use Rattle.world_front.specs.Front.{front_step, told_of};
 ghost use Rattle.world_core.specs.Moves.{made_by};
 ghost use Rattle.world_core.specs.World.{begun_group};

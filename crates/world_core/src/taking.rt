@@ -7,7 +7,7 @@ ghost use Rattle.whole_logs.specs.Each.{Each};
 ghost use Rattle.suffix_core.specs.Group as group;
 ghost use Rattle.group_types.specs.declared.fault.GroupFault.TheVariants as group_fault;
 ghost use Rattle.map_commands.specs.Map.{map_of};
-ghost use Rattle.world_front.specs.declared.fault.WorldFault.TheVariants as faults;
+ghost use Rattle.world_events.specs.declared.fault.WorldFault.TheVariants as faults;
 ghost use Rattle.world_core.specs.Taking.{Takes, TakesAll, is_full_at, places_for};
 
 use crate::group_places::place_for;

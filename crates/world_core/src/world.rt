@@ -4,8 +4,8 @@ ghost use Rattle.std.specs.Prelude.{◌≡◌, ◌≤◌, ◌++◌, [], ◌∷�
 ghost use Rattle.grant_core.specs.Flat.{Table};
 ghost use Rattle.store_core.specs.declared.sealed.GroupId.{GroupId};
 ghost use Rattle.suffix_core.specs.Recovery.{is_ready};
-ghost use Rattle.world_front.specs.declared.event.Event as events;
-ghost use Rattle.world_front.specs.declared.event.Event.TheVariants as happens;
+ghost use Rattle.world_events.specs.declared.event.Event as events;
+ghost use Rattle.world_events.specs.declared.event.Event.TheVariants as happens;
 ghost use Rattle.world_front.specs.Front.{told_of, group_refusal};
 ghost use Rattle.world_core.specs.World.{first_world, world_step, refusal_of, counts, group_at};
 ghost use Rattle.world_core.specs.Holds.{Holds};
@@ -179,7 +179,7 @@ impl World {
 // One event each.
 impl World {
     ghost use Rattle.std.specs.Prelude.{Err};
-    ghost use Rattle.world_front.specs.declared.event.Event.TheVariants.{Auth, Map, Open, Renew, Close, Submit, List as ListNames};
+    ghost use Rattle.world_events.specs.declared.event.Event.TheVariants.{Auth, Map, Open, Renew, Close, Submit, List as ListNames};
     ghost use Rattle.world_core.specs.Applying.{Applies, LosesExactly, event_for};
 
     /// Carries out an event.

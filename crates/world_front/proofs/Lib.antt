@@ -10,4 +10,4 @@ pub mod NewRequests
 pub mod Refused
 pub mod Views
 pub mod FrontSteps
-pub mod Submitted
+pub mod ListsFound

@@ -18,7 +18,7 @@ use Rattle.entry_core.specs.Log.{LegalFrom, decide, ids, is_in}
 use Rattle.store_core.specs.declared.entry.Entry.{Entry}
 use Rattle.store_core.specs.declared.sealed.GroupId.{GroupId}
 use Rattle.whole_logs.specs.Each.{Each}
-use Rattle.suffix_core.specs.Group.{submitted}
+use Rattle.whole_logs.specs.Group.{submitted}
 use Rattle.whole_logs.specs.Asked.{IsAsked}
 use Rattle.entry_core.proofs.Lawful.{store_push, others_are_left, decision_tells_the_store}
 use Rattle.entry_core.specs.Locality.{group_for, IsIn, AgreeIn, Hashes, IsPlaced}

@@ -7,7 +7,7 @@ use Rattle.world_front.specs.Front.{Front, if_ok, sealed_by, requests_of, reques
 use Rattle.world_front.specs.Stands.{FrontStands, IsKept}
 use Rattle.world_front.proofs.Fronts.{Requested, submit_made, list_made}
 use Rattle.world_front.proofs.Recording.{free_in, free_new, next_few}
-use Rattle.world_front.specs.Submitting.{AreNew}
+use Rattle.world_events.specs.Submitting.{AreNew}
 
 pub new_joined : (old xs ys : List Sealed) → AreNew old xs → AreNew (old ++ xs) ys → AreNew old (xs ++ ys)
 new_joined old [] ys h k = subst (λ l. AreNew l ys) (append-nil old) k

@@ -5,7 +5,7 @@ use Rattle.std.specs.Prelude.{slice_get, slice_set}
 use Rattle.std.specs.Cmp.{unsigned_Decides}
 use Rattle.store_core.specs.Request.{Sealed}
 use Rattle.whole_logs.specs.Each.{Each}
-use Rattle.suffix_core.specs.Group.{submitted}
+use Rattle.whole_logs.specs.Group.{submitted}
 use Rattle.whole_logs.specs.Asked.{IsAsked}
 use Rattle.world_front.specs.Front.{Session, session_of, if_open, session_at, if_ok}
 use Rattle.world_front.specs.Event.{Fault, NoSession}

@@ -9,8 +9,6 @@ use Rattle.auth_db.specs.Users.{Database, Users, user_at, after}
 use Rattle.auth_db.specs.Users as users
 use Rattle.auth_db.specs.Refusals.{known_refusal, auth_refusal}
 use Rattle.auth_db.specs.declared.caps.Caps.{Caps}
-use Rattle.auth_db.specs.declared.fault.AuthFault.{AuthFault}
-use Rattle.auth_db.specs.declared.fault.AuthFault.TheVariants as auth_fault
 use Rattle.map_commands.specs.State.{History}
 use Rattle.map_commands.specs.Map.{map_of, epoch_of}
 use Rattle.map_core.specs.Refusal as map_tests
@@ -18,7 +16,7 @@ use Rattle.store_core.specs.Request.{Sealed}
 use Rattle.store_core.specs.declared.sealed.GroupId.{GroupId}
 use Rattle.group_types.specs.declared.fault.GroupFault.TheVariants as group_fault
 use Rattle.entry_core.specs.Locality.{group_for}
-use Rattle.world_front.specs.Event.{Ask, AuthCommand, Add, GetOrCreate, SetCaps, Delete, Event, Auth, Map, Open, Renew, Close, Submit, ListNames, Deliver, Lose, Repeat, Kick, Told, Done, Made, There, Epoch, OfSession, Request, Pieces, Fault, Limit, OutOfMemory, OfUsers, OfMap, OfGroup}
+use Rattle.world_front.specs.Event.{Ask, AuthCommand, Add, GetOrCreate, SetCaps, Delete, Event, Auth, Map, Open, Renew, Close, Submit, ListNames, Deliver, Lose, Repeat, Kick, Told, Done, Made, There, Epoch, OfSession, Request, Pieces, Fault, Limit, OfUsers, OfMap, OfGroup}
 use Rattle.world_front.specs.Tickets.{ticket_of}
 pub use Rattle.world_front.specs.Sealing.{Session, ◌>>=◌, need, refuse_if, lower, if_ok, error_of, if_open, session_of, session_at, Asker, asker_in, is_printable, is_object_name, is_namespace, id_of, sealed_of, vector_of, pieces_of}
 unfoldable pub use Rattle.world_front.specs.Sealing.{requests_in}
@@ -46,11 +44,6 @@ first_front table daemons = record {
 }
 
 -- ---- users
-
--- a fault of the users, where want of memory is the world's own
-abbrev pub users_fault : AuthFault → Fault
-users_fault auth_fault.OutOfMemory = OutOfMemory
-users_fault fault = OfUsers fault
 
 -- the command, as the users see it
 abbrev pub command_of : AuthCommand → users.Command

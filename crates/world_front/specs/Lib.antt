@@ -2,10 +2,9 @@ pub mod Groups
 pub mod Merging
 pub mod Tickets
 pub mod Event
-pub mod Printed
 pub mod Sealing
 pub mod Front
 pub mod Refusing
 pub mod Asking
 pub mod Stands
-pub mod Submitting
+pub mod Lists

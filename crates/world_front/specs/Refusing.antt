@@ -3,24 +3,12 @@
 use Rattle.std.specs.Prelude.{◌≡◌, ◌⊎◌, Option, None, Some, Result, Ok, Err}
 use Rattle.map_commands.specs.declared.fault.MapFault.{MapFault}
 use Rattle.map_commands.specs.declared.fault.MapFault.TheVariants as map_fault
-use Rattle.object_core.specs.declared.needs.NeedsFault.{NeedsFault}
-use Rattle.object_core.specs.declared.needs.NeedsFault.TheVariants as needs_fault
-use Rattle.world_front.specs.Event.{Fault, NoPool, OutOfMemory, OfMap, OfNeeds}
+use Rattle.world_front.specs.Event.{Fault, NoPool, OutOfMemory}
 
 -- accepted only where nothing refuses it, and refused by what does, or for want of memory
 abbrev pub RefusedOrMemory : {T : Type 0} → Option Fault → Result T Fault → Type 0
 RefusedOrMemory refusal (Ok x) = refusal ≡ None
 RefusedOrMemory refusal (Err fault) = (fault ≡ OutOfMemory) ⊎ (refusal ≡ Some fault)
-
--- a fault of the map, where want of memory is the world's own
-abbrev pub fault_of_map : MapFault → Fault
-fault_of_map map_fault.OutOfMemory = OutOfMemory
-fault_of_map fault = OfMap fault
-
--- a fault of a vector, where want of memory is the world's own
-abbrev pub fault_of_needs : NeedsFault → Fault
-fault_of_needs needs_fault.OutOfMemory = OutOfMemory
-fault_of_needs fault = OfNeeds fault
 
 -- a fault of a view: there was no such pool, whatever the name or the epoch
 abbrev pub fault_of_view : MapFault → Fault

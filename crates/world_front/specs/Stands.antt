@@ -6,7 +6,7 @@ use Rattle.map_core.specs.Laws.{HasPool}
 use Rattle.store_core.specs.Request.{Sealed}
 use Rattle.entry_core.specs.Locality.{Hashes}
 use Rattle.whole_logs.specs.Each.{Each}
-use Rattle.suffix_core.specs.Group.{submitted}
+use Rattle.whole_logs.specs.Group.{submitted}
 use Rattle.whole_logs.specs.Asked.{IsAsked}
 use Rattle.world_front.specs.Front.{Session, Front, id_of}
 

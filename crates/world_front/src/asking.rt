@@ -11,10 +11,10 @@ ghost use Rattle.world_front.specs.Front as spec;
 ghost use Rattle.world_front.specs.Refusing.{RefusedOrMemory};
 ghost use Rattle.world_front.specs.Refusing as refusing;
 
-use crate::fault::WorldFault;
 use crate::session::Session;
 use common_types::Name;
 use map_core::{ClusterMap, Epoch, MapFault, PoolView};
+use world_events::WorldFault;
 
 /// Who asks, and the pool as the asker saw it.
 #[derive(Drop)]

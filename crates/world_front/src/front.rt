@@ -3,7 +3,7 @@
 ghost use Rattle.std.specs.Prelude.{◌≡◌, ◌≤◌, ◌<◌, ℕ, List, [], ◌∷◌, None, Ok, OnOk, OnErr, IfOk, length, option_copied};
 ghost use Rattle.object_ops.specs.declared.op.Op as op;
 ghost use Rattle.whole_logs.specs.Each.{Each};
-ghost use Rattle.suffix_core.specs.Group.{submitted};
+ghost use Rattle.whole_logs.specs.Group.{submitted};
 ghost use Rattle.world_front.specs.Event.{Auth, Map, Open, Renew, Close, Submit, ListNames};
 ghost use Rattle.map_commands.specs.PoolLimits.{HasLimits};
 ghost use Rattle.world_front.specs.Front.{asker_of, error_of, first_front, front_refusal, front_step, requests_of, told_of, list_at};
@@ -12,13 +12,9 @@ ghost use Rattle.world_front.specs.Refusing.{RefusedOrMemory};
 ghost use Rattle.world_front.specs.Stands.{IsKept};
 
 use crate::asking::{Asker, are_names, is_namespace, view_for};
-use crate::event::{Ask, AuthCommand, Told};
-use crate::fault::WorldFault;
 use crate::lists::Lists;
-use crate::ops::Ops;
 use crate::sealing::{seal_pieces, seal_vector};
 use crate::session::{Pieced, Session, Sessions};
-use crate::submissions::Submissions;
 use crate::users::{change_users, check_user, ticket_for};
 use auth_db::AuthDb;
 use common_types::{Name, OutOfMemory};
@@ -27,6 +23,7 @@ use grant_core::ProfileTable;
 use map_core::{ClusterMap, MapCommand};
 use std::alloc::Global;
 use std::marker::Model;
+use world_events::{Ask, AuthCommand, Ops, Submissions, Told, WorldFault};
 
 /// The most sessions that there may be, closed ones counted (W6).
 pub const MOST_SESSIONS: u32 = 1024;

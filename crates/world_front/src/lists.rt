@@ -18,7 +18,7 @@ pub(crate) struct Lists {
 impl Model for Lists {
     ghost use Rattle.std.specs.Prelude.{List};
     ghost use Rattle.world_front.specs.Front as front;
-    ghost use Rattle.world_front.specs.Submitting.{lists_in};
+    ghost use Rattle.world_front.specs.Lists.{lists_in};
 
     ghost Value = { List front.Pieced };
 

@@ -9,15 +9,13 @@ ghost use Rattle.world_front.specs.Refusing.{RefusedOrMemory};
 ghost use Rattle.world_front.specs.Front.{pieces_of, sealed_of, vector_of};
 
 use crate::asking::Asker;
-use crate::event::Ask;
-use crate::fault::WorldFault;
-use crate::ops::Ops;
 use crate::session::Session;
 use common_types::Name;
 use entry_core::{Id, Items, OutOfMemory, Sealed};
 use map_core::PoolView;
 use place_core::group_of;
 use std::alloc::Global;
+use world_events::{Ask, Ops, WorldFault};
 
 /// The request of a vector, which shares the session's ticket.
 ///

@@ -6,14 +6,13 @@ ghost use Rattle.world_front.specs.Front.{asks_more, error_of, opened, session_a
 ghost use Rattle.world_front.specs.Front as spec;
 ghost use Rattle.common_types.specs.Refused.{RefusedExactly};
 
-use crate::event::Ask;
-use crate::fault::WorldFault;
 use common_types::Name;
 use entry_core::{Id, OutOfMemory};
 use map_core::Epoch;
 use std::alloc::Global;
 use std::marker::Model;
 use verdict_core::SharedTicket;
+use world_events::{Ask, WorldFault};
 
 /// Who asks, with the ticket of the last opening or renewal. Its requests count from 1.
 pub struct Session {

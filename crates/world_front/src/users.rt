@@ -11,11 +11,10 @@ ghost use Rattle.world_front.specs.Front as spec;
 ghost use Rattle.common_types.specs.Refused.{RefusedExactly};
 ghost use Rattle.world_front.specs.Refusing.{RefusedOrMemory};
 
-use crate::event::{AuthCommand, Told};
-use crate::fault::WorldFault;
 use auth_db::{AuthDb, AuthFault, Caps, Creation};
 use common_types::Name;
 use verdict_core::SharedTicket;
+use world_events::{AuthCommand, Told, WorldFault};
 
 /// Carries out a command on the users, and tells what it came to. Where it is refused, or memory is wanting, they stay as they were.
 pub fn change_users(users: &mut AuthDb, command: AuthCommand) -> Result<Told, AuthFault>

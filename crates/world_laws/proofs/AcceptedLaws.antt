@@ -1,7 +1,7 @@
 -- What worlds keep whose events were all accepted.
 use Rattle.std.proofs.Common.{ℕ, ◌<◌, ◌≤◌, List, ◌∷◌, length, fold, arith, []}
 use Rattle.grant_core.specs.Flat.{Table}
-use Rattle.world_front.specs.declared.event.Event.{Event}
+use Rattle.world_events.specs.declared.event.Event.{Event}
 use Rattle.world_core.specs.World.{World, first_world, world_step, world_after}
 use Rattle.world_core.specs.Holds.{AcceptedFrom, AreAccepted}
 use Rattle.world_laws.specs.Accepted.{RequestsAreSubmissions, FrontTellsRequests, AcceptedHolds, AcceptedAnswers, IntervalsAreTheMaps, GroupsAreServed, AcceptedHasNumbers}

@@ -17,12 +17,12 @@ use Rattle.whole_logs.specs.Asked.{IsAsked}
 use Rattle.suffix_core.specs.Group.{Group, group_step, submitted, is_submitted, has_all_requests}
 use Rattle.suffix_core.specs.Group as group
 use Rattle.group_types.specs.declared.fault.GroupFault.TheVariants as group_fault
-use Rattle.world_front.specs.declared.event.Event.TheVariants.{Map}
+use Rattle.world_events.specs.declared.event.Event.TheVariants.{Map}
 use Rattle.world_front.specs.Groups.{is_same_group, is_for, groups_of}
 use Rattle.world_front.specs.Front.{Front, requests_of, requests_in, front_step}
 use Rattle.world_core.specs.World.{World, group_at, members_of, created_by}
 use Rattle.world_core.specs.Moves.{moves_groups, move_of}
-use Rattle.world_front.specs.Submitting.{AreNew}
+use Rattle.world_events.specs.Submitting.{AreNew}
 use Rattle.world_core.specs.Sound.{IsSealedFor, Submits, Stands, IsWithin, GroupKept, IsSound}
 use Rattle.world_front.proofs.Merge.{group_refl, number_refl}
 use Rattle.world_core.proofs.Standing.{step_is, stands_step}

@@ -21,9 +21,9 @@ use Rattle.whole_laws.specs.Recovery.{IsLoss}
 use Rattle.group_laws.proofs.Losses.{all_lost, can_lose}
 use Rattle.group_laws.proofs.Recovery.{ready_from, recovers}
 use Rattle.group_laws.proofs.SameGroups.{same_settle}
-use Rattle.world_front.specs.declared.event.Event.{Event}
-use Rattle.world_front.specs.declared.event.Event.TheVariants.{Deliver, Lose, Repeat, Kick}
-use Rattle.world_front.specs.declared.fault.WorldFault.TheVariants.{Group as OfGroup}
+use Rattle.world_events.specs.declared.event.Event.{Event}
+use Rattle.world_events.specs.declared.event.Event.TheVariants.{Deliver, Lose, Repeat, Kick}
+use Rattle.world_events.specs.declared.fault.WorldFault.TheVariants.{Group as OfGroup}
 use Rattle.world_front.specs.Groups.{is_same_group, is_for}
 use Rattle.world_front.specs.Front.{Front, front_step, front_refusal, group_refusal, requests_of, requests_in}
 use Rattle.world_core.specs.World.{World, part, group_at, parts_of, created_by, world_step, world_after, accepts, is_accepted, refused_in, parts_refusal}

@@ -19,11 +19,11 @@ use Rattle.whole_logs.specs.Each.{Each}
 use Rattle.suffix_core.specs.Group.{submitted}
 use Rattle.whole_logs.specs.Asked.{IsAsked}
 use Rattle.whole_logs.proofs.Audits.{legal_rest}
-use Rattle.world_front.specs.declared.event.Ask.{Ask}
-use Rattle.world_front.specs.declared.event.Event.{Event}
-use Rattle.world_front.specs.declared.event.Event.TheVariants.{Auth, Map, Open, Renew, Close, Submit, List as ListNames, Deliver, Lose, Repeat, Kick}
-use Rattle.world_front.specs.declared.fault.WorldFault.{WorldFault as Fault}
-use Rattle.world_front.specs.declared.fault.WorldFault.TheVariants.{BadObjectName}
+use Rattle.world_events.specs.declared.event.Ask.{Ask}
+use Rattle.world_events.specs.declared.event.Event.{Event}
+use Rattle.world_events.specs.declared.event.Event.TheVariants.{Auth, Map, Open, Renew, Close, Submit, List as ListNames, Deliver, Lose, Repeat, Kick}
+use Rattle.world_events.specs.declared.fault.WorldFault.{WorldFault as Fault}
+use Rattle.world_events.specs.declared.fault.WorldFault.TheVariants.{BadObjectName}
 use Rattle.world_front.specs.Front.{Front, Asker, ◌>>=◌, refuse_if, if_ok, asker_of, is_namespace, id_of, sealed_of, pieces_of, requests_of, requests_in, sealed_by, listed, front_step}
 use Rattle.world_front.specs.declared.session.Pieced.{Pieced}
 use Rattle.world_core.specs.World.{World, world_step, first_world, world_after}

@@ -15,9 +15,9 @@ use Rattle.map_core.proofs.Current.{after_push}
 use Rattle.map_core.proofs.Acceptance.{all_fail, not_false}
 use Rattle.store_core.specs.declared.sealed.GroupId.{GroupId}
 use Rattle.suffix_core.specs.Group.{Group, group_step}
-use Rattle.world_front.specs.declared.event.Event.{Event}
-use Rattle.world_front.specs.declared.event.Event.TheVariants.{Auth, Map, Open, Renew, Close, Submit, List as ListNames, Deliver, Lose, Repeat, Kick}
-use Rattle.world_front.specs.declared.fault.WorldFault.TheVariants.{Map as OfMap}
+use Rattle.world_events.specs.declared.event.Event.{Event}
+use Rattle.world_events.specs.declared.event.Event.TheVariants.{Auth, Map, Open, Renew, Close, Submit, List as ListNames, Deliver, Lose, Repeat, Kick}
+use Rattle.world_events.specs.declared.fault.WorldFault.TheVariants.{Map as OfMap}
 use Rattle.world_front.specs.Groups.{is_same_group, groups_of}
 use Rattle.world_front.specs.Front.{Front, front_step, group_refusal}
 use Rattle.world_core.specs.World.{World, Part, first_world, group_at, at_group, begun_group, act, acted, parts_of, created_by, world_step, world_after}

@@ -24,7 +24,7 @@ use Rattle.world_core.specs.Standing.{audit_in, audit_at}
 use Rattle.world_front.specs.Merging.{part_of}
 use Rattle.world_core.specs.World.{World, group_at}
 use Rattle.world_core.specs.Sound.{IsSealedFor, FrontKept, Stands, GroupKept, IsSound}
-use Rattle.world_front.specs.Submitting.{AreNew}
+use Rattle.world_events.specs.Submitting.{AreNew}
 use Rattle.world_front.proofs.NewRequests.{new_joined}
 use Rattle.world_core.specs.Parts.{requests_of, decided_of, front_of, FitTogether}
 use Rattle.world_core.specs.declared.world.parts.WorldParts.{WorldParts}

@@ -5,7 +5,7 @@ use Rattle.grant_core.specs.Flat.{Table}
 use Rattle.store_core.specs.declared.sealed.GroupId.{GroupId}
 use Rattle.suffix_core.specs.Types.{EntryReply}
 use Rattle.suffix_core.specs.Group.{Group}
-use Rattle.world_front.specs.declared.event.Event.{Event}
+use Rattle.world_events.specs.declared.event.Event.{Event}
 use Rattle.world_core.specs.World.{group_at, world_after}
 use Rattle.world_core.specs.Standing.{HasNumbers}
 use Rattle.world_core.specs.Answers.{answer_at, IsAnswered}

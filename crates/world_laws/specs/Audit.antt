@@ -7,7 +7,7 @@ use Rattle.store_core.specs.declared.sealed.GroupId.{GroupId}
 use Rattle.whole_logs.specs.Each.{Each}
 use Rattle.suffix_core.specs.Group.{Group, group_step}
 use Rattle.suffix_core.specs.Group as group
-use Rattle.world_front.specs.declared.event.Event.{Event}
+use Rattle.world_events.specs.declared.event.Event.{Event}
 use Rattle.world_core.specs.World.{World, Part, group_at, act, created_by}
 use Rattle.world_core.specs.Standing.{audit_at}
 

@@ -12,7 +12,7 @@ use Rattle.store_core.specs.declared.reply.Reply.{Reply}
 use Rattle.store_core.specs.declared.reply.Reply.TheVariants.{Denied, Names}
 use Rattle.whole_logs.specs.Each.{Each}
 use Rattle.suffix_core.specs.Group.{submitted}
-use Rattle.world_front.specs.declared.event.Event.{Event}
+use Rattle.world_events.specs.declared.event.Event.{Event}
 use Rattle.world_front.specs.Front.{Front, list_at}
 use Rattle.world_front.specs.declared.session.Pieced.{Pieced}
 use Rattle.world_core.specs.World.{World, world_after}

@@ -8,7 +8,7 @@ use Rattle.map_commands.specs.Map.{is_named, map_of}
 use Rattle.map_commands.specs.declared.pool.Pool.{Pool}
 use Rattle.store_core.specs.declared.sealed.GroupId.{GroupId}
 use Rattle.suffix_core.specs.Group.{Group}
-use Rattle.world_front.specs.declared.event.Event.{Event}
+use Rattle.world_events.specs.declared.event.Event.{Event}
 use Rattle.world_front.specs.Front.{group_refusal}
 use Rattle.world_core.specs.World.{World, group_at, world_step, world_after}
 use Rattle.world_front.specs.Groups.{groups_of}

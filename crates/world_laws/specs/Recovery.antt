@@ -12,8 +12,8 @@ use Rattle.suffix_core.specs.Group as group
 use Rattle.suffix_core.specs.Budget.{budget}
 use Rattle.suffix_core.specs.Recovery.{is_ready}
 use Rattle.group_laws.specs.Recovery.{lost_all}
-use Rattle.world_front.specs.declared.event.Event.{Event}
-use Rattle.world_front.specs.declared.event.Event.TheVariants.{Deliver, Lose, Kick}
+use Rattle.world_events.specs.declared.event.Event.{Event}
+use Rattle.world_events.specs.declared.event.Event.TheVariants.{Deliver, Lose, Kick}
 use Rattle.world_front.specs.Groups.{is_same_group}
 use Rattle.world_core.specs.World.{World, group_at, world_step, world_after}
 use Rattle.world_core.specs.Holds.{AcceptedFrom, AreAccepted}

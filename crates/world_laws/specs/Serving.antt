@@ -2,7 +2,7 @@
 -- A world is the service: it begins so, and so do its events go on.
 use Rattle.grant_core.specs.Flat.{Table}
 use Rattle.std.specs.Prelude.{◌≡◌, ℕ, List}
-use Rattle.world_front.specs.declared.event.Event.{Event}
+use Rattle.world_events.specs.declared.event.Event.{Event}
 use Rattle.world_front.specs.Front.{first_front}
 use Rattle.world_core.specs.Holds.{AreAccepted}
 use Rattle.world_core.specs.Service.{Reaches, begun, Step}

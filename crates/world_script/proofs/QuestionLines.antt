@@ -9,8 +9,8 @@ use Rattle.map_commands.specs.declared.pool.PoolView.{PoolView}
 use Rattle.place_core.specs.Placement.{group_of}
 use Rattle.store_core.specs.Request.{Sealed}
 use Rattle.suffix_core.specs.Group.{submitted}
-use Rattle.world_front.specs.declared.fault.WorldFault.{WorldFault as Fault}
-use Rattle.world_front.specs.declared.fault.WorldFault.TheVariants.{NoRequest, BadObjectName, Map as OfMap}
+use Rattle.world_events.specs.declared.fault.WorldFault.{WorldFault as Fault}
+use Rattle.world_events.specs.declared.fault.WorldFault.TheVariants.{NoRequest, BadObjectName, Map as OfMap}
 use Rattle.world_front.specs.Front.{Front, is_object_name, is_namespace}
 use Rattle.world_core.specs.World.{World}
 use Rattle.world_core.specs.Answers.{answer_at}

@@ -11,10 +11,10 @@ use Rattle.script_text.specs.declared.fault.LineFault.TheVariants as line_fault
 use Rattle.script_text.proofs.Known.{appends_kept, appends_more}
 use Rattle.object_ops.specs.declared.op.Op.{Op}
 use Rattle.store_core.specs.declared.sealed.GroupId.{GroupId}
-use Rattle.world_front.specs.declared.event.Ask.{Ask}
-use Rattle.world_front.specs.declared.event.Event.{Event}
-use Rattle.world_front.specs.declared.fault.WorldFault.{WorldFault as Fault}
-use Rattle.world_front.specs.declared.event.Event.TheVariants as happens
+use Rattle.world_events.specs.declared.event.Ask.{Ask}
+use Rattle.world_events.specs.declared.event.Event.{Event}
+use Rattle.world_events.specs.declared.fault.WorldFault.{WorldFault as Fault}
+use Rattle.world_events.specs.declared.event.Event.TheVariants as happens
 use Rattle.world_core.specs.World.{World, world_step, refusal_of, is_drop}
 use Rattle.script_commands.specs.declared.command.Command.{Command}
 use Rattle.script_commands.specs.declared.command.Command.TheVariants.{Submit, List as ListNames, Ready}

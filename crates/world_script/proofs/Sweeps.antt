@@ -13,9 +13,9 @@ use Rattle.suffix_core.specs.Budget.{budget}
 use Rattle.group_types.specs.declared.fault.GroupFault.TheVariants.{Unreachable}
 use Rattle.suffix_core.specs.Reached.{IsReached}
 use Rattle.suffix_core.proofs.Lowering.{deliver_lowers, lose_lowers}
-use Rattle.world_front.specs.declared.event.Event.{Event}
-use Rattle.world_front.specs.declared.fault.WorldFault.{WorldFault as Fault}
-use Rattle.world_front.specs.declared.fault.WorldFault.TheVariants.{OutOfMemory, Group as OfGroup}
+use Rattle.world_events.specs.declared.event.Event.{Event}
+use Rattle.world_events.specs.declared.fault.WorldFault.{WorldFault as Fault}
+use Rattle.world_events.specs.declared.fault.WorldFault.TheVariants.{OutOfMemory, Group as OfGroup}
 use Rattle.world_front.specs.Front.{group_refusal}
 use Rattle.world_core.specs.World.{World, group_at, at_group, world_step, refusal_of, refused_in, is_drop}
 use Rattle.world_core.specs.Calls.{KeepsPromises}

@@ -23,11 +23,11 @@ use Rattle.store_core.specs.declared.sealed.GroupId.{GroupId}
 use Rattle.suffix_core.specs.Group.{Group, submitted}
 use Rattle.suffix_core.specs.Budget.{budget}
 use Rattle.suffix_core.specs.Recovery.{is_ready}
-use Rattle.world_front.specs.declared.event.Ask.{Ask}
-use Rattle.world_front.specs.declared.event.Event.{Event}
-use Rattle.world_front.specs.declared.fault.WorldFault.{WorldFault as Fault}
-use Rattle.world_front.specs.declared.fault.WorldFault.TheVariants.{NoRequest, BadObjectName, Auth as OfUsers, Map as OfMap}
-use Rattle.world_front.specs.declared.event.Event.TheVariants as happens
+use Rattle.world_events.specs.declared.event.Ask.{Ask}
+use Rattle.world_events.specs.declared.event.Event.{Event}
+use Rattle.world_events.specs.declared.fault.WorldFault.{WorldFault as Fault}
+use Rattle.world_events.specs.declared.fault.WorldFault.TheVariants.{NoRequest, BadObjectName, Auth as OfUsers, Map as OfMap}
+use Rattle.world_events.specs.declared.event.Event.TheVariants as happens
 use Rattle.world_front.specs.Front.{Front, told_of, is_object_name, is_namespace, group_refusal}
 use Rattle.world_core.specs.World.{World, first_world, group_at, members_of, world_step, refusal_of, is_drop}
 use Rattle.world_front.specs.Groups.{groups_of}

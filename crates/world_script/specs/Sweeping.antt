@@ -4,8 +4,8 @@ use Rattle.std.specs.Prelude.{◌≡◌, ℕ, List, None}
 use Rattle.map_commands.specs.State.{History}
 use Rattle.map_core.specs.Refusal.{acting_refusal}
 use Rattle.store_core.specs.declared.sealed.GroupId.{GroupId}
-use Rattle.world_front.specs.declared.event.Event.{Event}
-use Rattle.world_front.specs.declared.event.Event.TheVariants.{Deliver, Lose}
+use Rattle.world_events.specs.declared.event.Event.{Event}
+use Rattle.world_events.specs.declared.event.Event.TheVariants.{Deliver, Lose}
 use Rattle.world_core.specs.World.{World}
 use Rattle.world_script.specs.Script.{on_each, emptied, places}
 use Rattle.world_script.specs.declared.groups.Sweep.{Sweep}

@@ -3,7 +3,7 @@
 ghost use Rattle.std.specs.Prelude.{◌≡◌, ◌+◌, ◌++◌, ◌<◌, All, IfOk, OnOk, None, true, fold, map, if◌then◌else◌};
 ghost use Rattle.std.specs.List.{flat_map};
 ghost use Rattle.map_commands.specs.Map.{map_of};
-ghost use Rattle.world_front.specs.declared.event.Event.TheVariants.{Kick};
+ghost use Rattle.world_events.specs.declared.event.Event.TheVariants.{Kick};
 ghost use Rattle.world_front.specs.Front.{group_refusal};
 ghost use Rattle.world_core.specs.World.{group_at, world_step, refusal_of};
 ghost use Rattle.world_front.specs.Groups.{groups_of};

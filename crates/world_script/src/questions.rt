@@ -1,7 +1,7 @@
 //! What questions to a world print.
 
 ghost use Rattle.std.specs.Prelude.{◌≡◌, ◌≢◌, ◌++◌, OnOk, string_bytes};
-ghost use Rattle.world_front.specs.declared.fault.WorldFault.TheVariants.{Map as OfMap};
+ghost use Rattle.world_events.specs.declared.fault.WorldFault.TheVariants.{Map as OfMap};
 ghost use Rattle.world_core.specs.Answers.{answer_at};
 ghost use Rattle.world_script.specs.Script as spec;
 ghost use Rattle.script_printing.specs.Text.{id_text, asked_text, refused_text, users_text};

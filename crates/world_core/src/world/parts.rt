@@ -5,7 +5,7 @@ ghost use Rattle.whole_logs.specs.Each.{Each};
 ghost use Rattle.world_core.specs.Inside.{entries_told};
 ghost use Rattle.world_core.specs.Parts.{FitTogether, decided_of, put_together, requests_of};
 ghost use Rattle.world_core.specs.Sound.{FitsAt, IsSound};
-ghost use Rattle.world_front.specs.Submitting.{AreNew};
+ghost use Rattle.world_events.specs.Submitting.{AreNew};
 
 use crate::audit::{Run, keep};
 use crate::world::World;

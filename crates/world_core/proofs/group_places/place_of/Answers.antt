@@ -3,7 +3,7 @@ use Rattle.std.specs.Option.{option_map}
 use Rattle.map_commands.specs.Map.{map_of}
 use Rattle.map_core.specs.Refusal.{groups_in}
 use Rattle.map_core.proofs.Kept.{pools_are_few}
-use Rattle.world_front.specs.declared.fault.WorldFault.TheVariants.{Map as OfMap}
+use Rattle.world_events.specs.declared.fault.WorldFault.TheVariants.{Map as OfMap}
 use Rattle.world_core.specs.Moves.{IsAt, place_in}
 use Rattle.world_core.proofs.PlaceIn.{has_place}
 use Rattle.world_core.proofs.PlacesNamed.{none_missing, some_there}

@@ -5,9 +5,9 @@ use Rattle.map_commands.specs.Map.{map_of, epoch_of}
 use Rattle.map_core.specs.Limits.{IsAccepted}
 use Rattle.map_core.specs.Refusal.{refusal}
 use Rattle.suffix_core.specs.Group.{Group}
-use Rattle.world_front.specs.declared.fault.WorldFault.{WorldFault as Fault}
-use Rattle.world_front.specs.declared.event.Event.TheVariants.{Map}
-use Rattle.world_front.specs.declared.fault.WorldFault.TheVariants.{Map as OfMap, Group as OfGroup}
+use Rattle.world_events.specs.declared.fault.WorldFault.{WorldFault as Fault}
+use Rattle.world_events.specs.declared.event.Event.TheVariants.{Map}
+use Rattle.world_events.specs.declared.fault.WorldFault.TheVariants.{Map as OfMap, Group as OfGroup}
 use Rattle.world_front.specs.Refusing.{RefusedOrMemory}
 use Rattle.world_core.specs.World.{parts_of, parts_refusal, created_by}
 use Rattle.world_core.specs.Moves.{stepped, moves_groups, move_of, all_moved, first_refusal}

@@ -1,6 +1,6 @@
 use Rattle.std.proofs.Common.{◌≡◌, ◌∙◌, ◌<◌, true, Some, refl, sym, ap, subst}
-use Rattle.world_front.specs.declared.event.Event.{Event}
-use Rattle.world_front.specs.declared.fault.WorldFault.{WorldFault as Fault}
+use Rattle.world_events.specs.declared.event.Event.{Event}
+use Rattle.world_events.specs.declared.fault.WorldFault.{WorldFault as Fault}
 use Rattle.world_core.specs.World.{World, group_at, world_step, refusal_of, is_drop}
 use Rattle.world_script.specs.Script.{budget_in, one_if_none}
 use Rattle.world_script.specs.Sweeping.{event_at}

@@ -1,7 +1,7 @@
 use Rattle.std.proofs.Common.{inr, refl, subst}
 use Rattle.store_core.specs.declared.sealed.GroupId.{GroupId}
 use Rattle.world_core.specs.Moves.{IsAt}
-use Rattle.world_front.specs.declared.fault.WorldFault.TheVariants.{Map as OfMap}
+use Rattle.world_events.specs.declared.fault.WorldFault.TheVariants.{Map as OfMap}
 use Rattle.cluster.specs.declared.pass.Pass.{Pass}
 use Rattle.cluster.specs.Passes.{firsts_of}
 use Rattle.cluster.proofs.ClusterPlaces.{groups_of_start, inside_count}

@@ -1,5 +1,5 @@
 use Rattle.std.proofs.Common.{refl}
-use Rattle.world_front.specs.declared.event.Event.TheVariants.{Close}
+use Rattle.world_events.specs.declared.event.Event.TheVariants.{Close}
 use Rattle.world_core.proofs.FrontEvents.{quiet, quiet_kept}
 use Rattle.world_core.proofs.world.World.close.Goals as goal
 

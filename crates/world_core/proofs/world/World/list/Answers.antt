@@ -1,5 +1,5 @@
 use Rattle.std.proofs.Common.{◌∙◌, refl, sym, subst}
-use Rattle.world_front.specs.declared.event.Event.TheVariants.{List as ListNames}
+use Rattle.world_events.specs.declared.event.Event.TheVariants.{List as ListNames}
 use Rattle.world_core.specs.Taking.{TakesAll}
 use Rattle.world_core.proofs.Messages.{kept_on}
 use Rattle.world_core.proofs.RequestEvents.{AsksFor, list_asks, all_within, refused_asking, refused_taking, asked, asked_nothing, few_now}

@@ -1,5 +1,5 @@
 use Rattle.std.proofs.Common.{refl}
-use Rattle.world_front.specs.declared.event.Event.TheVariants.{Renew}
+use Rattle.world_events.specs.declared.event.Event.TheVariants.{Renew}
 use Rattle.world_core.proofs.FrontEvents.{quiet, quiet_kept}
 use Rattle.world_core.proofs.world.World.renew.Goals as goal
 

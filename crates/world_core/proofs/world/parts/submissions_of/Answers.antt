@@ -1,6 +1,6 @@
 use Rattle.std.proofs.Common.{arith, ◌∙◌, ◌+◌, ◌++◌, drop, sym, ap, subst}
 use Rattle.world_core.specs.Parts.{requests_of}
-use Rattle.world_front.specs.Submitting.{AreNew}
+use Rattle.world_events.specs.Submitting.{AreNew}
 use Rattle.world_core.proofs.Parts.{new_here, new_later, requests_next}
 use Rattle.std.proofs.lemmas.Grind.{common_steps}
 use Rattle.world_core.proofs.world.parts.submissions_of.Goals as goal

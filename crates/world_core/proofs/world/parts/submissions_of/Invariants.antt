@@ -1,6 +1,6 @@
 use Rattle.std.proofs.Common.{◌≡◌, take, drop}
 use Rattle.world_core.specs.Parts.{requests_of}
-use Rattle.world_front.specs.Submitting.{AreNew}
+use Rattle.world_events.specs.Submitting.{AreNew}
 use Rattle.world_core.proofs.world.parts.submissions_of.Given as goal
 
 abbrev pub invariant-loop-place : goal.invariant-loop-place

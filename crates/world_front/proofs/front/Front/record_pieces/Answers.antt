@@ -1,11 +1,11 @@
 use Rattle.std.proofs.Common.{◌≡◌, ◌∙◌, ◌++◌, ◌<◌, Ok, length, get_or, sym, ap, subst}
 use Rattle.store_core.specs.Request.{Sealed}
 use Rattle.whole_logs.specs.Each.{Each}
-use Rattle.suffix_core.specs.Group.{submitted}
+use Rattle.whole_logs.specs.Group.{submitted}
 use Rattle.std.specs.Prelude.{None}
 use Rattle.world_front.specs.Event.{ListNames}
 use Rattle.world_front.specs.Front.{Front, requests_of, session_at, asks_more, listed}
-use Rattle.world_front.specs.Submitting.{AreNew}
+use Rattle.world_events.specs.Submitting.{AreNew}
 use Rattle.world_front.proofs.Fronts.{list_made}
 use Rattle.world_front.proofs.Recording.{requests_new, requests_fresh, no_list, first_fresh, listed_at, list_kept, list_step}
 use Rattle.world_front.proofs.front.Front.record_pieces.Goals as goal

@@ -2,7 +2,7 @@ use Rattle.std.proofs.Common.{◌∙◌, ◌==◌, ap}
 use Rattle.std.specs.Option.{option_map}
 use Rattle.std.specs.List.{find}
 use Rattle.world_front.specs.Front.{Pieced}
-use Rattle.world_front.proofs.Submitted.{list_found}
+use Rattle.world_front.proofs.ListsFound.{list_found}
 use Rattle.world_front.proofs.lists.Lists.get.Goals as goal
 
 pub returns-in-None : goal.returns-in-None

@@ -2,8 +2,8 @@ use Rattle.std.proofs.Common.{◌∙◌, ◌++◌, ◌∷◌, [], ◌==◌, ap, 
 use Rattle.std.specs.List.{find}
 use Rattle.indexmap.proofs.CallerLemmas.{insert_entry-new}
 use Rattle.world_front.specs.Front.{Pieced}
-use Rattle.world_front.specs.Submitting.{lists_in}
-use Rattle.world_front.proofs.Submitted.{list_absent, lists_push}
+use Rattle.world_front.specs.Lists.{lists_in}
+use Rattle.world_front.proofs.ListsFound.{list_absent, lists_push}
 use Rattle.world_front.proofs.lists.Lists.push.Goals as goal
 
 pub returns-clause-ok : goal.returns-clause-ok

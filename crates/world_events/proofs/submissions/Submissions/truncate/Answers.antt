@@ -1,8 +1,8 @@
 use Rattle.std.proofs.Common.{◌∙◌, ap, sym, take}
 use Rattle.std.proofs.lemmas.List.{take-map}
 use Rattle.store_core.specs.Request.{Sealed}
-use Rattle.world_front.specs.Submitting.{requests_in}
-use Rattle.world_front.proofs.submissions.Submissions.truncate.Goals as goal
+use Rattle.world_events.specs.Submitting.{requests_in}
+use Rattle.world_events.proofs.submissions.Submissions.truncate.Goals as goal
 
 pub returns : goal.returns
 returns c =

@@ -1,7 +1,7 @@
 //! The printed form of a fault.
 
 ghost use Rattle.std.specs.Prelude.{Some};
-ghost use Rattle.world_front.specs.Printed.{fault_text};
+ghost use Rattle.world_events.specs.Printed.{fault_text};
 
 use crate::fault::WorldFault;
 use std::fmt;

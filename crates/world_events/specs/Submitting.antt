@@ -3,8 +3,7 @@
 use Rattle.std.specs.Prelude.{◌≡◌, ℕ, List, [], ◌∷◌, ◌++◌, None, map}
 use Rattle.store_core.specs.Request.{Sealed}
 use Rattle.whole_logs.specs.Each.{Each}
-use Rattle.suffix_core.specs.Group.{submitted}
-use Rattle.world_front.specs.Front.{Pieced}
+use Rattle.whole_logs.specs.Group.{submitted}
 
 -- the requests of entries
 abbrev pub requests_in : List (ℕ × Sealed) → List Sealed
@@ -18,7 +17,3 @@ AreKeyed entries = Each (λ e. e.0 ≡ e.1.id) entries
 abbrev pub AreNew : List Sealed → List Sealed → Type 0
 AreNew old [] = Unit {0}
 AreNew old (r ∷ rs) = (submitted old r.id ≡ None) × AreNew (old ++ r ∷ []) rs
-
--- the lists of entries
-abbrev pub lists_in : List (ℕ × ℕ) → List Pieced
-lists_in entries = map (λ e. record { first = e.0; count = e.1 }) entries

@@ -1,6 +1,6 @@
 use Rattle.std.proofs.Common.{arith}
 use Rattle.std.proofs.lemmas.Grind.{common_steps}
-use Rattle.world_front.proofs.submissions.Submissions.append.Goals as goal
+use Rattle.world_events.proofs.submissions.Submissions.append.Goals as goal
 
 pub push_copy-requires : goal.push_copy-requires
 push_copy-requires c = grind (arith, common_steps)

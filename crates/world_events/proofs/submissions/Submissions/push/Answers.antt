@@ -1,9 +1,9 @@
 use Rattle.std.proofs.Common.{◌∙◌, ◌++◌, ◌∷◌, [], ℕ, ap, sym, subst, nat_eq}
 use Rattle.indexmap.proofs.CallerLemmas.{insert_entry-new}
-use Rattle.suffix_core.specs.Group.{submitted}
-use Rattle.world_front.specs.Submitting.{requests_in, AreKeyed}
-use Rattle.world_front.proofs.Submitted.{request_found, keyed_push, requests_push}
-use Rattle.world_front.proofs.submissions.Submissions.push.Goals as goal
+use Rattle.whole_logs.specs.Group.{submitted}
+use Rattle.world_events.specs.Submitting.{requests_in, AreKeyed}
+use Rattle.world_events.proofs.Submitted.{request_found, keyed_push, requests_push}
+use Rattle.world_events.proofs.submissions.Submissions.push.Goals as goal
 
 pub invariant_of-self-2 : goal.invariant_of-self-2
 invariant_of-self-2 c =

@@ -1,6 +1,6 @@
 use Rattle.std.proofs.Common.{◌≡◌, ◌++◌, take, drop}
-use Rattle.world_front.specs.Submitting.{AreNew}
-use Rattle.world_front.proofs.submissions.Submissions.append.Given as goal
+use Rattle.world_events.specs.Submitting.{AreNew}
+use Rattle.world_events.proofs.submissions.Submissions.append.Given as goal
 
 abbrev pub invariant-loop-request : goal.invariant-loop-request
 invariant-loop-request l = record {

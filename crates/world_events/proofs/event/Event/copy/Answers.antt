@@ -1,6 +1,6 @@
 use Rattle.std.proofs.Common.{rules, ap, sym, ◌∙◌}
-use Rattle.world_front.specs.declared.event.Event.TheVariants as event
-use Rattle.world_front.proofs.event.Event.copy.Goals as goal
+use Rattle.world_events.specs.declared.event.Event.TheVariants as event
+use Rattle.world_events.proofs.event.Event.copy.Goals as goal
 
 pub returns-in_ok-copy-in-Auth : goal.returns-in_ok-copy-in-Auth
 returns-in_ok-copy-in-Auth c = ap (λ x. event.Auth x) c.in_ok-copy-in-Auth.ensures ∙ sym c.in-Auth.is

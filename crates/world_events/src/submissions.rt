@@ -1,8 +1,8 @@
 //! The requests that were submitted.
 
 ghost use Rattle.std.specs.Prelude.{◌≡◌, ◌++◌, [], ◌∷◌, None, OnOk, OnErr, length, take, option_copied};
-ghost use Rattle.suffix_core.specs.Group.{submitted};
-ghost use Rattle.world_front.specs.Submitting.{AreNew};
+ghost use Rattle.whole_logs.specs.Group.{submitted};
+ghost use Rattle.world_events.specs.Submitting.{AreNew};
 
 use entry_core::{Id, IdHash, OutOfMemory, Sealed, TryCopy};
 use indexmap::IndexMap;
@@ -18,7 +18,7 @@ pub struct Submissions {
 impl Model for Submissions {
     ghost use Rattle.std.specs.Prelude.{List};
     ghost use Rattle.store_core.specs.Request as request;
-    ghost use Rattle.world_front.specs.Submitting.{requests_in, AreKeyed};
+    ghost use Rattle.world_events.specs.Submitting.{requests_in, AreKeyed};
 
     ghost Value = { List request.Sealed };
 

@@ -1,9 +1,8 @@
 //! Why a call on a world is refused.
 
 ghost use Rattle.std.specs.Prelude.{◌≡◌};
-ghost use Rattle.world_front.specs.Event.{OutOfMemory};
-ghost use Rattle.world_front.specs.Front.{users_fault};
-ghost use Rattle.world_front.specs.Refusing.{fault_of_map, fault_of_needs};
+ghost use Rattle.world_events.specs.declared.fault.WorldFault.TheVariants.{OutOfMemory};
+ghost use Rattle.world_events.specs.Faults.{fault_of_map, fault_of_needs, users_fault};
 
 use auth_db::AuthFault;
 use group_types::GroupFault;

@@ -5,7 +5,8 @@ use Rattle.auth_db.specs.Printed as auth_text
 use Rattle.map_commands.specs.Printed as map_text
 use Rattle.object_core.specs.Faults as needs_text
 use Rattle.group_types.specs.Printed as group_text
-use Rattle.world_front.specs.Event.{Fault, NoSession, NoPool, BadObjectName, StaleEpoch, NoRequest, Limit, OutOfMemory, StaleTick, OfUsers, OfMap, OfNeeds, OfGroup}
+use Rattle.world_events.specs.declared.fault.WorldFault.{WorldFault as Fault}
+use Rattle.world_events.specs.declared.fault.WorldFault.TheVariants.{NoSession, NoPool, BadObjectName, StaleEpoch, NoRequest, Limit, OutOfMemory, StaleTick, Auth as OfUsers, Map as OfMap, Needs as OfNeeds, Group as OfGroup}
 
 -- a fault's number, its name, and what it carries; those of lower layers print themselves
 abbrev pub fault_text : Fault → List ℕ

@@ -1,32 +1,12 @@
--- Requests and lists by their ids.
+-- Lists by the ids of their first requests.
 use Rattle.std.proofs.Common.{◌≡◌, ◌∙◌, ℕ, ◌==◌, Bool, true, false, cond, List, [], ◌∷◌, ◌++◌, Option, Some, None, refl, sym, ap, eqb-true}
 use Rattle.std.specs.Option.{option_map}
 use Rattle.std.specs.List.{find}
 use Rattle.std.specs.Map.{lookup}
 use Rattle.std.proofs.lemmas.List.{map-append}
-use Rattle.store_core.specs.Request.{Sealed}
-use Rattle.suffix_core.specs.Group.{submitted}
 use Rattle.whole_logs.proofs.ById.{same_turned}
 use Rattle.world_front.specs.Front.{Pieced}
-use Rattle.world_front.specs.Submitting.{requests_in, AreKeyed, lists_in}
-
--- ---- requests
-
-pub request_found : (es : List (ℕ × Sealed)) (id : ℕ) → AreKeyed es → lookup (λ k. id == k) es ≡ submitted (requests_in es) id
-request_found [] id h = refl
-request_found (e ∷ es) id h = go (id == e.0) (same_turned id e.0 ∙ ap (λ k. k == id) h.0) (request_found es id h.1)
-  where
-    go : (b : Bool) → b ≡ (e.1.id == id) → lookup (λ k. id == k) es ≡ submitted (requests_in es) id → cond b (Some e.1) (lookup (λ k. id == k) es) ≡ cond (e.1.id == id) (Some e.1) (submitted (requests_in es) id)
-    go b same rest = ap (λ t. cond t (Some e.1) (lookup (λ k. id == k) es)) same ∙ ap (λ o. cond (e.1.id == id) (Some e.1) o) rest
-
-pub keyed_push : (es : List (ℕ × Sealed)) (id : ℕ) (s : Sealed) → AreKeyed es → id ≡ s.id → AreKeyed (es ++ (id, s) ∷ [])
-keyed_push [] id s h is = (is, tt)
-keyed_push (e ∷ es) id s h is = (h.0, keyed_push es id s h.1 is)
-
-pub requests_push : (es : List (ℕ × Sealed)) (id : ℕ) (s : Sealed) → requests_in (es ++ (id, s) ∷ []) ≡ requests_in es ++ s ∷ []
-requests_push es id s = map-append (λ (e : ℕ × Sealed). e.1) es ((id, s) ∷ [])
-
--- ---- lists
+use Rattle.world_front.specs.Lists.{lists_in}
 
 pub list_found : (es : List (ℕ × ℕ)) (id : ℕ) → option_map (λ count. record { first = id; count = count }) (lookup (λ k. id == k) es) ≡ find (λ (p : Pieced). p.first == id) (lists_in es)
 list_found [] id = refl

@@ -1,0 +1,16 @@
+//! What happens to a world, what is told of it, and why it is refused.
+//!
+//! The requests that were submitted are kept here too, each found by its id. All of it is this project's profile, over the commands of
+//! the Ceph manual.
+#![tactic(auto)]
+
+mod event;
+mod fault;
+mod fault_text;
+mod ops;
+mod submissions;
+
+pub use event::{Ask, AuthCommand, Event, Told};
+pub use fault::WorldFault;
+pub use ops::Ops;
+pub use submissions::Submissions;
