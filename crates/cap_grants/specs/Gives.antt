@@ -1,4 +1,4 @@
--- Refinement: only contracts inside the crate use it.
+-- Statement: contracts of public calls use it.
 -- What a step of the code answers.
 use Rattle.std.specs.Prelude.{◌≡◌, Result, Ok, Err}
 use Rattle.cap_grants.specs.declared.fault_kind.FaultKind.{FaultKind}

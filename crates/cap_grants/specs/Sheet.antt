@@ -1,4 +1,4 @@
--- Statement: contracts of public calls use it.
+-- Refinement: only contracts inside the crate use it.
 -- How what was read of a grant is kept.
 use Rattle.std.specs.Prelude.{ℕ, List, None, Some}
 use Rattle.cap_grants.specs.declared.grant.Access.{Access}
