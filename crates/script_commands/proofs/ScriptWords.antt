@@ -7,8 +7,9 @@ use Rattle.std.specs.Option.{option_map}
 use Rattle.std.specs.Str.{bytes_eq}
 use Rattle.object_ops.specs.declared.op.Op.{Op}
 use Rattle.auth_db.specs.declared.caps.Caps.{Caps}
+use Rattle.script_text.specs.Words.{whole_of}
 use Rattle.script_commands.specs.TakenWords.{Takes}
-use Rattle.script_commands.specs.Command.{Word, Reads, an_op, ops_within, ops_behind, ops_next, ops, said_if, no_texts, with_text, texts_onto, texts}
+use Rattle.script_commands.specs.Command.{Word, Reads, an_op, ops_within, ops_behind, ops_next, ops, said_if, no_texts, with_text, texts_onto, texts, whole}
 
 abbrev pub onto : List Op → Option (List Op) → Option (List Op)
 onto done o = option_map (λ more. done ++ more) o
@@ -111,3 +112,10 @@ takes_as f g old new (Some x) same h = same old ∙ h
 pub ok_takes_as : {A E : Type 0} (f g : Reads A) (old new : List Word) (found : Result (Option A) E) → ((ws : List Word) → f ws ≡ g ws) → IfOk found (Takes g old new) → IfOk found (Takes f old new)
 ok_takes_as f g old new (Ok found) same h = takes_as f g old new found same h
 ok_takes_as f g old new (Err e) same h = h
+
+-- what was read of these words, and none left behind it
+pub whole_is : {A : Type 0} (reads : Reads A) (old new : List Word) (found : Option A) → Takes reads old new found → whole_of new found ≡ whole (reads old)
+whole_is reads old [] None takes = sym (ap whole takes)
+whole_is reads old (w ∷ ws) None takes = sym (ap whole takes)
+whole_is reads old [] (Some x) takes = sym (ap whole takes)
+whole_is reads old (w ∷ ws) (Some x) takes = sym (ap whole takes)

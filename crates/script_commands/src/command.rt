@@ -2,7 +2,7 @@
 
 use common_types::Name;
 use entry_core::{GroupId, Id};
-use world_core::{Event, Ops};
+use world_front::{Event, Ops};
 
 /// What a line of a script says. It is this project's profile, after Ceph's command line.
 #[derive(Drop)]

@@ -10,7 +10,7 @@ use common_types::OutOfMemory;
 use map_core::MapCommand;
 use script_text::Words;
 use std::alloc::Global;
-use world_core::Event;
+use world_front::Event;
 
 fn enable_application(
     alloc: Global,

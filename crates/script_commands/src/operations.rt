@@ -9,7 +9,7 @@ use common_types::OutOfMemory;
 use object_core::Op;
 use script_text::Words;
 use std::alloc::Global;
-use world_core::Ops;
+use world_front::Ops;
 
 fn read_op(words: &mut Words<'_>) -> Option<Op>
     ensures takes { Takes spec.read_op words.old words.new result }

@@ -11,7 +11,7 @@ use common_types::OutOfMemory;
 use entry_core::GroupId;
 use script_text::Words;
 use std::alloc::Global;
-use world_core::Event;
+use world_front::Event;
 
 pub(crate) fn open(alloc: Global, words: &mut Words<'_>) -> Result<Option<Command>, OutOfMemory>
     ensures { IfOk result (Takes spec.open_session words.old words.new) }

@@ -11,7 +11,7 @@ use auth_db::Caps;
 use common_types::{Name, OutOfMemory};
 use script_text::Words;
 use std::alloc::Global;
-use world_core::{AuthCommand, Event};
+use world_front::{AuthCommand, Event};
 
 /// A name and its texts.
 fn user(alloc: Global, words: &mut Words<'_>) -> Result<Option<(Name, Caps)>, OutOfMemory>
