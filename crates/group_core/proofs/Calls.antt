@@ -13,7 +13,7 @@ use Rattle.peer_core.specs.Decided.{decided_by}
 use Rattle.store_core.specs.declared.sealed.GroupId.{GroupId}
 use Rattle.suffix_core.specs.Types.{Daemon, Body, Interval, Query, Info, Install, Installed, Append, Appended, Request, Reply, NotHere, Osd, Client, Sent}
 use Rattle.suffix_core.specs.Group.{Group, Answer, Event, Submit, Deliver, Lose, Repeat, NewInterval, Restart, Kick, Unreachable, Full, Doubled, last_set, is_answered, answers_after, answered, to_daemon, to_primary, steps, copy_hears, arrives, without, deliver, lose, again, is_submitted, has_all_requests, has_all_intervals, take_request, begin, with_up, same_set, announced, resent, retransmit_primary, group_step, refusal_of, refusal_at, refusal_to, missing_at, IsSet, EventFits, start}
-use Rattle.group_core.specs.Furthest.{furthest}
+use Rattle.group_wire.specs.Furthest.{furthest}
 use Rattle.suffix_core.specs.Reached.{IsReached, HasJustTaken, unsent}
 use Rattle.group_core.specs.Sound.{IsSound}
 use Rattle.suffix_core.proofs.Twins.{reached_step, reached_start}

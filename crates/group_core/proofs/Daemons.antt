@@ -3,7 +3,7 @@ use Rattle.std.proofs.Common.{◌≡◌, Bool, true, false, List, [], ◌∷◌,
 use Rattle.peer_core.specs.Steps.{restarted}
 use Rattle.whole_logs.specs.Choice.{best}
 use Rattle.suffix_core.specs.Types.{Copy}
-use Rattle.group_core.specs.Furthest.{whole_offer, furthest}
+use Rattle.group_wire.specs.Furthest.{whole_offer, furthest}
 
 map-offers : (f : Copy → Copy) → ((c : Copy) → whole_offer (f c) ≡ whole_offer c) → (cs : List Copy) → map whole_offer (map f cs) ≡ map whole_offer cs
 map-offers f same [] = refl

@@ -19,7 +19,7 @@ use Rattle.suffix_core.proofs.Hearing.{shown_same}
 use Rattle.suffix_core.proofs.Twins.{twin_of, lock_stands, run_legal}
 use Rattle.suffix_core.specs.Types.{Copy}
 use Rattle.suffix_core.specs.Group.{Group, audit_after}
-use Rattle.group_core.specs.Furthest.{whole_offer, furthest}
+use Rattle.group_wire.specs.Furthest.{whole_offer, furthest}
 use Rattle.suffix_core.specs.Reached.{IsReached}
 
 -- the copy that is furthest on is the same of both

@@ -3,7 +3,7 @@
 use Rattle.std.specs.Prelude.{ℕ, ◌≡◌, ◌≤◌, ◌<◌, List, [], ◌∷◌, ◌++◌, length, Option, Some, None, if◌then◌else◌, vec_len}
 use Rattle.entry_core.specs.Log.{is_in}
 use Rattle.place_core.specs.Placement.{numbers_of}
-use Rattle.group_core.specs.declared.opening.Opening.{Opening}
+use Rattle.group_wire.specs.declared.opening.Opening.{Opening}
 use Rattle.group_types.specs.declared.group_move.GroupMove.{GroupMove}
 use Rattle.group_types.specs.declared.group_move.GroupMove.TheVariants.{NewInterval as Moves, Restart as Restarts}
 use Rattle.suffix_core.specs.Types.{Sent}

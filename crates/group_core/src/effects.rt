@@ -10,14 +10,9 @@ ghost use Rattle.suffix_core.specs.Types as types;
 ghost use Rattle.suffix_core.specs.Group.{is_submitted, answers_after, announced, resent};
 ghost use Rattle.suffix_core.specs.Reached.{unsent};
 
-use crate::answers::Answer;
-use crate::daemon_sets::is_up;
-use crate::element_at::at;
-use crate::ledger::Ledger;
-use crate::opening::{open, prepare};
-use crate::wire::Wire;
 use entry_core::{Items, OutOfMemory, Sealed, TryCopy};
 use group_types::IntervalSets;
+use group_wire::{Answer, Ledger, Wire, at, is_up, open, prepare};
 use peer_core::{Body, Daemon, Message, Sent};
 use place_core::{ActingSet, DaemonSet};
 use std::alloc::Global;

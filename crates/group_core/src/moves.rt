@@ -7,13 +7,11 @@ ghost use Rattle.group_core.specs.Inside.{group_of};
 ghost use Rattle.group_core.specs.Moves as moves;
 ghost use Rattle.suffix_core.specs.Reached.{Refuses};
 
-use crate::daemon_sets::{has_member, last_set, same_set};
 use crate::effects::{change_up, restart_one};
 use crate::group::{Group, INTERVALS};
-use crate::opening::{Opening, open, prepare};
 use crate::state::GroupState;
-use crate::wire::Wire;
 use group_types::{GroupFault, GroupMove, IntervalSets};
+use group_wire::{Opening, Wire, has_member, last_set, open, prepare, same_set};
 use place_core::ActingSet;
 use std::marker::Model;
 

@@ -1,9 +1,8 @@
 //! What a group has.
 
-use crate::ledger::Ledger;
-use crate::wire::Wire;
 use entry_core::GroupId;
 use group_types::IntervalSets;
+use group_wire::{Ledger, Wire};
 use peer_core::Daemon;
 use place_core::DaemonSet;
 

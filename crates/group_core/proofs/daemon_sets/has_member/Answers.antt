@@ -1,6 +1,0 @@
-use Rattle.std.proofs.Common.{◌∙◌}
-use Rattle.whole_logs.proofs.Counted.{has_is_in}
-use Rattle.group_core.proofs.daemon_sets.has_member.Goals as goal
-
-pub returns : goal.returns
-returns c = c.has.ensures ∙ has_is_in c.args.set.now c.args.daemon

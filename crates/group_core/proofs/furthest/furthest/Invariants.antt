@@ -1,7 +1,0 @@
-use Rattle.std.proofs.Common.{◌≡◌, drop, map}
-use Rattle.whole_logs.specs.Choice.{best}
-use Rattle.group_core.specs.Furthest.{whole_offer}
-use Rattle.group_core.proofs.furthest.furthest.Given as goal
-
-abbrev pub invariant-loop-copy : goal.invariant-loop-copy
-invariant-loop-copy l = best (whole_offer l.best) (map whole_offer (drop l.copy-index l.rest)) ≡ best (whole_offer l.initial.best) (map whole_offer l.rest)

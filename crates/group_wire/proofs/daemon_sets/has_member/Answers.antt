@@ -1,0 +1,6 @@
+use Rattle.std.proofs.Common.{◌∙◌}
+use Rattle.whole_logs.proofs.Counted.{has_is_in}
+use Rattle.group_wire.proofs.daemon_sets.has_member.Goals as goal
+
+pub returns : goal.returns
+returns c = c.has.ensures ∙ has_is_in c.args.set.now c.args.daemon
