@@ -12,7 +12,7 @@ ghost use Rattle.cluster.specs.MapCommands.{move_in, begins_interval};
 ghost use Rattle.cluster.specs.GroupMoves.{OneMoved, HaveMoved, HaveLooked, Found, FullAt, SomeFull, NoneFull, event_at};
 
 use crate::cluster::{Cluster, Seats};
-use crate::map_commands::{begins, move_for};
+use crate::command_effects::{begins, move_for};
 use cluster_locks::{IsFull, Move};
 use entry_core::GroupId;
 use group_types::GroupMove;

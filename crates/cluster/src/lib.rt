@@ -9,12 +9,12 @@
 mod asking;
 mod closing;
 mod cluster;
+mod command_effects;
 mod deliveries;
 mod fault;
 mod fault_text;
 mod group_moves;
 mod locks;
-mod map_commands;
 mod monitor;
 mod notes;
 mod numbering;

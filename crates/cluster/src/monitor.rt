@@ -11,8 +11,8 @@ ghost use Rattle.cluster.specs.GroupMoves.{Goes};
 ghost use Rattle.cluster.specs.declared.monitor.Unfinished.TheVariants as left_by;
 
 use crate::cluster::{Cluster, Seats};
+use crate::command_effects::creates;
 use crate::group_moves::{any_full, move_groups};
-use crate::map_commands::creates;
 use entry_core::GroupId;
 use group_types::GroupFault;
 use map_core::{ClusterMap, Epoch, MapCommand, MapFault};

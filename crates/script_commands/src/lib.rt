@@ -5,8 +5,8 @@
 #![tactic(auto)]
 
 mod command;
-mod map_commands;
 mod operations;
+mod osd_commands;
 mod reading;
 mod session_commands;
 mod taking;

@@ -6,7 +6,7 @@ ghost use Rattle.script_commands.specs.Command.{read_line};
 ghost use Rattle.script_commands.specs.TakenWords.{Takes};
 
 use crate::command::Command;
-use crate::map_commands::osd;
+use crate::osd_commands::osd;
 use crate::session_commands::{
     answer, close, deliver, list_names, listing, lose, open, ready, renew, send_again, submit, tick,
 };

@@ -2,7 +2,7 @@ use Rattle.std.proofs.Common.{◌≡◌, ◌∙◌, None, ap}
 use Rattle.std.specs.Prelude.{codes}
 use Rattle.script_commands.specs.Command.{osd, osd_named}
 use Rattle.script_commands.proofs.ScriptWords.{differ}
-use Rattle.script_commands.proofs.map_commands.osd.Goals as goal
+use Rattle.script_commands.proofs.osd_commands.osd.Goals as goal
 
 pub returns-in_default-word : goal.returns-in_default-word
 returns-in_default-word c =

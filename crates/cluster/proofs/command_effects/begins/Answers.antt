@@ -1,6 +1,6 @@
 use Rattle.std.proofs.Common.{arith}
 use Rattle.std.proofs.lemmas.Grind.{common_steps}
-use Rattle.cluster.proofs.map_commands.begins.Goals as goal
+use Rattle.cluster.proofs.command_effects.begins.Goals as goal
 
 pub returns : goal.returns
 returns c = grind (arith, common_steps)
