@@ -6,4 +6,4 @@ use Rattle.script_commands.proofs.reading.read_line.Goals as goal
 
 pub returns : goal.returns
 returns c =
-    c.whole.ensures ∙ whole_is command c.in-Some.words c.command.new.words c.in_ok-command.found c.in_ok-command.ensures ∙ ap (option_and_then command_of) (sym c.in-Some.is ∙ c.of.ensures)
+    c.whole.ensures ∙ whole_is command c.in-Some.words c.command.new.words c.in_ok-found.found c.in_ok-found.ensures ∙ ap (option_and_then command_of) (sym c.in-Some.is ∙ c.of.ensures)
