@@ -4,5 +4,5 @@ use Rattle.world_script.proofs.line.write_line.Goals as goal
 
 pub returns : goal.returns
 returns g c =
-    line_ended c.args.state.now c.args.line.now.text.now c.args.line.now.number c.run_line.new.state (g.W.Write.contents c.args.writer.now) (g.W.Write.contents c.end_line.new.writer) c.run_line.result c.end_line.result
-    (string_bytes c.new-text.result) (string_bytes c.run_line.new.text) c.as_str.result.now c.run_line.ensures.goes c.run_line.ensures.fault c.new-text.ensures.bytes c.as_str.ensures.value c.end_line.ensures
+    line_ended c.args.state.now c.args.line.now.text.now c.args.line.now.number c.run_line-ended.new.state (g.W.Write.contents c.args.writer.now) (g.W.Write.contents c.end_line.new.writer) c.run_line-ended.result c.end_line.result
+    (string_bytes c.new-text.result) (string_bytes c.run_line-ended.new.text) c.as_str.result.now c.run_line-ended.ensures.goes c.run_line-ended.ensures.fault c.new-text.ensures.bytes c.as_str.ensures.value c.end_line.ensures
