@@ -125,6 +125,31 @@ fn so_many_words_and_no_more(rt: HostRuntime) {
     }
 }
 
+/// Lines, and whether what was read of their first word is whole.
+const WHOLE: &[(&str, bool); 5] = &[
+    ("", true),
+    ("a", true),
+    ("a  ", true),
+    ("a b", false),
+    ("a ''", false),
+];
+
+/// Whether what was read of a line's first word stays, since no word is left behind it.
+fn is_whole(line: &str) -> bool {
+    let Some(mut words) = Words::of(line.as_bytes()) else {
+        return false;
+    };
+    let first = words.next_word().is_some();
+    words.whole(Some(first)).is_some() && words.whole::<bool>(None).is_none()
+}
+
+#[test]
+fn what_was_read_is_whole_where_no_word_is_left(rt: HostRuntime) {
+    for (line, wanted) in WHOLE {
+        expect_so(&rt, is_whole(line) == *wanted, line);
+    }
+}
+
 #[test]
 fn a_line_has_8192_bytes_at_most(rt: HostRuntime) {
     let line = vec![in rt.alloc(); b'a'; 8_193].expect(&rt, "memory");

@@ -1,7 +1,7 @@
 //! Readers and writers, also such that fail.
 
 use crate::expecting::expect_so;
-use script_text::{ScriptFault, read_script, write_text};
+use script_text::{LineFault, ScriptFault, end_line, read_script, write_text};
 use std::alloc::Global;
 use std::io;
 use std::io::{Error, ErrorKind, Read, Write};
@@ -131,5 +131,47 @@ fn a_writer_takes_all_or_a_beginning(rt: HostRuntime) {
     for (room, fails, whole, wanted) in WRITTEN {
         let is_written = is_written(rt.alloc(), *room, *fails, *whole, wanted);
         expect_so(&rt, is_written, wanted);
+    }
+}
+
+/// How a line goes on, for how many bytes a writer has room, what the line's end answers, and what is written.
+const ENDS: &[(Result<(), LineFault>, usize, Result<(), ScriptFault>, &str); 4] = &[
+    (Ok(()), 7, Ok(()), "epoch 1"),
+    (Ok(()), 5, Err(ScriptFault::Write), "epoch"),
+    (
+        Err(LineFault::BadLine),
+        7,
+        Err(ScriptFault::BadLine(12)),
+        "",
+    ),
+    (
+        Err(LineFault::OutOfMemory),
+        7,
+        Err(ScriptFault::OutOfMemory(12)),
+        "",
+    ),
+];
+
+/// What the end of line 12 answers, which prints seven bytes, and what is written.
+fn end_twelfth(
+    alloc: Global,
+    goes_on: Result<(), LineFault>,
+    room: usize,
+) -> (Result<(), ScriptFault>, Vec<u8>) {
+    let mut writer = Narrow {
+        taken: Vec::new(alloc),
+        room,
+        fails: true,
+    };
+    let ended = end_line(&mut writer, 12, "epoch 1", goes_on);
+    (ended, writer.taken)
+}
+
+#[test]
+fn a_line_that_does_not_go_on_ends_a_script_by_its_number(rt: HostRuntime) {
+    for (goes_on, room, wanted, text) in ENDS {
+        let (ended, taken) = end_twelfth(rt.alloc(), *goes_on, *room);
+        let is_so = ended == *wanted && taken.as_slice() == text.as_bytes();
+        expect_so(&rt, is_so, "an end");
     }
 }
