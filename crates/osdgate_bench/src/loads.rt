@@ -1,14 +1,13 @@
 //! What requests, verdicts and views cost on a cluster's threads.
 
 use crate::fault::Fault;
-use cluster::ClusterFault;
 use common_types::OutOfMemory;
 use std::alloc::{AllocError, Global};
 use std::sync::Wait;
 use std::thread::Threads;
 use std::time::Clock;
 use stopwatch::{Table, Work};
-use workload::{Load, WorkloadFault, run_load, run_requests};
+use workload::{ClusterFault, Load, WorkloadFault, run_load, run_requests};
 
 /// How many requests each worker asks for.
 const REQUESTS: u32 = 500;

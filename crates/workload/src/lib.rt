@@ -13,6 +13,7 @@ mod tally;
 mod team;
 mod worker;
 
+pub use cluster::ClusterFault;
 pub use fault::WorkloadFault;
 pub use load::Load;
 pub use measured::run_load;
