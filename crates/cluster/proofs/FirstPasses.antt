@@ -22,7 +22,9 @@ use Rattle.cluster_locks.specs.Shares.{pass_share}
 use Rattle.cluster.specs.GroupMoves.{happened, happened_at}
 use Rattle.cluster.specs.Monitors.{IsMonitorOf, published_of, waiting_of}
 use Rattle.cluster.specs.Asks.{IsBegun, asked_of, IsOwnEvent, Asks, known_by, IsPassOf}
-use Rattle.cluster.specs.Starts.{creation_of, addition_of, events_of}
+use Rattle.cluster.specs.declared.fault.ClusterFault.{ClusterFault}
+use Rattle.cluster.specs.declared.fault.ClusterFault.TheVariants as faults
+use Rattle.cluster.specs.Starts.{creation_of, addition_of, events_of, IsWant, StartFails}
 use Rattle.cluster.proofs.Begun.{fresh_are, row_own}
 use Rattle.cluster.proofs.Following.{fresh_mine}
 use Rattle.cluster.proofs.GoingOn.{stands_whole}
@@ -46,6 +48,15 @@ unasked table daemons pools users =
 
 pub nothing_asked : (table : Table) (daemons : ℕ) (pools : List PoolSpec) (users : List UserSpec) (events : List WorldEvent) (w : World) → events ≡ events_of pools users → Holds table daemons events w → w.front.submissions ≡ []
 nothing_asked table daemons pools users events w are holds = ap (λ (f : Front). f.submissions) (holds.front ∙ ap (front_after table daemons) are) ∙ unasked table daemons pools users
+
+-- ---- want is a fault of the start
+
+pub want_fails : (table : Table) (daemons : ℕ) (events : List WorldEvent) (fault : ClusterFault) → IsWant fault → StartFails table daemons events fault
+want_fails table daemons events (faults.World why) h = absurd h
+want_fails table daemons events faults.OutOfMemory h = h
+want_fails table daemons events faults.NoReader h = h
+want_fails table daemons events faults.NoThread h = h
+want_fails table daemons events (faults.Unfinished at) h = h
 
 -- ---- fresh seats have made nothing
 

@@ -2,6 +2,7 @@ pub mod Begun
 pub mod Gathering
 pub mod Moved
 pub mod GoingOn
+pub mod Changes
 pub mod Following
 pub mod FirstPasses
 pub mod Numbers

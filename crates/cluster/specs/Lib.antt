@@ -9,6 +9,7 @@ pub mod Pools
 pub mod Asking
 pub mod ToAsk
 pub mod Starts
+pub mod Begun
 pub mod Ends
 pub mod Numbering
 pub mod Workers

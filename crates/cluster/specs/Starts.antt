@@ -1,16 +1,14 @@
 -- Statement: contracts of public calls use it.
 -- What a cluster begins with.
-use Rattle.std.specs.Prelude.{◌≡◌, ℕ, List, [], ◌++◌, map}
+use Rattle.std.specs.Prelude.{◌≡◌, ℕ, List, ◌++◌, map}
 use Rattle.grant_core.specs.Flat.{Table}
 use Rattle.map_commands.specs.declared.command.MapCommand.TheVariants.{PoolCreate}
 use Rattle.world_events.specs.declared.event.AuthCommand.TheVariants.{Add}
 use Rattle.world_events.specs.declared.event.Event.{Event}
 use Rattle.world_events.specs.declared.event.Event.TheVariants.{Auth, Map}
 use Rattle.world_core.specs.World.{World}
-use Rattle.world_core.specs.Sound.{IsSound}
 use Rattle.world_core.specs.Holds.{Holds}
 use Rattle.world_core.specs.Calls.{IsFirstRefused}
-use Rattle.world_core.specs.declared.world.parts.WorldParts.{WorldParts}
 use Rattle.cluster.specs.declared.starting.PoolSpec.{PoolSpec}
 use Rattle.cluster.specs.declared.starting.UserSpec.{UserSpec}
 use Rattle.cluster.specs.declared.cluster.Cluster.{Cluster}
@@ -27,15 +25,6 @@ addition_of u = Auth (Add u.name u.caps)
 -- the pools in order, and then the users
 abbrev pub events_of : List PoolSpec → List UserSpec → List Event
 events_of pools users = map creation_of pools ++ map addition_of users
-
--- the parts are those of a world that holds, in which nothing was asked
-pub record HasWorld (p : WorldParts) : Type 0 where
-  pub world : World
-  pub sound : IsSound world
-  pub unasked : world.front.submissions ≡ []
-  pub users : p.users ≡ world.front.database
-  pub map_is : p.map ≡ world.front.history
-  pub groups : p.groups.items ≡ world.groups
 
 -- the cluster begins with the users, the map and the groups of the world that these events make, and no session
 pub record IsStartOf (table : Table) (daemons : ℕ) (events : List Event) (c : Cluster) : Type 0 where

@@ -1,13 +1,13 @@
 //! Starting a cluster.
 
-ghost use Rattle.std.specs.Prelude.{◌≡◌, ℕ, ◌<◌, ◌≤◌, ◌^◌, ◌++◌, [], All, map as each, vec_len, IfOk, IfErr, IsNone};
-ghost use Rattle.world_core.specs.Sound.{IsSound};
+ghost use Rattle.std.specs.Prelude.{◌≡◌, ℕ, ◌<◌, ◌≤◌, ◌^◌, ◌++◌, [], All, map as each, vec_len, IfOk, IfErr, IsNone, MatchResult};
 ghost use Rattle.cluster.specs.Passes.{AreFreshOf, AreMonitorOf, firsts_of, start_of};
 ghost use Rattle.cluster_locks.specs.Groups.{group_in};
 ghost use Rattle.cluster_locks.specs.Shares.{pass_share};
 ghost use Rattle.cluster.specs.Monitors.{IsMonitorOf, Follows, FollowsStart, IsWhole, own_map};
 ghost use Rattle.cluster.specs.Asks.{IsBegun, IsPassOf, sessions_of};
-ghost use Rattle.cluster.specs.Starts.{HasWorld, creation_of, addition_of, events_of, IsStartOf, IsWant, StartFails};
+ghost use Rattle.cluster.specs.Begun.{HasWorld, HasParts, HasChangedNothing, AreIdle};
+ghost use Rattle.cluster.specs.Starts.{creation_of, addition_of, events_of, IsStartOf, IsWant, StartFails};
 
 use crate::cluster::{Cluster, Seats};
 use crate::fault::ClusterFault;
@@ -178,15 +178,11 @@ fn all_passes(
     monitor: &mut Monitor,
     seats: Vec<Seats>,
 ) -> Result<Vec<Pass>, ClusterFault>
-    requires monitor { IsMonitorOf cluster.now monitor.old × IsNone monitor.old.unfinished }
-    requires follows { (monitor.old.map ≡ cluster.now.start) × Follows cluster.now.start monitor.old }
+    requires monitor { HasChangedNothing cluster.now monitor.old }
     requires begun { IsBegun cluster.now }
     requires fresh { All (AreFreshOf cluster.now (pass_share cluster.now.passes)) seats.items }
-    ensures monitor { IsMonitorOf cluster.now monitor.new × IsNone monitor.new.unfinished }
-    ensures follows { (monitor.new.map ≡ cluster.now.start) × Follows cluster.now.start monitor.new }
-    ensures passes { IfOk result (λ passes. (vec_len passes ≡ vec_len seats) × All (IsPassOf cluster.now) passes.items) }
-    ensures idle { IfOk result (λ passes. All (λ pass. pass.sessions.items ≡ []) passes.items) }
-    ensures err { IfErr result IsWant }
+    ensures monitor { HasChangedNothing cluster.now monitor.new }
+    ensures passes { MatchResult result (λ passes. (vec_len passes ≡ vec_len seats) × AreIdle cluster.now passes.items) IsWant }
 {
     let mut passes = Vec::new(alloc);
     for own in seats {
@@ -203,14 +199,8 @@ fn cluster_of<R: Wait>(
     parts: WorldParts,
     passes: usize,
 ) -> Result<(Cluster, Monitor, Vec<Pass>), ClusterFault>
-    requires world { HasWorld parts }
-    ensures begun { IfOk result (λ r. IsBegun r.0) }
-    ensures cluster { IfOk result (λ r. (r.0.start ≡ parts.map) × (firsts_of r.0 ≡ parts.groups.items) × (r.0.users.first.db ≡ parts.users) × (r.0.users.first.sessions ≡ 0)) }
-    ensures monitor { IfOk result (λ r. IsMonitorOf r.0 r.1 × Follows r.0.start r.1) }
-    ensures whole { IfOk result (λ r. IsNone r.1.unfinished × (r.1.map ≡ parts.map)) }
-    ensures passes { IfOk result (λ r. (vec_len r.2 ≡ passes) × All (IsPassOf r.0) r.2.items) }
-    ensures idle { IfOk result (λ r. All (λ pass. pass.sessions.items ≡ []) r.2.items) }
-    ensures err { IfErr result IsWant }
+    requires { HasWorld parts }
+    ensures { MatchResult result (λ r. HasParts parts r.0 × HasChangedNothing r.0 r.1 × (vec_len r.2 ≡ passes) × AreIdle r.0 r.2.items) IsWant }
 {
     let WorldParts {
         users,
@@ -243,16 +233,10 @@ fn with_passes<R: Wait>(
     mut monitor: Monitor,
     seats: Vec<Seats>,
 ) -> Result<(Cluster, Monitor, Vec<Pass>), ClusterFault>
-    requires monitor { IsMonitorOf cluster monitor × IsNone monitor.unfinished }
-    requires follows { (monitor.map ≡ cluster.start) × Follows cluster.start monitor }
+    requires monitor { HasChangedNothing cluster monitor }
     requires begun { IsBegun cluster }
     requires fresh { All (AreFreshOf cluster (pass_share cluster.passes)) seats.items }
-    ensures cluster { IfOk result (λ r. r.0 ≡ cluster) }
-    ensures monitor { IfOk result (λ r. IsMonitorOf cluster r.1 × Follows cluster.start r.1) }
-    ensures whole { IfOk result (λ r. IsNone r.1.unfinished × (r.1.map ≡ cluster.start)) }
-    ensures passes { IfOk result (λ r. (vec_len r.2 ≡ vec_len seats) × All (IsPassOf cluster) r.2.items) }
-    ensures idle { IfOk result (λ r. All (λ pass. pass.sessions.items ≡ []) r.2.items) }
-    ensures err { IfErr result IsWant }
+    ensures { MatchResult result (λ r. (r.0 ≡ cluster) × HasChangedNothing cluster r.1 × (vec_len r.2 ≡ vec_len seats) × AreIdle cluster r.2.items) IsWant }
 {
     match all_passes(alloc, &cluster, &mut monitor, seats) {
         Ok(passes) => Ok((cluster, monitor, passes)),

@@ -1,4 +1,5 @@
 use Rattle.std.proofs.Common.{◌≡◌, ℕ, List, refl, sym, ap, ◌∙◌, subst, arith}
+use Rattle.map_commands.specs.Map.{epoch_of}
 use Rattle.map_commands.specs.declared.command.MapCommand.{MapCommand}
 use Rattle.store_core.specs.declared.sealed.GroupId.{GroupId}
 use Rattle.cluster.specs.declared.cluster.Cluster.{Cluster}
@@ -9,7 +10,8 @@ use Rattle.cluster.specs.Passes.{group_count}
 use Rattle.cluster.specs.GroupMoves.{HaveLooked, NoneFull, Goes}
 use Rattle.cluster.specs.Monitors.{HasBegun, IsAdmitted, IsLeft, IsLeftBy, left_at, change_refusal, published_of}
 use Rattle.cluster.proofs.Moved.{none_through, goes_nowhere, goes_through}
-use Rattle.cluster.proofs.Following.{follows_begun}
+use Rattle.cluster.proofs.Changes.{only_looked, overfull, owns_begun, refused_for_want, still_own}
+use Rattle.cluster.proofs.Following.{follows_begun, follows_looked}
 use Rattle.cluster.proofs.GoingOn.{begins, stands_whole, where_none}
 use Rattle.std.specs.Prelude.{None}
 use Rattle.std.proofs.lemmas.Grind.{common_steps}
@@ -74,3 +76,64 @@ returns-in-Err-go_on-clause-follows g c first h = let old = c.args.self.now in
 
 pub any_full-requires-clause-places : goal.any_full-requires-clause-places
 any_full-requires-clause-places g c = grind (arith, common_steps)
+
+pub any_full-requires-clause-own : goal.any_full-requires-clause-own
+any_full-requires-clause-own g c = c.requires.monitor.seats
+
+pub go_on-requires : goal.go_on-requires
+go_on-requires g c = (
+  owns_begun c.args.cluster.now c.args.command c.in-Ok.kept c.args.self.now c.apply.new.self c.any_full.new.seats c.requires.monitor c.requires.whole c.any_full.ensures.own c.in-Ok.ensures c.in-Ok-apply.ensures.accepted,
+  c.requires.whole,
+)
+
+pub returns-then-any_full-clause-monitor : goal.returns-then-any_full-clause-monitor
+returns-then-any_full-clause-monitor g c = still_own c.args.cluster.now c.args.self.now c.args.self.now.map c.any_full.new.seats refl c.requires.monitor c.any_full.ensures.own
+
+pub returns-then-any_full-clause-goes : goal.returns-then-any_full-clause-goes
+returns-then-any_full-clause-goes g c = c.any_full.ensures.looked.goes
+
+pub returns-then-any_full-clause-follows : goal.returns-then-any_full-clause-follows
+returns-then-any_full-clause-follows g c first h = let old = c.args.self.now in follows_looked first old (record old { seats = c.any_full.new.seats }) refl refl refl c.any_full.ensures.looked h
+
+pub returns-then-any_full-clause-err : goal.returns-then-any_full-clause-err
+returns-then-any_full-clause-err g c = (
+  c.requires.whole,
+  refl,
+  overfull c.args.cluster.now c.args.command c.args.self.now c.any_full.new.seats c.as_slice-places.result.now c.requires.free c.as_slice-places.ensures.value c.any_full.ensures.looked c.if-any_full.ensures.found,
+)
+
+pub returns-in_default-clause-monitor : goal.returns-in_default-clause-monitor
+returns-in_default-clause-monitor g c = still_own c.args.cluster.now c.args.self.now c.args.self.now.map c.any_full.new.seats refl c.requires.monitor c.any_full.ensures.own
+
+pub returns-in_default-clause-goes : goal.returns-in_default-clause-goes
+returns-in_default-clause-goes g c = c.any_full.ensures.looked.goes
+
+pub returns-in_default-clause-follows : goal.returns-in_default-clause-follows
+returns-in_default-clause-follows g c first h = let old = c.args.self.now in follows_looked first old (record old { seats = c.any_full.new.seats }) refl refl refl c.any_full.ensures.looked h
+
+pub returns-in_default-clause-err : goal.returns-in_default-clause-err
+returns-in_default-clause-err g c = let old = c.args.self.now in
+    (c.requires.whole, refused_for_want c.args.command old _ c.requires.free (only_looked old old.map c.any_full.new.seats refl c.any_full.ensures.looked))
+
+pub returns-in-Err-clause-monitor : goal.returns-in-Err-clause-monitor
+returns-in-Err-clause-monitor g c = still_own c.args.cluster.now c.args.self.now c.apply.new.self c.any_full.new.seats c.in-Err.ensures.unchanged c.requires.monitor c.any_full.ensures.own
+
+pub returns-in-Err-clause-goes : goal.returns-in-Err-clause-goes
+returns-in-Err-clause-goes g c = c.any_full.ensures.looked.goes
+
+pub returns-in-Err-clause-follows : goal.returns-in-Err-clause-follows
+returns-in-Err-clause-follows g c first h = let old = c.args.self.now in
+    follows_looked first old (record old { map = c.apply.new.self; seats = c.any_full.new.seats }) c.in-Err.ensures.unchanged refl refl c.any_full.ensures.looked h
+
+pub returns-in-Err-clause-err : goal.returns-in-Err-clause-err
+returns-in-Err-clause-err g c = let old = c.args.self.now in
+    (c.requires.whole, refused_for_want c.args.command old _ c.requires.free (only_looked old c.apply.new.self c.any_full.new.seats c.in-Err.ensures.unchanged c.any_full.ensures.looked))
+
+pub returns-in-Ok-go_on-clause-monitor : goal.returns-in-Ok-go_on-clause-monitor
+returns-in-Ok-go_on-clause-monitor g c = c.go_on.ensures.monitor
+
+pub returns-in-Ok-go_on-clause-epoch : goal.returns-in-Ok-go_on-clause-epoch
+returns-in-Ok-go_on-clause-epoch g c = c.in-Ok-apply.ensures.epoch ∙ ap epoch_of (sym c.go_on.ensures.map)
+
+pub returns-in-Err-go_on-clause-monitor : goal.returns-in-Err-go_on-clause-monitor
+returns-in-Err-go_on-clause-monitor g c = c.go_on.ensures.monitor
