@@ -12,6 +12,7 @@ use Rattle.store_core.specs.Request.{Sealed}
 use Rattle.whole_logs.specs.Each.{Each}
 use Rattle.suffix_core.specs.Group.{Group, Submit, group_step, has_all_requests}
 use Rattle.suffix_core.specs.Reached.{HasJustTaken}
+use Rattle.world_front.proofs.Bytes.{number_same}
 use Rattle.world_core.specs.Taking.{Takes, TakesAll, is_full_at}
 use Rattle.world_core.proofs.RunPlaces.{set_there}
 
@@ -99,3 +100,34 @@ all_given_back before gs between hs (p ∷ ps) (s ∷ ss) some h rest first =
     let back : between ≡ h.0 = rest h.0 ss (subst P (sym (rest_of p ps)) h.2) in
     let Q : List Group → Type 0 = λ l. Takes before p s l in
     first before s (subst Q (sym back) h.1)
+
+-- where there are no places nothing was taken
+pub none_given_back : (before gs : List Group) (places : List ℕ) (requests : List Sealed) → (length places == 0) ≡ true → TakesAll before places requests gs → gs ≡ before
+none_given_back before gs [] [] none h = h
+none_given_back before gs [] (s ∷ ss) none h = absurd h
+none_given_back before gs (p ∷ ps) requests none h = absurd (let e : suc (length ps) ≡ 0 = number_same (suc (length ps)) 0 none in omega arith)
+
+-- the requests behind the first were taken
+pub rest_taken : (before gs : List Group) (places : List ℕ) (requests : List Sealed) → (length places == 0) ≡ false → TakesAll before places requests gs
+    → (b : List Group) × ((rs : List Sealed) × TakesAll b (take (length places - 1) (drop 1 places)) rs gs)
+rest_taken before gs [] requests some h = absurd (let e : true ≡ false = some in cc)
+rest_taken before gs (p ∷ ps) [] some h = absurd h
+rest_taken before gs (p ∷ ps) (s ∷ ss) some h =
+    let P : List ℕ → Type 0 = λ l. TakesAll h.0 l ss gs in
+    (h.0, (ss, subst P (sym (rest_of p ps)) h.2))
+
+-- there are fewer of them
+pub rest_less : (places : List ℕ) (t : ℕ) → (length places == 0) ≡ false → length places ≡ t → length (take (length places - 1) (drop 1 places)) < t
+rest_less [] t some is = absurd (let e : true ≡ false = some in cc)
+rest_less (p ∷ ps) t some is = let e : length (take (length (p ∷ ps) - 1) (drop 1 (p ∷ ps))) ≡ length ps = ap length (rest_of p ps) in omega arith
+
+-- and the first was taken before them
+pub first_taken : (before gs between : List Group) (places : List ℕ) (requests : List Sealed) → (length places == 0) ≡ false → TakesAll before places requests gs
+    → ((b : List Group) (rs : List Sealed) → TakesAll b (take (length places - 1) (drop 1 places)) rs gs → between ≡ b) → (b : List Group) × ((s : Sealed) × Takes b (get_or places 0 0) s between)
+first_taken before gs between [] requests some h rest = absurd (let e : true ≡ false = some in cc)
+first_taken before gs between (p ∷ ps) [] some h rest = absurd h
+first_taken before gs between (p ∷ ps) (s ∷ ss) some h rest =
+    let P : List ℕ → Type 0 = λ l. TakesAll h.0 l ss gs in
+    let back : between ≡ h.0 = rest h.0 ss (subst P (sym (rest_of p ps)) h.2) in
+    let Q : List Group → Type 0 = λ l. Takes before p s l in
+    (before, (s, subst Q (sym back) h.1))

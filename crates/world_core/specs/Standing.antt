@@ -1,6 +1,6 @@
 -- Statement: contracts of public calls use it.
 -- What every world keeps, whatever happens.
-use Rattle.std.specs.Prelude.{◌≡◌, ℕ, ◌<◌, ◌^◌, List, [], Some, None, Option, length}
+use Rattle.std.specs.Prelude.{◌≡◌, ◌<◌, ◌^◌, List, [], Some, None, Option, length}
 use Rattle.store_core.specs.declared.entry.Entry.{Entry}
 use Rattle.store_core.specs.declared.sealed.GroupId.{GroupId}
 use Rattle.whole_logs.specs.Each.{Each}

@@ -68,7 +68,6 @@ fn moves_groups(command: &MapCommand) -> bool
 }
 
 /// Carries out a command on a daemon that the map does not refuse.
-#[tactic(auto, using(crate::proofs::AllMoved::all_given_up))]
 fn move_all(
     front: &mut Front,
     groups: &mut Vec<Group>,
@@ -130,7 +129,6 @@ fn is_full(map: &ClusterMap, command: &MapCommand, group: &Group) -> bool
 
 /// Makes each group ready for a command on a daemon, the last first, and leaves none behind. Where one is refused, for memory
 /// once no group is full, the groups are as they were.
-#[tactic(auto, using(crate::proofs::AllMoved::given_back))]
 fn prepare_all(
     map: &ClusterMap,
     command: &MapCommand,

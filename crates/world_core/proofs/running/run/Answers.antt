@@ -1,7 +1,8 @@
-use Rattle.std.proofs.Common.{◌≡◌, take, subst, arith}
+use Rattle.std.proofs.Common.{◌≡◌, ◌∙◌, ◌⊎◌, inl, Some, take, get_or, refl, subst}
 use Rattle.std.proofs.lemmas.List.{take_all}
-use Rattle.world_core.proofs.RunsOfEvents.{IsAfter, after_next, after_none, run_serves}
-use Rattle.std.proofs.lemmas.Grind.{elements}
+use Rattle.world_core.proofs.RunsOfEvents.{IsAfter, after_next, after_none, run_serves, stops}
+use Rattle.world_events.specs.declared.fault.WorldFault.TheVariants.{OutOfMemory}
+use Rattle.world_core.specs.World.{refusal_of}
 use Rattle.world_core.proofs.running.run.Goals as goal
 
 pub loop-place-init : goal.loop-place-init
@@ -19,7 +20,12 @@ returns c =
     record { holds = h.holds; accepted = h.accepted; unrefused = h.unrefused; serves = run_serves c.args.table c.args.daemons c.args.events.now c.loop-place.world h; refused = tt }
 
 pub returns-in-Err-apply-clause-refused : goal.returns-in-Err-apply-clause-refused
-returns-in-Err-apply-clause-refused c = grind (arith, elements)
+returns-in-Err-apply-clause-refused c =
+    let events = c.args.events.now in
+    let here : c.in-Ok-copy.copy ≡ get_or events c.loop-place.place c.index-events-place.result = c.in-Ok-copy.ensures ∙ c.index-events-place.is in
+    stops c.args.table c.args.daemons events c.loop-place.place c.index-events-place.result c.loop-place.world c.in-Err-apply.fault c.loop-place-test.true c.loop-place.invariant
+    (subst (λ e. (c.in-Err-apply.fault ≡ OutOfMemory) ⊎ (refusal_of c.loop-place.world e ≡ Some c.in-Err-apply.fault)) here c.in-Err-apply.ensures.refused)
 
 pub returns-in-Err-copy-clause-refused : goal.returns-in-Err-copy-clause-refused
-returns-in-Err-copy-clause-refused c = grind (arith, elements)
+returns-in-Err-copy-clause-refused c =
+    stops c.args.table c.args.daemons c.args.events.now c.loop-place.place c.index-events-place.result c.loop-place.world OutOfMemory c.loop-place-test.true c.loop-place.invariant (inl refl)
