@@ -14,8 +14,8 @@ use Rattle.cluster.specs.declared.cluster.Cluster.{Cluster}
 use Rattle.cluster.specs.declared.cluster.Seats.{Seats}
 use Rattle.cluster.specs.declared.monitor.Monitor.{Monitor}
 use Rattle.cluster.specs.declared.pass.Pass.{Pass}
-use Rattle.cluster.specs.declared.starting.PoolSpec.{PoolSpec}
-use Rattle.cluster.specs.declared.starting.UserSpec.{UserSpec}
+use Rattle.cluster_locks.specs.declared.beginning.PoolSpec.{PoolSpec}
+use Rattle.cluster_locks.specs.declared.beginning.UserSpec.{UserSpec}
 use Rattle.published_map.specs.Published.{GoesOnFrom}
 use Rattle.cluster.specs.Passes.{AreFreshOf, group_count}
 use Rattle.cluster_locks.specs.Shares.{pass_share}
@@ -24,7 +24,8 @@ use Rattle.cluster.specs.Monitors.{IsMonitorOf, published_of, waiting_of}
 use Rattle.cluster.specs.Asks.{IsBegun, asked_of, IsOwnEvent, Asks, known_by, IsPassOf}
 use Rattle.cluster.specs.declared.fault.ClusterFault.{ClusterFault}
 use Rattle.cluster.specs.declared.fault.ClusterFault.TheVariants as faults
-use Rattle.cluster.specs.Starts.{creation_of, addition_of, events_of, IsWant, StartFails}
+use Rattle.cluster_locks.specs.Beginning.{creation_of, addition_of, events_of}
+use Rattle.cluster.specs.Starts.{IsWant, StartFails}
 use Rattle.cluster.proofs.Begun.{fresh_are, row_own}
 use Rattle.cluster.proofs.Following.{fresh_mine}
 use Rattle.cluster.proofs.GoingOn.{stands_whole}

@@ -1,30 +1,15 @@
 -- Statement: contracts of public calls use it.
 -- What a cluster begins with.
-use Rattle.std.specs.Prelude.{◌≡◌, ℕ, List, ◌++◌, map}
+use Rattle.std.specs.Prelude.{◌≡◌, ℕ, List}
 use Rattle.grant_core.specs.Flat.{Table}
-use Rattle.map_commands.specs.declared.command.MapCommand.TheVariants.{PoolCreate}
-use Rattle.world_events.specs.declared.event.AuthCommand.TheVariants.{Add}
 use Rattle.world_events.specs.declared.event.Event.{Event}
-use Rattle.world_events.specs.declared.event.Event.TheVariants.{Auth, Map}
 use Rattle.world_core.specs.World.{World}
 use Rattle.world_core.specs.Holds.{Holds}
 use Rattle.world_core.specs.Calls.{IsFirstRefused}
-use Rattle.cluster.specs.declared.starting.PoolSpec.{PoolSpec}
-use Rattle.cluster.specs.declared.starting.UserSpec.{UserSpec}
 use Rattle.cluster.specs.declared.cluster.Cluster.{Cluster}
 use Rattle.cluster.specs.declared.fault.ClusterFault.{ClusterFault}
 use Rattle.cluster.specs.declared.fault.ClusterFault.TheVariants as faults
 use Rattle.cluster.specs.Passes.{firsts_of}
-
-abbrev pub creation_of : PoolSpec → Event
-creation_of p = Map (PoolCreate p.name p.pg_num p.size p.min_size)
-
-abbrev pub addition_of : UserSpec → Event
-addition_of u = Auth (Add u.name u.caps)
-
--- the pools in order, and then the users
-abbrev pub events_of : List PoolSpec → List UserSpec → List Event
-events_of pools users = map creation_of pools ++ map addition_of users
 
 -- the cluster begins with the users, the map and the groups of the world that these events make, and no session
 pub record IsStartOf (table : Table) (daemons : ℕ) (events : List Event) (c : Cluster) : Type 0 where

@@ -19,15 +19,13 @@ use crate::cluster::Cluster;
 use crate::deliveries::of_group;
 use crate::fault::ClusterFault;
 use crate::pass::{OwnSession, Pass};
-use cluster_locks::Submission;
+use cluster_locks::{Submission, count_request, next_piece};
 use common_types::Name;
 use entry_core::{GroupId, Id, Sealed};
 use map_core::PoolView;
 use std::alloc::Global;
 use std::sync::Wait;
-use world_core::{
-    Ask, Ops, Session, WorldFault, are_names, is_namespace, place_of, seal_piece, seal_vector,
-};
+use world_core::{Ask, Ops, Session, WorldFault, are_names, is_namespace, place_of, seal_vector};
 
 /// Who asks, when, and where. The request names the epoch of the map that the pass reads.
 #[derive(Debug, Drop)]
@@ -105,10 +103,7 @@ fn move_on(own: &mut Vec<OwnSession>, k: usize, ask: &Ask)
     requires room { FitsOneMore own.old.items ask.now.session }
     ensures { own.new.items ≡ own_session_at own.old.items ask.now.session (asks_more ask.now 1) }
 {
-    let session = &mut own[k].session;
-    session.epoch = ask.epoch;
-    session.tick = ask.tick;
-    session.next += 1;
+    count_request(&mut own[k].session, ask);
 }
 
 // The request of a vector under the next number of a session. K3 also where the session's numbers are used up: no group has room for
@@ -247,11 +242,7 @@ impl Cluster {
         ensures err { IfErr result (λ fault. IsNoPiece self.now ask.now view.now group fault pass.old pass.new) }
     {
         let alloc = *pass.sessions.allocator();
-        let session = &pass.sessions[k].session;
-        if session.next == u32::MAX {
-            return Err(ClusterFault::OutOfMemory);
-        }
-        match seal_piece(alloc, ask, session, view, group, 0) {
+        match next_piece(alloc, ask, &pass.sessions[k].session, view, group) {
             Err(_) => Err(ClusterFault::OutOfMemory),
             Ok(request) => self.put(rt, pass, k, ask, request),
         }

@@ -7,7 +7,9 @@ ghost use Rattle.cluster_locks.specs.Groups.{group_after, entry_fits};
 ghost use Rattle.cluster_locks.specs.Users.{table_after};
 ghost use Rattle.cluster_locks.specs.Places.{ClosedAll};
 
-use cluster_locks::{LockedGroup, UserTable, close_all, join_all, split_all, split_seat, turn_at};
+use cluster_locks::{
+    LockedGroup, UserTable, close_all, join_all, split_all, split_seat, take_in, turn_at,
+};
 use map_core::ClusterMap;
 use std::alloc::{AllocError, Global};
 use std::sync::Wait;
@@ -144,7 +146,7 @@ impl Cluster {
     {
         let Seats { groups, users } = other;
         join_all(&self.groups, &mut seats.groups, groups);
-        seats.users.join(&self.users, users);
+        take_in(&self.users, &mut seats.users, users);
     }
 
     // The groups and the users at the end, by a last turn on each lock.

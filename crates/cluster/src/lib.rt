@@ -30,7 +30,8 @@ pub use closing::CloseFault;
 pub use cluster::{Cluster, Ended, Seats};
 pub use cluster_locks::{
     AnswerFault, AnswerOf, Change, GroupEntry, GroupEvent, IsFull, LockedGroup, Move, Open,
-    OpenFault, Renew, Submission, UserCommand, UserEntry, UserTable, Work, Worked,
+    OpenFault, PoolSpec, Renew, Submission, UserCommand, UserEntry, UserSpec, UserTable, Work,
+    Worked,
 };
 pub use common_types::OutOfMemory;
 pub use fault::ClusterFault;
@@ -38,5 +39,5 @@ pub use monitor::{ChangeFault, Monitor, TellFault, Unfinished};
 pub use notes::Note;
 pub use pass::{OwnSession, Pass};
 pub use published_map::{Located, News};
-pub use starting::{PoolSpec, UserSpec, start};
+pub use starting::start;
 pub use workers::{Gate, run_workers};

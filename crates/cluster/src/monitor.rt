@@ -16,7 +16,7 @@ use crate::group_moves::{any_full, move_groups};
 use entry_core::GroupId;
 use group_types::GroupFault;
 use map_core::{ClusterMap, Epoch, MapCommand, MapFault};
-use published_map::{MapWriter, News, publish, tell};
+use published_map::{MapWriter, News, lay, publish, tell};
 use std::alloc::AllocError;
 use std::sync::Wait;
 
@@ -115,7 +115,7 @@ impl Monitor {
         ensures shown { (published_of self.new ≡ published_of self.old) × (known_of self.new ≡ known_of self.old) }
         ensures waiting { MatchResult result (λ _. waiting_of self.new ≡ waiting_of self.old ++ command ∷ []) (λ back. (back ≡ command) × (waiting_of self.new ≡ waiting_of self.old)) }
     {
-        self.writer.append(command)
+        lay(&mut self.writer, command)
     }
 
     /// The news of what the monitor has published. There is none while a change is unfinished. At `Err` nothing changed.

@@ -2,98 +2,35 @@
 
 ghost use Rattle.std.specs.Prelude.{◌≡◌, ℕ, ◌<◌, ◌≤◌, ◌^◌, ◌++◌, [], All, map as each, vec_len, IfOk, IfErr, IsNone, MatchResult};
 ghost use Rattle.cluster.specs.Passes.{AreFreshOf, AreMonitorOf, firsts_of, start_of};
+ghost use Rattle.cluster_locks.specs.Beginning as spec;
 ghost use Rattle.cluster_locks.specs.Groups.{group_in};
 ghost use Rattle.cluster_locks.specs.Shares.{pass_share};
 ghost use Rattle.cluster.specs.Monitors.{IsMonitorOf, Follows, FollowsStart, IsWhole, own_map};
 ghost use Rattle.cluster.specs.Asks.{IsBegun, IsPassOf, sessions_of};
 ghost use Rattle.cluster.specs.Begun.{HasWorld, HasParts, HasChangedNothing, AreIdle};
-ghost use Rattle.cluster.specs.Starts.{creation_of, addition_of, events_of, IsStartOf, IsWant, StartFails};
+ghost use Rattle.cluster.specs.Starts.{IsStartOf, IsWant, StartFails};
 
 use crate::cluster::{Cluster, Seats};
 use crate::fault::ClusterFault;
 use crate::locks::open_cluster;
 use crate::monitor::Monitor;
 use crate::pass::Pass;
-use auth_db::Caps;
-use cluster_locks::{LockedGroup, UserTable};
-use common_types::{Name, OutOfMemory};
+use cluster_locks::{LockedGroup, PoolSpec, UserSpec, UserTable, events_of};
+use common_types::OutOfMemory;
 use entry_core::{GroupId, TryCopy};
 use grant_core::ProfileTable;
 use group_core::Group;
-use map_core::{ClusterMap, MapCommand};
+use map_core::ClusterMap;
 use published_map::publish_first;
 use std::alloc::{AllocError, Global};
 use std::sync::Wait;
-use world_core::{AuthCommand, Event, WorldFault, WorldParts, run};
+use world_core::{WorldFault, WorldParts, run};
 
 /// How many news there may be at once, beside a reader for each pass.
 const MOST_NEWS: usize = 64;
 
 /// The most passes: each has a reader of the published map.
 const MOST_PASSES: usize = 65536;
-
-/// A pool of a cluster: 1 to 64 groups, sets of 1 to 5 daemons, and how many of a set are needed at least.
-#[derive(Debug, Drop)]
-pub struct PoolSpec {
-    pub name: Name,
-    pub pg_num: u32,
-    pub size: u32,
-    pub min_size: u32,
-}
-
-/// A user of a cluster, and its texts.
-#[derive(Debug, Drop)]
-pub struct UserSpec {
-    pub name: Name,
-    pub caps: Caps,
-}
-
-// The creation of a pool, as an event of a world.
-fn creation(pool: PoolSpec) -> Event
-    ensures { result ≡ creation_of pool }
-{
-    let PoolSpec {
-        name,
-        pg_num,
-        size,
-        min_size,
-    } = pool;
-    Event::Map(MapCommand::PoolCreate {
-        name,
-        pg_num,
-        size,
-        min_size,
-    })
-}
-
-// The addition of a user, as an event of a world.
-fn addition(user: UserSpec) -> Event
-    ensures { result ≡ addition_of user }
-{
-    let UserSpec { name, caps } = user;
-    Event::Auth(AuthCommand::Add { name, caps })
-}
-
-// The creations of pools, in order.
-fn creations(alloc: Global, pools: Vec<PoolSpec>) -> Result<Vec<Event>, AllocError>
-    ensures { IfOk result (λ events. events.items ≡ each creation_of pools.items) }
-{
-    let mut events = Vec::new(alloc);
-    for pool in pools {
-        events.push(creation(pool))?;
-    }
-    Ok(events)
-}
-
-// With the additions of users, in order.
-fn with_users(mut events: Vec<Event>, users: Vec<UserSpec>) -> Result<Vec<Event>, AllocError>
-    ensures { IfOk result (λ all. all.items ≡ events.items ++ each addition_of users.items) }
-{
-    for user in users {
-        events.push(addition(user))?;
-    }
-    Ok(events)
-}
 
 // Each group, to be put under a lock.
 fn to_lock(alloc: Global, groups: Vec<Group>) -> Result<Vec<LockedGroup>, AllocError>
@@ -265,14 +202,14 @@ pub fn start<R: Wait>(
     requires few { daemons ≤ 16 }
     requires pass { 1 ≤ passes }
     ensures begun { IfOk result (λ r. IsBegun r.0) }
-    ensures cluster { IfOk result (λ r. IsStartOf table daemons (events_of pools.items users.items) r.0) }
+    ensures cluster { IfOk result (λ r. IsStartOf table daemons (spec.events_of pools.items users.items) r.0) }
     ensures monitor { IfOk result (λ r. IsMonitorOf r.0 r.1 × FollowsStart r.0 r.1) }
     ensures whole { IfOk result (λ r. IsWhole r.1 × (own_map r.1 ≡ start_of r.0)) }
     ensures passes { IfOk result (λ r. (vec_len r.2 ≡ passes) × All (IsPassOf r.0) r.2.items) }
     ensures idle { IfOk result (λ r. All (λ pass. sessions_of pass ≡ []) r.2.items) }
-    ensures err { IfErr result (λ fault. StartFails table daemons (events_of pools.items users.items) fault) }
+    ensures err { IfErr result (λ fault. StartFails table daemons (spec.events_of pools.items users.items) fault) }
 {
-    let events = with_users(creations(alloc, pools)?, users)?;
+    let events = events_of(alloc, pools, users)?;
     match run(alloc, table, daemons, events.as_slice()) {
         Ok(world) => cluster_of(rt, alloc, world.into_parts(), passes),
         Err((_, WorldFault::OutOfMemory)) => Err(ClusterFault::OutOfMemory),

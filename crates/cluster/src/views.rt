@@ -14,10 +14,11 @@ use crate::cluster::Cluster;
 use crate::fault::ClusterFault;
 use crate::numbering::find_own;
 use crate::pass::Pass;
+use cluster_locks::judge_by;
 use common_types::Name;
 use map_core::{MapFault, PoolView};
 use published_map::{Located, locate, view};
-use verdict_core::{Needs, Target};
+use verdict_core::Needs;
 use world_core::{WorldFault, are_names};
 
 // A fault of the map, where want of memory is the cluster's own.
@@ -124,12 +125,6 @@ impl Cluster {
         let Some(own) = find_own(pass.sessions.as_slice(), session) else {
             return Err(ClusterFault::World(WorldFault::NoSession));
         };
-        let target = Target {
-            pool: view.pool.as_str(),
-            tags: &view.tags,
-            namespace,
-            object,
-        };
-        Ok(own.ticket.as_ticket().judge(&target, needs, tick))
+        Ok(judge_by(own, view, namespace, object, needs, tick))
     }
 }

@@ -12,7 +12,7 @@ ghost use Rattle.cluster.specs.Workers.{HasWorked, HasWorkedOf, HasGoneOn, EndsB
 use crate::cluster::Cluster;
 use crate::fault::ClusterFault;
 use crate::pass::Pass;
-use cluster_locks::Worked;
+use cluster_locks::{Worked, first_of};
 use group_types::GroupFault;
 use std::alloc::Global;
 use std::sync::Wait;
@@ -175,7 +175,7 @@ fn dismiss(workers: Vec<Worker>, mut passes: Vec<Pass>) -> (Vec<Pass>, Option<Cl
 {
     let mut first = None;
     for worker in workers {
-        first = first.or(worker.fault);
+        first = first_of(first, worker.fault);
         passes.push_reserved(worker.pass);
     }
     (passes, first)

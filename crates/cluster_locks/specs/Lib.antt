@@ -3,3 +3,4 @@ pub mod Users
 pub mod Moves
 pub mod Places
 pub mod Shares
+pub mod Beginning

@@ -26,6 +26,15 @@ pub fn turn_at<T: Recorded + Drop, R: Wait, St: Step<Value = T> + Drop>(
     locks[k].turn(rt, seat, step)
 }
 
+/// A seat takes in what another of its lock has seen, and its numbers.
+pub fn take_in<T: Recorded>(lock: &TurnLock<T>, seat: &mut Seat<T>, other: Seat<T>)
+    requires own { IsSeatOf lock.now seat.old }
+    requires other { IsSeatOf lock.now other }
+    ensures { TakesIn seat.old other seat.new }
+{
+    seat.join(lock, other);
+}
+
 /// Each seat takes in what another of its lock has seen, and its numbers.
 pub fn join_all<T: Recorded>(locks: &[TurnLock<T>], seats: &mut [Seat<T>], mut others: Vec<Seat<T>>)
     requires own { map seat_lock seats.old ≡ map lock_of locks.now }
@@ -35,7 +44,7 @@ pub fn join_all<T: Recorded>(locks: &[TurnLock<T>], seats: &mut [Seat<T>], mut o
 {
     while let Some(other) = others.pop() {
         let k = others.len();
-        seats[k].join(&locks[k], other);
+        take_in(&locks[k], &mut seats[k], other);
     }
 }
 

@@ -1,7 +1,7 @@
-use Rattle.std.proofs.Common.{◌++◌, map, ap, ◌∙◌, subst}
+use Rattle.std.proofs.Common.{ap, ◌∙◌, subst}
 use Rattle.std.proofs.lemmas.Result.{MatchResult-weaker}
 use Rattle.world_core.specs.Holds.{Holds}
-use Rattle.cluster.specs.Starts.{addition_of, events_of}
+use Rattle.cluster_locks.specs.Beginning.{events_of}
 use Rattle.cluster.proofs.FirstPasses.{nothing_asked, want_fails}
 use Rattle.cluster.proofs.starting.start.Goals as goal
 
@@ -12,7 +12,7 @@ cluster_of-requires g c =
       world = c.in-Ok.world;
       sound = parts.sound;
       unasked = nothing_asked c.args.table c.args.daemons c.args.pools.items c.args.users.items c.as_slice.result.now c.in-Ok.world
-          (c.as_slice.ensures.value ∙ (c.in_ok-events.ensures ∙ ap (λ l. l ++ map addition_of c.args.users.items) c.in_ok-creations.ensures)) holds;
+          (c.as_slice.ensures.value ∙ c.in_ok-events.ensures) holds;
       users = parts.front.0;
       map_is = parts.front.1;
       groups = parts.groups;
@@ -23,7 +23,7 @@ returns-in-Ok-clause-begun g c = MatchResult-weaker c.cluster_of.result c.cluste
 
 pub returns-in-Ok-clause-cluster : goal.returns-in-Ok-clause-cluster
 returns-in-Ok-clause-cluster g c =
-    let events = c.as_slice.ensures.value ∙ (c.in_ok-events.ensures ∙ ap (λ l. l ++ map addition_of c.args.users.items) c.in_ok-creations.ensures) in
+    let events = c.as_slice.ensures.value ∙ c.in_ok-events.ensures in
     let parts = c.into_parts.ensures in
     MatchResult-weaker c.cluster_of.result c.cluster_of.ensures
     (λ r h. record {

@@ -13,6 +13,6 @@ loop-worker-preserved c =
     let room = inv.room in
     let same = c.push_reserved.ensures.capacity in record {
       made = c.push_reserved.ensures.items ∙ (ap (λ l. l ++ worker.pass ∷ []) inv.made ∙ sym (map-append pass_of before (worker ∷ [])));
-      told = c.or-first.ensures ∙ (ap (λ f. option_or f worker.fault) inv.told ∙ (sym (first_more (map fault_of before) worker.fault) ∙ ap first_fault (sym (map-append fault_of before (worker ∷ [])))));
+      told = c.first_of-first.ensures ∙ (ap (λ f. option_or f worker.fault) inv.told ∙ (sym (first_more (map fault_of before) worker.fault) ∙ ap first_fault (sym (map-append fault_of before (worker ∷ [])))));
       room = omega arith;
     }

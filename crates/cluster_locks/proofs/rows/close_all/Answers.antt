@@ -42,3 +42,6 @@ loop-lock-preserved g c = let inv = c.loop-lock.invariant in let ls = c.args.loc
 
 pub loop-lock-init : goal.loop-lock-init
 loop-lock-init c = grind (arith, common_steps)
+
+pub returns : goal.returns
+returns g c = search rules

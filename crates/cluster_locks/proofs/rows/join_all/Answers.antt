@@ -18,16 +18,16 @@ loop-other-init g c =
       done = none_left TakesIn c.args.seats.now c.args.others.items c.args.seats.now (vec_len c.args.others) (omega arith) n (omega arith);
     }
 
-pub join-requires-clause-own : goal.join-requires-clause-own
-join-requires-clause-own g c = let inv = c.loop-other.invariant in let k = c.len-k.result in let ls = c.args.locks.now in
+pub take_in-requires-clause-own : goal.take_in-requires-clause-own
+take_in-requires-clause-own g c = let inv = c.loop-other.invariant in let k = c.len-k.result in let ls = c.args.locks.now in
     let long : length c.args.others.items ≡ length ls = same_length seat_lock lock_of c.args.others.items ls c.requires.other in
     let one : vec_len c.pop.new.self + 1 ≡ vec_len c.loop-other.others = search rules in
     let here : k ≡ vec_len c.pop.new.self = search rules in
     let short = inv.short in
     same_at seat_lock lock_of c.loop-other.seats ls k _ _ (omega arith) (inv.locks ∙ c.requires.own) (at_read c.loop-other.seats k c.index-seats-k.result c.index-seats-k.is) c.index-locks-k.is
 
-pub join-requires-clause-other : goal.join-requires-clause-other
-join-requires-clause-other g c = let inv = c.loop-other.invariant in let k = c.len-k.result in let ls = c.args.locks.now in
+pub take_in-requires-clause-other : goal.take_in-requires-clause-other
+take_in-requires-clause-other g c = let inv = c.loop-other.invariant in let k = c.len-k.result in let ls = c.args.locks.now in
     let long : length c.args.others.items ≡ length ls = same_length seat_lock lock_of c.args.others.items ls c.requires.other in
     let one : vec_len c.pop.new.self + 1 ≡ vec_len c.loop-other.others = search rules in
     let here : k ≡ vec_len c.pop.new.self = search rules in
@@ -52,22 +52,14 @@ loop-other-preserved g c = let inv = c.loop-other.invariant in let k = c.len-k.r
     let before = get_or ps k c.index-seats-k.result in
     let at = at_read ps k c.index-seats-k.result c.index-seats-k.is in
     let at_old : before ≡ get_or old k before = at ∙ (sym (get_or-take n ps k before (omega arith)) ∙ (ap (λ l. get_or l k before) inv.todo ∙ get_or-take n old k before (omega arith))) in
-    let took : TakesIn before c.in-Some.other c.join.new.self = record {
-      same = c.join.ensures.same.0;
-      own = c.join.ensures.same.1;
-      before = c.join.ensures.begins.0;
-      heard = c.join.ensures.begins.1;
-      share = c.join.ensures.share.0;
-      joined = c.join.ensures.share.1;
-      made = c.join.ensures.own;
-    } in
-    let done : InStep TakesIn (drop k old) (drop k os) (drop k (set ps k c.join.new.self)) = one_put TakesIn old os ps k n before c.in-Some.other c.join.new.self next inside (rest_at old k n before next (omega arith) at_old) (rest_at os k n c.in-Some.other next (omega arith) is) took inv.done in
+    let took : TakesIn before c.in-Some.other c.take_in.new.seat = c.take_in.ensures in
+    let done : InStep TakesIn (drop k old) (drop k os) (drop k (set ps k c.take_in.new.seat)) = one_put TakesIn old os ps k n before c.in-Some.other c.take_in.new.seat next inside (rest_at old k n before next (omega arith) at_old) (rest_at os k n c.in-Some.other next (omega arith) is) took inv.done in
     record {
       short = omega arith;
       others = c.pop.ensures.rest ∙ take_fewer os c.loop-other.others.items n (vec_len c.pop.new.self) inv.others (omega arith);
-      locks = put_same seat_lock ps k inside _ _ at c.join.ensures.same.0.0 ∙ inv.locks;
-      todo = ap (λ i. take i (set ps k c.join.new.self)) (sym here) ∙ (take_put ps old k n c.join.new.self (omega arith) inv.todo ∙ ap (λ i. take i old) here);
-      done = subst (λ i. InStep TakesIn (drop i old) (drop i os) (drop i (set ps k c.join.new.self))) here done;
+      locks = put_same seat_lock ps k inside _ _ at c.take_in.ensures.same.0 ∙ inv.locks;
+      todo = ap (λ i. take i (set ps k c.take_in.new.seat)) (sym here) ∙ (take_put ps old k n c.take_in.new.seat (omega arith) inv.todo ∙ ap (λ i. take i old) here);
+      done = subst (λ i. InStep TakesIn (drop i old) (drop i os) (drop i (set ps k c.take_in.new.seat))) here done;
     }
 
 pub returns-clause-taken : goal.returns-clause-taken

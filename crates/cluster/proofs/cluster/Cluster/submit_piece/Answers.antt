@@ -8,11 +8,6 @@ use Rattle.cluster.proofs.Vectors.{piece_ready}
 use Rattle.cluster.proofs.Pieces.{piece_asked, piece_refused, place_after}
 use Rattle.cluster.proofs.cluster.Cluster.submit_piece.Goals as goal
 
-pub returns-then-session-clause-err : goal.returns-then-session-clause-err
-returns-then-session-clause-err g c =
-    let h = stands_at c.args.pass.now.sessions.items c.args.ask.now.session c.args.k c.requires.place in
-    (h.one.session, h.found, inl (refl, refl))
-
 pub returns-in-Err-clause-err : goal.returns-in-Err-clause-err
 returns-in-Err-clause-err g c =
     let h = stands_at c.args.pass.now.sessions.items c.args.ask.now.session c.args.k c.requires.place in
@@ -23,8 +18,8 @@ put-requires-clause-asks g c =
     let own = c.args.pass.now.sessions.items in
     let s : Session = c.index.result.now.session in
     let has : own_session own c.args.ask.now.session ≡ Some s = read_session own c.args.ask.now.session c.args.k c.index.result.now c.requires.place c.index.ensures in
-    let room : c.index.result.now.session.next + 1 < 4294967296 = let last = c.if-session.false in omega arith in
-    subst (λ (r : Sealed). IsToAsk c.args.self.now.start own c.args.ask.now r) (sym c.in-Ok.ensures)
+    let room : c.index.result.now.session.next + 1 < 4294967296 = c.in-Ok.ensures.room in
+    subst (λ (r : Sealed). IsToAsk c.args.self.now.start own c.args.ask.now r) (sym c.in-Ok.ensures.piece)
     (piece_ready c.args.self.now.start own c.args.ask.now c.args.view.now s c.requires.pool has room c.args.group c.requires.group)
 
 pub returns-in-Ok-clause-place : goal.returns-in-Ok-clause-place
@@ -36,11 +31,11 @@ returns-in-Ok-clause-ok g c =
     let own = c.args.pass.now.sessions.items in
     let s : Session = c.index.result.now.session in
     let has : own_session own c.args.ask.now.session ≡ Some s = read_session own c.args.ask.now.session c.args.k c.index.result.now c.requires.place c.index.ensures in
-    piece_asked c.args.self.now c.args.ask.now c.args.view.now c.args.group s c.args.pass.now c.put.new.pass has c.in-Ok.request c.in-Ok.ensures c.put.result c.put.ensures.ok
+    piece_asked c.args.self.now c.args.ask.now c.args.view.now c.args.group s c.args.pass.now c.put.new.pass has c.in-Ok.request c.in-Ok.ensures.piece c.put.result c.put.ensures.ok
 
 pub returns-in-Ok-clause-err : goal.returns-in-Ok-clause-err
 returns-in-Ok-clause-err g c =
     let own = c.args.pass.now.sessions.items in
     let s : Session = c.index.result.now.session in
     let has : own_session own c.args.ask.now.session ≡ Some s = read_session own c.args.ask.now.session c.args.k c.index.result.now c.requires.place c.index.ensures in
-    piece_refused c.args.self.now c.args.ask.now c.args.view.now c.args.group s c.args.pass.now c.put.new.pass has c.in-Ok.request c.in-Ok.ensures c.put.result c.put.ensures.err
+    piece_refused c.args.self.now c.args.ask.now c.args.view.now c.args.group s c.args.pass.now c.put.new.pass has c.in-Ok.request c.in-Ok.ensures.piece c.put.result c.put.ensures.err

@@ -1,6 +1,0 @@
-use Rattle.std.proofs.Common.{arith}
-use Rattle.std.proofs.lemmas.Grind.{common_steps}
-use Rattle.cluster.proofs.starting.creations.Goals as goal
-
-pub loop-pool-preserved : goal.loop-pool-preserved
-loop-pool-preserved c = grind (arith, common_steps)
