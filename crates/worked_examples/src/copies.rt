@@ -1,8 +1,8 @@
 //! Copies that are fed by hand: what each message makes them send.
 
-use crate::expecting::{expect_row, expect_so};
 use crate::looks::are;
 use crate::operations::{name, view};
+use crate::pieces::{expect_row, expect_so};
 use crate::sets::set;
 use entry_core::{Id, Items, Sealed, TryCopy};
 use group_types::{IntervalSets, Party};

@@ -1,10 +1,10 @@
 //! Logs that are fitted to a part of another one. Every request appends a letter to one object, so what is read of it tells
 //! how many entries the log's own store has performed.
 
-use crate::expecting::{expect_row, expect_so};
 use crate::logs::{Row, Says, add, decides, sealed};
 use crate::looks::are;
 use crate::operations::Work;
+use crate::pieces::{expect_row, expect_so};
 use entry_core::{Log, Sealed};
 use std::alloc::Global;
 use std::process::Abort;

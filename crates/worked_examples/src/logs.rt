@@ -1,9 +1,9 @@
 //! Logs by each call: what is sealed, decided, found and copied. `sessions/logs` shows what requests are answered, one after another.
 
-use crate::expecting::{expect_row, expect_so};
 use crate::looks::gives;
 use crate::operations::Work::{self, Append, List, Read};
 use crate::operations::{name, ops, view};
+use crate::pieces::{expect_row, expect_so};
 use crate::tickets::ticket_of;
 use Says::{Denies, Gives, Lists};
 use entry_core::{BoxedLog, Entry, Id, Items, Log, Reply, Sealed, TryCopy, reply_number};

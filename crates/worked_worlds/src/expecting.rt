@@ -11,3 +11,8 @@ pub(crate) fn expect_so<R: Abort>(rt: &R, is_so: bool, what: &str) {
 pub(crate) fn expect_row<R: Abort>(rt: &R, is_so: bool, what: &str, place: usize) {
     assert!(rt; is_so, "{what} {place}");
 }
+
+/// Ends the test where a text is not the one that is wanted.
+pub(crate) fn expect_text<R: Abort>(rt: &R, found: &str, want: &str) {
+    assert_eq!(rt; found, want);
+}

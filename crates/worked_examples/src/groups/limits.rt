@@ -6,8 +6,8 @@ use super::steps::Step::{
     SettleAll, Stuck, TakeBack, Wire,
 };
 use super::steps::{Step, begun, expect, expect_from};
-use crate::expecting::expect_so;
 use crate::operations::Work;
+use crate::pieces::expect_so;
 use entry_core::TryCopy;
 use group_core::Group;
 use group_types::GroupFault;

@@ -1,7 +1,7 @@
 //! Moves in two steps: given up, and made.
 
 use super::steps::begun;
-use crate::expecting::expect_row;
+use crate::pieces::expect_row;
 use crate::sets::{set, up};
 use group_core::PreparedGroup;
 use group_types::GroupMove;

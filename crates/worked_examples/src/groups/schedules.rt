@@ -3,8 +3,8 @@
 
 use super::requests::request;
 use super::steps::{begun, has_decided, is_answered};
-use crate::expecting::expect_row;
 use crate::operations::Work;
+use crate::pieces::expect_row;
 use crate::sets::{set, up};
 use Event::{Deliver, Lose, LoseAll, Move, Settle, Submit};
 use Party::{Client, Osd};

@@ -4,9 +4,9 @@ ghost use Rattle.std.specs.Prelude.{◌≤◌};
 
 use super::requests::request;
 use crate::copies::{Says, is_said};
-use crate::expecting::expect_row;
 use crate::looks::{are, gives};
 use crate::operations::{Work, name};
+use crate::pieces::expect_row;
 use crate::sets::{set, up};
 use entry_core::{GroupId, Id, Sealed, TryCopy};
 use group_core::Group;
