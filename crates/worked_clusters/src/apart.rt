@@ -5,7 +5,7 @@ ghost use Rattle.cluster.specs.Monitors.{IsMonitorOf};
 
 use crate::begun::{Wish, begun, open, submit, two_passes};
 use crate::failover::{
-    add_user, catch_up, delete_user, expect_one, goes_on, move_and_untag, set_tag,
+    addition, catch_up, change_map, change_users, deletion, expect_one, goes_on, moving, tagging,
 };
 use cluster::{Asked, Cluster, Monitor, Pass};
 use std::alloc::Global;
@@ -28,8 +28,8 @@ fn prepare<R: Threads + Wait + Abort + Sync>(
 {
     join_mut(
         rt,
-        &mut || set_tag(rt, alloc, cluster, monitor),
-        &mut || add_user(rt, alloc, cluster, second),
+        &mut || change_map(rt, cluster, monitor, tagging(rt, alloc)),
+        &mut || change_users(rt, cluster, second, addition(rt, alloc)),
     );
 }
 
@@ -50,7 +50,7 @@ fn move_meanwhile<R: Threads + Wait + Abort + Sync>(
     join_mut(
         rt,
         &mut || expect_one(rt, cluster, first, asked),
-        &mut || move_and_untag(rt, alloc, cluster, monitor),
+        &mut || change_map(rt, cluster, monitor, moving(rt, alloc)),
     );
 }
 
@@ -69,7 +69,7 @@ fn delete_meanwhile<R: Threads + Wait + Abort + Sync>(
     join_mut(
         rt,
         &mut || expect_one(rt, cluster, first, asked),
-        &mut || delete_user(rt, alloc, cluster, second),
+        &mut || change_users(rt, cluster, second, deletion(rt, alloc)),
     );
 }
 
@@ -81,7 +81,10 @@ fn a_tag_and_a_user_go_by_other_threads(rt: HostRuntime) {
     prepare(&rt, alloc, &cluster, &mut monitor, &mut second);
     catch_up(&rt, alloc, &cluster, &mut monitor, &mut first, &mut second);
     let session = open(&rt, alloc, &cluster, &mut first, None);
-    let asked = submit(&rt, alloc, &cluster, &mut first, session, "x", Wish::Add);
+    let asked = submit(&rt, alloc, &cluster, &mut first, session, "x", Wish::Add, 0).expect(
+        &rt,
+        "a request",
+    );
     move_meanwhile(&rt, alloc, &cluster, &mut monitor, &mut first, &asked);
     delete_meanwhile(&rt, alloc, &cluster, &mut first, &mut second, &asked);
     catch_up(&rt, alloc, &cluster, &mut monitor, &mut first, &mut second);

@@ -163,7 +163,7 @@ fn ops_of<R: Abort>(rt: &R, alloc: Global, wish: Wish) -> Ops {
 }
 
 // Submits a request on an object of the default namespace, at a tick. Where there is no reading the call is made again.
-pub(crate) fn submit_at<R: Wait + Abort>(
+pub(crate) fn submit<R: Wait + Abort>(
     rt: &R,
     alloc: Global,
     cluster: &Cluster,
@@ -185,22 +185,6 @@ pub(crate) fn submit_at<R: Wait + Abort>(
         }
     }
     Err(ClusterFault::NoReader)
-}
-
-// Submits a request on an object of the default namespace, at the tick 0.
-pub(crate) fn submit<R: Wait + Abort>(
-    rt: &R,
-    alloc: Global,
-    cluster: &Cluster,
-    pass: &mut Pass,
-    session: u32,
-    object: &str,
-    wish: Wish,
-) -> Asked
-    requires { IsPassOf cluster.now pass.old }
-    ensures { IsPassOf cluster.now pass.new }
-{
-    submit_at(rt, alloc, cluster, pass, session, object, wish, 0).expect(rt, "a request")
 }
 
 // The monitor's news. Where no reader is left the call is made again.
@@ -264,23 +248,6 @@ pub(crate) fn answered<R: Wait + Abort>(
         }
     }
     reply_of(rt, cluster, pass, asked)
-}
-
-// Submits a request and works until it is answered.
-pub(crate) fn reply_to<R: Wait + Abort>(
-    rt: &R,
-    alloc: Global,
-    cluster: &Cluster,
-    pass: &mut Pass,
-    session: u32,
-    object: &str,
-    wish: Wish,
-) -> Reply
-    requires { IsPassOf cluster.now pass.old }
-    ensures { IsPassOf cluster.now pass.new }
-{
-    let asked = submit(rt, alloc, cluster, pass, session, object, wish);
-    answered(rt, cluster, pass, &asked)
 }
 
 // Whether a reply is a denial by this condition of grant 1.

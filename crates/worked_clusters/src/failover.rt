@@ -6,8 +6,8 @@ ghost use Rattle.cluster.specs.Asks.{IsPassOf};
 ghost use Rattle.cluster.specs.Monitors.{IsMonitorOf};
 
 use crate::begun::{
-    USER, Wish, answered, begun, expect_so, is_denied, is_output, learn, name_of, open, reply_to,
-    submit, tell, two_passes,
+    USER, Wish, answered, begun, expect_so, is_denied, is_output, learn, name_of, open, submit,
+    tell, two_passes,
 };
 use auth_db::{AuthFault, Caps};
 use cluster::{Asked, Cluster, ClusterFault, Monitor, Pass};
@@ -18,56 +18,40 @@ use std::sync::Wait;
 use verdict_core::Condition;
 use world_core::{AuthCommand, WorldFault};
 
-// Adds the user, who may do all that a tag of the pool allows.
-pub(crate) fn add_user<R: Wait + Abort>(rt: &R, alloc: Global, cluster: &Cluster, second: &mut Pass)
-    requires { IsPassOf cluster.now second.old }
-    ensures { IsPassOf cluster.now second.new }
-{
+// The addition of the user, who may do all that a tag of the pool allows.
+pub(crate) fn addition<R: Abort>(rt: &R, alloc: Global) -> AuthCommand {
     let mut caps = Caps::none();
     caps.osd = Some(name_of(rt, alloc, "allow rwx tag app k=v"));
-    let add = AuthCommand::Add {
+    AuthCommand::Add {
         name: name_of(rt, alloc, USER),
         caps,
-    };
-    cluster.auth(rt, second, add).expect(rt, "an addition");
+    }
 }
 
-// Deletes the user.
-pub(crate) fn delete_user<R: Wait + Abort>(
+// The deletion of the user.
+pub(crate) fn deletion<R: Abort>(rt: &R, alloc: Global) -> AuthCommand {
+    AuthCommand::Delete {
+        name: name_of(rt, alloc, USER),
+    }
+}
+
+// Changes the users.
+pub(crate) fn change_users<R: Wait + Abort>(
     rt: &R,
-    alloc: Global,
     cluster: &Cluster,
     second: &mut Pass,
+    command: AuthCommand,
 )
     requires { IsPassOf cluster.now second.old }
     ensures { IsPassOf cluster.now second.new }
 {
-    let delete = AuthCommand::Delete {
-        name: name_of(rt, alloc, USER),
-    };
-    cluster.auth(rt, second, delete).expect(rt, "a deletion");
+    cluster
+        .auth(rt, second, command)
+        .expect(rt, "a change of the users");
 }
 
-// Changes the map.
-fn change<R: Wait + Abort>(rt: &R, cluster: &Cluster, monitor: &mut Monitor, command: MapCommand)
-    requires { IsMonitorOf cluster.now monitor.old }
-    ensures { IsMonitorOf cluster.now monitor.new }
-{
-    monitor
-        .change_map(rt, cluster, command)
-        .expect(rt, "a change");
-}
-
-// Tags the pool.
-pub(crate) fn set_tag<R: Wait + Abort>(
-    rt: &R,
-    alloc: Global,
-    cluster: &Cluster,
-    monitor: &mut Monitor,
-)
-    requires { IsMonitorOf cluster.now monitor.old }
-    ensures { IsMonitorOf cluster.now monitor.new }
-{
+// The commands that tag the pool.
+pub(crate) fn tagging<R: Abort>(rt: &R, alloc: Global) -> Vec<MapCommand> {
     let enable = MapCommand::AppEnable {
         pool: name_of(rt, alloc, "data"),
         app: name_of(rt, alloc, "app"),
@@ -78,27 +62,34 @@ pub(crate) fn set_tag<R: Wait + Abort>(
         key: name_of(rt, alloc, "k"),
         value: name_of(rt, alloc, "v"),
     };
-    change(rt, cluster, monitor, enable);
-    change(rt, cluster, monitor, set);
+    vec![in alloc; enable, set].expect(rt, "memory")
 }
 
-// A daemon goes down, and the tag is removed.
-pub(crate) fn move_and_untag<R: Wait + Abort>(
-    rt: &R,
-    alloc: Global,
-    cluster: &Cluster,
-    monitor: &mut Monitor,
-)
-    requires { IsMonitorOf cluster.now monitor.old }
-    ensures { IsMonitorOf cluster.now monitor.new }
-{
+// The commands by which a daemon goes down, and the tag is removed.
+pub(crate) fn moving<R: Abort>(rt: &R, alloc: Global) -> Vec<MapCommand> {
     let remove = MapCommand::AppRm {
         pool: name_of(rt, alloc, "data"),
         app: name_of(rt, alloc, "app"),
         key: name_of(rt, alloc, "k"),
     };
-    change(rt, cluster, monitor, MapCommand::OsdDown(0));
-    change(rt, cluster, monitor, remove);
+    vec![in alloc; MapCommand::OsdDown(0), remove].expect(rt, "memory")
+}
+
+// Changes the map by these commands, in order.
+pub(crate) fn change_map<R: Wait + Abort>(
+    rt: &R,
+    cluster: &Cluster,
+    monitor: &mut Monitor,
+    commands: Vec<MapCommand>,
+)
+    requires { IsMonitorOf cluster.now monitor.old }
+    ensures { IsMonitorOf cluster.now monitor.new }
+{
+    for command in commands {
+        monitor
+            .change_map(rt, cluster, command)
+            .expect(rt, "a change of the map");
+    }
 }
 
 // The first pass hears what the second has seen, and learns what the monitor has published.
@@ -137,7 +128,11 @@ pub(crate) fn goes_on<R: Wait + Abort>(
         Err(ClusterFault::World(WorldFault::Auth(AuthFault::NoEntity)))
     );
     expect_so(rt, gone, "a user who is gone");
-    let reply = reply_to(rt, alloc, cluster, first, session, "x", Wish::Add);
+    let asked = submit(rt, alloc, cluster, first, session, "x", Wish::Add, 0).expect(
+        rt,
+        "a request",
+    );
+    let reply = answered(rt, cluster, first, &asked);
     expect_so(rt, is_denied(&reply, Condition::Tag), "a denial");
 }
 
@@ -161,13 +156,16 @@ fn a_tag_and_a_user_go_while_a_group_moves(rt: HostRuntime) {
     let alloc = rt.alloc();
     let (cluster, mut monitor, passes) = begun(&rt, alloc, 1, "client.b", "allow r", 2);
     let (mut first, mut second) = two_passes(&rt, &cluster, passes);
-    add_user(&rt, alloc, &cluster, &mut second);
-    set_tag(&rt, alloc, &cluster, &mut monitor);
+    change_users(&rt, &cluster, &mut second, addition(&rt, alloc));
+    change_map(&rt, &cluster, &mut monitor, tagging(&rt, alloc));
     catch_up(&rt, alloc, &cluster, &mut monitor, &mut first, &mut second);
     let session = open(&rt, alloc, &cluster, &mut first, None);
-    let asked = submit(&rt, alloc, &cluster, &mut first, session, "x", Wish::Add);
-    move_and_untag(&rt, alloc, &cluster, &mut monitor);
-    delete_user(&rt, alloc, &cluster, &mut second);
+    let asked = submit(&rt, alloc, &cluster, &mut first, session, "x", Wish::Add, 0).expect(
+        &rt,
+        "a request",
+    );
+    change_map(&rt, &cluster, &mut monitor, moving(&rt, alloc));
+    change_users(&rt, &cluster, &mut second, deletion(&rt, alloc));
     expect_one(&rt, &cluster, &mut first, &asked);
     catch_up(&rt, alloc, &cluster, &mut monitor, &mut first, &mut second);
     goes_on(&rt, alloc, &cluster, &mut first, session);

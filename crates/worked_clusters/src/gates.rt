@@ -49,7 +49,17 @@ fn two_workers_run(rt: HostRuntime) {
     let (cluster, monitor, mut passes) = begun(&rt, alloc, 1, "client.a", "allow rw pool=data", 2);
     let mut last = take_pass(&cluster, &mut passes).expect(&rt, "a pass");
     let session = open(&rt, alloc, &cluster, &mut last, None);
-    let asked = submit(&rt, alloc, &cluster, &mut last, session, "x", Wish::Append);
+    let asked = submit(
+        &rt,
+        alloc,
+        &cluster,
+        &mut last,
+        session,
+        "x",
+        Wish::Append,
+        0,
+    )
+    .expect(&rt, "a request");
     expect_so(
         &rt,
         put_pass(&cluster, &mut passes, last),

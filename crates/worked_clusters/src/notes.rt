@@ -2,7 +2,7 @@
 
 ghost use Rattle.cluster.specs.Asks.{IsPassOf};
 
-use crate::begun::{Wish, begun, expect_so, is_output, open, reply_to, two_passes};
+use crate::begun::{Wish, answered, begun, expect_so, is_output, open, submit, two_passes};
 use cluster::{Cluster, Pass};
 use std::alloc::Global;
 use std::process::Abort;
@@ -23,43 +23,30 @@ fn ask_once<R: Wait + Abort>(
     ensures { IsPassOf cluster.now pass.new }
 {
     let session = open(rt, alloc, cluster, pass, None);
-    let reply = reply_to(rt, alloc, cluster, pass, session, object, wish);
+    let asked = submit(rt, alloc, cluster, pass, session, object, wish, 0).expect(rt, "a request");
+    let reply = answered(rt, cluster, pass, &asked);
     expect_so(rt, is_output(&reply, output), "an output");
     session
 }
 
-// Each pass appends to an object of its own, on a thread of its own.
-fn append_both<R: Threads + Wait + Abort + Sync>(
+// Each pass has this done to an object of its own, on a thread of its own, and is answered so.
+fn ask_both<R: Threads + Wait + Abort + Sync>(
     rt: &R,
     alloc: Global,
     cluster: &Cluster,
     first: &mut Pass,
     second: &mut Pass,
+    objects: (&str, &str),
+    wish: Wish,
+    output: &str,
 )
     requires { IsPassOf cluster.now first.old × IsPassOf cluster.now second.old }
     ensures { IsPassOf cluster.now first.new × IsPassOf cluster.now second.new }
 {
     join_mut(
         rt,
-        &mut || ask_once(rt, alloc, cluster, first, "x", Wish::Append, ""),
-        &mut || ask_once(rt, alloc, cluster, second, "y", Wish::Append, ""),
-    );
-}
-
-// Each pass reads the other's object, on a thread of its own.
-fn read_both<R: Threads + Wait + Abort + Sync>(
-    rt: &R,
-    alloc: Global,
-    cluster: &Cluster,
-    first: &mut Pass,
-    second: &mut Pass,
-)
-    requires { IsPassOf cluster.now first.old × IsPassOf cluster.now second.old }
-{
-    join_mut(
-        rt,
-        &mut || ask_once(rt, alloc, cluster, first, "y", Wish::Read, "a"),
-        &mut || ask_once(rt, alloc, cluster, second, "x", Wish::Read, "a"),
+        &mut || ask_once(rt, alloc, cluster, first, objects.0, wish, output),
+        &mut || ask_once(rt, alloc, cluster, second, objects.1, wish, output),
     );
 }
 
@@ -69,12 +56,30 @@ fn passes_on_threads_hear_each_other(rt: HostRuntime) {
     let alloc = rt.alloc();
     let (cluster, monitor, passes) = begun(&rt, alloc, 1, "client.a", "allow rw pool=data", 2);
     let (mut first, mut second) = two_passes(&rt, &cluster, passes);
-    append_both(&rt, alloc, &cluster, &mut first, &mut second);
+    ask_both(
+        &rt,
+        alloc,
+        &cluster,
+        &mut first,
+        &mut second,
+        ("x", "y"),
+        Wish::Append,
+        "",
+    );
     let by_first = first.note(&cluster, alloc).expect(&rt, "a note");
     let by_second = second.note(&cluster, alloc).expect(&rt, "a note");
     first.hear(&cluster, by_second);
     second.hear(&cluster, by_first);
-    read_both(&rt, alloc, &cluster, &mut first, &mut second);
+    ask_both(
+        &rt,
+        alloc,
+        &cluster,
+        &mut first,
+        &mut second,
+        ("y", "x"),
+        Wish::Read,
+        "a",
+    );
     monitor.end(&rt);
 }
 

@@ -3,7 +3,7 @@
 ghost use Rattle.cluster.specs.Asks.{IsPassOf};
 
 use crate::begun::{
-    Wish, answered, begun, expect_so, is_denied, is_output, open, submit_at, take_pass,
+    Wish, answered, begun, expect_so, is_denied, is_output, open, submit, take_pass,
 };
 use Expected::{Expired, Output, Stale};
 use cluster::{Cluster, ClusterFault, Pass};
@@ -59,7 +59,7 @@ fn is_so<R: Wait + Abort>(
     requires { IsPassOf cluster.now pass.old }
     ensures { IsPassOf cluster.now pass.new }
 {
-    match submit_at(rt, alloc, cluster, pass, session, "x", row.1, row.0) {
+    match submit(rt, alloc, cluster, pass, session, "x", row.1, row.0) {
         Ok(asked) => is_expected(&answered(rt, cluster, pass, &asked), row.2),
         Err(ClusterFault::World(WorldFault::StaleTick)) => matches!(row.2, Stale),
         Err(_) => false,
