@@ -5,7 +5,7 @@ ghost use Rattle.cluster.specs.Monitors.{IsMonitorOf};
 
 use crate::begun::{Wish, begun, open, submit, two_passes};
 use crate::failover::{
-    addition, catch_up, change_map, change_users, deletion, expect_one, goes_on, moving, tagging,
+    add_user, catch_up, delete_user, expect_one, goes_on, move_and_untag, set_tag,
 };
 use cluster::{Asked, Cluster, Monitor, Pass};
 use std::alloc::Global;
@@ -28,8 +28,8 @@ fn prepare<R: Threads + Wait + Abort + Sync>(
 {
     join_mut(
         rt,
-        &mut || change_map(rt, cluster, monitor, tagging(rt, alloc)),
-        &mut || change_users(rt, cluster, second, addition(rt, alloc)),
+        &mut || set_tag(rt, alloc, cluster, monitor),
+        &mut || add_user(rt, alloc, cluster, second),
     );
 }
 
@@ -50,7 +50,7 @@ fn move_meanwhile<R: Threads + Wait + Abort + Sync>(
     join_mut(
         rt,
         &mut || expect_one(rt, cluster, first, asked),
-        &mut || change_map(rt, cluster, monitor, moving(rt, alloc)),
+        &mut || move_and_untag(rt, alloc, cluster, monitor),
     );
 }
 
@@ -69,7 +69,7 @@ fn delete_meanwhile<R: Threads + Wait + Abort + Sync>(
     join_mut(
         rt,
         &mut || expect_one(rt, cluster, first, asked),
-        &mut || change_users(rt, cluster, second, deletion(rt, alloc)),
+        &mut || delete_user(rt, alloc, cluster, second),
     );
 }
 

@@ -18,40 +18,56 @@ use std::sync::Wait;
 use verdict_core::Condition;
 use world_core::{AuthCommand, WorldFault};
 
-// The addition of the user, who may do all that a tag of the pool allows.
-pub(crate) fn addition<R: Abort>(rt: &R, alloc: Global) -> AuthCommand {
+// Adds the user, who may do all that a tag of the pool allows.
+pub(crate) fn add_user<R: Wait + Abort>(rt: &R, alloc: Global, cluster: &Cluster, second: &mut Pass)
+    requires { IsPassOf cluster.now second.old }
+    ensures { IsPassOf cluster.now second.new }
+{
     let mut caps = Caps::none();
     caps.osd = Some(name_of(rt, alloc, "allow rwx tag app k=v"));
-    AuthCommand::Add {
+    let add = AuthCommand::Add {
         name: name_of(rt, alloc, USER),
         caps,
-    }
+    };
+    cluster.auth(rt, second, add).expect(rt, "an addition");
 }
 
-// The deletion of the user.
-pub(crate) fn deletion<R: Abort>(rt: &R, alloc: Global) -> AuthCommand {
-    AuthCommand::Delete {
-        name: name_of(rt, alloc, USER),
-    }
-}
-
-// Changes the users.
-pub(crate) fn change_users<R: Wait + Abort>(
+// Deletes the user.
+pub(crate) fn delete_user<R: Wait + Abort>(
     rt: &R,
+    alloc: Global,
     cluster: &Cluster,
     second: &mut Pass,
-    command: AuthCommand,
 )
     requires { IsPassOf cluster.now second.old }
     ensures { IsPassOf cluster.now second.new }
 {
-    cluster
-        .auth(rt, second, command)
-        .expect(rt, "a change of the users");
+    let delete = AuthCommand::Delete {
+        name: name_of(rt, alloc, USER),
+    };
+    cluster.auth(rt, second, delete).expect(rt, "a deletion");
 }
 
-// The commands that tag the pool.
-pub(crate) fn tagging<R: Abort>(rt: &R, alloc: Global) -> Vec<MapCommand> {
+// Changes the map.
+fn change<R: Wait + Abort>(rt: &R, cluster: &Cluster, monitor: &mut Monitor, command: MapCommand)
+    requires { IsMonitorOf cluster.now monitor.old }
+    ensures { IsMonitorOf cluster.now monitor.new }
+{
+    monitor
+        .change_map(rt, cluster, command)
+        .expect(rt, "a change");
+}
+
+// Tags the pool.
+pub(crate) fn set_tag<R: Wait + Abort>(
+    rt: &R,
+    alloc: Global,
+    cluster: &Cluster,
+    monitor: &mut Monitor,
+)
+    requires { IsMonitorOf cluster.now monitor.old }
+    ensures { IsMonitorOf cluster.now monitor.new }
+{
     let enable = MapCommand::AppEnable {
         pool: name_of(rt, alloc, "data"),
         app: name_of(rt, alloc, "app"),
@@ -62,34 +78,27 @@ pub(crate) fn tagging<R: Abort>(rt: &R, alloc: Global) -> Vec<MapCommand> {
         key: name_of(rt, alloc, "k"),
         value: name_of(rt, alloc, "v"),
     };
-    vec![in alloc; enable, set].expect(rt, "memory")
+    change(rt, cluster, monitor, enable);
+    change(rt, cluster, monitor, set);
 }
 
-// The commands by which a daemon goes down, and the tag is removed.
-pub(crate) fn moving<R: Abort>(rt: &R, alloc: Global) -> Vec<MapCommand> {
+// A daemon goes down, and the tag is removed.
+pub(crate) fn move_and_untag<R: Wait + Abort>(
+    rt: &R,
+    alloc: Global,
+    cluster: &Cluster,
+    monitor: &mut Monitor,
+)
+    requires { IsMonitorOf cluster.now monitor.old }
+    ensures { IsMonitorOf cluster.now monitor.new }
+{
     let remove = MapCommand::AppRm {
         pool: name_of(rt, alloc, "data"),
         app: name_of(rt, alloc, "app"),
         key: name_of(rt, alloc, "k"),
     };
-    vec![in alloc; MapCommand::OsdDown(0), remove].expect(rt, "memory")
-}
-
-// Changes the map by these commands, in order.
-pub(crate) fn change_map<R: Wait + Abort>(
-    rt: &R,
-    cluster: &Cluster,
-    monitor: &mut Monitor,
-    commands: Vec<MapCommand>,
-)
-    requires { IsMonitorOf cluster.now monitor.old }
-    ensures { IsMonitorOf cluster.now monitor.new }
-{
-    for command in commands {
-        monitor
-            .change_map(rt, cluster, command)
-            .expect(rt, "a change of the map");
-    }
+    change(rt, cluster, monitor, MapCommand::OsdDown(0));
+    change(rt, cluster, monitor, remove);
 }
 
 // The first pass hears what the second has seen, and learns what the monitor has published.
@@ -156,16 +165,16 @@ fn a_tag_and_a_user_go_while_a_group_moves(rt: HostRuntime) {
     let alloc = rt.alloc();
     let (cluster, mut monitor, passes) = begun(&rt, alloc, 1, "client.b", "allow r", 2);
     let (mut first, mut second) = two_passes(&rt, &cluster, passes);
-    change_users(&rt, &cluster, &mut second, addition(&rt, alloc));
-    change_map(&rt, &cluster, &mut monitor, tagging(&rt, alloc));
+    add_user(&rt, alloc, &cluster, &mut second);
+    set_tag(&rt, alloc, &cluster, &mut monitor);
     catch_up(&rt, alloc, &cluster, &mut monitor, &mut first, &mut second);
     let session = open(&rt, alloc, &cluster, &mut first, None);
     let asked = submit(&rt, alloc, &cluster, &mut first, session, "x", Wish::Add, 0).expect(
         &rt,
         "a request",
     );
-    change_map(&rt, &cluster, &mut monitor, moving(&rt, alloc));
-    change_users(&rt, &cluster, &mut second, deletion(&rt, alloc));
+    move_and_untag(&rt, alloc, &cluster, &mut monitor);
+    delete_user(&rt, alloc, &cluster, &mut second);
     expect_one(&rt, &cluster, &mut first, &asked);
     catch_up(&rt, alloc, &cluster, &mut monitor, &mut first, &mut second);
     goes_on(&rt, alloc, &cluster, &mut first, session);
