@@ -13,7 +13,8 @@ use Rattle.world_events.specs.declared.fault.WorldFault.{WorldFault as Fault}
 use Rattle.world_events.specs.declared.fault.WorldFault.TheVariants.{NoRequest}
 use Rattle.world_front.specs.Front.{Front}
 use Rattle.world_core.specs.World.{group_at}
-use Rattle.world_core.specs.Moves.{AreGroupsOf, IsAt, place_in}
+use Rattle.world_core.specs.Moves.{AreGroupsOf, IsAt}
+use Rattle.world_front.specs.Groups.{place_in}
 use Rattle.world_core.specs.Answers.{answer_to, answer_in, answer_at}
 use Rattle.world_core.specs.Calls.{answer_refusal}
 use Rattle.world_core.specs.Sound.{IsKept, IsSealedFor}

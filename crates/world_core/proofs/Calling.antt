@@ -1,6 +1,6 @@
 -- What a call on one group does to the group, and to the runs.
 use Prim.Native.Nat.{zero, suc}
-use Rattle.std.proofs.Common.{◌≡◌, ◌∙◌, inl, inr, ℕ, ◌<◌, List, [], ◌∷◌, ◌++◌, Bool, true, false, if◌then◌else◌, Option, None, Some, Result, Ok, Err, IsOk, length, refl, sym, ap, arith, append-nil}
+use Rattle.std.proofs.Common.{◌≡◌, ◌∙◌, ◌⊎◌, inl, inr, ℕ, ◌<◌, List, [], ◌∷◌, ◌++◌, Bool, true, false, if◌then◌else◌, Option, None, Some, Result, Ok, Err, IsOk, length, refl, sym, ap, arith, append-nil}
 use Rattle.std.specs.Prelude.{nat_lt, slice_get, slice_set}
 use Rattle.std.proofs.lemmas.Bool.{ltb-true}
 use Rattle.suffix_core.specs.Group.{Group, Event, Lose, Repeat, Kick, group_step, refusal_of, left_by, lose, again}
@@ -9,7 +9,10 @@ use Rattle.group_types.specs.declared.fault.GroupFault.TheVariants.{NoMessage, U
 use Rattle.suffix_core.specs.Types.{Sent}
 use Rattle.suffix_core.specs.Reached.{Steps}
 use Rattle.world_core.specs.declared.audit.Run.{Run}
-use Rattle.world_core.specs.Applying.{StepsOrMemory, runs_from, CalledAt}
+use Rattle.group_core.specs.Calls.{event_of}
+use Rattle.group_core.specs.declared.call.GroupCall.{GroupCall}
+use Rattle.group_core.specs.declared.call.GroupCall.TheVariants as calls
+use Rattle.world_core.specs.Applying.{StepsOrMemory, runs_from, CalledAt, LosesFreely}
 
 pub steps_or_memory : (old new : Group) (e : Event) (r : Result (Unit {0}) Fault) → Steps old e r new → StepsOrMemory old e r new
 steps_or_memory old new e (Ok done) h = h
@@ -91,3 +94,22 @@ lost_freely old new k (Err Unreachable) h free is = absurd (cc)
 lost_freely old new k (Err Full) h free is = absurd (cc)
 lost_freely old new k (Err Doubled) h free is = absurd (cc)
 lost_freely old new k (Err OutOfMemory) h free is = absurd (let no : false ≡ true = free h.0 in cc)
+
+pub no_delivery : (what : GroupCall) → ((k : ℕ) × (what ≡ calls.Lose k)) ⊎ (((k : ℕ) × (what ≡ calls.Repeat k)) ⊎ (what ≡ calls.Kick)) → (k : ℕ) → what ≡ calls.Deliver k → ⊥
+no_delivery what (inl (n, is)) k e = absurd (cc)
+no_delivery what (inr (inl (n, is))) k e = absurd (cc)
+no_delivery what (inr (inr is)) k e = absurd (cc)
+
+-- a call that is no delivery decides nothing
+pub called_other : (gs : List Group) (runs : List Run) (place : ℕ) (what : GroupCall) (old new : Group) (r : Result (Unit {0}) Fault) → ((k : ℕ) → what ≡ calls.Deliver k → ⊥) → slice_get gs place ≡ Some old
+    → Steps old (event_of what) r new → CalledAt gs runs place (event_of what) r (slice_set gs place new) runs
+called_other gs runs place (calls.Deliver k) old new r other there steps = absurd (other k refl)
+called_other gs runs place (calls.Lose k) old new r other there steps = called_lose gs runs place k old new r there steps
+called_other gs runs place (calls.Repeat k) old new r other there steps = called_repeat gs runs place k old new r there steps
+called_other gs runs place calls.Kick old new r other there steps = called_kick gs runs place old new r there steps
+
+pub freely : (what : GroupCall) (old new : Group) (r : Result (Unit {0}) Fault) → Steps old (event_of what) r new → ((k : ℕ) → what ≡ calls.Lose k → refusal_of old (Lose k) ≡ None → IsOk r) → LosesFreely what r
+freely (calls.Deliver k) old new r steps free = tt
+freely (calls.Lose k) old new r steps free = lost_freely old new k r steps (free k refl)
+freely (calls.Repeat k) old new r steps free = tt
+freely calls.Kick old new r steps free = tt

@@ -23,9 +23,10 @@ use Rattle.world_events.specs.declared.fault.WorldFault.{WorldFault as Fault}
 use Rattle.world_events.specs.declared.fault.WorldFault.TheVariants.{Map as OfMap}
 use Rattle.world_front.specs.Front.{Front, group_refusal}
 use Rattle.world_core.specs.declared.audit.Run.{Run}
-use Rattle.world_core.specs.declared.calls.GroupCall.{GroupCall}
+use Rattle.group_core.specs.declared.call.GroupCall.{GroupCall}
 use Rattle.world_core.specs.Inside.{world_of}
-use Rattle.world_core.specs.Applying.{CalledAt, event_of}
+use Rattle.group_core.specs.Calls.{event_of}
+use Rattle.world_core.specs.Applying.{CalledAt}
 use Rattle.world_core.proofs.Messages.{Called, called}
 use Rattle.world_core.proofs.Acting.{each_join, each_weaker}
 use Rattle.world_front.proofs.Bytes.{bytes_same}

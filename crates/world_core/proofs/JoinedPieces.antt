@@ -14,9 +14,10 @@ use Rattle.store_core.specs.Store.{bytes_cmp}
 use Rattle.store_core.specs.declared.reply.Reply.{Reply}
 use Rattle.store_core.specs.declared.reply.Reply.TheVariants.{Names}
 use Rattle.world_front.specs.declared.session.Pieced.{Pieced}
-use Rattle.world_core.specs.Listing.{names_in, consed, all_of, joined, listing_of}
-use Rattle.world_core.specs.Joining.{with_names, with_reply, reply_of, joined_with}
-use Rattle.world_core.specs.declared.joining.Joined.{Joined}
+use Rattle.world_core.specs.Listing.{consed, all_of, joined, listing_of}
+use Rattle.world_front.specs.Joining.{names_in}
+use Rattle.world_front.specs.Joining.{with_names, with_reply, reply_of, joined_with}
+use Rattle.world_front.specs.declared.joined.Joined.{Joined}
 
 -- ---- answers
 
@@ -71,25 +72,3 @@ pub ends : (answer : ℕ → Option Reply) (p : Pieced) (place : ℕ) (j : Joine
 ends answer p place j is =
     let none : p.count - place ≡ 0 = omega arith in
     sym (ap (λ n. option_map (joined_with j) (all_of (map answer (range_with_len (p.first + place) n)))) none ∙ ap Some (with_none j))
-
--- ---- names in a tree
-
-abbrev texts_cmp : String Global → String Global → Ordering
-texts_cmp a b = bytes_cmp (string_bytes a) (string_bytes b)
-
-pub text_added : (xs ys : List (String Global)) (k : String Global) → ys ≡ insert_key texts_cmp xs k → map string_bytes ys ≡ insert_key bytes_cmp (map string_bytes xs) (string_bytes k)
-text_added xs ys k h = ap (map string_bytes) h ∙ go xs
-  where
-    by : (o : Ordering) (x : String Global) (xs rest : List (String Global)) (ks : List (List ℕ)) → map string_bytes rest ≡ ks
-        → map string_bytes (match_ordering o (k ∷ x ∷ xs) (x ∷ xs) (x ∷ rest)) ≡ match_ordering o (string_bytes k ∷ string_bytes x ∷ map string_bytes xs) (string_bytes x ∷ map string_bytes xs) (string_bytes x ∷ ks)
-    by Less x xs rest ks is = refl
-    by Equal x xs rest ks is = refl
-    by Greater x xs rest ks is = ap (λ l. string_bytes x ∷ l) is
-
-    go : (xs : List (String Global)) → map string_bytes (insert_key texts_cmp xs k) ≡ insert_key bytes_cmp (map string_bytes xs) (string_bytes k)
-    go [] = refl
-    go (x ∷ xs) = by (texts_cmp k x) x xs _ _ (go xs)
-
--- the texts that were read, once none is left
-pub all_texts : (front : List (List ℕ)) (rest start xs : List (String Global)) → rest ≡ [] → front ++ map string_bytes rest ≡ map string_bytes start → start ≡ xs → front ≡ map string_bytes xs
-all_texts front rest start xs none read is = sym (append-nil front) ∙ ap (λ r. front ++ map string_bytes r) (sym none) ∙ read ∙ ap (map string_bytes) is

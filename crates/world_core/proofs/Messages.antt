@@ -26,11 +26,12 @@ use Rattle.world_core.specs.Moves.{IsAt}
 use Rattle.common_types.specs.Refused.{RefusedExactly}
 use Rattle.world_front.specs.Refusing.{RefusedOrMemory}
 use Rattle.world_core.specs.declared.audit.Run.{Run}
-use Rattle.world_core.specs.declared.calls.GroupCall.{GroupCall}
-use Rattle.world_core.specs.declared.calls.GroupCall.TheVariants as calls
+use Rattle.group_core.specs.declared.call.GroupCall.{GroupCall}
+use Rattle.group_core.specs.declared.call.GroupCall.TheVariants as calls
 use Rattle.world_core.specs.Inside.{world_of, entries_told}
 use Rattle.world_core.specs.Sound.{FitsAt, IsSound, IsKept}
-use Rattle.world_core.specs.Applying.{Applies, CalledAt, LosesExactly, LosesFreely, StepsOrMemory, event_for, event_of, fault_of_group, runs_from, told_call}
+use Rattle.group_core.specs.Calls.{event_of}
+use Rattle.world_core.specs.Applying.{Applies, CalledAt, LosesExactly, LosesFreely, StepsOrMemory, event_for, fault_of_group, runs_from, told_call}
 use Rattle.world_core.proofs.Calling.{no_run, set_same}
 use Rattle.world_core.proofs.RunPlaces.{changed_runs}
 use Rattle.world_core.proofs.Runs.{same_begins}

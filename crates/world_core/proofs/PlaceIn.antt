@@ -17,7 +17,8 @@ use Rattle.store_core.specs.declared.sealed.GroupId.{GroupId}
 use Rattle.suffix_core.specs.Group.{Group}
 use Rattle.world_front.specs.Groups.{is_same_group, groups_of}
 use Rattle.world_core.specs.World.{group_at, at_group}
-use Rattle.world_core.specs.Moves.{AreGroupsOf, IsAt, place_in}
+use Rattle.world_core.specs.Moves.{AreGroupsOf, IsAt}
+use Rattle.world_front.specs.Groups.{place_in}
 use Rattle.world_front.proofs.Bytes.{bytes_same, number_same}
 use Rattle.world_front.proofs.Merge.{bytes_refl}
 use Rattle.world_front.proofs.Places.{numbered, true_not_false, bytes_turned}

@@ -23,7 +23,8 @@ use Rattle.world_events.specs.declared.event.Event.TheVariants as events
 use Rattle.world_front.specs.Front.{Front, asking_refusal, error_of, front_refusal, front_step, is_full, requests_of, told_of, if_ok}
 use Rattle.world_core.specs.World.{World, Part, acted, asked_parts, created_by, is_drop, parts_of, parts_refusal, refusal_of}
 use Rattle.world_front.specs.Groups.{groups_of}
-use Rattle.world_core.specs.Moves.{IsAt, place_in, stepped}
+use Rattle.world_core.specs.Moves.{IsAt, stepped}
+use Rattle.world_front.specs.Groups.{place_in}
 use Rattle.world_front.specs.Refusing.{RefusedOrMemory}
 use Rattle.world_core.specs.declared.audit.Run.{Run}
 use Rattle.world_core.specs.Inside.{world_of}

@@ -1,6 +1,6 @@
 -- Events, one after another.
 use Prim.Native.Nat.{zero, suc}
-use Rattle.std.proofs.Common.{◌≡◌, ◌∙◌, ◌⊎◌, inl, inr, ℕ, ◌+◌, ◌<◌, List, [], ◌∷◌, ◌++◌, true, Some, None, Ok, length, take, get_or, refl, sym, ap, subst, arith}
+use Rattle.std.proofs.Common.{◌≡◌, ◌∙◌, ◌⊎◌, inl, inr, ℕ, ◌+◌, ◌<◌, List, [], ◌∷◌, ◌++◌, true, false, Some, None, Result, Ok, Err, IsOk, length, take, get_or, refl, sym, ap, subst, arith}
 use Rattle.std.specs.Prelude.{fold, slice_get}
 use Rattle.std.proofs.lemmas.List.{take_more}
 use Rattle.grant_core.specs.Flat.{Table}
@@ -8,7 +8,7 @@ use Rattle.world_events.specs.declared.event.Event.{Event}
 use Rattle.world_events.specs.declared.event.Told.{Told}
 use Rattle.world_events.specs.declared.fault.WorldFault.{WorldFault as Fault}
 use Rattle.world_events.specs.declared.fault.WorldFault.TheVariants.{OutOfMemory}
-use Rattle.world_core.specs.World.{World, accepts, first_world, is_accepted, refusal_of, world_after, world_step}
+use Rattle.world_core.specs.World.{World, accepts, counts, first_world, is_accepted, refusal_of, world_after, world_step}
 use Rattle.world_core.specs.Holds.{AcceptedFrom, AreAccepted, Holds}
 use Rattle.world_front.specs.Refusing.{RefusedOrMemory}
 use Rattle.world_core.specs.Calls.{AreUnrefused, IsFirstRefused, UnrefusedFrom}
@@ -52,6 +52,14 @@ after_next table daemons events k d e copy old new told low is same h holds refu
       unrefused = unrefused_push (first_world table daemons) es copy h.unrefused (ap (λ w. refusal_of w copy) (sym h.holds.made) ∙ refused);
     })
 
+-- one event more, whose answer is no refusal
+pub after_answer : (table : Table) (daemons : ℕ) (events : List Event) (k : ℕ) (d e copy : Event) (old new : World) (done : Result Told Fault) → k < length events → e ≡ get_or events k d → copy ≡ e
+    → IsAfter table daemons (take k events) old
+    → ((before : List Event) → Holds table daemons before old → counts copy done ≡ true → Holds table daemons (before ++ copy ∷ []) new)
+    → RefusedOrMemory (refusal_of old copy) done → IsOk done → IsAfter table daemons (take (k + 1) events) new
+after_answer table daemons events k d e copy old new (Ok told) low is same h holds refused ok = after_next table daemons events k d e copy old new told low is same h holds refused
+after_answer table daemons events k d e copy old new (Err fault) low is same h holds refused ok = absurd (let no : false ≡ true = ok in cc)
+
 there_is : (events : List Event) (k : ℕ) (d : Event) → k < length events → slice_get events k ≡ Some (get_or events k d)
 there_is [] k d low = absurd (omega arith)
 there_is (x ∷ xs) zero d low = refl
@@ -65,6 +73,14 @@ stops table daemons events k d w fault low h refused = record { event = get_or e
     go : (fault ≡ OutOfMemory) ⊎ (refusal_of w (get_or events k d) ≡ Some fault) → (fault ≡ OutOfMemory) ⊎ (refusal_of (world_after table daemons (take k events)) (get_or events k d) ≡ Some fault)
     go (inl x) = inl x
     go (inr x) = inr (ap (λ v. refusal_of v (get_or events k d)) (sym h.holds.made) ∙ x)
+
+-- where it stops at an answer
+pub stops_at : (table : Table) (daemons : ℕ) (events : List Event) (k : ℕ) (d e copy : Event) (w : World) (done : Result Told Fault) (fault : Fault) → k < length events → e ≡ get_or events k d → copy ≡ e → IsAfter table daemons (take k events) w
+    → RefusedOrMemory (refusal_of w copy) done → done ≡ Err fault → IsFirstRefused table daemons events k fault
+stops_at table daemons events k d e copy w done fault low is same h refused told =
+    let here : copy ≡ get_or events k d = same ∙ is in
+    let why : RefusedOrMemory {T = Told} (refusal_of w copy) (Err fault) = subst (RefusedOrMemory (refusal_of w copy)) told refused in
+    stops table daemons events k d w fault low h (subst (λ x. (fault ≡ OutOfMemory) ⊎ (refusal_of w x ≡ Some fault)) here why)
 
 -- it is reached by as many steps of the service
 pub run_serves : (table : Table) (daemons : ℕ) (events : List Event) (w : World) → IsAfter table daemons events w → Reaches (submitted_through (first_front table daemons) events) begun (service_of w)

@@ -17,8 +17,8 @@ use Rattle.world_core.specs.World.{World, counts, refusal_of, world_step}
 use Rattle.common_types.specs.Refused.{RefusedExactly}
 use Rattle.world_front.specs.Refusing.{RefusedOrMemory}
 use Rattle.world_core.specs.declared.audit.Run.{Run}
-use Rattle.world_core.specs.declared.calls.GroupCall.{GroupCall}
-use Rattle.world_core.specs.declared.calls.GroupCall.TheVariants as calls
+use Rattle.group_core.specs.declared.call.GroupCall.{GroupCall}
+use Rattle.group_core.specs.declared.call.GroupCall.TheVariants as calls
 
 -- what an event does, whatever came of it
 pub record Applies (old : World) (e : Event) (result : Result Told Fault) (new : World) : Type 0 where
@@ -41,13 +41,6 @@ fault_of_group (group_fault.NoMessage place) = OfGroup (group_fault.NoMessage pl
 fault_of_group group_fault.Unreachable = OfGroup group_fault.Unreachable
 fault_of_group group_fault.Full = OfGroup group_fault.Full
 fault_of_group group_fault.Doubled = OfGroup group_fault.Doubled
-
--- a call, as the group sees it
-abbrev pub event_of : GroupCall → group.Event
-event_of (calls.Deliver place) = group.Deliver place
-event_of (calls.Lose place) = group.Lose place
-event_of (calls.Repeat place) = group.Repeat place
-event_of calls.Kick = group.Kick
 
 -- the event that is such a call on a group
 abbrev pub event_for : GroupId → GroupCall → Event

@@ -12,5 +12,4 @@ pub mod Calls
 pub mod Inside
 pub mod Sound
 pub mod Applying
-pub mod Joining
 pub mod Parts

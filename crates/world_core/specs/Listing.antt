@@ -8,23 +8,18 @@ use Rattle.std.specs.Cmp.Lexicographic.{slice_cmp}
 use Rattle.std.specs.BTreeSet.{insert_key}
 use Rattle.entry_core.specs.Laws.{is_denied}
 use Rattle.store_core.specs.declared.reply.Reply.{Reply}
-use Rattle.store_core.specs.declared.reply.Reply.TheVariants.{Denied, Done, Failed, Names}
+use Rattle.store_core.specs.declared.reply.Reply.TheVariants.{Names}
 use Rattle.world_events.specs.declared.fault.WorldFault.{WorldFault as Fault}
 use Rattle.world_events.specs.declared.fault.WorldFault.TheVariants.{NoRequest}
 use Rattle.world_front.specs.declared.session.Pieced.{Pieced}
 use Rattle.world_front.specs.Front.{list_at}
+use Rattle.world_front.specs.Joining.{names_in}
 use Rattle.world_core.specs.World.{World}
 use Rattle.world_core.specs.Answers.{answer_at}
 
 -- names in the order of their bytes
 abbrev pub sorted : List (List ℕ) → List (List ℕ)
 sorted names = fold (insert_key (slice_cmp nat_cmp)) [] names
-
-abbrev pub names_in : Reply → List (List ℕ)
-names_in (Names names) = names
-names_in (Denied report) = []
-names_in (Done outputs) = []
-names_in (Failed place number) = []
 
 abbrev pub consed : {A : Type 0} → Option A → Option (List A) → Option (List A)
 consed None rest = None

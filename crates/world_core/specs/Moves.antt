@@ -77,11 +77,6 @@ committed p = group_step p.group p.event
 
 -- ---- places
 
--- the place of a group among those of the pools: the earlier pools' groups, and its number
-abbrev pub place_in : List Pool → GroupId → ℕ
-place_in [] id = id.number
-place_in (pool ∷ pools) id = if is_named id.pool pool then id.number else pool.pg_num + place_in pools id
-
 -- the group stands there, and no other of its name
 pub record IsAt (groups : List Group) (id : GroupId) (place : ℕ) : Type 0 where
   pub group : Group

@@ -7,7 +7,7 @@ use Rattle.entry_core.specs.Locality.{group_for}
 use Rattle.store_core.specs.Request.{Sealed}
 use Rattle.suffix_core.specs.Group.{Group, Submit, group_step, has_all_requests, refusal_of}
 use Rattle.suffix_core.specs.Reached.{IsReached}
-use Rattle.world_core.specs.Moves.{place_in}
+use Rattle.world_front.specs.Groups.{place_in}
 
 -- the group at a place took a request
 pub record Takes (groups : List Group) (place : ℕ) (s : Sealed) (groups_then : List Group) : Type 0 where

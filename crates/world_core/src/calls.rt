@@ -2,21 +2,13 @@
 
 ghost use Rattle.std.specs.Prelude.{◌≡◌, ◌<◌, ◌++◌, length};
 ghost use Rattle.suffix_core.specs.Group.{Deliver};
-ghost use Rattle.world_core.specs.Applying.{CalledAt, LosesFreely, StepsOrMemory, event_of, runs_from, told_call};
+ghost use Rattle.group_core.specs.Calls.{event_of};
+ghost use Rattle.world_core.specs.Applying.{CalledAt, LosesFreely, StepsOrMemory, runs_from, told_call};
 
 use crate::audit::{Run, keep};
-use group_core::Group;
+use group_core::{Group, GroupCall};
 use group_types::GroupFault;
 use world_front::{Told, WorldFault};
-
-/// What happens to one group.
-#[derive(Clone, Copy, Drop)]
-pub(crate) enum GroupCall {
-    Deliver(usize),
-    Lose(usize),
-    Repeat(usize),
-    Kick,
-}
 
 /// Delivers a message of a group, and keeps where the entries stand that this decided. Room for that is taken first.
 fn deliver(
@@ -32,7 +24,7 @@ fn deliver(
         return Err(GroupFault::OutOfMemory);
     }
     let from = group.decided_count();
-    let done = group.deliver(message);
+    let done = group.call(GroupCall::Deliver(message));
     let upto = group.decided_count();
     keep(runs, place, from, upto);
     done
@@ -53,9 +45,7 @@ pub(crate) fn call_at(
     let group = &mut groups[place];
     match what {
         GroupCall::Deliver(message) => deliver(group, message, runs, place),
-        GroupCall::Lose(message) => group.lose(message),
-        GroupCall::Repeat(message) => group.repeat(message),
-        GroupCall::Kick => group.kick(),
+        GroupCall::Lose(_) | GroupCall::Repeat(_) | GroupCall::Kick => group.call(what),
     }
 }
 

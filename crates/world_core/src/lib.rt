@@ -11,7 +11,6 @@ mod creating;
 mod group_places;
 mod joining;
 mod moves;
-mod name_set;
 mod running;
 mod taking;
 mod world;

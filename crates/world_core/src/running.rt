@@ -10,7 +10,7 @@ ghost use Rattle.world_core.specs.Calls.{AreUnrefused, IsFirstRefused};
 use crate::world::World;
 use grant_core::ProfileTable;
 use std::alloc::Global;
-use world_front::{Event, WorldFault};
+use world_front::{Event, WorldFault, at_place};
 
 /// The world that these events make, one after another, of 1 to 16 daemons.
 ///
@@ -38,9 +38,9 @@ pub fn run(
             Ok(copy) => copy,
             Err(_) => return Err((place, WorldFault::OutOfMemory)),
         };
-        match world.apply(copy) {
-            Ok(_) => {}
-            Err(fault) => return Err((place, fault)),
+        match at_place(place, world.apply(copy)) {
+            Ok(()) => {}
+            Err(stop) => return Err(stop),
         }
     }
     Ok(world)

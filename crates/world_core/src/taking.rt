@@ -10,13 +10,12 @@ ghost use Rattle.map_commands.specs.Map.{map_of};
 ghost use Rattle.world_events.specs.declared.fault.WorldFault.TheVariants as faults;
 ghost use Rattle.world_core.specs.Taking.{Takes, TakesAll, is_full_at, places_for};
 
-use crate::group_places::place_for;
 use entry_core::{Items, OutOfMemory, Sealed, TryCopy};
 use group_core::Group;
 use group_types::GroupFault;
 use map_core::ClusterMap;
 use std::alloc::{AllocError, Global};
-use world_front::WorldFault;
+use world_front::{WorldFault, place_for};
 
 /// Where the groups of requests stand.
 pub(crate) fn places(

@@ -19,7 +19,7 @@ mod answers;
 mod parts;
 
 use crate::audit::{Run, collect};
-use crate::calls::{GroupCall, call_at, told};
+use crate::calls::{call_at, told};
 use crate::group_places::place_of;
 use crate::moves::apply_map;
 use crate::taking::{take_back_all, take_requests};
@@ -27,7 +27,7 @@ use auth_db::AuthDb;
 use common_types::Name;
 use entry_core::{Entry, GroupId, OutOfMemory};
 use grant_core::ProfileTable;
-use group_core::Group;
+use group_core::{Group, GroupCall};
 use map_core::{ClusterMap, MapCommand};
 pub use parts::WorldParts;
 use peer_core::Sent;

@@ -11,3 +11,4 @@ pub mod Refused
 pub mod Views
 pub mod FrontSteps
 pub mod ListsFound
+pub mod NamesInTree

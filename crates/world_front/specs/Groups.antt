@@ -1,10 +1,10 @@
 -- Statement: contracts of public calls use it.
 -- Which group a request and an entry belong to.
-use Rattle.std.specs.Prelude.{ℕ, List, Bool, ◌&&◌, ◌==◌, map}
+use Rattle.std.specs.Prelude.{ℕ, ◌+◌, List, [], ◌∷◌, Bool, if◌then◌else◌, ◌&&◌, ◌==◌, map}
 use Rattle.std.specs.List.{range_with_len}
 use Rattle.std.specs.Str.{bytes_eq}
 use Rattle.map_commands.specs.State.{History}
-use Rattle.map_commands.specs.Map.{map_of}
+use Rattle.map_commands.specs.Map.{is_named, map_of}
 use Rattle.map_core.specs.Refusal.{groups_in}
 use Rattle.map_commands.specs.declared.pool.Pool.{Pool}
 use Rattle.entry_core.specs.Locality.{group_for}
@@ -30,3 +30,8 @@ groups_of pool = map (λ n. record { pool = pool.name; number = n }) (range_with
 -- how many groups a pool of the map has
 abbrev pub group_count : History → List ℕ → ℕ
 group_count history pool = groups_in (map_of history).pools pool
+
+-- the place of a group among those of the pools: the earlier pools' groups, and its number
+abbrev pub place_in : List Pool → GroupId → ℕ
+place_in [] id = id.number
+place_in (pool ∷ pools) id = if is_named id.pool pool then id.number else pool.pg_num + place_in pools id

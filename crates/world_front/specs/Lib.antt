@@ -8,3 +8,4 @@ pub mod Refusing
 pub mod Asking
 pub mod Stands
 pub mod Lists
+pub mod Joining

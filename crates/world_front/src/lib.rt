@@ -7,14 +7,21 @@
 
 mod asking;
 mod front;
+mod joined;
 mod lists;
+mod name_set;
+mod pool_places;
 mod sealing;
 mod session;
+mod stopping;
 mod users;
 
 pub use asking::{are_names, is_namespace};
 pub use front::{Front, MOST_SESSIONS};
+pub use joined::Joined;
+pub use pool_places::{groups_before, place_for};
 pub use sealing::{seal_piece, seal_vector};
 pub use session::{Pieced, Session};
+pub use stopping::at_place;
 pub use users::change_users;
 pub use world_events::{Ask, AuthCommand, Event, Ops, Submissions, Told, WorldFault};

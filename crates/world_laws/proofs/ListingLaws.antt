@@ -29,7 +29,8 @@ use Rattle.world_front.specs.declared.session.Pieced.{Pieced}
 use Rattle.world_core.specs.World.{World, world_step, first_world, world_after}
 use Rattle.world_core.specs.Standing.{HasNumbers}
 use Rattle.world_core.specs.Answers.{answer_at, IsAnswered}
-use Rattle.world_core.specs.Listing.{sorted, names_in, consed, all_of, joined, listing_of}
+use Rattle.world_core.specs.Listing.{sorted, consed, all_of, joined, listing_of}
+use Rattle.world_front.specs.Joining.{names_in}
 use Rattle.world_laws.specs.Pieces.{objects_of}
 use Rattle.world_laws.specs.ListingLaws.{HasPieces, ListsHavePieces, before_of, names_at, denial, IsComplete, KeepsObjects, IsUnchanged, IsListing, ListingsAreTold, AcceptedListings}
 use Rattle.world_front.proofs.Bytes.{number_same}

@@ -23,7 +23,8 @@ use Rattle.store_core.specs.declared.reply.Reply.{Reply}
 use Rattle.store_core.specs.declared.reply.Reply.TheVariants.{Denied, Names}
 use Rattle.verdict_core.specs.Verdict.{report_of}
 use Rattle.whole_logs.specs.Each.{Each}
-use Rattle.world_core.specs.Listing.{sorted, joined, names_in as names_shown}
+use Rattle.world_core.specs.Listing.{sorted, joined}
+use Rattle.world_front.specs.Joining.{names_in as names_shown}
 use Rattle.world_laws.specs.Pieces.{is_there, objects_of, IsPiece, PiecesAreTheNamespace, PiecesAnswerTheNamespace}
 use Rattle.world_front.proofs.Merge.{number_refl}
 use Rattle.world_front.proofs.Bytes.{bytes_same, both_true}

@@ -6,7 +6,7 @@ use Rattle.world_core.proofs.calls.deliver.Goals as goal
 
 pub returns : goal.returns
 returns c = record {
-  steps = steps_or_memory c.args.group.now c.deliver-done.new.self (Deliver c.args.message) c.deliver-done.result c.deliver-done.ensures.steps;
+  steps = steps_or_memory c.args.group.now c.call-done.new.self (Deliver c.args.message) c.call-done.result c.call-done.ensures.steps;
   kept =
       c.keep.ensures ∙ ap (λ l. l ++ runs_from c.args.place c.decided_count-from.result c.decided_count-upto.result) c.reserve.ensures.items
       ∙ ap (λ n. c.args.runs.now.items ++ runs_from c.args.place n c.decided_count-upto.result) c.decided_count-from.ensures

@@ -4,7 +4,8 @@ use Rattle.map_commands.specs.Map.{map_of}
 use Rattle.map_core.specs.Refusal.{groups_in}
 use Rattle.map_core.proofs.Kept.{pools_are_few}
 use Rattle.world_events.specs.declared.fault.WorldFault.TheVariants.{Map as OfMap}
-use Rattle.world_core.specs.Moves.{IsAt, place_in}
+use Rattle.world_core.specs.Moves.{IsAt}
+use Rattle.world_front.specs.Groups.{place_in}
 use Rattle.world_core.proofs.PlaceIn.{has_place}
 use Rattle.world_core.proofs.PlacesNamed.{none_missing, some_there}
 use Rattle.world_core.proofs.group_places.place_of.Goals as goal

@@ -2,7 +2,8 @@ use Rattle.std.proofs.Common.{◌≡◌, ◌∙◌, ◌≤◌, length, ap, sym, 
 use Rattle.map_commands.specs.Map.{map_of}
 use Rattle.map_core.proofs.Kept.{pools_are_few}
 use Rattle.entry_core.specs.Locality.{group_for}
-use Rattle.world_core.specs.Moves.{IsAt, place_in}
+use Rattle.world_core.specs.Moves.{IsAt}
+use Rattle.world_front.specs.Groups.{place_in}
 use Rattle.world_core.proofs.Answering.{place_of_request}
 use Rattle.world_core.proofs.group_places.place_of_request.Goals as goal
 

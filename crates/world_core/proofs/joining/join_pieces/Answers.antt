@@ -2,7 +2,7 @@ use Rattle.std.proofs.Common.{◌≡◌, ◌∙◌, ◌+◌, ◌<◌, ◌≤◌,
 use Rattle.std.specs.Option.{option_map}
 use Rattle.world_core.specs.Answers.{answer_at}
 use Rattle.world_front.specs.declared.session.Pieced.{Pieced}
-use Rattle.world_core.specs.Joining.{joined_with}
+use Rattle.world_front.specs.Joining.{joined_with}
 use Rattle.world_core.proofs.Answering.{low_next}
 use Rattle.world_core.proofs.JoinedPieces.{rest_of, begins, one_more, one_open, ends}
 use Rattle.world_core.proofs.joining.join_pieces.Goals as goal

@@ -1,7 +1,7 @@
 use Rattle.std.proofs.Common.{◌≡◌, ◌+◌, ◌<◌, ◌%◌}
 use Rattle.std.specs.Option.{option_map}
 use Rattle.world_core.specs.Answers.{answer_at}
-use Rattle.world_core.specs.Joining.{joined_with}
+use Rattle.world_front.specs.Joining.{joined_with}
 use Rattle.world_core.specs.Listing.{listing_of}
 use Rattle.world_core.proofs.JoinedPieces.{rest_of}
 use Rattle.world_core.proofs.joining.join_pieces.Given as goal

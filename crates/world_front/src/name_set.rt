@@ -2,7 +2,7 @@
 
 ghost use Rattle.std.specs.Prelude.{◌≡◌, [], IfOk, OnOk};
 ghost use Rattle.std.specs.BTreeSet.{insert_key};
-ghost use Rattle.world_core.specs.Joining.{with_names};
+ghost use Rattle.world_front.specs.Joining.{with_names};
 ghost use Rattle.store_core.specs.Store.{bytes_cmp};
 
 use common_types::Name;

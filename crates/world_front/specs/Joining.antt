@@ -1,6 +1,6 @@
--- Refinement: only contracts inside the crate use it.
+-- Statement: contracts of public calls use it.
 -- What the answers of a list's pieces come to, one after another.
-use Rattle.std.specs.Prelude.{ℕ, List, None, Some, if◌then◌else◌, fold, unwrap_or}
+use Rattle.std.specs.Prelude.{ℕ, List, [], None, Some, if◌then◌else◌, fold, unwrap_or}
 use Rattle.std.specs.List.{flat_map, find}
 use Rattle.std.specs.Option.{option_or}
 use Rattle.std.specs.Ordering.{nat_cmp}
@@ -8,9 +8,14 @@ use Rattle.std.specs.Cmp.Lexicographic.{slice_cmp}
 use Rattle.std.specs.BTreeSet.{insert_key}
 use Rattle.entry_core.specs.Laws.{is_denied}
 use Rattle.store_core.specs.declared.reply.Reply.{Reply}
-use Rattle.store_core.specs.declared.reply.Reply.TheVariants.{Names}
-use Rattle.world_core.specs.Listing.{names_in}
-use Rattle.world_core.specs.declared.joining.Joined.{Joined}
+use Rattle.store_core.specs.declared.reply.Reply.TheVariants.{Denied, Done, Failed, Names}
+use Rattle.world_front.specs.declared.joined.Joined.{Joined}
+
+abbrev pub names_in : Reply → List (List ℕ)
+names_in (Names names) = names
+names_in (Denied report) = []
+names_in (Done outputs) = []
+names_in (Failed place number) = []
 
 -- the names with these, in the order of their bytes
 abbrev pub with_names : List (List ℕ) → List (List ℕ) → List (List ℕ)

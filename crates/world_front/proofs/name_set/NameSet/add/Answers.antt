@@ -1,8 +1,8 @@
 use Rattle.std.proofs.Common.{◌∙◌, ap, string_bytes}
 use Rattle.std.specs.BTreeSet.{insert_key}
 use Rattle.store_core.specs.Store.{bytes_cmp}
-use Rattle.world_core.proofs.JoinedPieces.{text_added}
-use Rattle.world_core.proofs.name_set.NameSet.add.Goals as goal
+use Rattle.world_front.proofs.NamesInTree.{text_added}
+use Rattle.world_front.proofs.name_set.NameSet.add.Goals as goal
 
 pub returns : goal.returns
 returns c =

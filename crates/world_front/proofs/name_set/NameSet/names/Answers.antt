@@ -1,7 +1,7 @@
 use Rattle.std.proofs.Common.{◌∙◌, arith}
-use Rattle.world_core.proofs.JoinedPieces.{all_texts}
+use Rattle.world_front.proofs.NamesInTree.{all_texts}
 use Rattle.std.proofs.lemmas.Grind.{common_steps}
-use Rattle.world_core.proofs.name_set.NameSet.names.Goals as goal
+use Rattle.world_front.proofs.name_set.NameSet.names.Goals as goal
 
 pub returns : goal.returns
 returns c =

@@ -1,7 +1,7 @@
 use Rattle.std.proofs.Common.{◌≡◌, ◌+◌, ◌*◌, ◌≤◌, ℕ, drop}
 use Rattle.map_core.specs.Refusal.{groups_in}
-use Rattle.world_core.specs.Moves as spec
-use Rattle.world_core.proofs.group_places.groups_before.Given as goal
+use Rattle.world_front.specs.Groups as spec
+use Rattle.world_front.proofs.pool_places.groups_before.Given as goal
 
 abbrev pub invariant-loop-pool : goal.invariant-loop-pool
 invariant-loop-pool l = record {
