@@ -6,6 +6,7 @@ pub mod Caret
 pub mod Words
 pub mod Calls
 pub mod Request
+pub mod Relation
 pub mod Named
 pub mod Documents
 pub mod FirstPlaces

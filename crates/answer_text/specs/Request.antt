@@ -36,3 +36,11 @@ needs_words needs = flag_words needs.reads (codes " --read") ++ (flag_words need
 abbrev pub example_line : List ℕ → Example → List ℕ
 example_line sign example =
     sign ++ (printed_path example.path ++ (codes " " ++ (target_words example.target ++ (needs_words example.needs ++ codes "\n"))))
+
+-- the examples of what only the new grants allow, and of what only the old ones did
+abbrev pub example_lines : List Example → List Example → List ℕ
+example_lines gained lost = flat_map (example_line (codes "+ ")) gained ++ flat_map (example_line (codes "- ")) lost
+
+-- the same, indented
+abbrev pub indented_lines : List Example → List Example → List ℕ
+indented_lines gained lost = flat_map (example_line (codes "  + ")) gained ++ flat_map (example_line (codes "  - ")) lost

@@ -15,6 +15,11 @@ abbrev pub verdict_text : Verdict → List ℕ
 verdict_text Allowed = codes "allow\n"
 verdict_text (Denied report) = codes "deny\n" ++ report_text report
 
+-- the word alone
+abbrev pub verdict_word : Verdict → List ℕ
+verdict_word Allowed = codes "allow"
+verdict_word (Denied report) = codes "deny"
+
 -- the fault's own printed form
 abbrev pub fault_text : VerdictFault → List ℕ
 fault_text (Caps fault) = cap.fault_text fault

@@ -15,6 +15,7 @@ mod explain;
 mod format;
 mod named;
 mod printed;
+mod relation;
 mod request;
 mod verdict;
 
@@ -29,5 +30,8 @@ pub use explain::explain_text;
 pub use format::Format;
 pub use named::NamedEntities;
 pub use printed::Printed;
-pub use request::{push_example, push_request, push_target};
-pub use verdict::{Answer, Verdict, VerdictFault, answer, answer_by, text_of, verdict_text};
+pub use relation::{Presence, Relation, fails_check, word_of};
+pub use request::{push_example_lines, push_indented_lines, push_request, push_target};
+pub use verdict::{
+    Answer, Verdict, VerdictFault, answer, answer_by, is_allowed, text_of, verdict_text,
+};

@@ -3,7 +3,7 @@
 ghost use Rattle.std.specs.Prelude.{◌≡◌, ◌++◌, string_bytes, OnOk};
 ghost use Rattle.std.specs.List.{flat_map};
 ghost use Rattle.answer_text.specs.Calls.{call_words};
-ghost use Rattle.answer_text.specs.Request.{example_line, needs_words, namespace_words, pair_words, target_words, tag_words};
+ghost use Rattle.answer_text.specs.Request.{example_line, example_lines, indented_lines, needs_words, namespace_words, pair_words, target_words, tag_words};
 ghost use Rattle.answer_text.specs.Words.{flag_words, quoted, quoted_byte, shell_word};
 
 use crate::call_words::push_call;
@@ -155,8 +155,8 @@ pub fn push_request(line: &mut String, example: &Example) -> Result<(), OutOfMem
 }
 
 /// Adds the line of an example: the sign, the grant's path, and the request in words of a shell, as [`push_request`] writes
-/// it, and a line feed. An `Err` is want of memory alone, and leaves a front of it behind the line.
-pub fn push_example(line: &mut String, sign: &str, example: &Example) -> Result<(), OutOfMemory>
+/// it, and a line feed.
+fn push_example(line: &mut String, sign: &str, example: &Example) -> Result<(), OutOfMemory>
     ensures { OnOk result (string_bytes line.new ≡ string_bytes line.old ++ example_line sign.now example.now) }
 {
     line.push_str(sign)?;
@@ -166,4 +166,40 @@ pub fn push_example(line: &mut String, sign: &str, example: &Example) -> Result<
     push_target(line, &example.target)?;
     push_needs(line, &example.needs)?;
     line.push_str("\n")
+}
+
+fn push_examples(text: &mut String, sign: &str, examples: &[Example]) -> Result<(), OutOfMemory>
+    ensures { OnOk result (string_bytes text.new ≡ string_bytes text.old ++ flat_map (example_line sign.now) examples.now) }
+{
+    for example in examples {
+        push_example(text, sign, example)?;
+    }
+    Ok(())
+}
+
+/// Adds the lines of a comparison's examples: `+ PATH REQUEST` for each of what only the new grants allow, and then
+/// `- PATH REQUEST` for each of what only the old ones did, where REQUEST is as [`push_request`] writes it. An `Err` is want of
+/// memory alone, and leaves a front of them behind the text.
+pub fn push_example_lines(
+    text: &mut String,
+    gained: &[Example],
+    lost: &[Example],
+) -> Result<(), OutOfMemory>
+    ensures { OnOk result (string_bytes text.new ≡ string_bytes text.old ++ example_lines gained.now lost.now) }
+{
+    push_examples(text, "+ ", gained)?;
+    push_examples(text, "- ", lost)
+}
+
+/// Adds the same lines as [`push_example_lines`], indented by two blanks. An `Err` is want of memory alone, and leaves a front
+/// of them behind the text.
+pub fn push_indented_lines(
+    text: &mut String,
+    gained: &[Example],
+    lost: &[Example],
+) -> Result<(), OutOfMemory>
+    ensures { OnOk result (string_bytes text.new ≡ string_bytes text.old ++ indented_lines gained.now lost.now) }
+{
+    push_examples(text, "  + ", gained)?;
+    push_examples(text, "  - ", lost)
 }

@@ -1,12 +1,13 @@
 //! What a capability text and a request come to, as a value and as a text.
 
-ghost use Rattle.std.specs.Prelude.{◌≡◌, IfOk, Some, string_bytes};
+ghost use Rattle.std.specs.Prelude.{◌≡◌, ◌↔◌, true, IfOk, Ok, Some, string_bytes};
 ghost use Rattle.grant_core.specs.BuiltIn.{built_in};
 ghost use Rattle.answer_text.specs.Answer as spec;
 ghost use Rattle.answer_text.specs.Answer.{IsAnswer, IsVerdictText, answer_of, needed};
 ghost use Rattle.answer_text.specs.Asked.{calls_fault};
 ghost use Rattle.answer_text.specs.Documents.{answer_by};
 ghost use Rattle.answer_text.specs.Text as printed;
+ghost use Rattle.answer_text.specs.declared.verdict.Verdict.TheVariants.{Allowed};
 
 use crate::asked::{Asked, needs_asked};
 use crate::document::answer_json;
@@ -81,6 +82,29 @@ impl fmt::Display for VerdictFault {
 }
 
 impl Error for VerdictFault {}
+
+impl Verdict {
+    /// The word for it alone, as it stands in a table: `allow` or `deny`.
+    pub fn word(&self) -> &'static str
+        ensures { result.now ≡ printed.verdict_word self.now }
+    {
+        match self {
+            Verdict::Allowed => "allow",
+            Verdict::Denied(_) => "deny",
+        }
+    }
+}
+
+/// Whether an answer is that the request is allowed. It is not where there is no verdict.
+pub fn is_allowed(answer: &Answer) -> bool
+    ensures { (result ≡ true) ↔ (answer.now ≡ Ok Allowed) }
+{
+    match answer {
+        Ok(Verdict::Allowed) => true,
+        Ok(Verdict::Denied(_)) => false,
+        Err(_) => false,
+    }
+}
 
 /// Allowed, or denied with the report.
 fn judged(

@@ -4,12 +4,13 @@ use Rattle.std.specs.List.{All}
 use Rattle.grant_core.specs.Flat.{Flat}
 use Rattle.compare_core.specs.Widening.{IsGainedBy, WidensBy, request_of}
 use Rattle.compare_core.specs.declared.comparing.Example.{Example}
-use Rattle.gate_text.specs.Entities.{IsChangeTold, change_by, word_of}
+use Rattle.answer_text.specs.Relation.{is_wider, relation_of, word_of}
+use Rattle.gate_text.specs.Entities.{IsChangeTold, change_by}
 use Rattle.compare_core.specs.declared.registry.Registry.{Registry}
 use Rattle.gate_text.specs.declared.comparison.Comparison.{Comparison}
 use Rattle.gate_text.specs.declared.compare.Change.{Change}
-use Rattle.gate_text.specs.declared.compare_auth.Presence.{Presence}
-use Rattle.gate_text.specs.Compared.{ComesTo, IsRelation, IsChange, IsCompared, IsCompareAnswer, IsNewAnswer, compared_by, relation_of, is_any, is_wider}
+use Rattle.answer_text.specs.declared.relation.Presence.{Presence}
+use Rattle.gate_text.specs.Compared.{ComesTo, IsRelation, IsChange, IsCompared, IsCompareAnswer, IsNewAnswer, compared_by, is_any}
 
 -- the first of some examples is gained
 first : (registry : Registry) (old new : Flat) (example : Example) (examples : List Example) → All (λ e. IsGainedBy registry old new (request_of e)) (example ∷ examples) → WidensBy registry old new

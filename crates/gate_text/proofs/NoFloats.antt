@@ -5,10 +5,10 @@ use Rattle.compare_core.specs.declared.comparing.Example.{Example}
 use Rattle.answer_text.proofs.NoFloats.{each}
 use Rattle.gate_text.specs.Compared.{compared_document, example_document, examples_document, side_document}
 use Rattle.gate_text.specs.Entities.{change_document, unjudged_document}
-use Rattle.gate_text.specs.declared.compare.Relation.{Relation}
+use Rattle.answer_text.specs.declared.relation.Relation.{Relation}
 use Rattle.gate_text.specs.declared.compare.TextFault.{TextFault}
 use Rattle.gate_text.specs.declared.compare.TextFault.TheVariants.{Spelling, Expansion, OutOfMemory}
-use Rattle.gate_text.specs.declared.compare_auth.Presence.{Presence}
+use Rattle.answer_text.specs.declared.relation.Presence.{Presence}
 
 pub of_examples : (examples : List Example) → has_float (examples_document examples) ≡ false
 of_examples examples = each example_document (λ _. refl) examples

@@ -2,7 +2,7 @@
 -- What is printed of two capability texts: which allows more, and an example for each grant that does (this project's
 -- profile).
 use Rattle.std.specs.Prelude.{ℕ, ◌≡◌, ◌≢◌, ◌⊎◌, ◌↔◌, ◌&&◌, ◌==◌, List, [], ◌∷◌, ◌++◌, Bool, true, false, None, Some, codes, map}
-use Rattle.std.specs.List.{All, before_first, flat_map}
+use Rattle.std.specs.List.{All, before_first}
 use Rattle.cap_text.specs.FaultText as cap
 use Rattle.cap_text.specs.Faults.{IsFirstFault}
 use Rattle.cap_text.specs.Grammar.{Spells}
@@ -19,13 +19,14 @@ use Rattle.compare_core.specs.declared.registry.Registry.{Registry}
 use Rattle.serde_json.specs.Data.{Data, array, object, string, number, unsigned, member, no_members}
 use Rattle.serde_json.specs.View.{items_of}
 use Rattle.answer_text.specs.Documents.{json_line}
-use Rattle.answer_text.specs.Request.{example_line, needs_words, target_words}
+use Rattle.answer_text.specs.Relation.{is_wider, relation_word}
+use Rattle.answer_text.specs.Request.{example_lines, needs_words, target_words}
 use Rattle.answer_text.specs.declared.format.Format.{Format}
 use Rattle.answer_text.specs.declared.format.Format.TheVariants.{Text, Json}
+use Rattle.answer_text.specs.declared.relation.Relation.{Relation}
+use Rattle.answer_text.specs.declared.relation.Relation.TheVariants.{Same, Narrower, Wider, Different}
 use Rattle.gate_text.specs.declared.comparison.Comparison.{Comparison}
 use Rattle.gate_text.specs.declared.compare.Change.{Change}
-use Rattle.gate_text.specs.declared.compare.Relation.{Relation}
-use Rattle.gate_text.specs.declared.compare.Relation.TheVariants.{Same, Narrower, Wider, Different}
 use Rattle.gate_text.specs.declared.compare.TextFault.{TextFault}
 use Rattle.gate_text.specs.declared.compare.TextFault.TheVariants.{Spelling, Expansion, OutOfMemory}
 
@@ -35,33 +36,6 @@ IsRelation registry old new Same = (¬ WidensBy registry old new) × (¬ WidensB
 IsRelation registry old new Narrower = (¬ WidensBy registry old new) × WidensBy registry new old
 IsRelation registry old new Wider = WidensBy registry old new × (¬ WidensBy registry new old)
 IsRelation registry old new Different = WidensBy registry old new × WidensBy registry new old
-
-abbrev pub relation_word : Relation → List ℕ
-relation_word Same = codes "same"
-relation_word Narrower = codes "narrower"
-relation_word Wider = codes "wider"
-relation_word Different = codes "different"
-
--- the new grants allow what the old ones deny
-abbrev pub is_wider : Relation → Bool
-is_wider Same = false
-is_wider Narrower = false
-is_wider Wider = true
-is_wider Different = true
-
--- the examples of what only the new grants allow, and of what only the old ones did
-abbrev pub example_lines : List Example → List Example → List ℕ
-example_lines gained lost = flat_map (example_line (codes "+ ")) gained ++ flat_map (example_line (codes "- ")) lost
-
--- the same, indented
-abbrev pub indented_lines : List Example → List Example → List ℕ
-indented_lines gained lost = flat_map (example_line (codes "  + ")) gained ++ flat_map (example_line (codes "  - ")) lost
-
-abbrev pub relation_of : Bool → Bool → Relation
-relation_of false false = Same
-relation_of false true = Narrower
-relation_of true false = Wider
-relation_of true true = Different
 
 abbrev pub is_any : List Example → Bool
 is_any [] = false

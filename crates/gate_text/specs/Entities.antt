@@ -11,27 +11,19 @@ use Rattle.compare_core.specs.Widening.{AnswersBy}
 use Rattle.compare_core.specs.declared.comparing.Example.{Example}
 use Rattle.answer_text.specs.Caret.{shown}
 use Rattle.answer_text.specs.Named.{entity_in}
-use Rattle.gate_text.specs.Compared.{ComesTo, IsFaultOf, IsRelation, examples_document, fault_number, indented_lines, is_wider, relation_word}
+use Rattle.answer_text.specs.Relation.{is_wider, word_of}
+use Rattle.answer_text.specs.Request.{indented_lines}
+use Rattle.gate_text.specs.Compared.{ComesTo, IsFaultOf, IsRelation, examples_document, fault_number}
 use Rattle.answer_text.specs.Documents.{entities_by, piece}
 use Rattle.gate_text.specs.declared.comparison.Comparison.{Comparison}
 use Rattle.answer_text.specs.declared.format.Format.{Format}
 use Rattle.answer_text.specs.declared.format.Format.TheVariants.{Text, Json}
 use Rattle.answer_text.specs.declared.entity.Entity.{Entity}
-use Rattle.gate_text.specs.declared.compare.Relation.{Relation}
-use Rattle.gate_text.specs.declared.compare.Relation.TheVariants.{Same, Narrower, Wider, Different}
+use Rattle.answer_text.specs.declared.relation.Relation.{Relation}
 use Rattle.gate_text.specs.declared.compare.TextFault.{TextFault}
 use Rattle.gate_text.specs.declared.compare.TextFault.TheVariants.{Spelling, Expansion, OutOfMemory}
-use Rattle.gate_text.specs.declared.compare_auth.Presence.{Presence}
-use Rattle.gate_text.specs.declared.compare_auth.Presence.TheVariants.{Both, New, Gone}
-
--- the word behind the name of an entity, which has none where both lists have it and its rights are the same
-abbrev pub word_of : Presence → Relation → Option (List ℕ)
-word_of Both Same = None
-word_of Both Narrower = Some (relation_word Narrower)
-word_of Both Wider = Some (relation_word Wider)
-word_of Both Different = Some (relation_word Different)
-word_of New relation = Some (codes "new")
-word_of Gone relation = Some (codes "gone")
+use Rattle.answer_text.specs.declared.relation.Presence.{Presence}
+use Rattle.answer_text.specs.declared.relation.Presence.TheVariants.{Both, New, Gone}
 
 -- a line, and below it the examples, indented; without a word there is nothing
 abbrev pub change_lines : List ℕ → Option (List ℕ) → List Example → List Example → List ℕ

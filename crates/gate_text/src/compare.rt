@@ -5,11 +5,11 @@ ghost use Rattle.std.specs.List.{flat_map};
 ghost use Rattle.grant_core.specs.BuiltIn.{built_in};
 ghost use Rattle.gate_text.specs.Compared as spec;
 ghost use Rattle.gate_text.specs.Compared.{ComesTo, IsChange, IsCompareAnswer, IsFaultOf};
-ghost use Rattle.answer_text.specs.Request.{example_line};
+ghost use Rattle.answer_text.specs.Relation.{relation_of};
 
 use crate::compare_json::{compared_json, side_json};
 use crate::comparison::Comparison;
-use answer_text::{Format, Printed, push_example};
+use answer_text::{Format, Printed, Relation, fails_check, push_example_lines};
 use cap_text::{CapFault, CapList, FaultKind, parse};
 use common_types::OutOfMemory;
 use compare_core::{Example, Registry, widening_by};
@@ -17,19 +17,6 @@ use grant_core::{ExpandFault, ProfileTable};
 use std::alloc::{AllocError, Global};
 use std::fmt;
 use verdict_core::Ticket;
-
-/// How the rights of new grants stand to those of old ones.
-#[derive(Clone, Copy)]
-pub(crate) enum Relation {
-    /// Each allows what the other does.
-    Same,
-    /// The old grants allow all that the new ones do, and more.
-    Narrower,
-    /// The new grants allow all that the old ones do, and more.
-    Wider,
-    /// Each allows something that the other denies.
-    Different,
-}
 
 /// Why a capability text has no grants. It prints as the fault that it is, which begins with the fault's number.
 #[derive(Clone, Copy, Debug)]
@@ -81,71 +68,12 @@ impl fmt::Display for TextFault {
     }
 }
 
-impl Relation {
-    fn of(gains: bool, loses: bool) -> Relation
-        ensures { result ≡ spec.relation_of gains loses }
-    {
-        match (gains, loses) {
-            (false, false) => Relation::Same,
-            (false, true) => Relation::Narrower,
-            (true, false) => Relation::Wider,
-            (true, true) => Relation::Different,
-        }
-    }
-
-    pub(crate) fn word(self) -> &'static str
-        ensures { result.now ≡ spec.relation_word self }
-    {
-        match self {
-            Relation::Same => "same",
-            Relation::Narrower => "narrower",
-            Relation::Wider => "wider",
-            Relation::Different => "different",
-        }
-    }
-
-    /// Whether the new grants allow what the old ones deny.
-    pub(crate) fn is_wider(self) -> bool
-        ensures { result ≡ spec.is_wider self }
-    {
-        match self {
-            Relation::Same | Relation::Narrower => false,
-            Relation::Wider | Relation::Different => true,
-        }
-    }
-}
-
 impl Change {
     pub(crate) fn relation(&self) -> Relation
-        ensures { result ≡ spec.relation_of (spec.is_any self.now.gained.items) (spec.is_any self.now.lost.items) }
+        ensures { result ≡ relation_of (spec.is_any self.now.gained.items) (spec.is_any self.now.lost.items) }
     {
         Relation::of(!self.gained.is_empty(), !self.lost.is_empty())
     }
-
-    /// Adds a line for each example.
-    pub(crate) fn push_lines(&self, text: &mut String) -> Result<(), OutOfMemory>
-        ensures { OnOk result (string_bytes text.new ≡ string_bytes text.old ++ spec.example_lines self.now.gained.items self.now.lost.items) }
-    {
-        push_examples(text, "+ ", &self.gained)?;
-        push_examples(text, "- ", &self.lost)
-    }
-
-    /// Adds a line for each example, indented by two blanks.
-    pub(crate) fn push_indented(&self, text: &mut String) -> Result<(), OutOfMemory>
-        ensures { OnOk result (string_bytes text.new ≡ string_bytes text.old ++ spec.indented_lines self.now.gained.items self.now.lost.items) }
-    {
-        push_examples(text, "  + ", &self.gained)?;
-        push_examples(text, "  - ", &self.lost)
-    }
-}
-
-fn push_examples(text: &mut String, sign: &str, examples: &[Example]) -> Result<(), OutOfMemory>
-    ensures { OnOk result (string_bytes text.new ≡ string_bytes text.old ++ flat_map (example_line sign.now) examples.now) }
-{
-    for example in examples {
-        push_example(text, sign, example)?;
-    }
-    Ok(())
 }
 
 /// What stands before the first blank of a text.
@@ -267,19 +195,13 @@ fn refused(
     })
 }
 
-pub(crate) fn fails_check(check: bool, relation: Relation) -> bool
-    ensures { result ≡ (check && spec.is_wider relation) }
-{
-    check && relation.is_wider()
-}
-
 /// The relation on a line, and the examples.
 fn compared_text(alloc: Global, relation: Relation, change: &Change) -> Result<String, OutOfMemory>
     ensures { IfOk result (λ text. string_bytes text ≡ spec.compared_text relation change.now.gained.items change.now.lost.items) }
 {
     let mut text = String::from_str(alloc, relation.word())?;
     text.push_str("\n")?;
-    change.push_lines(&mut text)?;
+    push_example_lines(&mut text, &change.gained, &change.lost)?;
     Ok(text)
 }
 

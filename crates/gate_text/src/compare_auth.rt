@@ -3,28 +3,22 @@
 ghost use Rattle.std.specs.Prelude.{◌≡◌, ◌++◌, ◌||◌, [], true, false, IfOk, OnOk, option_copied, string_bytes};
 ghost use Rattle.std.specs.Str.{bytes_eq};
 ghost use Rattle.grant_core.specs.BuiltIn.{built_in};
+ghost use Rattle.answer_text.specs.Relation.{word_of};
 ghost use Rattle.gate_text.specs.Entities as spec;
 ghost use Rattle.gate_text.specs.Entities.{AreAllTold, AreListsTold, IsBothTold, IsChangeTold, IsEntitiesAnswer, IsNewTold, IsOldTold, IsPairTold};
 
-use crate::compare::{Change, Relation, TextFault, changes, fails_check, push_number, ticket_of};
+use crate::compare::{Change, TextFault, changes, push_number, ticket_of};
 use crate::compare_json::{change_piece, unjudged_piece};
 use crate::comparison::Comparison;
-use answer_text::{Entity, Format, NamedEntities, Printed, entities_by, push_shown_text};
+use answer_text::{
+    Entity, Format, NamedEntities, Presence, Printed, Relation, entities_by, fails_check,
+    push_indented_lines, push_shown_text, word_of,
+};
 use common_types::OutOfMemory;
 use grant_core::ProfileTable;
 use std::alloc::{AllocError, Global};
 use std::fmt::Write;
 use verdict_core::Ticket;
-
-/// Which of two lists have an entity.
-#[derive(Clone, Copy)]
-pub(crate) enum Presence {
-    Both,
-    /// The new list alone.
-    New,
-    /// The old list alone.
-    Gone,
-}
 
 /// An entity's name, and its texts in two lists, empty where a list does not have it.
 #[derive(Clone, Copy)]
@@ -35,18 +29,6 @@ pub(crate) struct Pair<'a> {
     new: &'a str,
 }
 
-/// The word behind an entity's name, or nothing where its rights are the same.
-fn word_of(presence: Presence, relation: Relation) -> Option<&'static str>
-    ensures { option_copied result ≡ spec.word_of presence relation }
-{
-    match (presence, relation) {
-        (Presence::Both, Relation::Same) => None,
-        (Presence::Both, relation) => Some(relation.word()),
-        (Presence::New, _) => Some("new"),
-        (Presence::Gone, _) => Some("gone"),
-    }
-}
-
 /// The lines of an entity's change, or nothing where there is no word for it.
 fn change_lines(
     alloc: Global,
@@ -54,13 +36,13 @@ fn change_lines(
     relation: Relation,
     change: &Change,
 ) -> Result<String, OutOfMemory>
-    ensures { IfOk result (λ text. string_bytes text ≡ spec.change_lines pair.now.name.now (spec.word_of pair.now.presence relation) change.now.gained.items change.now.lost.items) }
+    ensures { IfOk result (λ text. string_bytes text ≡ spec.change_lines pair.now.name.now (word_of pair.now.presence relation) change.now.gained.items change.now.lost.items) }
 {
     let mut text = String::new(alloc);
     if let Some(word) = word_of(pair.presence, relation) {
         push_shown_text(&mut text, pair.name)?;
         write!(text, " {word}\n")?;
-        change.push_indented(&mut text)?;
+        push_indented_lines(&mut text, &change.gained, &change.lost)?;
     }
     Ok(text)
 }
@@ -72,7 +54,7 @@ fn change_json(
     relation: Relation,
     change: &Change,
 ) -> Result<String, OutOfMemory>
-    ensures { IfOk result (λ text. string_bytes text ≡ spec.change_piece pair.now.name.now (spec.word_of pair.now.presence relation) change.now.gained.items change.now.lost.items) }
+    ensures { IfOk result (λ text. string_bytes text ≡ spec.change_piece pair.now.name.now (word_of pair.now.presence relation) change.now.gained.items change.now.lost.items) }
 {
     match word_of(pair.presence, relation) {
         Some(word) => change_piece(alloc, pair.name, word, change),
@@ -88,7 +70,7 @@ fn change_by(
     change: &Change,
     format: Format,
 ) -> Result<String, OutOfMemory>
-    ensures { IfOk result (λ text. string_bytes text ≡ spec.change_by format pair.now.name.now (spec.word_of pair.now.presence relation) change.now.gained.items change.now.lost.items) }
+    ensures { IfOk result (λ text. string_bytes text ≡ spec.change_by format pair.now.name.now (word_of pair.now.presence relation) change.now.gained.items change.now.lost.items) }
 {
     match format {
         Format::Text => change_lines(alloc, pair, relation, change),

@@ -7,9 +7,9 @@ ghost use Rattle.answer_text.specs.Documents.{json_line, piece};
 ghost use Rattle.gate_text.specs.Entities.{change_document, unjudged_document};
 ghost use Rattle.gate_text.specs.declared.compare.TextFault.TheVariants.{Spelling};
 
-use crate::compare::{Change, Relation, TextFault};
-use crate::compare_auth::{Presence, became};
-use answer_text::{json_line, piece_of, push_request};
+use crate::compare::{Change, TextFault};
+use crate::compare_auth::became;
+use answer_text::{Presence, Relation, json_line, piece_of, push_request};
 use cap_text::CapFault;
 use common_types::OutOfMemory;
 use compare_core::Example;

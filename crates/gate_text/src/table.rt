@@ -10,8 +10,7 @@ ghost use Rattle.gate_text.specs.Who.{AreInOrder};
 
 use crate::compare::first_word;
 use answer_text::{
-    Answer, Asked, Entity, Format, Verdict, VerdictFault, answer_by, entities_by, push_shown_text,
-    row_piece,
+    Answer, Asked, Entity, Format, VerdictFault, answer_by, entities_by, push_shown_text, row_piece,
 };
 use common_types::OutOfMemory;
 use grant_core::ProfileTable;
@@ -48,13 +47,10 @@ fn push_number(text: &mut String, alloc: Global, fault: &VerdictFault) -> Result
 fn push_cell(text: &mut String, alloc: Global, answer: &Answer) -> Result<(), OutOfMemory>
     ensures { OnOk result (string_bytes text.new ≡ string_bytes text.old ++ spec.cell answer.now) }
 {
+    text.push_str(" ")?;
     match answer {
-        Ok(Verdict::Allowed) => text.push_str(" allow"),
-        Ok(Verdict::Denied(_)) => text.push_str(" deny"),
-        Err(fault) => {
-            text.push_str(" ")?;
-            push_number(text, alloc, fault)
-        }
+        Ok(verdict) => text.push_str(verdict.word()),
+        Err(fault) => push_number(text, alloc, fault),
     }
 }
 

@@ -7,7 +7,7 @@ ghost use Rattle.gate_text.specs.Who.{AreInOrder, AreTold, IsTold, IsWho, answer
 
 use answer_text::{
     Answer, Asked, Entity, Format, Printed, Verdict, answer_by, calls_json, entities_by,
-    entity_piece, needs_asked, push_shown_text,
+    entity_piece, is_allowed, needs_asked, push_shown_text,
 };
 use common_types::OutOfMemory;
 use grant_core::{Path, ProfileTable};
@@ -120,10 +120,10 @@ fn push_listed(
 ) -> Result<(), OutOfMemory>
     ensures { OnOk result (string_bytes text.new ≡ string_bytes text.old ++ listed format name.now answer.now) }
 {
-    match answer {
-        Ok(Verdict::Allowed) => push_listed_by(text, alloc, name, format),
-        Ok(Verdict::Denied(_)) => Ok(()),
-        Err(_) => Ok(()),
+    if is_allowed(answer) {
+        push_listed_by(text, alloc, name, format)
+    } else {
+        Ok(())
     }
 }
 

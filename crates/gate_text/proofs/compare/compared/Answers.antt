@@ -1,5 +1,6 @@
 use Rattle.std.proofs.Common.{ap, ◌∙◌, ◌&&◌}
-use Rattle.gate_text.specs.Compared.{compared_by, is_wider}
+use Rattle.answer_text.specs.Relation.{is_wider}
+use Rattle.gate_text.specs.Compared.{compared_by}
 use Rattle.gate_text.proofs.Comparisons.{compared_lines}
 use Rattle.gate_text.proofs.compare.compared.Goals as goal
 

@@ -1,6 +1,6 @@
 use Rattle.std.proofs.Common.{ap, ◌∙◌, ◌&&◌}
-use Rattle.gate_text.specs.Compared.{is_wider}
-use Rattle.gate_text.specs.Entities.{change_by, word_of}
+use Rattle.answer_text.specs.Relation.{is_wider, word_of}
+use Rattle.gate_text.specs.Entities.{change_by}
 use Rattle.gate_text.proofs.Comparisons.{change_told}
 use Rattle.gate_text.proofs.compare_auth.changed_pair.Goals as goal
 

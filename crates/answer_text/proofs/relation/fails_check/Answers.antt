@@ -1,5 +1,5 @@
 use Rattle.std.proofs.Common.{rules}
-use Rattle.gate_text.proofs.compare.fails_check.Goals as goal
+use Rattle.answer_text.proofs.relation.fails_check.Goals as goal
 
 pub returns-then-check : goal.returns-then-check
 returns-then-check c = search rules

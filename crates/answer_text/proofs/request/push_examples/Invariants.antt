@@ -1,7 +1,7 @@
 use Rattle.std.proofs.Common.{◌≡◌, ◌++◌, string_bytes, drop}
 use Rattle.std.specs.List.{flat_map}
 use Rattle.answer_text.specs.Request.{example_line}
-use Rattle.gate_text.proofs.compare.push_examples.Given as goal
+use Rattle.answer_text.proofs.request.push_examples.Given as goal
 
 -- what is written, and what the rest gives, is the whole
 abbrev pub invariant-loop-example : goal.invariant-loop-example
