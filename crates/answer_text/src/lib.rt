@@ -1,4 +1,5 @@
-//! What is printed of one capability text: verdicts, explanations, requests, and where a fault stands.
+//! What is printed of one capability text: verdicts, explanations, requests, and where a fault stands; and the words of
+//! comparisons.
 //!
 //! Each text is a value, made of a capability text, entities and a request. Each call borrows what it is given, and what is
 //! wrong with a capability text or with calls is part of what is printed. The forms of the lines are this project's

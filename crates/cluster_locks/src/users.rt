@@ -1,6 +1,6 @@
 //! The users under a turn lock, with the number of sessions, and the steps on them.
 
-ghost use Rattle.std.specs.Prelude.{IfOk};
+ghost use Rattle.std.specs.Prelude.{◌≡◌, ◌+◌, ◌<◌, IfOk};
 ghost use Rattle.common_types.specs.Refused.{RefusedFirst};
 ghost use Rattle.auth_db.specs.Refusals.{known_refusal};
 ghost use Rattle.auth_db.specs.Users.{HasTicket};
@@ -68,6 +68,17 @@ fn shared_ticket(db: &AuthDb, name: &str, until: Option<u64>) -> Result<SharedTi
     }
 }
 
+// One session more: its number.
+fn count_session(table: &mut UserTable) -> u32
+    requires { table.old.sessions < 1024 }
+    ensures number { result ≡ table.old.sessions + 1 }
+    ensures counted { table.new ≡ record table.old { sessions = table.old.sessions + 1 } }
+{
+    let number = table.sessions + 1;
+    table.sessions = number;
+    number
+}
+
 /// Opens a session of a user, whose ticket ends at a tick or never: the session's number, and the ticket.
 #[derive(Drop)]
 pub struct Open {
@@ -100,10 +111,7 @@ impl Step for Open {
             return Err(OpenFault::Limit);
         }
         match shared_ticket(&table.db, self.name.as_str(), self.until) {
-            Ok(ticket) => {
-                table.sessions += 1;
-                Ok((table.sessions, ticket))
-            }
+            Ok(ticket) => Ok((count_session(table), ticket)),
             Err(fault) => Err(OpenFault::User(fault)),
         }
     }

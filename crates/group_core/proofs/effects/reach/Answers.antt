@@ -1,4 +1,4 @@
-use Rattle.std.proofs.Common.{◌≡◌, ◌++◌, ap, sym, ◌∙◌, arith}
+use Rattle.std.proofs.Common.{rules, ◌≡◌, ◌++◌, ap, sym, ◌∙◌, arith}
 use Rattle.std.specs.Prelude.{Some, slice_get}
 use Rattle.std.specs.List.{remove}
 use Rattle.peer_core.specs.Steps.{Stepped}
@@ -25,3 +25,6 @@ unreachable-requires c = grind (arith, elements)
 
 pub remove-requires : goal.remove-requires
 remove-requires c = grind (arith, common_steps)
+
+pub returns-clause-copy_ok : goal.returns-clause-copy_ok
+returns-clause-copy_ok c = search rules

@@ -1,4 +1,4 @@
-use Rattle.std.proofs.Common.{◌≡◌, ◌∙◌, ◌++◌, ◌∷◌, [], ◌==◌, cond, Some, false, length, sym, ap, subst}
+use Rattle.std.proofs.Common.{rules, ◌≡◌, ◌∙◌, ◌++◌, ◌∷◌, [], ◌==◌, cond, Some, false, length, sym, ap, subst}
 use Rattle.std.specs.Map.{lookup}
 use Rattle.store_core.specs.Objects.{changed, change_of}
 use Rattle.entry_core.specs.Log.{decision, ids, is_in}
@@ -16,3 +16,6 @@ invariant_of-self-2 c =
     (λ id. c.append.ensures.index id ∙ ap (λ l. cond (entry.sealed.id == id) (Some (length l)) (lookup (λ n. id == n) c.reserve-2.new.self.entries)) c.reserve.ensures.items ∙ ap (cond (entry.sealed.id == id) (Some (length c.self.inside.entries.items))) (c.reserve-2.ensures.entries.2 id))
     (c.in_ok-back.ensures.ok ∙ ap (λ n. changed c.self.inside.objects n (change_of parts.result.1)) c.name.ensures)
     (ap (λ n. changed c.change.new.self n (change_of c.in_ok-back.back)) (sym c.name.ensures) ∙ c.in_ok-back.ensures.back)
+
+pub invariant_of-self-in_err-reserve-2 : goal.invariant_of-self-in_err-reserve-2
+invariant_of-self-in_err-reserve-2 c = search rules

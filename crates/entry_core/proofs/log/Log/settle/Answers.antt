@@ -1,4 +1,4 @@
-use Rattle.std.proofs.Common.{◌∙◌, [], take, ap}
+use Rattle.std.proofs.Common.{rules, ◌∙◌, [], take, ap}
 use Rattle.entry_core.specs.Fitting.{are_new, requests_of}
 use Rattle.entry_core.specs.Log.{ids}
 use Rattle.entry_core.proofs.LegalLogs.{legal_rest, new_again}
@@ -10,3 +10,12 @@ append_all-requires-clause-new c =
     let es = c.args.draft.entries.items in
     let cut = c.cut.ensures.entries ∙ ap (take c.args.kept) (c.reserve.ensures.items ∙ c.self.view_is) in
     (λ i. are_new (ids (cut i)) (requests_of (c.into_parts-changes.ensures.entries i).items)) ∙ new_again front es (legal_rest [] front es c.requires.legal)
+
+pub invariant_of-self-in_err-reserve-2 : goal.invariant_of-self-in_err-reserve-2
+invariant_of-self-in_err-reserve-2 c = search rules
+
+pub invariant_of-self-2 : goal.invariant_of-self-2
+invariant_of-self-2 c = search rules
+
+pub returns-clause-ok : goal.returns-clause-ok
+returns-clause-ok c = search rules

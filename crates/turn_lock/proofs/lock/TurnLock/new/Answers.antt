@@ -39,3 +39,6 @@ split-other-requires-clause-ready g c = grind (arith, common_steps)
 
 pub overflow_sub-draws : goal.overflow_sub-draws
 overflow_sub-draws g c = grind (arith, common_steps)
+
+pub loop-init : goal.loop-init
+loop-init g c = search rules
