@@ -1,8 +1,9 @@
-"""Makes the quick build of a program and keeps it: keep_quick_build.py CRATE_FOLDER KEPT.
+"""Makes the unverified build of a program and keeps it: keep_quick_build.py CRATE_FOLDER KEPT NAME.
 
 `rt try` compiles and links a program that is not proved, runs it in a folder of its own below TMPDIR, and removes that
-folder. While it runs here, on the word --help, what it has linked gets a second name, KEPT. Exit status: 0 where KEPT
-is there and can be run, else 1.
+folder. While it runs here, on the word --help, what it has linked gets a second name, KEPT. It says every 15 seconds that
+it goes on, under the name NAME. Exit status: 0 where KEPT is there and can be run, else 1. Ended by a signal, it ends all
+that it started and leaves no folder.
 """
 import os
 import shutil
@@ -12,6 +13,8 @@ import sys
 import tempfile
 import time
 
+# Seconds between two lines that say that it goes on.
+SAID = 15
 # So many times the program is run on --help: one run is over in some milliseconds.
 RUNS = 12
 
@@ -58,10 +61,22 @@ def stop(ran):
         pass
 
 
-def main(crate, kept):
+def say_on(name, begun, said):
+    """Says how long it has been going on, where it is time to."""
+    seconds = int(time.time() - begun)
+    if seconds >= said + SAID:
+        print(f"{name}: making the unverified build, {seconds} seconds so far", file=sys.stderr, flush=True)
+        return seconds
+    return said
+
+
+def main(crate, kept, said_name):
+    for sent in (signal.SIGINT, signal.SIGTERM, signal.SIGHUP):
+        signal.signal(sent, lambda *_: sys.exit(130))
     name = os.path.basename(crate)
     begun = time.time()
-    room = tempfile.mkdtemp(prefix="making-", dir=os.path.dirname(kept))
+    room = tempfile.mkdtemp(prefix=f"making-{name}-", dir=os.path.dirname(kept))
+    ran, seconds = None, 0
     try:
         os.makedirs(f"{room}/tmp")
         os.makedirs(f"{room}/cases")
@@ -81,6 +96,7 @@ def main(crate, kept):
             made = f"{room}/{name}"
             while ran.poll() is None and not keep(room, made):
                 time.sleep(0.003)
+                seconds = say_on(said_name, begun, seconds)
             # What `rt try` does beside running the program is not needed once the program is kept and starts.
             is_made = is_kept(made)
             if is_made:
@@ -90,10 +106,12 @@ def main(crate, kept):
             with open(f"{room}/said", encoding="utf-8", errors="replace") as said:
                 sys.stderr.write(said.read() if ran.returncode else "")
             return 1
-        os.utime(made, (begun, begun))
         os.replace(made, kept)
         return 0
     finally:
+        if ran is not None and ran.poll() is None:
+            stop(ran)
+            ran.wait()
         shutil.rmtree(room, ignore_errors=True)
 
 

@@ -1,13 +1,14 @@
 #!/usr/bin/env python3
-"""The tiers of docs/READING.md, with all that their files import: tools/reading_tiers.py [--write].
+"""What each part of the auditing guide rests on: tools/reading_tiers.py [--write].
 
-A tier is a section of READING.md with a table of files that is written by hand, and below it a part that this tool
-writes, between two comments: every file of definitions that those files import, directly or not, with its lines. The
-imports are the `use` lines of the files. The first comment may name a limit, as `<!-- begin tier, at most 1,000 lines`.
+A part is some rows of the last table of docs/design/READING.md, which is written by hand: its first row names it, and may
+set a limit, as `at most 1,000 lines`. A row has files to begin with and contracts, as links to their sources; behind a link a
+clause may be named, which alone counts then. docs/design/STATEMENTS.md lists these files, the files that the clauses of the
+contracts name, and what all of them import, with their lines, and every other statement. --write writes it.
 
-Without --write it says what is not so: a part that is not what the tool would write, a tier above its limit, and each
-file of a crate's specs/ whose first line is wrong. A file is a statement where a clause of a public call names it, or
-a statement imports it; any other is a refinement. With --write it also mends links to files that went to another crate.
+Without --write it reports what does not hold: a list that the tool would not write, a part above its limit, and each file
+of a crate's specs/ whose first line is wrong. A file is a statement if a clause of a public call names it or a statement
+imports it; any other is a refinement. With --write it also mends links to files that are in another crate now.
 """
 import glob
 import os
@@ -15,12 +16,12 @@ import re
 import sys
 
 TOP = os.path.dirname(os.path.dirname(os.path.realpath(__file__)))
-PAGE = "docs/READING.md"
+PAGE, LISTS = "docs/design/READING.md", "docs/design/STATEMENTS.md"
 STATEMENT, REFINEMENT = "-- Statement: ", "-- Refinement: "
 USE = re.compile(r"^\s*(?:pub )?(?:ghost )?use Rattle\.(\w+)\.specs\.([\w.]+?)(?:\.\{(.*)\}| as (\w+))?;?\s*$", re.M)
-ROOT = re.compile(r"\]\(\.\./crates/(\w+)/specs/(\w+)\.antt\)")
-WRITTEN = re.compile(r"<!-- begin (tier|rest)(?:, at most ([\d,]+) lines)?;.*? -->\n.*?<!-- end -->\n", re.S)
-TIER = re.compile(r"^## ([^\n]*)\n(.*?)(?=^## |\Z)", re.M | re.S)
+ROOT = re.compile(r"\]\(\.\./\.\./crates/(\w+)/specs/(\w+)\.antt\)")
+PART = re.compile(r"^\*\*(.+)\*\*(?:, at most ([\d,]+) lines)?")
+CONTRACT = re.compile(r"\[`(?:\w+::)?(\w+)`\]\(\.\./\.\./(crates/\w+/src/[\w/]+\.rt)\)(?: `(\w+)`)?")
 WORD = re.compile(r"[\w◌']+")
 
 
@@ -74,16 +75,12 @@ class Definitions:
         return [(it, sorted(n for n in names if n[0] == it)) for it in self.order if any(n[0] == it for n in names)]
 
 
-# ---- what a tier's part says
+# ---- the lists
 
 
 def link(definitions, name):
     crate, module = name
-    return f"[`{module}`](../crates/{crate}/specs/{module}.antt) {definitions.lines[name]}"
-
-
-def mention(definitions, name):
-    return f"`{name[1]}` {definitions.lines[name]}"
+    return f"[`{module}`](../../crates/{crate}/specs/{module}.antt) {definitions.lines[name]}"
 
 
 def count(definitions, names):
@@ -91,39 +88,47 @@ def count(definitions, names):
     return f"{len(names)} files, {lines:,} lines"
 
 
-def table(definitions, names, before):
-    rows = ["| Crate | To read | Read above |", "|---|---|---|"]
+def table(definitions, names):
+    rows = ["| Crate | Files |", "|---|---|"]
     for crate, files in definitions.by_crate(names):
-        new = ", ".join(link(definitions, it) for it in files if it not in before)
-        old = ", ".join(mention(definitions, it) for it in files if it in before)
-        rows.append(f"| `{crate}` | {new} | {old} |")
+        rows.append(f"| `{crate}` | {', '.join(link(definitions, it) for it in files)} |")
     return rows
 
 
-def begin(kind, limit=None):
-    most = f", at most {limit} lines" if limit else ""
-    return f"<!-- begin {kind}{most}; written by tools/reading_tiers.py --write -->"
+def parts(page):
+    """The parts of the guide's last table: of each its name, its limit, the files to begin with, and its contracts, each as
+    a function, its source file and the clause that counts, or an empty name for all."""
+    found = []
+    for row in page.splitlines():
+        cells = [it.strip() for it in row.strip("|").split("|")]
+        if len(cells) < 4 or not ROOT.search(row):
+            continue
+        if begins := PART.match(cells[0]):
+            found.append((begins[1], begins[2] and int(begins[2].replace(",", "")), set(), set()))
+        if found:
+            found[-1][2].update(ROOT.findall(cells[1]))
+            found[-1][3].update(CONTRACT.findall(cells[3]))
+    return found
 
 
-def tier_text(definitions, names, before, limit):
-    both = names & before
-    said = f"All that these files import: {count(definitions, names)}"
-    said += f". In a tier above stand {count(definitions, both)} of these." if both else "."
+def named_by(contract, order):
+    """The files of definitions that the clauses of a contract name; nothing if its source lacks the function."""
+    function, source, only = contract
+    text = re.sub(r"//[^\n]*", "", read(source)) if os.path.exists(f"{TOP}/{source}") else ""
+    begins = re.search(rf"^\s*pub (?:const )?fn {function}\b", text, re.M)
+    said = [it for name, it in named_clauses_at(text, begins.start()) if only in ("", name)] if begins else []
+    known = local_names(text, order)
+    return {known[word] for clause in said for word in set(WORD.findall(clause)) & set(known)}
+
+
+def part_text(definitions, title, names, before):
+    """A part's list: the files that no part before has, and the types of the code that they name."""
+    new = names - before
+    said = f"{count(definitions, names)}"
+    said += f", of which {count(definitions, names & before)} are in parts above." if names & before else "."
     types = definitions.types_in(names) - definitions.types_in(before)
     named = [f"{crate} {', '.join(f'`{it[1]}`' for it in own)}" for crate, own in definitions.by_crate(types)]
-    rows = [begin("tier", limit), said, ""]
-    rows += table(definitions, names, before)
-    more = " beside those above" if before else ""
-    rows += ["", f"Types of the code that they name{more}, each declared in its crate's `src/`: {'; '.join(named) or 'none'}."]
-    return "\n".join(rows + ["<!-- end -->", ""])
-
-
-def rest_text(definitions, before):
-    names = {it for it in definitions.label if is_statement(definitions, it) and it not in before}
-    rows = [begin("rest"), f"{count(definitions, names)}.", "", "| Crate | Statements |", "|---|---|"]
-    for crate, files in definitions.by_crate(names):
-        rows.append(f"| `{crate}` | {', '.join(link(definitions, it) for it in files)} |")
-    return "\n".join(rows + ["<!-- end -->", ""])
+    return [f"## {title}", "", said, "", *table(definitions, new), "", f"Types of the code: {'; '.join(named) or 'none'}.", ""]
 
 
 def is_statement(definitions, name):
@@ -131,32 +136,24 @@ def is_statement(definitions, name):
 
 
 def written(definitions, page):
-    """The page with its parts as they should be, the files that its tiers have, and what is wrong with its tables."""
-    before, faults, out, at = set(), [], [], 0
-    for section in TIER.finditer(page):
-        title, body = section[1], section[2]
-        part = WRITTEN.search(body)
-        if not part:
-            if ROOT.search(body):
-                faults.append(f"{PAGE}: {title}: no part for this tool between <!-- begin tier; --> and <!-- end -->")
-            continue
-        if part[1] == "tier":
-            roots = set(ROOT.findall(body[: part.start()]))
-            faults += [f"{PAGE}: no file {'/specs/'.join(it)}.antt" for it in sorted(roots - set(definitions.label))]
-            names = definitions.closure(roots & set(definitions.label))
-            lines = sum(definitions.lines[it] for it in names)
-            if part[2] and lines > int(part[2].replace(",", "")):
-                faults.append(f"{PAGE}: {title}: {lines} lines, and at most {part[2]} are wanted")
-            text = tier_text(definitions, names, before, part[2])
-            before |= names
-        else:
-            text = rest_text(definitions, before)
-        place = section.start(2) + part.start()
-        out += [page[at:place], text]
-        at = section.start(2) + part.end()
+    """The lists as they should be, the files of all parts, and what is wrong with the guide's table."""
+    before, faults = set(), []
+    out = ["# What each part rests on", "", "Written by `tools/reading_tiers.py --write`, from the table of [READING](READING.md). A number is a file's lines, comments included.", ""]
+    for title, limit, roots, contracts in parts(page):
+        faults += [f"{PAGE}: no file {'/specs/'.join(it)}.antt" for it in sorted(roots - set(definitions.label))]
+        named = {it: named_by(it, definitions.order) for it in contracts}
+        faults += [f"{PAGE}: {title}: no definition in a clause {it[2]} of {it[0]} in {it[1]}" for it in sorted(contracts) if not named[it]]
+        names = definitions.closure((roots | set().union(*named.values())) & set(definitions.label))
+        lines = sum(definitions.lines[it] for it in names)
+        if limit and lines > limit:
+            faults.append(f"{PAGE}: {title}: {lines} lines, at most {limit}")
+        out += part_text(definitions, title, names, before)
+        before |= names
     if not before:
-        faults.append(f"{PAGE}: no tier")
-    return "".join(out + [page[at:]]), before, faults
+        faults.append(f"{PAGE}: no part")
+    rest = {it for it in definitions.label if is_statement(definitions, it) and it not in before}
+    out += ["## In no part", "", f"Contracts of public calls use these too. {count(definitions, rest)}.", "", *table(definitions, rest), ""]
+    return "\n".join(out), before, faults
 
 
 def mended(definitions, page):
@@ -170,9 +167,9 @@ def mended(definitions, page):
             having = [it for it in having if it.split("_")[0] == crate.split("_")[0]]
         if crate in having or len(having) != 1:
             return found[0]
-        return f"[{having[0]} `{module}`](../crates/{having[0]}/specs/{module}.antt)"
+        return f"[{having[0]} `{module}`](../../crates/{having[0]}/specs/{module}.antt)"
 
-    return re.sub(r"\[(?:\w+ )?`\w+`\]\(\.\./crates/(\w+)/specs/(\w+)\.antt\)", mend, page)
+    return re.sub(r"\[(?:\w+ )?`\w+`\]\(\.\./\.\./crates/(\w+)/specs/(\w+)\.antt\)", mend, page)
 
 
 # ---- which files clauses of public calls name
@@ -212,15 +209,19 @@ def without_kinds(text):
     return text
 
 
-def clauses_at(text, at):
-    """The clauses of the function that begins at this place."""
+def named_clauses_at(text, at):
+    """The clauses of the function that begins at this index, each with its name."""
     said, place = [], text.index("(", at)
     while True:
         found = CLAUSE.search(text, place)
         if not found or found[0] in "{;":
             return said
         clause, place = block(text, found.end() - 1)
-        said.append(clause)
+        said.append((found[0].split()[1].rstrip("{"), clause))
+
+
+def clauses_at(text, at):
+    return [clause for _, clause in named_clauses_at(text, at)]
 
 
 def clauses_inside(text, item, is_public):
@@ -295,26 +296,30 @@ def label_faults(definitions):
 
 
 def check():
-    """What is not so, a line each."""
+    """What does not hold, a line each."""
     definitions = Definitions()
-    page = read(PAGE)
-    right, tiers, faults = written(definitions, page)
-    if right != page:
-        faults.append(f"{PAGE}: not what tools/reading_tiers.py --write makes of it")
-    faults += [f"{PAGE}: a tier has the refinement {'/'.join(it)}" for it in sorted(tiers) if not is_statement(definitions, it)]
+    right, names, faults = written(definitions, read(PAGE))
+    if not os.path.exists(f"{TOP}/{LISTS}") or right != read(LISTS):
+        faults.append(f"{LISTS}: not what tools/reading_tiers.py --write makes of it")
+    faults += [f"{PAGE}: a part has the refinement {'/'.join(it)}" for it in sorted(names) if not is_statement(definitions, it)]
     return faults + label_faults(definitions)
+
+
+def write():
+    definitions = Definitions()
+    page = mended(definitions, read(PAGE))
+    for name, text in ((PAGE, page), (LISTS, written(definitions, page)[0])):
+        with open(f"{TOP}/{name}", "w", encoding="utf-8") as it:
+            it.write(text)
 
 
 def main():
     if sys.argv[1:] == ["--write"]:
-        definitions = Definitions()
-        right, _, _ = written(definitions, mended(definitions, read(PAGE)))
-        with open(f"{TOP}/{PAGE}", "w", encoding="utf-8") as it:
-            it.write(right)
+        write()
     elif sys.argv[1:]:
         sys.exit("usage: tools/reading_tiers.py [--write]")
     faults = check()
-    print("\n".join(faults + [f"reading tiers: {len(faults)} faults"]))
+    print("\n".join(faults + [f"auditing guide: {len(faults)} faults"]))
     return 1 if faults else 0
 
 

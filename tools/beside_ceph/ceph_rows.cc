@@ -1,10 +1,12 @@
-// Measures Ceph's OSDCap::is_capable and OSDCap::parse in the rows of `osdgate_bench verdict` and `osdgate_bench parse`.
+// Measures Ceph's OSDCap::is_capable and OSDCap::parse in the rows of `osdgate_bench verdict` and `osdgate_bench parse`, and
+// asks them for the answers that compare.py compares with ours.
 //
 // This is a library that the loader puts before the program ceph-osd. It has no code of Ceph: the functions that it
 // measures are those of the program, which exports them. Instead of the program's main, the library's runs.
 //
 // The texts, targets, loops and runs are those of crates/osdgate_bench (verdict.rt, parse.rt, grants.rt) and crates/stopwatch (measure.rt).
 
+#include <arpa/inet.h>
 #include <dlfcn.h>
 #include <netinet/in.h>
 #include <unistd.h>
@@ -15,8 +17,10 @@
 #include <cstdio>
 #include <cstdlib>
 #include <cstring>
+#include <fstream>
 #include <iosfwd>
 #include <map>
+#include <sstream>
 #include <string>
 #include <vector>
 
@@ -260,6 +264,112 @@ void print_parses(const std::string &name) {
     table.finish();
 }
 
+// Answers to requests of files, for compare.py.
+
+std::vector<std::string> split(const std::string &text, char mark) {
+    std::vector<std::string> parts;
+    size_t from = 0;
+    for (size_t at = text.find(mark); at != std::string::npos; at = text.find(mark, from)) {
+        parts.push_back(text.substr(from, at - from));
+        from = at + 1;
+    }
+    parts.push_back(text.substr(from));
+    return parts;
+}
+
+std::vector<std::string> lines_of(const std::string &path) {
+    std::ifstream file(path);
+    if (!file) fail("cannot be read: " + path);
+    std::vector<std::string> lines;
+    for (std::string line; std::getline(file, line);) lines.push_back(line);
+    return lines;
+}
+
+std::string bytes_of(const std::string &hexes) {
+    std::string bytes;
+    for (size_t at = 0; at + 1 < hexes.size(); at += 2) {
+        bytes += static_cast<char>(std::stoi(hexes.substr(at, 2), nullptr, 16));
+    }
+    return bytes;
+}
+
+entity_addr_t peer_of(const std::string &text) {
+    entity_addr_t peer;
+    std::memset(&peer, 0, sizeof peer);
+    peer.type = 2;
+    if (inet_pton(AF_INET, text.c_str(), &peer.address.four.sin_addr) == 1) {
+        peer.address.four.sin_family = AF_INET;
+        peer.address.four.sin_port = htons(6800);
+    } else if (inet_pton(AF_INET6, text.c_str(), &peer.address.six.sin6_addr) == 1) {
+        peer.address.six.sin6_family = AF_INET6;
+        peer.address.six.sin6_port = htons(6800);
+    } else {
+        fail("no address: " + text);
+    }
+    return peer;
+}
+
+// A line of tab-separated fields: pool, namespace, object, reads, writes, address, tags and calls. Names are hexadecimal.
+struct Request {
+    Place place;
+    bool reads;
+    bool writes;
+    Classes calls;
+    entity_addr_t peer;
+
+    explicit Request(const std::string &line) {
+        const std::vector<std::string> fields = split(line, '\t');
+        if (fields.size() != 8) fail("a request has 8 fields: " + line);
+        place = {bytes_of(fields[0]), bytes_of(fields[1]), {}, bytes_of(fields[2])};
+        reads = fields[3] == "1";
+        writes = fields[4] == "1";
+        peer = peer_of(fields[5]);
+        if (!fields[6].empty()) {
+            for (const std::string &tag : split(fields[6], ',')) {
+                const std::vector<std::string> parts = split(tag, ':');
+                auto &pairs = place.applications[bytes_of(parts[0])];
+                if (parts.size() == 3) pairs[bytes_of(parts[1])] = bytes_of(parts[2]);
+            }
+        }
+        if (!fields[7].empty()) {
+            for (const std::string &call : split(fields[7], ',')) {
+                const std::vector<std::string> parts = split(call, ':');
+                if (parts.size() != 5) fail("a call has 5 parts: " + call);
+                calls.push_back({bytes_of(parts[0]), bytes_of(parts[1]), parts[2] == "1", parts[3] == "1", parts[4] == "1"});
+            }
+        }
+    }
+
+    bool is_allowed(const OSDCap &caps) const {
+        return caps.is_capable(place.pool, place.name_space, place.applications, place.object, reads, writes, calls, peer);
+    }
+};
+
+// The byte at which Ceph stopped to read a text, by its own words on it: .. stopped at 'REST' of 'TEXT'.
+std::string refusal_of(const std::string &text, const std::string &words) {
+    const std::string front = "stopped at '";
+    const size_t at = words.find(front);
+    const size_t behind = words.rfind("' of '" + text);
+    if (at == std::string::npos || behind == std::string::npos) return "refused";
+    return "refused " + std::to_string(text.size() - (behind - at - front.size()));
+}
+
+// A line for each text: `refused` and the byte where reading stopped, or 1 for each request that is allowed and 0 for each that
+// is denied.
+void print_answers(const std::string &texts, const std::string &requests) {
+    std::vector<Request> asked;
+    for (const std::string &line : lines_of(requests)) asked.emplace_back(line);
+    for (const std::string &line : lines_of(texts)) {
+        OSDCap caps;
+        const std::string text = bytes_of(line);
+        std::ostringstream words;
+        std::string answers;
+        if (!caps.parse(text, &words)) answers = refusal_of(text, words.str());
+        else for (const Request &request : asked) answers += request.is_allowed(caps) ? '1' : '0';
+        std::printf("%s\n", answers.c_str());
+    }
+}
+
 // Asks the program for verdicts that come out only where the layouts above are its own.
 void check_layouts() {
     const auto answer = [](const char *text, bool reads, bool writes, const Classes &classes, uint32_t address) {
@@ -276,6 +386,13 @@ void check_layouts() {
     expect(!answer("allow rw tag cephfs data=there", true, true, {}, home), "another tag is denied");
     expect(answer("allow r network 10.0.0.0/8", true, false, {}, home), "a peer of the network is allowed");
     expect(!answer("allow r network 10.0.0.0/8", true, false, {}, 0x0b000001), "another peer is denied");
+    const auto from_six = [](const char *text, const char *address) {
+        OSDCap caps;
+        expect(caps.parse(text, nullptr), text);
+        return caps.is_capable("data", "", {}, "image.1", true, false, {}, peer_of(address));
+    };
+    expect(from_six("allow r network fd00::/8", "fd12::1"), "an IPv6 peer of the network is allowed");
+    expect(!from_six("allow r network fd00::/8", "fc00::1"), "another IPv6 peer is denied");
     expect(answer("allow class lock get", false, false, {{"lock", "get", true, true, false}}, home), "a method");
     expect(!answer("allow class lock get", false, false, {{"lock", "set", true, true, false}}, home), "no method");
     expect(answer("allow x", false, false, {{"lock", "get", true, true, true}}, home), "a listed class");
@@ -288,6 +405,12 @@ void check_layouts() {
 }
 
 int main_of_rows(int count, char **words, char **) {
+    if (count == 4 && std::string(words[1]) == "answers") {
+        check_layouts();
+        print_answers(words[2], words[3]);
+        std::fflush(nullptr);
+        _exit(0);
+    }
     const std::string part = count > 1 ? words[1] : "";
     const std::string name = count > 2 ? words[2] : "data";
     if (count > 3 || (part != "verdict" && part != "parse")) fail("the words are verdict or parse, and a name");

@@ -10,7 +10,7 @@ from dataclasses import dataclass
 HERE = os.path.dirname(os.path.realpath(__file__))
 TOP = os.path.dirname(os.path.dirname(HERE))
 # The crates whose tests pass with any one allocation refused.
-CRATES = ["refused_steps", "refused_clusters"]
+CRATES = ["tests_memory", "tests_memory_clusters"]
 # The words with which a test may fail: a refusal had left a call in part, and all that the test asks after that then held. Where
 # every allocation is refused, each of them has to come.
 WORDS = {

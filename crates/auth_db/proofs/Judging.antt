@@ -41,7 +41,7 @@ refuses_some table text grants (expansion.TagInProfile place) spells is = (grant
 refuses_some table text grants expansion.TooManyProfiles spells is = (grants, spells, is)
 refuses_some table text grants expansion.TooLarge spells is = (grants, spells, is)
 
-refuses_by : (table : Table) (text : List ℕ) (grants : List Grant) (refusal : Option ExpandFault) → expand_refusal table grants ≡ refusal → Spells text grants → TextRefuses table text (profile_fault (unwrap_or refusal expansion.OutOfMemory))
+pub refuses_by : (table : Table) (text : List ℕ) (grants : List Grant) (refusal : Option ExpandFault) → expand_refusal table grants ≡ refusal → Spells text grants → TextRefuses table text (profile_fault (unwrap_or refusal expansion.OutOfMemory))
 refuses_by table text grants None is spells = tt
 refuses_by table text grants (Some fault) is spells = refuses_some table text grants fault spells is
 
@@ -98,12 +98,7 @@ changed_user users name caps h =
 
 -- ---- the ticket of a text that is there
 
-is_ticket : (table : Table) (osd : Option (List ℕ)) (text read : List ℕ) (tree : Flat) (until : Option ℕ) (ticket : Ticket) → osd ≡ Some text → read ≡ text → ComesTo table read tree
+pub is_ticket : (table : Table) (osd : Option (List ℕ)) (text read : List ℕ) (tree : Flat) (until : Option ℕ) (ticket : Ticket) → osd ≡ Some text → read ≡ text → ComesTo table read tree
     → ticket ≡ record { grants = tree; until = until } → IsTicket table osd until ticket
 is_ticket table osd text read tree until ticket some same of is =
     rw some (subst (λ u. ComesTo table u ticket.grants) same (subst (ComesTo table read) (sym (ap (λ (t : Ticket). t.grants) is)) of), ap (λ (t : Ticket). t.until) is)
-
-pub ticket_of : {E : Type 0} (table : Table) (osd : Option (List ℕ)) (text read : List ℕ) (tree : Flat) (until : Option ℕ) (result : Result Ticket E) → osd ≡ Some text → read ≡ text → ComesTo table read tree
-    → IfOk result (λ ticket. ticket ≡ record { grants = tree; until = until }) → IfOk result (λ ticket. IsTicket table osd until ticket)
-ticket_of table osd text read tree until (Ok ticket) some same of is = is_ticket table osd text read tree until ticket some same of is
-ticket_of table osd text read tree until (Err e) some same of is = is

@@ -50,7 +50,7 @@ told_some table text grants (expansion.TagInProfile place) spells is = inr (list
 told_some table text grants expansion.TooManyProfiles spells is = inr (list_told table text grants (Some expansion.TooManyProfiles) spells is)
 told_some table text grants expansion.TooLarge spells is = inr (list_told table text grants (Some expansion.TooLarge) spells is)
 
-told_by : (table : Table) (text : List ℕ) (grants : List Grant) (refusal : Option ExpandFault) → expand_refusal table grants ≡ refusal → Spells text grants → Told (read_refusal table (read_text text)) (profile_fault (unwrap_or refusal expansion.OutOfMemory))
+pub told_by : (table : Table) (text : List ℕ) (grants : List Grant) (refusal : Option ExpandFault) → expand_refusal table grants ≡ refusal → Spells text grants → Told (read_refusal table (read_text text)) (profile_fault (unwrap_or refusal expansion.OutOfMemory))
 told_by table text grants None is spells = inl refl
 told_by table text grants (Some fault) is spells = told_some table text grants fault spells is
 

@@ -1,13 +1,16 @@
 //! Reading osd texts.
 
-ghost use Rattle.std.specs.Prelude.{◌≡◌, IfOk, IfErr, OnOk};
+ghost use Rattle.std.specs.Prelude.{◌≡◌, None, IfOk, IfErr, OnOk};
+ghost use Rattle.std.specs.Option.{unwrap_or};
 ghost use Rattle.auth_db.specs.Refusals as spec;
 ghost use Rattle.auth_db.specs.Texts.{IsGood, IsGoodText, IsTicket, ComesTo};
 ghost use Rattle.auth_db.specs.Refusals.{TextRefuses, OsdRefuses, RefusedOrMemory};
 ghost use Rattle.cap_text.specs.ReadText.{read_text};
+ghost use Rattle.grant_core.specs.Flat.{flat};
+ghost use Rattle.grant_core.specs.Refusal.{expand_refusal};
 
 use crate::fault::AuthFault;
-use cap_text::{CapFault, FaultKind, parse};
+use cap_text::{CapFault, CapList, FaultKind, parse};
 use common_types::{Name, OutOfMemory};
 use grant_core::{ExpandFault, GrantTree, ProfileTable, expand};
 use std::alloc::{AllocError, Global};
@@ -22,10 +25,19 @@ fn expand_text(alloc: Global, table: &ProfileTable, text: &str) -> Result<GrantT
 {
     match parse(alloc, text) {
         Err(fault) => Err(text_fault(fault)),
-        Ok(list) => match expand(alloc, table, &list) {
-            Err(fault) => Err(profile_fault(fault)),
-            Ok(tree) => Ok(tree),
-        },
+        Ok(list) => expand_list(alloc, table, &list),
+    }
+}
+
+/// What a list comes to with a table. Want of memory is answered only where the list can be expanded.
+fn expand_list(alloc: Global, table: &ProfileTable, list: &CapList) -> Result<GrantTree, AuthFault>
+    ensures tree { IfOk result (λ tree. tree ≡ flat table.now list.now) }
+    ensures accepted { OnOk result (expand_refusal table.now list.now ≡ None) }
+    ensures refused { IfErr result (λ fault. fault ≡ spec.profile_fault (unwrap_or (expand_refusal table.now list.now) ExpandFault.OutOfMemory)) }
+{
+    match expand(alloc, table, list) {
+        Err(fault) => Err(profile_fault(fault)),
+        Ok(tree) => Ok(tree),
     }
 }
 
@@ -82,7 +94,7 @@ pub(crate) fn osd_ticket(
         None => Ok(Ticket::empty(alloc, until)),
         Some(text) => match expand_text(alloc, table, text.as_str()) {
             Err(_) => Err(AllocError),
-            Ok(tree) => Ticket::of(alloc, &tree, until),
+            Ok(tree) => Ok(Ticket::of(tree, until)),
         },
     }
 }

@@ -1,4 +1,1 @@
-pub mod Spans
-pub mod Tokens
-pub mod Reading
 pub mod LastBytes

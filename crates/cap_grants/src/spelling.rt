@@ -5,9 +5,15 @@ ghost use Rattle.std.specs.List.{list_all};
 ghost use Rattle.cap_grants.specs.Bytes as bytes_spec;
 ghost use Rattle.cap_grants.specs.Spellable as spec;
 
-use crate::bytes::is_quotable;
 use crate::grant::{Access, AllowGrant, Grant, NsMatch, Part, Tag};
 use common_types::Name;
+
+/// Whether a byte may stand between two of these quotes.
+pub fn is_quotable(quote: u8, byte: u8) -> bool
+    ensures { result ≡ bytes_spec.is_quotable quote byte }
+{
+    32 <= byte && byte <= 126 && byte != quote
+}
 
 // Whether bytes may all stand between two of these quotes.
 fn are_quotable(quote: u8, bytes: &[u8]) -> bool

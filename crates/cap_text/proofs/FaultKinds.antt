@@ -1,8 +1,8 @@
 -- Which fault it is.
 use Rattle.std.proofs.Common.{◌≡◌, ◌≢◌, ℕ, Bool, true, false, List, [], ◌∷◌, Some, None, Result, Ok, Err, refl, sym, ap, ◌∙◌, inl, inr}
 use Rattle.std.specs.Prelude.{◌⊎◌, codes}
-use Rattle.cap_grants.specs.declared.token.Token.{Token}
-use Rattle.cap_grants.specs.declared.token.Token.TheVariants.{Comma, Semicolon, Equals, Star, Word, Quoted}
+use Rattle.cap_text.specs.declared.token.Token.{Token}
+use Rattle.cap_text.specs.declared.token.Token.TheVariants.{Comma, Semicolon, Equals, Star, Word, Quoted}
 use Rattle.cap_grants.specs.declared.grant.Access.TheVariants as accesses
 use Rattle.cap_grants.specs.declared.grant.Flags.{Flags}
 use Rattle.cap_grants.specs.declared.grant.NsMatch.TheVariants.{Exact}
@@ -10,16 +10,16 @@ use Rattle.cap_grants.specs.declared.grant.Part.{Part}
 use Rattle.cap_grants.specs.declared.grant.Grant.{Grant}
 use Rattle.cap_grants.specs.declared.fault_kind.FaultKind.{FaultKind}
 use Rattle.cap_grants.specs.declared.fault_kind.FaultKind.TheVariants.{UnknownWord, BadAccess, BadMatch, BadWord, NetworkClause}
-use Rattle.cap_grants.specs.declared.keyword.Keyword.{Keyword}
-use Rattle.cap_grants.specs.declared.keyword.Keyword.TheVariants as kw
-use Rattle.cap_grants.specs.declared.stage.ClauseSet.{ClauseSet}
-use Rattle.cap_grants.specs.Draft.{Head, Draft}
-use Rattle.cap_grants.specs.Draft as heads
+use Rattle.cap_text.specs.declared.keyword.Keyword.{Keyword}
+use Rattle.cap_text.specs.declared.keyword.Keyword.TheVariants as kw
+use Rattle.cap_text.specs.declared.stage.ClauseSet.{ClauseSet}
+use Rattle.cap_text.specs.Draft.{Head, Draft}
+use Rattle.cap_text.specs.Draft as heads
 use Rattle.cap_text.specs.Stage.{Stage, State}
 use Rattle.cap_text.specs.Stage as stages
-use Rattle.cap_grants.specs.Words.{keyword_of}
+use Rattle.cap_text.specs.Words.{keyword_of}
 use Rattle.cap_text.specs.Grammar.{begins_clause}
-use Rattle.cap_grants.specs.Assembly.{after_namespace, with_access, after_access, wants_access, grant_with, ended}
+use Rattle.cap_text.specs.Assembly.{after_namespace, with_access, after_access, wants_access, grant_with, ended}
 use Rattle.cap_text.specs.Machine.{accessed, access_word, where_open, where_due, clause_word, clauses, class_read_word, letters_word, method_word, value_of, mapped, filled, namespace_step, part_at, tag_stage, start_word, step, close, after_grant, in_grant, advance, finish_at, finish}
 use Rattle.cap_text.specs.Faults.{Next, AtEnd, AToken, MayFollow, AnyWordMayFollow, IsBadWord, keyword_at, IsKind}
 use Rattle.cap_text.proofs.Forth.{at_stage, run}

@@ -5,12 +5,12 @@ use Rattle.std.specs.List.{prefix_len}
 use Rattle.std.specs.Cmp.{unsigned_Decides}
 use Rattle.cap_grants.specs.Bytes.{is_space, is_quote, is_quotable, SkipsSpaces, is_empty}
 use Rattle.common_types.specs.WordBytes.{is_word_byte}
-use Rattle.cap_grants.specs.Reads.{Stands, SaysBehind, is_word, ReadsOne, ends_in_word, IsUnreadable}
+use Rattle.cap_text.specs.Reads.{Stands, SaysBehind, is_word, ReadsOne, ends_in_word, IsUnreadable}
 use Rattle.cap_text.specs.Grammar.{Grants, GrantPhrase}
 use Rattle.cap_text.specs.Machine.{advance, finish, placed}
-use Rattle.cap_grants.specs.declared.token.Token.{Token}
-use Rattle.cap_grants.specs.declared.token.Token.TheVariants.{Comma, Semicolon, Equals, Star, Word, Quoted}
-use Rattle.cap_grants.specs.declared.keyword.Keyword.TheVariants as kw
+use Rattle.cap_text.specs.declared.token.Token.{Token}
+use Rattle.cap_text.specs.declared.token.Token.TheVariants.{Comma, Semicolon, Equals, Star, Word, Quoted}
+use Rattle.cap_text.specs.declared.keyword.Keyword.TheVariants as kw
 use Rattle.cap_text.specs.Stage.{State}
 use Rattle.cap_text.specs.declared.fault.CapFault.{CapFault}
 use Rattle.cap_grants.specs.declared.fault_kind.FaultKind.{FaultKind}
@@ -18,11 +18,11 @@ use Rattle.cap_grants.specs.declared.fault_kind.FaultKind.TheVariants.{TooLong, 
 use Rattle.cap_grants.specs.declared.grant.Grant.{Grant}
 use Rattle.cap_text.specs.Faults.{Next, AtEnd, NoToken, AToken, StandsNext, keyword_at, IsClauseWord, MayFollow, Blocks, IsBadWord, IsGrantDue, IsAccessDue, IsEqualsDue, IsKind, AreFull, IsThere, IsPastLimit, IsFaultWithin}
 use Rattle.cap_text.specs.ReadText.{quoted_at, token_at, Read, carried, with_token, read_from, read_text, TellsTheFirstFault}
-use Rattle.cap_grants.proofs.Spans.{span_unique, span_front}
+use Rattle.cap_text.proofs.Spans.{span_unique, span_front}
 use Rattle.std.proofs.lemmas.Bool.{lt-ltb}
 use Rattle.std.proofs.lemmas.List.{take-append-drop}
-use Rattle.cap_grants.proofs.Tokens.{word_stands}
-use Rattle.cap_grants.proofs.Reading.{skips_all, one_not_spaces}
+use Rattle.cap_text.proofs.Tokens.{word_stands}
+use Rattle.cap_text.proofs.Reading.{skips_all, one_not_spaces}
 use Rattle.cap_text.proofs.Forth.{run}
 use Rattle.cap_text.proofs.Runs.{whole, origin, sound, may, not_past, full, too_many}
 use Rattle.cap_text.proofs.FaultKinds.{kind_of, words_at, words_end, advance_fault, finish_fault}

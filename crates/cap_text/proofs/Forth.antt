@@ -1,8 +1,8 @@
 -- What the grammar takes is read.
 use Rattle.std.proofs.Common.{◌≡◌, ℕ, Bool, true, false, List, [], ◌∷◌, ◌++◌, Option, Some, None, Result, Ok, Err, refl, sym, ap, subst, ◌∙◌, inl, inr, append_assoc}
 use Rattle.std.specs.Prelude.{◌||◌, codes}
-use Rattle.cap_grants.specs.declared.token.Token.{Token}
-use Rattle.cap_grants.specs.declared.token.Token.TheVariants.{Comma, Semicolon, Equals, Star, Word, Quoted}
+use Rattle.cap_text.specs.declared.token.Token.{Token}
+use Rattle.cap_text.specs.declared.token.Token.TheVariants.{Comma, Semicolon, Equals, Star, Word, Quoted}
 use Rattle.cap_grants.specs.declared.grant.Access.{Access}
 use Rattle.cap_grants.specs.declared.grant.Access.TheVariants as accesses
 use Rattle.cap_grants.specs.declared.grant.Flags.{Flags}
@@ -15,18 +15,18 @@ use Rattle.cap_grants.specs.declared.grant.AllowGrant.{AllowGrant}
 use Rattle.cap_grants.specs.declared.grant.Grant.{Grant}
 use Rattle.cap_grants.specs.declared.grant.Grant.TheVariants.{Allow, Profile}
 use Rattle.cap_grants.specs.declared.fault_kind.FaultKind.{FaultKind}
-use Rattle.cap_grants.specs.declared.keyword.Keyword.{Keyword}
-use Rattle.cap_grants.specs.declared.keyword.Keyword.TheVariants as kw
-use Rattle.cap_grants.specs.declared.stage.ClauseSet.{ClauseSet}
-use Rattle.cap_grants.specs.Draft.{Head, Draft}
-use Rattle.cap_grants.specs.Draft as heads
-use Rattle.cap_grants.specs.declared.stage.Slot.{Slot}
-use Rattle.cap_grants.specs.declared.stage.Slot.TheVariants as slots
+use Rattle.cap_text.specs.declared.keyword.Keyword.{Keyword}
+use Rattle.cap_text.specs.declared.keyword.Keyword.TheVariants as kw
+use Rattle.cap_text.specs.declared.stage.ClauseSet.{ClauseSet}
+use Rattle.cap_text.specs.Draft.{Head, Draft}
+use Rattle.cap_text.specs.Draft as heads
+use Rattle.cap_text.specs.declared.stage.Slot.{Slot}
+use Rattle.cap_text.specs.declared.stage.Slot.TheVariants as slots
 use Rattle.cap_text.specs.Stage.{Stage, State}
 use Rattle.cap_text.specs.Stage as stages
-use Rattle.cap_grants.specs.Words.{letters, keyword_of}
+use Rattle.cap_text.specs.Words.{letters, keyword_of}
 use Rattle.cap_text.specs.Grammar.{Optional, Assigned, Behind, Value, Namespace, BeginsApart, namespace_of, part_of, TagPart, PoolClause, NamespaceClause, PrefixClause, TagClause, begins_clause, Method, where_set, flag_words, AccessPhrase, MatchPhrase, GrantPhrase, Separated, Followed, Grants}
-use Rattle.cap_grants.specs.Assembly.{no_more, after_pool, after_namespace, draft, fresh, with_access, after_access, wants_access, grant_of, ended}
+use Rattle.cap_text.specs.Assembly.{no_more, after_pool, after_namespace, draft, fresh, with_access, after_access, wants_access, grant_of, ended}
 use Rattle.cap_text.specs.Machine.{every, of_profile, accessed, flags, where_open, where_due, clause_word, behind_flags, class_read_word, letters_word, method_stage, method_word, filled, namespace_stage, tag_stage, start_word, step, after_grant, in_grant, advance, finish}
 use Rattle.cap_text.proofs.Keywords.{letters_keyword}
 

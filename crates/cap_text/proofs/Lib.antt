@@ -1,3 +1,6 @@
+pub mod Spans
+pub mod Tokens
+pub mod Reading
 pub mod Keywords
 pub mod Stars
 pub mod Forth

@@ -2,18 +2,18 @@
 use Rattle.std.proofs.Common.{◌≡◌, ◌≢◌, ◌≤◌, ◌<◌, ℕ, ◌+◌, Bool, false, List, [], ◌∷◌, ◌++◌, length, Option, Some, None, Result, Ok, Err, refl, sym, ap, subst, ◌∙◌, inl, inr, arith}
 use Rattle.std.specs.Prelude.{MatchOption}
 use Rattle.cap_grants.specs.Bytes.{is_space, Each, SkipsSpaces}
-use Rattle.cap_grants.specs.declared.token.Token.{Token}
+use Rattle.cap_text.specs.declared.token.Token.{Token}
 use Rattle.cap_grants.specs.declared.grant.Grant.{Grant}
 use Rattle.cap_grants.specs.declared.fault_kind.FaultKind.{FaultKind}
 use Rattle.cap_grants.specs.declared.fault_kind.FaultKind.TheVariants.{TooLong, TooManyGrants, UnknownWord, BadAccess, BadMatch, BadWord, NetworkClause, OutOfMemory}
 use Rattle.cap_text.specs.Stage.{State}
 use Rattle.cap_text.specs.Stage as stages
-use Rattle.cap_grants.specs.Reads.{is_word, ReadsOne, Reads, ends_in_word, IsText, IsUnreadable}
+use Rattle.cap_text.specs.Reads.{is_word, ReadsOne, Reads, ends_in_word, IsText, IsUnreadable}
 use Rattle.cap_text.specs.Grammar.{GrantPhrase, Grants, Spells}
 use Rattle.cap_text.specs.Faults.{Next, AtEnd, NoToken, AToken, StandsNext, IsThere, IsKind, IsFaultWithin, IsFirstFault, OrMemory}
 use Rattle.cap_grants.specs.Gives.{Gives}
 use Rattle.cap_text.specs.Machine.{advance, finish, placed}
-use Rattle.cap_grants.proofs.Reading.{reads_more, ends_in_word-push, reads_prefix, unreadable_none, text_unique, skips_some}
+use Rattle.cap_text.proofs.Reading.{reads_more, ends_in_word-push, reads_prefix, unreadable_none, text_unique, skips_some}
 use Rattle.cap_text.proofs.Forth.{run, ◌then◌}
 use Rattle.cap_text.proofs.Runs.{whole, origin, sound, viable, may_not, no_end, run_on, Room, advance_room, finish_few, full, not_past, not_past_end, too_many}
 use Rattle.cap_text.proofs.FaultKinds.{kind_of, words_at, words_end, advance_fault, finish_fault}

@@ -1,10 +1,10 @@
 -- A text spells at most one list.
 use Rattle.std.proofs.Common.{◌≡◌, List, Result, Ok, sym, subst, ◌∙◌}
-use Rattle.cap_grants.specs.declared.token.Token.{Token}
+use Rattle.cap_text.specs.declared.token.Token.{Token}
 use Rattle.cap_grants.specs.declared.grant.Grant.{Grant}
 use Rattle.cap_grants.specs.declared.fault_kind.FaultKind.{FaultKind}
 use Rattle.cap_text.specs.Grammar.{GrantPhrase, Grants, AtMostOneList}
-use Rattle.cap_grants.proofs.Reading.{text_unique}
+use Rattle.cap_text.proofs.Reading.{text_unique}
 use Rattle.cap_text.proofs.Forth.{complete}
 
 abbrev all_of : List Grant → Result (List Grant) FaultKind

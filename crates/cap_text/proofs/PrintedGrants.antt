@@ -3,14 +3,14 @@ use Rattle.std.proofs.Common.{◌≡◌, ◌≤◌, ℕ, Bool, true, false, List
 use Rattle.std.specs.Prelude.{◌&&◌, codes, is_none}
 use Rattle.std.specs.List.{list_all, flat_map}
 use Rattle.std.proofs.lemmas.List.{append-nil}
-use Rattle.cap_grants.specs.declared.token.Token.{Token}
-use Rattle.cap_grants.specs.declared.token.Token.TheVariants.{Comma, Word}
+use Rattle.cap_text.specs.declared.token.Token.{Token}
+use Rattle.cap_text.specs.declared.token.Token.TheVariants.{Comma, Word}
 use Rattle.cap_grants.specs.declared.grant.Tag.{Tag}
 use Rattle.cap_grants.specs.declared.grant.AllowGrant.{AllowGrant}
 use Rattle.cap_grants.specs.declared.grant.ProfileUse.{ProfileUse}
 use Rattle.cap_grants.specs.declared.grant.Grant.{Grant}
 use Rattle.cap_grants.specs.declared.grant.Grant.TheVariants.{Allow, Profile}
-use Rattle.cap_grants.specs.Reads.{is_word, IsText}
+use Rattle.cap_text.specs.Reads.{is_word, IsText}
 use Rattle.cap_text.specs.Grammar.{MatchPhrase, GrantPhrase, Followed, Grants, CanBeSpelled, Spells}
 use Rattle.cap_grants.specs.Spellable.{is_value, none_or, is_access, is_namespace, is_tag, is_scope, is_alone, is_allow, is_spellable}
 use Rattle.cap_text.specs.Printed.{printed_value, printed_access, printed_pool, printed_namespaces, printed_prefix, printed_tag, printed_grant, printed}

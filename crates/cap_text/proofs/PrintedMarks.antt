@@ -5,9 +5,9 @@ use Rattle.std.specs.List.{list_all, list_any}
 use Rattle.std.proofs.lemmas.Bool.Decides.{nat_tests}
 use Rattle.common_types.specs.WordBytes.{is_word_byte}
 use Rattle.cap_grants.specs.Bytes.{is_quote, is_quotable, StopsBefore, is_empty}
-use Rattle.cap_grants.specs.declared.token.Token.{Token}
-use Rattle.cap_grants.specs.declared.token.Token.TheVariants.{Comma, Semicolon, Equals, Star, Word, Quoted}
-use Rattle.cap_grants.specs.Reads.{Stands, SaysBehind, is_word, Reads}
+use Rattle.cap_text.specs.declared.token.Token.{Token}
+use Rattle.cap_text.specs.declared.token.Token.TheVariants.{Comma, Semicolon, Equals, Star, Word, Quoted}
+use Rattle.cap_text.specs.Reads.{Stands, SaysBehind, is_word, Reads}
 use Rattle.cap_grants.specs.Spellable.{can_be_quoted}
 use Rattle.cap_text.specs.Printed.{quote_for, quoted}
 use Rattle.cap_text.proofs.SpelledValues.{and_both, or_cases, both_and, all_each, is_written}

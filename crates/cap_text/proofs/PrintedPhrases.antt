@@ -4,8 +4,8 @@ use Rattle.std.specs.Prelude.{◌&&◌, ◌||◌, ◌⊎◌, codes}
 use Rattle.std.specs.Str.{bytes_eq}
 use Rattle.std.specs.List.{list_all}
 use Rattle.std.proofs.Math.Dec.{eqb-suc-zero}
-use Rattle.cap_grants.specs.declared.token.Token.{Token}
-use Rattle.cap_grants.specs.declared.token.Token.TheVariants.{Comma, Semicolon, Equals, Star, Word, Quoted}
+use Rattle.cap_text.specs.declared.token.Token.{Token}
+use Rattle.cap_text.specs.declared.token.Token.TheVariants.{Comma, Semicolon, Equals, Star, Word, Quoted}
 use Rattle.cap_grants.specs.declared.grant.Access.{Access}
 use Rattle.cap_grants.specs.declared.grant.Access.TheVariants.{All, Flags, Class}
 use Rattle.cap_grants.specs.declared.grant.Flags.{Flags as FlagSet}
@@ -16,8 +16,8 @@ use Rattle.cap_grants.specs.declared.grant.Part.TheVariants.{Any, Is}
 use Rattle.cap_grants.specs.declared.grant.Tag.{Tag}
 use Rattle.common_types.specs.WordBytes.{is_word_byte}
 use Rattle.cap_grants.specs.Bytes.{is_quotable, is_empty}
-use Rattle.cap_grants.specs.Reads.{is_word}
-use Rattle.cap_grants.specs.Words.{keyword_of}
+use Rattle.cap_text.specs.Reads.{is_word}
+use Rattle.cap_text.specs.Words.{keyword_of}
 use Rattle.cap_text.specs.Grammar.{Phrase, Optional, Value, matched, namespace_of, BeginsApart, Namespace, part_of, TagPart, PoolClause, NamespaceClause, PrefixClause, TagClause, begins_clause, Method, AccessPhrase}
 use Rattle.cap_grants.specs.Spellable.{can_be_quoted, is_value, none_or, is_access, ends_in_star, is_namespace, is_part, is_tag}
 use Rattle.cap_text.specs.Printed.{quoted, printed_value, printed_method, printed_namespace, printed_part, printed_option, printed_access, printed_pool, printed_namespaces, printed_prefix, printed_tag}

@@ -6,18 +6,18 @@ use Rattle.std.specs.List.{prefix_len}
 use Rattle.std.specs.Cmp.{unsigned_Decides}
 use Rattle.std.proofs.lemmas.Bool.{ltb-true, ltb-false}
 use Rattle.cap_grants.specs.Bytes.{is_space, SkipsSpaces, is_empty}
-use Rattle.cap_grants.specs.Reads.{is_word, ReadsOne}
+use Rattle.cap_text.specs.Reads.{is_word, ReadsOne}
 use Rattle.cap_text.specs.Grammar.{Spells}
 use Rattle.cap_text.specs.Machine.{advance, finish, placed}
-use Rattle.cap_grants.specs.declared.token.Token.{Token}
+use Rattle.cap_text.specs.declared.token.Token.{Token}
 use Rattle.cap_text.specs.Stage.{State}
 use Rattle.cap_grants.specs.declared.fault_kind.FaultKind.{FaultKind}
 use Rattle.cap_grants.specs.declared.fault_kind.FaultKind.TheVariants.{TooManyGrants}
 use Rattle.cap_grants.specs.declared.grant.Grant.{Grant}
 use Rattle.cap_text.specs.Faults.{AtEnd, AToken, IsFirstFault, IsFaultWithin}
 use Rattle.cap_text.specs.ReadText.{token_at, Read, carried, with_token, read_at, read_from, read_text, ReadsNothingElse}
-use Rattle.cap_grants.proofs.Spans.{skips, span_unique}
-use Rattle.cap_grants.proofs.Reading.{skips_all, skips_some, one_shorter}
+use Rattle.cap_text.proofs.Spans.{skips, span_unique}
+use Rattle.cap_text.proofs.Reading.{skips_all, skips_some, one_shorter}
 use Rattle.cap_text.proofs.Runs.{origin}
 use Rattle.cap_text.proofs.Loop.{HasRead, begins, goes_on, spelled, first_at, first_unread, first_end, past_found}
 use Rattle.cap_text.proofs.ReadTexts.{starts, token_found, at_rest, reads_from_start}

@@ -7,17 +7,17 @@ use Rattle.std.specs.Cmp.{unsigned_Decides}
 use Rattle.std.proofs.lemmas.Bool.{ltb-true}
 use Rattle.cap_grants.specs.Bytes.{is_space, is_quote, is_quotable, Each, StopsBefore, is_empty, SkipsSpaces}
 use Rattle.common_types.specs.WordBytes.{is_word_byte}
-use Rattle.cap_grants.specs.Reads.{Stands, SaysBehind, is_word, ReadsOne, Reads, ends_in_word}
+use Rattle.cap_text.specs.Reads.{Stands, SaysBehind, is_word, ReadsOne, Reads, ends_in_word}
 use Rattle.cap_text.specs.Grammar.{Grants, GrantPhrase}
 use Rattle.cap_text.specs.Machine.{advance, finish, placed}
-use Rattle.cap_grants.specs.declared.token.Token.{Token}
-use Rattle.cap_grants.specs.declared.token.Token.TheVariants.{Comma, Semicolon, Equals, Star, Word, Quoted}
+use Rattle.cap_text.specs.declared.token.Token.{Token}
+use Rattle.cap_text.specs.declared.token.Token.TheVariants.{Comma, Semicolon, Equals, Star, Word, Quoted}
 use Rattle.cap_text.specs.Stage.{State}
 use Rattle.cap_grants.specs.declared.fault_kind.FaultKind.{FaultKind}
 use Rattle.cap_grants.specs.declared.fault_kind.FaultKind.TheVariants.{TooLong, TooManyGrants}
 use Rattle.cap_grants.specs.declared.grant.Grant.{Grant}
-use Rattle.cap_grants.proofs.Spans.{prefix_len-span, take-span, drop-span}
-use Rattle.cap_grants.proofs.Reading.{leads, one_shorter}
+use Rattle.cap_text.proofs.Spans.{prefix_len-span, take-span, drop-span}
+use Rattle.cap_text.proofs.Reading.{leads, one_shorter}
 use Rattle.cap_text.proofs.Forth.{◌then◌, run, complete}
 use Rattle.cap_text.proofs.Runs.{whole, all_of, origin, Room, advance_room, then_is, run-append, run_on, given_on, too_many}
 use Rattle.cap_text.specs.Stage as stages

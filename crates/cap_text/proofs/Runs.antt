@@ -2,15 +2,15 @@
 use Rattle.std.proofs.Common.{◌≡◌, ℕ, Bool, true, false, List, [], ◌∷◌, ◌++◌, Result, Ok, Err, refl, sym, ap, subst, ◌∙◌, inl, inr, append_assoc}
 use Rattle.std.specs.Prelude.{◌⊎◌}
 use Rattle.std.proofs.lemmas.List.{append-nil}
-use Rattle.cap_grants.specs.declared.token.Token.{Token}
-use Rattle.cap_grants.specs.declared.token.Token.TheVariants.{Comma, Semicolon, Equals, Star, Word, Quoted}
+use Rattle.cap_text.specs.declared.token.Token.{Token}
+use Rattle.cap_text.specs.declared.token.Token.TheVariants.{Comma, Semicolon, Equals, Star, Word, Quoted}
 use Rattle.cap_grants.specs.declared.grant.Grant.{Grant}
 use Rattle.cap_grants.specs.declared.fault_kind.FaultKind.{FaultKind}
 use Rattle.cap_grants.specs.declared.fault_kind.FaultKind.TheVariants.{UnknownWord}
 use Rattle.cap_text.specs.Stage.{Stage, State}
 use Rattle.cap_text.specs.Stage as stages
 use Rattle.cap_text.specs.Grammar.{BeginsApart, GrantPhrase, Separated, Followed, Grants}
-use Rattle.cap_grants.specs.Assembly.{ended}
+use Rattle.cap_text.specs.Assembly.{ended}
 use Rattle.cap_text.specs.Machine.{step, close, after_grant, in_grant, advance, finish_at, finish}
 use Rattle.std.proofs.Common.{suc, ◌<◌, ◌≤◌, length, arith}
 use Rattle.std.proofs.lemmas.List.{length-append}

@@ -3,8 +3,8 @@ use Rattle.std.proofs.Common.{◌≡◌, ℕ, Bool, true, false, cond, not, List
 use Rattle.std.specs.Prelude.{◌&&◌, ◌||◌, ◌⊎◌, codes, is_none}
 use Rattle.std.specs.Str.{bytes_eq}
 use Rattle.std.specs.List.{list_all}
-use Rattle.cap_grants.specs.declared.token.Token.{Token}
-use Rattle.cap_grants.specs.declared.token.Token.TheVariants.{Comma, Semicolon, Equals, Star, Word, Quoted}
+use Rattle.cap_text.specs.declared.token.Token.{Token}
+use Rattle.cap_text.specs.declared.token.Token.TheVariants.{Comma, Semicolon, Equals, Star, Word, Quoted}
 use Rattle.cap_grants.specs.declared.grant.Access.TheVariants.{All, Flags, Class}
 use Rattle.cap_grants.specs.declared.grant.NsMatch.{NsMatch}
 use Rattle.cap_grants.specs.declared.grant.NsMatch.TheVariants.{Exact, Prefix}
@@ -14,7 +14,7 @@ use Rattle.cap_grants.specs.declared.grant.Grant.{Grant}
 use Rattle.cap_grants.specs.declared.grant.Grant.TheVariants.{Allow, Profile}
 use Rattle.common_types.specs.WordBytes.{is_word_byte}
 use Rattle.cap_grants.specs.Bytes.{is_empty}
-use Rattle.cap_grants.specs.Reads.{IsText}
+use Rattle.cap_text.specs.Reads.{IsText}
 use Rattle.cap_text.specs.Grammar.{Phrase, Optional, Assigned, Behind, Value, before_star, matched, namespace_of, Namespace, part_of, TagPart, PoolClause, NamespaceClause, PrefixClause, TagClause, Method, where_set, AccessPhrase, MatchPhrase, GrantPhrase, Separated, Followed, Grants, CanBeSpelled}
 use Rattle.cap_grants.specs.Spellable.{can_be_quoted, is_value, none_or, is_access, ends_in_star, is_namespace, is_part, is_tag, is_alone, is_scope, is_spellable}
 use Rattle.cap_text.proofs.SpelledValues.{and_both, both_and, AllWritten, is_written, reads_written, word_can_be_quoted, word_is_value, quoted_is_value, star_cases, word_ends_in_no_star, front_can_be_quoted}

@@ -6,9 +6,9 @@ use Rattle.std.proofs.lemmas.Bool.{eqb-true}
 use Rattle.std.proofs.lemmas.Bool.Decides.{nat_tests}
 use Rattle.common_types.specs.WordBytes.{is_word_byte}
 use Rattle.cap_grants.specs.Bytes.{is_quote, is_quotable, Each, is_empty}
-use Rattle.cap_grants.specs.declared.token.Token.{Token}
-use Rattle.cap_grants.specs.declared.token.Token.TheVariants.{Comma, Semicolon, Equals, Star, Word, Quoted}
-use Rattle.cap_grants.specs.Reads.{Stands, is_word, Reads}
+use Rattle.cap_text.specs.declared.token.Token.{Token}
+use Rattle.cap_text.specs.declared.token.Token.TheVariants.{Comma, Semicolon, Equals, Star, Word, Quoted}
+use Rattle.cap_text.specs.Reads.{Stands, is_word, Reads}
 use Rattle.cap_text.specs.Grammar.{before_star}
 use Rattle.cap_grants.specs.Spellable.{can_be_quoted, is_value, ends_in_star}
 

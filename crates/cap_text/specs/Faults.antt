@@ -1,17 +1,17 @@
 -- Statement: contracts of public calls use it.
 -- The first fault of a text, by what may follow what stands before it. The rules and their order are this project's profile.
 use Rattle.std.specs.Prelude.{◌≡◌, ◌≤◌, ◌<◌, ◌+◌, ℕ, ◌⊎◌, Bool, true, false, List, [], ◌∷◌, ◌++◌, length, codes}
-use Rattle.cap_grants.specs.declared.token.Token.{Token}
-use Rattle.cap_grants.specs.declared.token.Token.TheVariants.{Comma, Semicolon, Equals, Word, Quoted}
+use Rattle.cap_text.specs.declared.token.Token.{Token}
+use Rattle.cap_text.specs.declared.token.Token.TheVariants.{Comma, Semicolon, Equals, Word, Quoted}
 use Rattle.cap_grants.specs.declared.grant.Grant.{Grant}
 use Rattle.cap_text.specs.declared.fault.CapFault.{CapFault}
 use Rattle.cap_grants.specs.declared.fault_kind.FaultKind.{FaultKind}
 use Rattle.cap_grants.specs.declared.fault_kind.FaultKind.TheVariants.{TooLong, TooManyGrants, UnknownWord, BadAccess, BadMatch, BadWord, NetworkClause, OutOfMemory}
-use Rattle.cap_grants.specs.declared.keyword.Keyword.{Keyword}
-use Rattle.cap_grants.specs.declared.keyword.Keyword.TheVariants as kw
+use Rattle.cap_text.specs.declared.keyword.Keyword.{Keyword}
+use Rattle.cap_text.specs.declared.keyword.Keyword.TheVariants as kw
 use Rattle.cap_grants.specs.Bytes.{SkipsSpaces}
-use Rattle.cap_grants.specs.Reads.{ReadsOne, Reads, ends_in_word, IsUnreadable}
-use Rattle.cap_grants.specs.Words.{keyword_of}
+use Rattle.cap_text.specs.Reads.{ReadsOne, Reads, ends_in_word, IsUnreadable}
+use Rattle.cap_text.specs.Words.{keyword_of}
 use Rattle.cap_text.specs.Grammar.{begins_clause, GrantPhrase, Grants}
 
 -- ---- stages

@@ -3,8 +3,8 @@
 -- The forms are those of Ceph User Management, "Authorization capabilities"; orders, separators, quotes and limits are this project's profile.
 use Rattle.std.specs.Prelude.{◌≡◌, ◌≢◌, ◌≤◌, ℕ, ◌⊎◌, Bool, true, false, ◌||◌, ◌==◌, List, [], ◌∷◌, length, codes, Option, Some, None, option_map, if◌then◌else◌}
 use Rattle.std.specs.Str.{bytes_eq}
-use Rattle.cap_grants.specs.declared.token.Token.{Token}
-use Rattle.cap_grants.specs.declared.token.Token.TheVariants.{Comma, Semicolon, Equals, Star, Word, Quoted}
+use Rattle.cap_text.specs.declared.token.Token.{Token}
+use Rattle.cap_text.specs.declared.token.Token.TheVariants.{Comma, Semicolon, Equals, Star, Word, Quoted}
 use Rattle.cap_grants.specs.declared.grant.Access.{Access}
 use Rattle.cap_grants.specs.declared.grant.Access.TheVariants.{All, Flags, Class}
 use Rattle.cap_grants.specs.declared.grant.NsMatch.{NsMatch}
@@ -15,10 +15,10 @@ use Rattle.cap_grants.specs.declared.grant.Tag.{Tag}
 use Rattle.cap_grants.specs.declared.grant.AllowGrant.{AllowGrant}
 use Rattle.cap_grants.specs.declared.grant.Grant.{Grant}
 use Rattle.cap_grants.specs.declared.grant.Grant.TheVariants.{Allow, Profile}
-use Rattle.cap_grants.specs.declared.keyword.Keyword.{Keyword}
-use Rattle.cap_grants.specs.declared.keyword.Keyword.TheVariants as kw
-use Rattle.cap_grants.specs.Reads.{IsText}
-use Rattle.cap_grants.specs.Words.{letters, keyword_of}
+use Rattle.cap_text.specs.declared.keyword.Keyword.{Keyword}
+use Rattle.cap_text.specs.declared.keyword.Keyword.TheVariants as kw
+use Rattle.cap_text.specs.Reads.{IsText}
+use Rattle.cap_text.specs.Words.{letters, keyword_of}
 
 -- Each relation of this kind says: the tokens begin with such a part, which means x, and rest follows it.
 abbrev pub Phrase : Type 0 → Type 1

@@ -1,3 +1,8 @@
+pub mod Reads
+pub mod Words
+pub mod Draft
+pub mod Assembly
+pub mod Sheet
 pub mod Grammar
 pub mod Faults
 pub mod Spelled

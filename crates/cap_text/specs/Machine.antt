@@ -1,8 +1,8 @@
 -- Statement: contracts of public calls use it.
 -- The grammar, token by token.
 use Rattle.std.specs.Prelude.{ℕ, Bool, true, false, List, [], ◌∷◌, ◌++◌, Option, Some, None, Result, Ok, Err}
-use Rattle.cap_grants.specs.declared.token.Token.{Token}
-use Rattle.cap_grants.specs.declared.token.Token.TheVariants.{Comma, Semicolon, Equals, Star, Word, Quoted}
+use Rattle.cap_text.specs.declared.token.Token.{Token}
+use Rattle.cap_text.specs.declared.token.Token.TheVariants.{Comma, Semicolon, Equals, Star, Word, Quoted}
 use Rattle.cap_grants.specs.declared.grant.Access.{Access}
 use Rattle.cap_grants.specs.declared.grant.Access.TheVariants as accesses
 use Rattle.cap_grants.specs.declared.grant.Flags.{Flags}
@@ -14,17 +14,17 @@ use Rattle.cap_grants.specs.declared.grant.Grant.{Grant}
 use Rattle.cap_grants.specs.declared.fault_kind.FaultKind.{FaultKind}
 use Rattle.cap_grants.specs.declared.fault_kind.FaultKind.TheVariants.{UnknownWord, BadAccess, BadMatch, BadWord, NetworkClause, OutOfMemory}
 use Rattle.cap_text.specs.declared.fault.CapFault.{CapFault}
-use Rattle.cap_grants.specs.declared.keyword.Keyword.{Keyword}
-use Rattle.cap_grants.specs.declared.keyword.Keyword.TheVariants as kw
-use Rattle.cap_grants.specs.declared.stage.ClauseSet.{ClauseSet}
-use Rattle.cap_grants.specs.Draft.{Draft}
-use Rattle.cap_grants.specs.Draft as heads
-use Rattle.cap_grants.specs.declared.stage.Slot.{Slot}
-use Rattle.cap_grants.specs.declared.stage.Slot.TheVariants as slots
+use Rattle.cap_text.specs.declared.keyword.Keyword.{Keyword}
+use Rattle.cap_text.specs.declared.keyword.Keyword.TheVariants as kw
+use Rattle.cap_text.specs.declared.stage.ClauseSet.{ClauseSet}
+use Rattle.cap_text.specs.Draft.{Draft}
+use Rattle.cap_text.specs.Draft as heads
+use Rattle.cap_text.specs.declared.stage.Slot.{Slot}
+use Rattle.cap_text.specs.declared.stage.Slot.TheVariants as slots
 use Rattle.cap_text.specs.Stage.{Stage, State}
 use Rattle.cap_text.specs.Stage as stages
-use Rattle.cap_grants.specs.Words.{keyword_of}
-use Rattle.cap_grants.specs.Assembly.{no_more, after_pool, after_namespace, fresh, with_access, after_access, wants_access, grant_of, ended}
+use Rattle.cap_text.specs.Words.{keyword_of}
+use Rattle.cap_text.specs.Assembly.{no_more, after_pool, after_namespace, fresh, with_access, after_access, wants_access, grant_of, ended}
 use Rattle.cap_text.specs.Grammar.{namespace_of, part_of}
 
 -- ---- clauses

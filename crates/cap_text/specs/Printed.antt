@@ -14,7 +14,7 @@ use Rattle.cap_grants.specs.declared.grant.ProfileUse.{ProfileUse}
 use Rattle.cap_grants.specs.declared.grant.Grant.{Grant}
 use Rattle.cap_grants.specs.declared.grant.Grant.TheVariants.{Allow, Profile}
 use Rattle.common_types.specs.WordBytes.{is_word_byte}
-use Rattle.cap_grants.specs.Words.{letters, keyword_of}
+use Rattle.cap_text.specs.Words.{letters, keyword_of}
 use Rattle.cap_text.specs.Grammar.{begins_clause}
 
 -- ', where the text holds a ", and else "

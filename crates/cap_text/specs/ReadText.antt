@@ -5,10 +5,10 @@ use Rattle.std.specs.Prelude.{◌≡◌, ℕ, ◌+◌, ◌-◌, Bool, false, ◌
 use Rattle.std.specs.List.{prefix_len}
 use Rattle.cap_grants.specs.Bytes.{is_space, is_quote, is_quotable, is_empty}
 use Rattle.common_types.specs.WordBytes.{is_word_byte}
-use Rattle.cap_grants.specs.Reads.{is_word}
+use Rattle.cap_text.specs.Reads.{is_word}
 use Rattle.cap_text.specs.Machine.{advance, finish, placed}
-use Rattle.cap_grants.specs.declared.token.Token.{Token}
-use Rattle.cap_grants.specs.declared.token.Token.TheVariants.{Comma, Semicolon, Equals, Star, Word, Quoted}
+use Rattle.cap_text.specs.declared.token.Token.{Token}
+use Rattle.cap_text.specs.declared.token.Token.TheVariants.{Comma, Semicolon, Equals, Star, Word, Quoted}
 use Rattle.cap_text.specs.Stage as stages
 use Rattle.cap_text.specs.Stage.{State}
 use Rattle.cap_text.specs.declared.fault.CapFault.{CapFault}

@@ -4,9 +4,9 @@ use Rattle.std.specs.Prelude.{ℕ, List}
 use Rattle.cap_grants.specs.declared.grant.Flags.{Flags}
 use Rattle.cap_grants.specs.declared.grant.Grant.{Grant}
 use Rattle.cap_grants.specs.declared.grant.Part.{Part}
-use Rattle.cap_grants.specs.declared.stage.ClauseSet.{ClauseSet}
-use Rattle.cap_grants.specs.declared.stage.Slot.{Slot}
-use Rattle.cap_grants.specs.Draft.{Draft}
+use Rattle.cap_text.specs.declared.stage.ClauseSet.{ClauseSet}
+use Rattle.cap_text.specs.declared.stage.Slot.{Slot}
+use Rattle.cap_text.specs.Draft.{Draft}
 
 -- what may come next, and what was read of the next grant
 pub data Stage : Type 0 where

@@ -5,13 +5,16 @@ ghost use Rattle.cap_text.specs.Grammar.{namespace_of, part_of};
 ghost use Rattle.cap_grants.specs.declared.grant.Access.TheVariants as accesses;
 ghost use Rattle.cap_grants.specs.Gives.{Gives, GivesIn, GivesTo};
 ghost use Rattle.cap_text.specs.Kept.{GivesAt, stage_at};
-ghost use Rattle.cap_grants.specs.Assembly.{ended};
+ghost use Rattle.cap_text.specs.Assembly.{ended};
 ghost use Rattle.cap_text.specs.Machine.{accessed, clause_word, access_word, clauses, letters_step, class_read_word, class_read_step, method_step, value_of, value_step, filled, namespace_stage, namespace_step, namespace_word_step, part_at, key_step, key_value_step, start_step, step, close};
 
-use cap_grants::{
-    AT_CLAUSE, AT_START, Access, BEHIND_CLASS, BEHIND_CLASS_READ, BEHIND_LETTERS, ClauseSet,
-    FaultKind, Flags, Grants, Keyword, Next, NsMatch, Part, Sheet, Slot, Tag, Token, keyword_of,
+use crate::draft::Sheet;
+use crate::keyword::{
+    AT_CLAUSE, AT_START, BEHIND_CLASS, BEHIND_CLASS_READ, BEHIND_LETTERS, Keyword, keyword_of,
 };
+use crate::stage::{ClauseSet, Next, Slot};
+use crate::token::Token;
+use cap_grants::{Access, FaultKind, Flags, Grants, NsMatch, Part, Tag};
 use common_types::Name;
 use std::alloc::Global;
 

@@ -9,8 +9,9 @@ ghost use Rattle.cap_text.specs.ReadText.{ReadsNothingElse, ReadsTheGrammar, Tel
 
 use crate::caps::CapList;
 use crate::fault::CapFault;
+use crate::lexer::look;
 use crate::state::Reading;
-use cap_grants::{FaultKind, look};
+use cap_grants::FaultKind;
 use std::alloc::Global;
 
 /// The most bytes that a text may have.

@@ -2,14 +2,13 @@
 
 ghost use Rattle.std.specs.Prelude.{◌≡◌, ◌≤◌, ◌++◌, ◌==◌, [], ◌∷◌, length, string_bytes, codes, IfOk, OnOk};
 ghost use Rattle.std.specs.List.{list_any, flat_map};
-ghost use Rattle.cap_grants.specs.Words.{keyword_of};
+ghost use Rattle.cap_text.specs.Words.{keyword_of};
 ghost use Rattle.cap_text.specs.Grammar.{begins_clause, Spells};
 ghost use Rattle.cap_text.specs.Printed.{quote_for, quoted, printed_value, printed_method, printed_namespace, printed_part, printed_access, printed_pool, printed_namespaces, printed_prefix, printed_tag, printed_allow, printed_profile, printed_grant, printed};
 
 use crate::caps::CapList;
-use cap_grants::{
-    Access, AllowGrant, Flags, Grant, IN_PRINT, Keyword, NsMatch, Part, ProfileUse, Tag, keyword_of,
-};
+use crate::keyword::{IN_PRINT, Keyword, keyword_of};
+use cap_grants::{Access, AllowGrant, Flags, Grant, NsMatch, Part, ProfileUse, Tag};
 use common_types::{Name, OutOfMemory, are_word_bytes};
 use std::alloc::Global;
 

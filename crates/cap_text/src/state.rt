@@ -5,8 +5,11 @@ ghost use Rattle.cap_grants.specs.Gives.{Gives, GivesIn};
 ghost use Rattle.cap_text.specs.Machine.{advance, finish};
 ghost use Rattle.cap_text.specs.Kept.{nothing_read};
 
+use crate::draft::Sheet;
 use crate::machine::{close, step};
-use cap_grants::{FaultKind, Grants, Next, Sheet, Token};
+use crate::stage::Next;
+use crate::token::Token;
+use cap_grants::{FaultKind, Grants};
 use common_types::OutOfMemory;
 use std::alloc::Global;
 use std::marker::Model;

@@ -1,10 +1,10 @@
 -- How a change of the map begins, and how it is refused after looks.
 use Rattle.std.proofs.Common.{◌≡◌, ◌≤◌, ℕ, false, true, List, [], refl, sym, ap, ◌∙◌, subst, arith}
 use Rattle.std.specs.Prelude.{Option, Some, None, IsNone, unwrap_or, is_some}
-use Rattle.map_commands.specs.State.{History}
-use Rattle.map_commands.specs.declared.command.MapCommand.{MapCommand}
-use Rattle.map_commands.specs.declared.fault.MapFault.{MapFault}
-use Rattle.map_commands.specs.declared.fault.MapFault.TheVariants as map_fault
+use Rattle.map_core.specs.State.{History}
+use Rattle.map_core.specs.declared.command.MapCommand.{MapCommand}
+use Rattle.map_core.specs.declared.fault.MapFault.{MapFault}
+use Rattle.map_core.specs.declared.fault.MapFault.TheVariants as map_fault
 use Rattle.store_core.specs.declared.sealed.GroupId.{GroupId}
 use Rattle.cluster.specs.declared.cluster.Cluster.{Cluster}
 use Rattle.cluster.specs.declared.cluster.Seats.{Seats}

@@ -2,7 +2,7 @@
 use Rattle.std.proofs.Common.{ℕ, ◌<◌, sym, subst}
 use Rattle.std.proofs.lemmas.List.{length-map}
 use Rattle.turn_lock.specs.Seats.{first_of}
-use Rattle.map_commands.specs.State.{History}
+use Rattle.map_core.specs.State.{History}
 use Rattle.store_core.specs.declared.sealed.GroupId.{GroupId}
 use Rattle.world_core.specs.Moves.{AreGroupsOf, IsAt}
 use Rattle.world_core.proofs.GroupsOf.{are_groups}

@@ -3,9 +3,9 @@ use Rattle.std.proofs.Common.{◌≡◌, ℕ, true, List, [], ◌∷◌, map, fo
 use Rattle.std.specs.Prelude.{Option, Some, IsNone}
 use Rattle.std.proofs.lemmas.List.Sums.{fold-append}
 use Rattle.grant_core.specs.Flat.{Table}
-use Rattle.map_commands.specs.State.{History, GoesOn}
-use Rattle.whole_logs.specs.Each.{Each}
-use Rattle.suffix_core.specs.Group.{Event, is_submitted}
+use Rattle.map_core.specs.State.{History, GoesOn}
+use Rattle.group_model_whole.specs.Each.{Each}
+use Rattle.group_model.specs.Group.{Event, is_submitted}
 use Rattle.world_events.specs.declared.event.Event.{Event as WorldEvent}
 use Rattle.world_core.specs.World.{World}
 use Rattle.world_core.specs.Holds.{Holds}

@@ -7,14 +7,14 @@ use Rattle.std.proofs.lemmas.Bool.Decides.{leb_tells}
 use Rattle.std.proofs.lemmas.List.{append_assoc, append-nil, length-map}
 use Rattle.turn_lock.specs.Seats.{Locked, Seated, first_of, mine_of}
 use Rattle.std.proofs.lemmas.List.Elements.{All-head, All-tail, All-cons, All-nil}
-use Rattle.map_commands.specs.State.{History}
-use Rattle.map_commands.specs.Map.{map_of, epoch_of}
+use Rattle.map_core.specs.State.{History}
+use Rattle.map_core.specs.Map.{map_of, epoch_of}
 use Rattle.map_core.specs.Refusal.{refusal}
-use Rattle.map_commands.specs.declared.command.MapCommand.{MapCommand}
-use Rattle.map_commands.specs.declared.fault.MapFault.{MapFault}
-use Rattle.map_commands.specs.declared.fault.MapFault.TheVariants as map_fault
+use Rattle.map_core.specs.declared.command.MapCommand.{MapCommand}
+use Rattle.map_core.specs.declared.fault.MapFault.{MapFault}
+use Rattle.map_core.specs.declared.fault.MapFault.TheVariants as map_fault
 use Rattle.store_core.specs.declared.sealed.GroupId.{GroupId}
-use Rattle.suffix_core.specs.Group.{Event}
+use Rattle.group_model.specs.Group.{Event}
 use Rattle.cluster_locks.specs.declared.groups.GroupEntry.{GroupEntry}
 use Rattle.cluster.specs.declared.cluster.Cluster.{Cluster}
 use Rattle.cluster.specs.declared.cluster.Seats.{Seats}

@@ -4,10 +4,10 @@ use Rattle.std.specs.Prelude.{All, true}
 use Rattle.std.proofs.lemmas.List.Elements.{All-head, All-tail, All-cons, All-nil}
 use Rattle.turn_lock.specs.Turns.{with_leaver}
 use Rattle.turn_lock.specs.Seats.{Seated, mine_of, seat_lock, IsSeatOf, HasItsOwn}
-use Rattle.map_commands.specs.State.{History}
+use Rattle.map_core.specs.State.{History}
 use Rattle.store_core.specs.declared.sealed.GroupId.{GroupId}
-use Rattle.whole_logs.specs.Each.{Each}
-use Rattle.suffix_core.specs.Group.{Event, Submit, Deliver, Lose, Repeat, NewInterval, Restart, Kick, is_submitted}
+use Rattle.group_model_whole.specs.Each.{Each}
+use Rattle.group_model.specs.Group.{Event, Submit, Deliver, Lose, Repeat, NewInterval, Restart, Kick, is_submitted}
 use Rattle.world_front.specs.Front.{id_of}
 use Rattle.cluster.specs.declared.cluster.Cluster.{Cluster}
 use Rattle.cluster.specs.declared.cluster.Seats.{Seats}

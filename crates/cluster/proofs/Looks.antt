@@ -1,7 +1,7 @@
 -- What a look at the published map tells a pass.
 use Rattle.std.proofs.Common.{subst}
 use Rattle.std.specs.Prelude.{Option, Result, Ok, Err}
-use Rattle.map_commands.specs.State.{History}
+use Rattle.map_core.specs.State.{History}
 use Rattle.cluster.specs.declared.fault.ClusterFault.{ClusterFault}
 use Rattle.cluster.specs.declared.fault.ClusterFault.TheVariants as faults
 use Rattle.published_map.specs.declared.published.Knowledge.{Knowledge}

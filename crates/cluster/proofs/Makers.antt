@@ -10,8 +10,8 @@ use Rattle.turn_lock.specs.Turns.{StartsWith, made_by, state_after, last_word, l
 use Rattle.turn_lock.specs.Seats.{Locked, Seated, lock_of, first_of, seat_lock, seat_number, mine_of, HasItsOwn}
 use Rattle.turn_lock.specs.Turned.{Closes}
 use Rattle.turn_lock.proofs.Lists.{starts_through, starts_whole, made_by_starts}
-use Rattle.whole_logs.specs.Each.{Each}
-use Rattle.suffix_core.specs.Group.{Group}
+use Rattle.group_model_whole.specs.Each.{Each}
+use Rattle.group_model.specs.Group.{Group}
 use Rattle.cluster_locks.specs.declared.groups.GroupEntry.{GroupEntry}
 use Rattle.cluster_locks.specs.declared.groups.LockedGroup.{LockedGroup}
 use Rattle.cluster.specs.declared.cluster.Cluster.{Cluster}

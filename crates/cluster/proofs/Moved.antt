@@ -11,13 +11,13 @@ use Rattle.turn_lock.specs.declared.rule.Joined.{Joined}
 use Rattle.std.proofs.lemmas.Option.{slice_get-get_or}
 use Rattle.turn_lock.specs.Seats.{Seated, HasItsOwn, seen_by, mine_of, lock_of, seat_lock}
 use Rattle.turn_lock.specs.Turns.{StartsWith, made, made_by, state_after}
-use Rattle.map_commands.specs.State.{History}
-use Rattle.map_commands.specs.declared.command.MapCommand.{MapCommand}
+use Rattle.map_core.specs.State.{History}
+use Rattle.map_core.specs.declared.command.MapCommand.{MapCommand}
 use Rattle.store_core.specs.declared.sealed.GroupId.{GroupId}
-use Rattle.suffix_core.specs.Group.{Group, Event, has_all_intervals}
+use Rattle.group_model.specs.Group.{Group, Event, has_all_intervals}
 use Rattle.group_core.specs.Moves.{event_of}
-use Rattle.group_types.specs.declared.group_move.GroupMove.{GroupMove}
-use Rattle.group_types.specs.declared.fault.GroupFault.{GroupFault}
+use Rattle.group_messages.specs.declared.group_move.GroupMove.{GroupMove}
+use Rattle.group_messages.specs.declared.fault.GroupFault.{GroupFault}
 use Rattle.cluster_locks.specs.declared.groups.GroupEntry.{GroupEntry}
 use Rattle.cluster_locks.specs.declared.groups.GroupEntry.TheVariants.{Happened, Looked, Idle}
 use Rattle.cluster.specs.declared.cluster.Cluster.{Cluster}

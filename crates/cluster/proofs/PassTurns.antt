@@ -4,10 +4,10 @@ use Rattle.std.specs.Prelude.{Option, slice_get}
 use Rattle.std.specs.Option.{option_to_list}
 use mathlib.Core.Logic.{dite}
 use native.Mathlib.Decide.{ℕ_discrete}
-use Rattle.map_commands.specs.State.{History, GoesOn}
+use Rattle.map_core.specs.State.{History, GoesOn}
 use Rattle.store_core.specs.Request.{Sealed}
-use Rattle.whole_logs.specs.Each.{Each}
-use Rattle.suffix_core.specs.Group.{Group, Event, Submit, Deliver, Lose, Repeat, NewInterval, Restart, Kick, is_submitted}
+use Rattle.group_model_whole.specs.Each.{Each}
+use Rattle.group_model.specs.Group.{Group, Event, Submit, Deliver, Lose, Repeat, NewInterval, Restart, Kick, is_submitted}
 use Rattle.world_front.specs.Front.{id_of}
 use Rattle.world_core.proofs.Acting.{each_join, each_weaker}
 use Rattle.cluster_locks.specs.declared.groups.GroupEntry.{GroupEntry}

@@ -2,8 +2,8 @@
 use Rattle.std.proofs.Common.{◌≡◌, ◌∙◌, ◌⊎◌, inl, inr, ℕ, ◌+◌, ◌<◌, List, [], ◌∷◌, ◌++◌, true, false, Some, None, length, map, refl, sym, ap, subst, arith, add-zero}
 use Rattle.std.specs.Prelude.{Result, Ok, Err, IfOk, IfErr, not}
 use Rattle.std.specs.List.{range_with_len}
-use Rattle.map_commands.specs.State.{History}
-use Rattle.map_commands.specs.declared.pool.PoolView.{PoolView}
+use Rattle.map_core.specs.State.{History}
+use Rattle.map_core.specs.declared.pool.PoolView.{PoolView}
 use Rattle.store_core.specs.Request.{Sealed}
 use Rattle.world_front.specs.Front.{◌>>=◌, refuse_if, error_of, id_of, Asker, is_namespace, asks_more}
 use Rattle.world_front.specs.Stands.{next_in}

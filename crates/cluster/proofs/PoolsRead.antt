@@ -2,14 +2,14 @@
 use Rattle.std.proofs.Common.{◌≡◌, ◌∙◌, ◌⊎◌, inl, inr, ℕ, ◌==◌, ◌||◌, List, [], ◌∷◌, ◌++◌, Bool, true, false, Option, Some, None, is_some, cond, refl, sym, ap, subst, arith}
 use Rattle.std.specs.Prelude.{Result, Ok, Err, MatchOption, if◌then◌else◌, not, nat_lt}
 use Rattle.std.specs.List.{find}
-use Rattle.map_commands.specs.State.{History, GoesOn}
-use Rattle.map_commands.specs.Map.{is_named, map_of, epoch_of, pool_in, view_at}
+use Rattle.map_core.specs.State.{History, GoesOn}
+use Rattle.map_core.specs.Map.{is_named, map_of, epoch_of, pool_in, view_at}
 use Rattle.map_core.specs.Refusal.{has_pool, is_word, view_refusal}
-use Rattle.map_commands.specs.PoolLimits.{HasLimits}
-use Rattle.map_commands.specs.declared.pool.Pool.{Pool}
-use Rattle.map_commands.specs.declared.pool.PoolView.{PoolView}
-use Rattle.map_commands.specs.declared.fault.MapFault.{MapFault}
-use Rattle.map_commands.specs.declared.fault.MapFault.TheVariants as map_fault
+use Rattle.map_core.specs.PoolLimits.{HasLimits}
+use Rattle.map_core.specs.declared.pool.Pool.{Pool}
+use Rattle.map_core.specs.declared.pool.PoolView.{PoolView}
+use Rattle.map_core.specs.declared.fault.MapFault.{MapFault}
+use Rattle.map_core.specs.declared.fault.MapFault.TheVariants as map_fault
 use Rattle.map_core.proofs.Acceptance.{all_fail, not_false}
 use Rattle.map_core.proofs.Kept.{views_are_of_pools}
 use Rattle.world_events.specs.declared.fault.WorldFault.{WorldFault as Fault}

@@ -6,9 +6,9 @@ use Rattle.std.specs.Option.{option_to_list}
 use mathlib.Core.Logic.{dite}
 use native.Mathlib.Decide.{ℕ_discrete, dec_le}
 use Rattle.std.proofs.lemmas.List.{append_assoc, append-nil}
-use Rattle.suffix_core.specs.Group.{Group, Event, Deliver}
-use Rattle.group_types.specs.declared.fault.GroupFault.{GroupFault}
-use Rattle.group_types.specs.declared.fault.GroupFault.TheVariants.{NoMessage, Unreachable, Full, OutOfMemory, Doubled}
+use Rattle.group_model.specs.Group.{Group, Event, Deliver}
+use Rattle.group_messages.specs.declared.fault.GroupFault.{GroupFault}
+use Rattle.group_messages.specs.declared.fault.GroupFault.TheVariants.{NoMessage, Unreachable, Full, OutOfMemory, Doubled}
 use Rattle.cluster.specs.declared.cluster.Cluster.{Cluster}
 use Rattle.cluster.specs.declared.pass.Pass.{Pass}
 use Rattle.cluster_locks.specs.declared.groups.Worked.{Worked}

@@ -6,18 +6,18 @@ use mathlib.Core.Logic.{dite}
 use native.Mathlib.Decide.{ℕ_discrete}
 use Rattle.std.proofs.lemmas.Bool.Decides.{nat_tests}
 use Rattle.std.proofs.lemmas.List.{length-map}
-use Rattle.map_commands.specs.State.{History}
-use Rattle.map_commands.specs.Map.{map_of, pool_in}
+use Rattle.map_core.specs.State.{History}
+use Rattle.map_core.specs.Map.{map_of, pool_in}
 use Rattle.map_core.specs.Refusal.{is_word, has_pool, groups_in, first_of, acting_refusal}
-use Rattle.map_commands.specs.declared.fault.MapFault.{MapFault}
-use Rattle.map_commands.specs.declared.fault.MapFault.TheVariants as map_fault
-use Rattle.map_commands.specs.declared.pool.Pool.{Pool}
+use Rattle.map_core.specs.declared.fault.MapFault.{MapFault}
+use Rattle.map_core.specs.declared.fault.MapFault.TheVariants as map_fault
+use Rattle.map_core.specs.declared.pool.Pool.{Pool}
 use Rattle.entry_core.specs.Locality.{group_for}
 use Rattle.store_core.specs.Request.{Sealed}
 use Rattle.store_core.specs.declared.sealed.GroupId.{GroupId}
-use Rattle.whole_logs.specs.Each.{Each}
-use Rattle.suffix_core.specs.Group.{Group, Submit}
-use Rattle.group_types.specs.declared.fault.GroupFault.{GroupFault}
+use Rattle.group_model_whole.specs.Each.{Each}
+use Rattle.group_model.specs.Group.{Group, Submit}
+use Rattle.group_messages.specs.declared.fault.GroupFault.{GroupFault}
 use Rattle.world_front.specs.Front.{◌>>=◌, need, refuse_if, id_of, asks_more}
 use Rattle.world_core.specs.Moves.{IsAt}
 use Rattle.world_core.specs.Sound.{IsSealedFor}

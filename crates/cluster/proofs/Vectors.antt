@@ -3,12 +3,12 @@ use Rattle.std.proofs.Common.{◌≡◌, ◌∙◌, ◌⊎◌, inl, inr, ℕ, �
 use Rattle.std.specs.Prelude.{Result, Ok, Err, IfOk, IfErr, not, nat_lt}
 use Rattle.std.specs.Option.{option_map}
 use Rattle.place_core.specs.Placement.{group_of}
-use Rattle.map_commands.specs.State.{History}
+use Rattle.map_core.specs.State.{History}
 use Rattle.map_core.specs.Refusal.{is_word}
-use Rattle.map_commands.specs.declared.pool.PoolView.{PoolView}
+use Rattle.map_core.specs.declared.pool.PoolView.{PoolView}
 use Rattle.object_core.specs.Needs.{needs_fault}
 use Rattle.object_core.specs.declared.needs.NeedsFault.{NeedsFault}
-use Rattle.object_ops.specs.declared.op.Op.{Op}
+use Rattle.object_core.specs.declared.op.Op.{Op}
 use Rattle.entry_core.specs.Locality.{Hashes}
 use Rattle.store_core.specs.Request.{Sealed, Work, Vector, Listing}
 use Rattle.world_front.specs.Front.{◌>>=◌, need, refuse_if, lower, error_of, id_of, Asker, is_object_name, is_namespace, sealed_of, vector_of}

@@ -2,13 +2,13 @@
 -- What a pass asks of groups: requests sealed by its sessions and by the map that it reads, each submitted by one turn.
 use Rattle.std.specs.Prelude.{◌≡◌, ◌⊎◌, ℕ, ◌+◌, ◌<◌, ◌==◌, ◌&&◌, not, List, [], ◌∷◌, Option, Some, Result, Ok, Err, length, map as each, nat_lt, position}
 use Rattle.std.specs.List.{range_with_len}
-use Rattle.map_commands.specs.State.{History}
-use Rattle.map_commands.specs.declared.pool.PoolView.{PoolView}
+use Rattle.map_core.specs.State.{History}
+use Rattle.map_core.specs.declared.pool.PoolView.{PoolView}
 use Rattle.object_core.specs.Needs.{needs_fault}
-use Rattle.object_ops.specs.declared.op.Op.{Op}
+use Rattle.object_core.specs.declared.op.Op.{Op}
 use Rattle.store_core.specs.Request.{Sealed, Listing}
 use Rattle.entry_core.specs.Locality.{group_for}
-use Rattle.group_types.specs.declared.fault.GroupFault.{GroupFault}
+use Rattle.group_messages.specs.declared.fault.GroupFault.{GroupFault}
 use Rattle.world_events.specs.declared.event.Ask.{Ask}
 use Rattle.world_events.specs.declared.fault.WorldFault.{WorldFault as Fault}
 use Rattle.world_events.specs.declared.fault.WorldFault.TheVariants.{NoSession, NoPool, BadObjectName, StaleTick, Needs as OfNeeds}

@@ -2,12 +2,12 @@
 -- What a cluster began with, what a pass makes on its groups, and what a pass is.
 use Rattle.std.specs.Prelude.{◌≡◌, ℕ, ◌<◌, ◌≤◌, true, List, [], ◌∷◌, Some, slice_get}
 use Rattle.left_right.specs.Sides.{view as known}
-use Rattle.map_commands.specs.State.{History, GoesOn}
+use Rattle.map_core.specs.State.{History, GoesOn}
 use Rattle.entry_core.specs.Locality.{group_for}
 use Rattle.store_core.specs.Request.{Sealed}
 use Rattle.store_core.specs.declared.sealed.GroupId.{GroupId}
-use Rattle.whole_logs.specs.Each.{Each}
-use Rattle.suffix_core.specs.Group.{Group, Event, Submit, Deliver, Lose, Repeat, NewInterval, Restart, Kick, is_submitted}
+use Rattle.group_model_whole.specs.Each.{Each}
+use Rattle.group_model.specs.Group.{Group, Event, Submit, Deliver, Lose, Repeat, NewInterval, Restart, Kick, is_submitted}
 use Rattle.world_front.specs.Front.{id_of}
 use Rattle.world_core.specs.World.{World}
 use Rattle.world_core.specs.Sound.{IsSealedFor, IsSound}

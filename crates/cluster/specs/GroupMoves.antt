@@ -7,10 +7,10 @@ use Rattle.turn_lock.specs.declared.rule.Made.{Made}
 use Rattle.turn_lock.specs.declared.rule.Joined.{Joined}
 use Rattle.turn_lock.specs.Seats.{Locked, Seated, seen_by, mine_of}
 use Rattle.turn_lock.specs.Turns.{StartsWith, state_after}
-use Rattle.map_commands.specs.State.{History}
-use Rattle.map_commands.specs.declared.command.MapCommand.{MapCommand}
+use Rattle.map_core.specs.State.{History}
+use Rattle.map_core.specs.declared.command.MapCommand.{MapCommand}
 use Rattle.store_core.specs.declared.sealed.GroupId.{GroupId}
-use Rattle.suffix_core.specs.Group.{Group, Event, has_all_intervals}
+use Rattle.group_model.specs.Group.{Group, Event, has_all_intervals}
 use Rattle.cluster_locks.specs.declared.groups.GroupEntry.{GroupEntry}
 use Rattle.cluster_locks.specs.declared.groups.GroupEntry.TheVariants.{Happened, Looked, Idle}
 use Rattle.cluster.specs.declared.cluster.Cluster.{Cluster}

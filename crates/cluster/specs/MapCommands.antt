@@ -2,12 +2,12 @@
 -- Which event a command on the map is for a group.
 use Rattle.std.specs.Prelude.{Bool, true, false, Option, Some, None, if◌then◌else◌, length, nat_lt}
 use Rattle.place_core.specs.Placement.{numbers_of}
-use Rattle.map_commands.specs.State.{MapState, History}
-use Rattle.map_commands.specs.Intervals.{intervals_of}
-use Rattle.map_commands.specs.declared.command.MapCommand.{MapCommand}
-use Rattle.map_commands.specs.declared.command.MapCommand.TheVariants.{PoolCreate, AppEnable, AppSet, AppRm, OsdUp, OsdDown, OsdRestart}
+use Rattle.map_core.specs.State.{MapState, History}
+use Rattle.map_core.specs.Intervals.{intervals_of}
+use Rattle.map_core.specs.declared.command.MapCommand.{MapCommand}
+use Rattle.map_core.specs.declared.command.MapCommand.TheVariants.{PoolCreate, AppEnable, AppSet, AppRm, OsdUp, OsdDown, OsdRestart}
 use Rattle.store_core.specs.declared.sealed.GroupId.{GroupId}
-use Rattle.suffix_core.specs.Group.{Event, NewInterval, Restart}
+use Rattle.group_model.specs.Group.{Event, NewInterval, Restart}
 use Rattle.world_core.specs.World.{members_of}
 use Rattle.world_core.specs.Moves.{moves_groups, move_of}
 use Rattle.published_map.specs.Published.{with_command}

@@ -4,8 +4,8 @@ use Rattle.std.specs.Prelude.{◌≡◌, ℕ, List, [], ◌∷◌, All, map, len
 use Rattle.turn_lock.specs.declared.rule.Made.{Made}
 use Rattle.turn_lock.specs.Seats.{lock_of, first_of, seat_lock, seen_by, IsSeatOf, IsFresh, HasItsOwn, IsSameSeat, HasSameShare}
 use Rattle.turn_lock.specs.Turned.{Turned, Closes}
-use Rattle.map_commands.specs.State.{History}
-use Rattle.suffix_core.specs.Group.{Group}
+use Rattle.map_core.specs.State.{History}
+use Rattle.group_model.specs.Group.{Group}
 use Rattle.cluster_locks.specs.declared.groups.GroupEntry.{GroupEntry}
 use Rattle.cluster_locks.specs.declared.users.UserTable.{UserTable}
 use Rattle.cluster_locks.specs.declared.users.UserEntry.{UserEntry}

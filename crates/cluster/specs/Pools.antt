@@ -1,11 +1,11 @@
 -- Statement: contracts of public calls use it.
 -- What a pass reads of the published map.
 use Rattle.std.specs.Prelude.{◌≡◌, ◌⊎◌, ℕ, List, true, Option, Some, None, if◌then◌else◌}
-use Rattle.map_commands.specs.State.{History}
-use Rattle.map_commands.specs.Map.{map_of, epoch_of, view_at}
+use Rattle.map_core.specs.State.{History}
+use Rattle.map_core.specs.Map.{map_of, epoch_of, view_at}
 use Rattle.map_core.specs.Refusal.{has_pool, is_word}
-use Rattle.map_commands.specs.PoolLimits.{HasLimits}
-use Rattle.map_commands.specs.declared.pool.PoolView.{PoolView}
+use Rattle.map_core.specs.PoolLimits.{HasLimits}
+use Rattle.map_core.specs.declared.pool.PoolView.{PoolView}
 use Rattle.world_events.specs.declared.fault.WorldFault.TheVariants.{NoPool}
 use Rattle.world_front.specs.Stands.{InMap}
 use Rattle.cluster.specs.declared.fault.ClusterFault.{ClusterFault}

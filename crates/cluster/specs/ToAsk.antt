@@ -2,15 +2,15 @@
 -- What a reading answers, a request that is ready to be submitted, and what becomes of a vector on a pool that was read.
 use Rattle.std.specs.Prelude.{◌≡◌, ℕ, ◌+◌, ◌<◌, List, true, Some, Result, Ok, IfOk}
 use Rattle.common_types.specs.Refused.{RefusedFirst}
-use Rattle.map_commands.specs.State.{History, GoesOn}
-use Rattle.map_commands.specs.Map.{epoch_of, view_at}
-use Rattle.map_commands.specs.PoolLimits.{HasLimits}
+use Rattle.map_core.specs.State.{History, GoesOn}
+use Rattle.map_core.specs.Map.{epoch_of, view_at}
+use Rattle.map_core.specs.PoolLimits.{HasLimits}
 use Rattle.map_core.specs.Limits.{IsAccepted}
 use Rattle.map_core.specs.Refusal.{is_word, view_refusal}
-use Rattle.map_commands.specs.declared.fault.MapFault.{MapFault}
-use Rattle.map_commands.specs.declared.fault.MapFault.TheVariants as map_fault
-use Rattle.map_commands.specs.declared.pool.PoolView.{PoolView}
-use Rattle.object_ops.specs.declared.op.Op.{Op}
+use Rattle.map_core.specs.declared.fault.MapFault.{MapFault}
+use Rattle.map_core.specs.declared.fault.MapFault.TheVariants as map_fault
+use Rattle.map_core.specs.declared.pool.PoolView.{PoolView}
+use Rattle.object_core.specs.declared.op.Op.{Op}
 use Rattle.store_core.specs.Request.{Sealed, numbers}
 use Rattle.world_events.specs.declared.event.Ask.{Ask}
 use Rattle.world_front.specs.Front.{id_of}

@@ -3,12 +3,12 @@
 use Rattle.std.specs.Prelude.{◌≡◌, ℕ, List, Bool, Option, Some, None, Result, Ok, Err, if◌then◌else◌}
 use Rattle.std.specs.Option.{option_map, option_or}
 use Rattle.common_types.specs.Refused.{RefusedFirst}
-use Rattle.map_commands.specs.State.{History}
-use Rattle.map_commands.specs.Map.{epoch_of, view_at}
+use Rattle.map_core.specs.State.{History}
+use Rattle.map_core.specs.Map.{epoch_of, view_at}
 use Rattle.map_core.specs.Refusal as tests
-use Rattle.map_commands.specs.declared.fault.MapFault.{MapFault}
-use Rattle.map_commands.specs.declared.fault.MapFault.TheVariants as map_fault
-use Rattle.map_commands.specs.declared.pool.PoolView.{PoolView}
+use Rattle.map_core.specs.declared.fault.MapFault.{MapFault}
+use Rattle.map_core.specs.declared.fault.MapFault.TheVariants as map_fault
+use Rattle.map_core.specs.declared.pool.PoolView.{PoolView}
 use Rattle.world_events.specs.declared.fault.WorldFault.TheVariants.{BadObjectName, Map as OfMap}
 use Rattle.cluster.specs.declared.fault.ClusterFault.{ClusterFault}
 use Rattle.cluster.specs.declared.fault.ClusterFault.TheVariants as faults

@@ -2,8 +2,8 @@
 -- What a pass leaves that only delivered messages, and what a worker's fault tells.
 use Rattle.std.specs.Prelude.{◌≡◌, ◌⊎◌, ℕ, zero, suc, ◌≤◌, List, [], ◌∷◌, ◌++◌, Option, Some, None, Result, Ok, Err, All}
 use Rattle.std.specs.Option.{option_or}
-use Rattle.suffix_core.specs.Group.{Event, Deliver}
-use Rattle.group_types.specs.declared.fault.GroupFault.TheVariants.{Unreachable}
+use Rattle.group_model.specs.Group.{Event, Deliver}
+use Rattle.group_messages.specs.declared.fault.GroupFault.TheVariants.{Unreachable}
 use Rattle.world_events.specs.declared.fault.WorldFault.TheVariants.{Group as OfGroup}
 use Rattle.cluster.specs.declared.cluster.Cluster.{Cluster}
 use Rattle.cluster.specs.declared.fault.ClusterFault.{ClusterFault}

@@ -2,14 +2,14 @@
 
 ghost use Rattle.std.specs.Prelude.{◌≡◌, None};
 ghost use Rattle.std.specs.Option.{option_map};
-ghost use Rattle.map_commands.specs.Map.{map_of, epoch_of};
+ghost use Rattle.map_core.specs.Map.{map_of, epoch_of};
 ghost use Rattle.map_core.specs.Refusal.{refusal};
 ghost use Rattle.group_core.specs.Moves.{event_of};
 ghost use Rattle.world_core.specs.World.{members_of};
 ghost use Rattle.cluster.specs.MapCommands.{move_in, begins_interval, is_creation};
 
 use entry_core::GroupId;
-use group_types::GroupMove;
+use group_messages::GroupMove;
 use map_core::{ClusterMap, MapCommand};
 use place_core::ActingSet;
 

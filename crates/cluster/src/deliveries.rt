@@ -2,7 +2,7 @@
 
 ghost use Rattle.std.specs.Prelude.{◌≡◌, ◌<◌, Option, None, Some, Ok, Err};
 ghost use Rattle.map_core.specs.Refusal.{acting_refusal};
-ghost use Rattle.map_commands.specs.declared.fault.MapFault as map;
+ghost use Rattle.map_core.specs.declared.fault.MapFault as map;
 ghost use Rattle.world_events.specs.declared.fault.WorldFault.TheVariants.{NoRequest, Map as OfMap};
 ghost use Rattle.cluster.specs.declared.fault.ClusterFault.TheVariants as faults;
 ghost use Rattle.cluster.specs.Passes.{group_count, start_of};
@@ -15,7 +15,7 @@ use crate::fault::ClusterFault;
 use crate::pass::Pass;
 use cluster_locks::{AnswerFault, AnswerOf, Work, Worked};
 use entry_core::{GroupId, Id, Reply};
-use group_types::GroupFault;
+use group_messages::GroupFault;
 use std::sync::Wait;
 use world_core::{WorldFault, place_of};
 

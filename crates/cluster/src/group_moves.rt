@@ -3,9 +3,9 @@
 ghost use Rattle.std.specs.Prelude.{◌≡◌, ◌<◌, ◌≤◌, None, length, IfErr, OnOk};
 ghost use Rattle.std.specs.Bool.{MatchBool};
 ghost use Rattle.std.specs.Option.{option_map};
-ghost use Rattle.map_commands.specs.Map.{map_of, epoch_of};
+ghost use Rattle.map_core.specs.Map.{map_of, epoch_of};
 ghost use Rattle.map_core.specs.Refusal.{refusal};
-ghost use Rattle.suffix_core.specs.Group.{has_all_intervals};
+ghost use Rattle.group_model.specs.Group.{has_all_intervals};
 ghost use Rattle.group_core.specs.Moves.{event_of};
 ghost use Rattle.cluster.specs.Passes.{AreMonitorOf, group_count};
 ghost use Rattle.cluster.specs.MapCommands.{move_in, begins_interval};
@@ -15,7 +15,7 @@ use crate::cluster::{Cluster, Seats};
 use crate::command_effects::{begins, move_for};
 use cluster_locks::{IsFull, Move};
 use entry_core::GroupId;
-use group_types::GroupMove;
+use group_messages::GroupMove;
 use map_core::{ClusterMap, MapCommand};
 use std::sync::Wait;
 

@@ -2,9 +2,9 @@
 
 ghost use Rattle.std.specs.Prelude.{◌≡◌, ℕ, [], ◌∷◌, ◌++◌, ◌<◌, ◌≤◌, Option, Some, None, Ok, map, length, IfOk, IfErr, MatchResult, OnOk, OnErr, IsNone};
 ghost use Rattle.std.specs.Option.{option_map};
-ghost use Rattle.map_commands.specs.State.{History};
-ghost use Rattle.map_commands.specs.Map.{epoch_of};
-ghost use Rattle.map_commands.specs.declared.command.MapCommand.{MapCommand};
+ghost use Rattle.map_core.specs.State.{History};
+ghost use Rattle.map_core.specs.Map.{epoch_of};
+ghost use Rattle.map_core.specs.declared.command.MapCommand.{MapCommand};
 ghost use Rattle.published_map.specs.Published.{with_commands};
 ghost use Rattle.published_map.specs.Told.{HasToldOf};
 ghost use Rattle.cluster.specs.GroupMoves.{Goes};
@@ -14,7 +14,7 @@ use crate::cluster::{Cluster, Seats};
 use crate::command_effects::creates;
 use crate::group_moves::{any_full, move_groups};
 use entry_core::GroupId;
-use group_types::GroupFault;
+use group_messages::GroupFault;
 use map_core::{ClusterMap, Epoch, MapCommand, MapFault};
 use published_map::{MapWriter, News, lay, publish, tell};
 use std::alloc::AllocError;

@@ -1,7 +1,7 @@
 //! Notes and news: what a pass hears from others.
 
 ghost use Rattle.std.specs.Prelude.{◌≡◌, Some, OnOk, IfOk, IfErr};
-ghost use Rattle.map_commands.specs.State.{History};
+ghost use Rattle.map_core.specs.State.{History};
 ghost use Rattle.cluster.specs.declared.cluster.Cluster.{Cluster as ACluster};
 ghost use Rattle.cluster.specs.declared.fault.ClusterFault.TheVariants as faults;
 ghost use Rattle.cluster.specs.Asks.{IsPassOf, known_by};

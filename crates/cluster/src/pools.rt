@@ -1,7 +1,7 @@
 //! The pool that a request names, as a pass reads it from the published map.
 
 ghost use Rattle.std.specs.Prelude.{◌≡◌, IfOk, IfErr, MatchOption};
-ghost use Rattle.map_commands.specs.Map.{map_of};
+ghost use Rattle.map_core.specs.Map.{map_of};
 ghost use Rattle.map_core.specs.Refusal as tests;
 ghost use Rattle.cluster.specs.Asks.{IsPassOf};
 ghost use Rattle.cluster.specs.Pools.{KnowsTheSame, HasSeen, IsUnseen};

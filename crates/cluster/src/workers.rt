@@ -13,7 +13,7 @@ use crate::cluster::Cluster;
 use crate::fault::ClusterFault;
 use crate::pass::Pass;
 use cluster_locks::{Worked, first_of};
-use group_types::GroupFault;
+use group_messages::GroupFault;
 use std::alloc::Global;
 use std::sync::Wait;
 use std::thread;

@@ -2,10 +2,10 @@
 use Rattle.std.proofs.Common.{◌≡◌, ℕ, Bool, true, false, List, [], ◌∷◌, refl}
 use Rattle.std.specs.Prelude.{Option, Some, None, if◌then◌else◌, slice_get}
 use Rattle.entry_core.specs.Log.{is_in}
-use Rattle.suffix_core.specs.Types.{Party, Client, Osd, Sent}
-use Rattle.suffix_core.specs.Group.{Group, refusal_to, refusal_at}
-use Rattle.group_types.specs.declared.fault.GroupFault.{GroupFault}
-use Rattle.group_types.specs.declared.fault.GroupFault.TheVariants.{NoMessage, Unreachable}
+use Rattle.group_model.specs.Types.{Party, Client, Osd, Sent}
+use Rattle.group_model.specs.Group.{Group, refusal_to, refusal_at}
+use Rattle.group_messages.specs.declared.fault.GroupFault.{GroupFault}
+use Rattle.group_messages.specs.declared.fault.GroupFault.TheVariants.{NoMessage, Unreachable}
 
 not_if : (b : Bool) (k : ℕ) → (let r : Option GroupFault = if b then None else Some Unreachable in r ≡ Some (NoMessage k)) → ⊥
 not_if true k e = cc

@@ -1,7 +1,7 @@
 -- Statement: contracts of public calls use it.
 -- What a cluster begins with, as events of a world.
 use Rattle.std.specs.Prelude.{List, ◌++◌, map}
-use Rattle.map_commands.specs.declared.command.MapCommand.TheVariants.{PoolCreate}
+use Rattle.map_core.specs.declared.command.MapCommand.TheVariants.{PoolCreate}
 use Rattle.world_events.specs.declared.event.AuthCommand.TheVariants.{Add}
 use Rattle.world_events.specs.declared.event.Event.{Event}
 use Rattle.world_events.specs.declared.event.Event.TheVariants.{Auth, Map}

@@ -1,9 +1,9 @@
 -- Statement: contracts of public calls use it.
 -- What the monitor's turns on a group stand for.
 use Rattle.std.specs.Prelude.{◌≡◌, Bool, Result}
-use Rattle.suffix_core.specs.Group.{Group, has_all_intervals}
+use Rattle.group_model.specs.Group.{Group, has_all_intervals}
 use Rattle.group_core.specs.Moves.{event_of}
-use Rattle.group_types.specs.declared.fault.GroupFault.{GroupFault}
+use Rattle.group_messages.specs.declared.fault.GroupFault.{GroupFault}
 use Rattle.cluster_locks.specs.declared.groups.GroupEntry.{GroupEntry}
 use Rattle.cluster_locks.specs.declared.groups.GroupEntry.TheVariants.{Looked}
 use Rattle.cluster_locks.specs.declared.moves.Move.{Move}

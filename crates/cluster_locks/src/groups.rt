@@ -1,12 +1,13 @@
 //! A group under a turn lock, and the steps on it.
 
 ghost use Rattle.std.specs.Prelude.{◌≡◌, Option};
-ghost use Rattle.suffix_core.specs.Group.{Deliver};
+ghost use Rattle.group_model.specs.Group.{Deliver};
 ghost use Rattle.cluster_locks.specs.Groups.{group_after, entry_fits, submission_entry, SubmissionTells, work_entry, WorkTells, answer_entry, AnswerTells};
 
-use entry_core::{Id, Reply, Sealed, TryCopy};
+use common_types::TryCopy;
+use entry_core::{Id, Reply, Sealed};
 use group_core::Group;
-use group_types::GroupFault;
+use group_messages::GroupFault;
 use std::marker::Model;
 use turn_lock::{Recorded, Step};
 
@@ -22,7 +23,7 @@ pub struct GroupEvent {
 }
 
 impl Model for GroupEvent {
-    ghost use Rattle.suffix_core.specs.Group.{Event, Kick};
+    ghost use Rattle.group_model.specs.Group.{Event, Kick};
 
     ghost Value = { Event };
 

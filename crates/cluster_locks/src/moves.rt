@@ -3,7 +3,7 @@
 ghost use Rattle.cluster_locks.specs.Moves.{move_entry, MoveTells, full_entry, FullTells};
 
 use crate::groups::LockedGroup;
-use group_types::{GroupFault, GroupMove};
+use group_messages::{GroupFault, GroupMove};
 use turn_lock::Step;
 
 /// Moves a group.

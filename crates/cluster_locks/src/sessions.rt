@@ -24,10 +24,10 @@ pub fn judge_by(
     ensures { result ≡ is_allowed session.now.ticket (record { pool = view.now.pool; tags = view.now.tags; namespace = namespace.now; object = object.now }) needs.now tick }
 {
     let target = Target {
-        pool: view.pool.as_str(),
+        pool: view.pool.as_str().as_bytes(),
         tags: &view.tags,
-        namespace,
-        object,
+        namespace: namespace.as_bytes(),
+        object: object.as_bytes(),
     };
     session.ticket.as_ticket().judge(&target, needs, tick)
 }

@@ -2,20 +2,22 @@
 
 ghost use Rattle.std.specs.Prelude.{◌≤◌};
 
-use crate::drawing::{Drawn, NoPicture, OutputFiles, asked_picture};
-use crate::run::{Ran, RunFault, run_path};
+use crate::auditing::run_audit;
+use crate::checking::push_path;
+use crate::drawing::{Drawn, asked_picture};
+use crate::output_files::{Logs, OutputFiles};
+use crate::run::{Ran, RunFault, Task, run_task};
 use clap::ArgMatches;
-use gate_commands::{
-    BAD_COMMAND_LINE, DONE, FAULT, InputFiles, command_words, number_of, refuse_command,
-    run_question, write_out,
-};
+use command_arguments::command_words;
+use command_steps::{DONE, FOUND, TROUBLE, number_of, refuse_command, write_out};
+use gate_commands::run_question;
+use gate_files::InputFiles;
+use log_commands::{is_log_command, run_log_command};
+use script_text::ScriptFault;
 use std::alloc::Global;
 use std::convert::AsStr;
-use std::fmt;
 use std::io::{Read, Write};
-
-const OSDS_FIRST: &str =
-    "osdgate: a script's first command is `osds N`, which says how many daemons there are\n";
+use std::{fmt, io};
 
 /// How many workers `osdgate threads` has, or nothing where they are not 1 to 8.
 fn workers_of(matches: &ArgMatches<'_>) -> Option<u32> {
@@ -27,26 +29,58 @@ fn workers_of(matches: &ArgMatches<'_>) -> Option<u32> {
     }
 }
 
+/// That a script cannot be read.
+#[derive(Clone, Copy)]
+struct Unread<'a>(&'a io::Error);
+
+impl fmt::Display for Unread<'_> {
+    fn fmt<W: fmt::Write>(&self, f: &mut fmt::Formatter<W>) -> fmt::Result {
+        let error = self.0;
+        write!(f, "the script cannot be read: {error}")
+    }
+}
+
+/// Tells a fault of a script, behind the name of its file.
+fn tell_fault<T: fmt::Display + Drop, E: Write>(alloc: Global, path: &str, fault: T, err: &mut E) {
+    let mut name = String::new(alloc);
+    if path != "-" && push_path(&mut name, path).is_ok() && name.push_str(": ").is_err() {
+        return;
+    }
+    let _ = write!(err, "osdgate: {name}{fault}\n");
+}
+
 /// Tells how a script ended, and answers the status.
-fn finish_script<E: Write>(ended: Result<(), RunFault>, err: &mut E) -> u8
+fn finish_script<E: Write>(
+    alloc: Global,
+    path: &str,
+    ended: Result<(), RunFault>,
+    err: &mut E,
+) -> u8
     ensures { result ≤ 2 }
 {
     match ended {
-        Ok(()) => return DONE,
-        Err(RunFault::Script { fault, no_osds }) => {
-            let _ = write!(err, "osdgate: {fault}\n");
-            if no_osds {
-                let _ = write_out(err, OSDS_FIRST);
+        Ok(()) => DONE,
+        Err(RunFault::Script { fault, told }) => {
+            tell_fault(alloc, path, fault, err);
+            let _ = write_out(err, told.as_str());
+            match fault {
+                ScriptFault::BadLine(_) => FOUND,
+                _ => TROUBLE,
             }
         }
+        Err(RunFault::Wrong(told)) => {
+            let _ = write_out(err, told.as_str());
+            FOUND
+        }
         Err(RunFault::Unread(error)) => {
-            let _ = write!(err, "osdgate: the script cannot be read: {error}\n");
+            tell_fault(alloc, path, Unread(&error), err);
+            TROUBLE
         }
         Err(RunFault::OutOfMemory) => {
-            let _ = write_out(err, "osdgate: S5 OutOfMemory 0\n");
+            tell_fault(alloc, path, "S5 OutOfMemory 0", err);
+            TROUBLE
         }
     }
-    FAULT
 }
 
 /// Tells what became of a picture, and answers the status.
@@ -56,26 +90,28 @@ fn finish_picture<E: Write>(drawn: &Drawn, err: &mut E) -> u8
     match drawn {
         Drawn::Written(told) => {
             let _ = write_out(err, told.as_str());
-            return DONE;
+            DONE
         }
         Drawn::NoGroup => {
             let _ = write_out(err, "osdgate: the script makes no group of that name\n");
+            TROUBLE
         }
         Drawn::Unwritten(error) => {
             let _ = write!(err, "osdgate: the picture cannot be written: {error}\n");
+            TROUBLE
         }
         Drawn::OutOfMemory => {
             let _ = write_out(err, "osdgate: the picture cannot be drawn: OutOfMemory\n");
+            TROUBLE
         }
     }
-    FAULT
 }
 
 /// Tells how a script ended and what became of its picture, and answers the status.
-fn finish_run<E: Write>(ran: Ran, err: &mut E) -> u8
+fn finish_run<E: Write>(alloc: Global, path: &str, ran: Ran, err: &mut E) -> u8
     ensures { result ≤ 2 }
 {
-    let status = finish_script(ran.ended, err);
+    let status = finish_script(alloc, path, ran.ended, err);
     match &ran.drawn {
         None => status,
         Some(drawn) => status.max(finish_picture(drawn, err)),
@@ -94,13 +130,20 @@ fn run_words<F: InputFiles + OutputFiles, R: Read, O: Write, E: Write>(
     ensures { result ≤ 2 }
 {
     let path = matches.get_str("script").unwrap_or("-");
-    match asked_picture(alloc, matches) {
-        Ok(asked) => finish_run(run_path(alloc, files, path, reader, out, asked), err),
-        Err(NoPicture::BadGroup) => {
-            let _ = write_out(err, "osdgate: a group is a pool and a number below 2^32\n");
-            BAD_COMMAND_LINE
+    match asked_picture(alloc, files, matches, path) {
+        Ok(picture) => {
+            let check = matches.get_flag("check");
+            let task = Task {
+                path,
+                check,
+                picture,
+            };
+            finish_run(alloc, path, run_task(alloc, files, task, reader, out), err)
         }
-        Err(NoPicture::OutOfMemory) => finish_script(Err(RunFault::OutOfMemory), err),
+        Err(why) => {
+            let _ = write_out(err, why.line());
+            TROUBLE
+        }
     }
 }
 
@@ -118,12 +161,13 @@ fn finish_workload<T: fmt::Display, F: fmt::Display, O: Write, E: Write>(
                 return DONE;
             }
             let _ = write_out(err, "osdgate: the answer could not be written\n");
+            TROUBLE
         }
         Err(fault) => {
             let _ = write!(err, "osdgate: {fault}\n");
+            FOUND
         }
     }
-    FAULT
 }
 
 /// Tells that so many workers there cannot be, and answers the status.
@@ -131,12 +175,11 @@ fn refuse_workers<E: Write>(err: &mut E) -> u8
     ensures { result ≤ 2 }
 {
     let _ = write_out(err, "osdgate: there are 1 to 8 workers\n");
-    BAD_COMMAND_LINE
+    TROUBLE
 }
 
 /// Runs the program on the words of its command line, the first of which is the program's own name, and
-/// answers its exit status: 0 where it is done, 1 where a fault was answered, a file has no entities, a script did not
-/// run to its end, or the answer could not be written, 2 where the words are no command line.
+/// answers its exit status: `DONE`, `FOUND` or `TROUBLE`. A script that has a bad line, and workers that meet a fault, are found.
 ///
 /// `workload` runs so many workers on threads, with moves or without, where the words ask for them; what it gives is printed.
 ///
@@ -166,14 +209,18 @@ pub fn run_command<
 {
     let matches = match command_words(alloc, words) {
         Ok(matches) => matches,
-        Err(error) => return refuse_command(alloc, &error, out, err),
+        Err(error) => return refuse_command(alloc, &error, files, out, err),
     };
     match matches.subcommand() {
         Some(("threads", inner)) => match workers_of(inner) {
             Some(count) => finish_workload(&workload(count, inner.get_flag("moves")), out, err),
             None => refuse_workers(err),
         },
+        Some(("audit", inner)) => run_audit(alloc, inner, files, reader, out, err),
         Some(("run", inner)) => run_words(alloc, inner, files, reader, out, err),
+        Some((name, inner)) if is_log_command(name) => {
+            run_log_command(alloc, name, inner, files, &Logs(files), reader, out, err)
+        }
         _ => run_question(alloc, &matches, files, reader, out, err),
     }
 }

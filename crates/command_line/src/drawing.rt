@@ -1,42 +1,57 @@
 //! `osdgate run --picture`: a picture of a script that was run.
 
+use crate::output_files::OutputFiles;
 use clap::ArgMatches;
+use command_steps::number_of;
 use common_types::{Name, OutOfMemory};
 use entry_core::GroupId;
-use gate_commands::number_of;
 use replay_picture::{Format, draw_script};
 use std::alloc::{AllocError, Global};
-use std::fmt::Write;
-use std::io::ErrorKind;
-use std::{fs, io};
-
-/// Files that are written, by their paths.
-pub trait OutputFiles {
-    /// Writes a file, in the place of what it had. It is an error where not all of the bytes can be written.
-    fn write_bytes(&self, path: &str, bytes: &[u8]) -> io::Result<()>;
-}
-
-/// The files of the program's host.
-impl OutputFiles for HostRuntime {
-    fn write_bytes(&self, path: &str, bytes: &[u8]) -> io::Result<()> {
-        fs::write(self, path, bytes)
-    }
-}
+use std::fmt::Write as _;
+use std::io;
+use std::io::{ErrorKind, Write};
 
 /// A picture that is asked for.
 #[derive(Drop)]
 pub(crate) struct Asked<'a> {
     path: &'a str,
+    format: Format,
     /// The group that is named.
     group: Option<GroupId>,
 }
 
+/// The path that stands for standard output.
+const STANDARD_OUTPUT: &str = "-";
+
 /// Why no picture is asked for where words ask for one.
 #[derive(Clone, Copy)]
 pub(crate) enum NoPicture {
-    /// A group's number is none.
+    /// A group's number is invalid.
     BadGroup,
+    /// The file's ending names no format.
+    BadEnding,
+    /// The file is the script.
+    IsScript,
+    /// The file is what standard output is written to.
+    IsOutput,
     OutOfMemory,
+}
+
+impl NoPicture {
+    /// The line that reports it.
+    pub(crate) fn line(self) -> &'static str {
+        match self {
+            NoPicture::BadGroup => "osdgate: a group is a pool and a number below 2^32\n",
+            NoPicture::BadEnding => {
+                "osdgate: the file of a picture ends in `.svg` or `.mmd`, or is `-` for standard output\n"
+            }
+            NoPicture::IsScript => "osdgate: the picture would replace the script\n",
+            NoPicture::IsOutput => {
+                "osdgate: the picture would replace the file that standard output goes to\n"
+            }
+            NoPicture::OutOfMemory => "osdgate: the picture cannot be drawn: OutOfMemory\n",
+        }
+    }
 }
 
 impl From<AllocError> for NoPicture {
@@ -70,26 +85,59 @@ fn named_group(alloc: Global, words: &[&str]) -> Result<GroupId, NoPicture> {
     Err(NoPicture::BadGroup)
 }
 
-/// The picture that the words of `osdgate run` ask for, if they do.
-pub(crate) fn asked_picture<'a>(
+/// The format that a file's ending names.
+fn format_of(path: &str) -> Option<Format> {
+    if path.ends_with(".mmd") {
+        Some(Format::Mermaid)
+    } else if path.ends_with(".svg") || path == STANDARD_OUTPUT {
+        Some(Format::Svg)
+    } else {
+        None
+    }
+}
+
+/// Refuses a picture's path that leads to the script or to what standard output is written to.
+fn refuse_used<F: OutputFiles>(files: &F, path: &str, script: &str) -> Result<(), NoPicture> {
+    let script = if script == "-" { "/dev/stdin" } else { script };
+    if path == script || files.is_same_file(path, script) {
+        return Err(NoPicture::IsScript);
+    }
+    if files.is_same_file(path, "/dev/stdout") {
+        return Err(NoPicture::IsOutput);
+    }
+    Ok(())
+}
+
+/// The picture that the words of `osdgate run` ask for, if they do. The path of the script is `-` for standard input.
+pub(crate) fn asked_picture<'a, F: OutputFiles>(
     alloc: Global,
+    files: &F,
     matches: &ArgMatches<'a>,
+    script: &str,
 ) -> Result<Option<Asked<'a>>, NoPicture> {
     let Some(path) = matches.get_str("picture") else {
         return Ok(None);
     };
+    let format = format_of(path).ok_or(NoPicture::BadEnding)?;
+    if path != STANDARD_OUTPUT {
+        refuse_used(files, path, script)?;
+    }
     let group = match matches.get_strs("group") {
         None => None,
         Some(words) => Some(named_group(alloc, words)?),
     };
-    Ok(Some(Asked { path, group }))
+    Ok(Some(Asked {
+        path,
+        format,
+        group,
+    }))
 }
 
-fn format_of(path: &str) -> Format {
-    if path.ends_with(".mmd") {
-        Format::Mermaid
-    } else {
-        Format::Svg
+/// Whether a picture goes to standard output, where the script's lines would go.
+pub(crate) fn is_printed(asked: &Option<Asked<'_>>) -> bool {
+    match asked {
+        Some(asked) => asked.path == STANDARD_OUTPUT,
+        None => false,
     }
 }
 
@@ -104,15 +152,25 @@ fn choice(alloc: Global, group: &Option<GroupId>) -> Result<String, OutOfMemory>
     Ok(text)
 }
 
+/// Writes a picture's text to its file, or to `out`.
+fn put<F: OutputFiles, O: Write>(files: &F, out: &mut O, path: &str, text: &str) -> io::Result<()> {
+    if path != STANDARD_OUTPUT {
+        return files.write_bytes(path, text.as_bytes());
+    }
+    out.write_all(text.as_bytes())?;
+    out.flush()
+}
+
 /// Draws a script, and writes the picture.
-fn write_picture<F: OutputFiles>(
+fn write_picture<F: OutputFiles, O: Write>(
     alloc: Global,
     files: &F,
     script: &[u8],
     asked: Asked<'_>,
+    out: &mut O,
 ) -> Result<Drawn, OutOfMemory> {
     let is_named = asked.group.is_some();
-    let Some(picture) = draw_script(alloc, script, asked.group, format_of(asked.path))? else {
+    let Some(picture) = draw_script(alloc, script, asked.group, asked.format)? else {
         return Ok(Drawn::NoGroup);
     };
     let told = if is_named {
@@ -120,7 +178,7 @@ fn write_picture<F: OutputFiles>(
     } else {
         choice(alloc, &picture.group)?
     };
-    match files.write_bytes(asked.path, picture.text.as_bytes()) {
+    match put(files, out, asked.path, picture.text.as_str()) {
         Ok(()) => Ok(Drawn::Written(told)),
         Err(error) if error.kind() == ErrorKind::OutOfMemory => Ok(Drawn::OutOfMemory),
         Err(error) => Ok(Drawn::Unwritten(error)),
@@ -128,15 +186,16 @@ fn write_picture<F: OutputFiles>(
 }
 
 /// What became of the picture of a script, where one is asked for.
-pub(crate) fn draw<F: OutputFiles>(
+pub(crate) fn draw<F: OutputFiles, O: Write>(
     alloc: Global,
     files: &F,
     script: &[u8],
     asked: Option<Asked<'_>>,
+    out: &mut O,
 ) -> Option<Drawn> {
     match asked {
         None => None,
-        Some(asked) => Some(match write_picture(alloc, files, script, asked) {
+        Some(asked) => Some(match write_picture(alloc, files, script, asked, out) {
             Ok(drawn) => drawn,
             Err(_) => Drawn::OutOfMemory,
         }),

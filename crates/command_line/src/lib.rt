@@ -4,9 +4,13 @@
 //! its host. The commands that ask the gate stand in `gate_commands`, below the worlds.
 #![tactic(auto)]
 
+mod auditing;
+mod bad_line;
+mod checking;
 mod command;
 mod drawing;
+mod output_files;
 mod run;
 
 pub use command::run_command;
-pub use drawing::OutputFiles;
+pub use output_files::OutputFiles;

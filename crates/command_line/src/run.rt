@@ -1,8 +1,11 @@
 //! `osdgate run`: a script from a file or from standard input, and what it prints.
 
-use crate::drawing::{Asked, Drawn, OutputFiles, draw};
-use gate_commands::InputFiles;
-use script_text::{Lines, ScriptFault, read_script};
+use crate::checking::{Looked, wrong_lines};
+use crate::drawing::{Asked, Drawn, draw, is_printed};
+use crate::output_files::OutputFiles;
+use common_types::OutOfMemory;
+use gate_files::InputFiles;
+use script_text::{ScriptFault, read_script};
 use std::alloc::Global;
 use std::io;
 use std::io::{ErrorKind, Read, Write};
@@ -16,8 +19,10 @@ const MOST_BYTES: u64 = 1_048_576;
 pub(crate) enum RunFault {
     /// The file cannot be read: nothing was run.
     Unread(io::Error),
-    /// The script ended early, at its first command where that is not `osds` and should be.
-    Script { fault: ScriptFault, no_osds: bool },
+    /// The script ended early, and this is told beside the fault.
+    Script { fault: ScriptFault, told: String },
+    /// Lines of a script that is only looked at are no commands, as this tells.
+    Wrong(String),
     /// A growth was refused before the script began.
     OutOfMemory,
 }
@@ -31,36 +36,44 @@ impl From<io::Error> for RunFault {
     }
 }
 
-/// Whether a script ended at its first command, which is not `osds`.
-fn has_no_osds(script: &[u8], fault: ScriptFault) -> bool {
-    let mut lines = Lines::new(script);
-    for _ in 0..script.len() {
-        match lines.next_line() {
-            None => return false,
-            Some(line) if line.is_blank() => continue,
-            Some(line) => {
-                return fault == ScriptFault::BadLine(line.number)
-                    && !line.text.starts_with(b"osds ");
-            }
-        }
+impl From<OutOfMemory> for RunFault {
+    fn from(_error: OutOfMemory) -> RunFault {
+        RunFault::OutOfMemory
     }
-    false
+}
+
+/// What ended a script, with what is told of a bad line.
+fn ended_by(
+    alloc: Global,
+    looked: Looked<'_>,
+    fault: ScriptFault,
+) -> Result<RunFault, OutOfMemory> {
+    let told = match fault {
+        ScriptFault::BadLine(number) => wrong_lines(alloc, looked, Some(number))?,
+        _ => String::new(alloc),
+    };
+    Ok(RunFault::Script { fault, told })
 }
 
 /// Runs a script, and writes to `out` what its lines print.
-fn run_bytes<O: Write>(alloc: Global, script: &[u8], out: &mut O) -> Result<(), RunFault> {
-    let mut reader = script;
+fn run_bytes<O: Write>(alloc: Global, looked: Looked<'_>, out: &mut O) -> Result<(), RunFault> {
+    let mut reader = looked.script;
     if let Err(fault) = run_script(alloc, &mut reader, out) {
-        let no_osds = has_no_osds(script, fault);
-        return Err(RunFault::Script { fault, no_osds });
+        return Err(ended_by(alloc, looked, fault)?);
     }
     match out.flush() {
         Ok(()) => Ok(()),
-        Err(_) => Err(RunFault::Script {
-            fault: ScriptFault::Write,
-            no_osds: false,
-        }),
+        Err(_) => Err(ended_by(alloc, looked, ScriptFault::Write)?),
     }
+}
+
+/// Looks at a script without running it.
+fn check_bytes(alloc: Global, looked: Looked<'_>) -> Result<(), RunFault> {
+    let told = wrong_lines(alloc, looked, None)?;
+    if told.is_empty() {
+        return Ok(());
+    }
+    Err(RunFault::Wrong(told))
 }
 
 /// The bytes of a file, or of `reader` where the path is `-`.
@@ -77,7 +90,7 @@ fn script_at<F: InputFiles, R: Read>(
         Ok(script) => Ok(script),
         Err(fault) => Err(RunFault::Script {
             fault,
-            no_osds: false,
+            told: String::new(alloc),
         }),
     }
 }
@@ -98,17 +111,42 @@ fn has_lines_run(ended: &Result<(), RunFault>) -> bool {
     }
 }
 
-/// Runs the script of a file, or of `reader` where the path is `-`, and writes to `out` what its lines print. Then its picture is
-/// drawn, where one is asked for.
-pub(crate) fn run_path<F: InputFiles + OutputFiles, R: Read, O: Write>(
+/// What is asked of a script.
+#[derive(Drop)]
+pub(crate) struct Task<'a> {
+    /// Its file, `-` for standard input.
+    pub(crate) path: &'a str,
+    /// It is only looked at, and not run.
+    pub(crate) check: bool,
+    pub(crate) picture: Option<Asked<'a>>,
+}
+
+/// Runs a script, or looks at it.
+fn end_of<O: Write>(
+    alloc: Global,
+    looked: Looked<'_>,
+    task: &Task<'_>,
+    out: &mut O,
+) -> Result<(), RunFault> {
+    if task.check {
+        check_bytes(alloc, looked)
+    } else if is_printed(&task.picture) {
+        run_bytes(alloc, looked, &mut io::sink())
+    } else {
+        run_bytes(alloc, looked, out)
+    }
+}
+
+/// Runs the script of a file, or of `reader` where the path is `-`, and writes to `out` what its lines print. Then it draws the
+/// picture that is asked for. A picture for standard output takes the place of what the lines print.
+pub(crate) fn run_task<F: InputFiles + OutputFiles, R: Read, O: Write>(
     alloc: Global,
     files: &F,
-    path: &str,
+    task: Task<'_>,
     reader: &mut R,
     out: &mut O,
-    asked: Option<Asked<'_>>,
 ) -> Ran {
-    let script = match script_at(alloc, files, path, reader) {
+    let script = match script_at(alloc, files, task.path, reader) {
         Ok(script) => script,
         Err(fault) => {
             return Ran {
@@ -117,9 +155,14 @@ pub(crate) fn run_path<F: InputFiles + OutputFiles, R: Read, O: Write>(
             };
         }
     };
-    let ended = run_bytes(alloc, script.as_slice(), out);
+    let looked = Looked {
+        path: task.path,
+        script: script.as_slice(),
+        screen: files.screen(),
+    };
+    let ended = end_of(alloc, looked, &task, out);
     let drawn = if has_lines_run(&ended) {
-        draw(alloc, files, script.as_slice(), asked)
+        draw(alloc, files, script.as_slice(), task.picture, out)
     } else {
         None
     };

@@ -9,7 +9,7 @@ use Rattle.cap_grants.specs.declared.grant.Access.TheVariants as accesses
 use Rattle.cap_grants.specs.declared.grant.Flags.{Flags}
 use Rattle.cap_grants.specs.declared.grant.AllowGrant.{AllowGrant}
 use Rattle.verdict_core.specs.Verdict.{covers, names}
-use Rattle.verdict_types.specs.declared.request.ClassCall.{ClassCall}
+use Rattle.request_types.specs.declared.request.ClassCall.{ClassCall}
 use Rattle.object_core.specs.Needs.{IsRegistered}
 use Rattle.compare_core.specs.Calls.{AreCallsFor, IsOwnOrFresh, IsNameOfCall, covers_some, hardest}
 use Rattle.compare_core.specs.Fresh.{name_of_class, name_of_method}

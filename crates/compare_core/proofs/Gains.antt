@@ -4,18 +4,18 @@ use Rattle.std.specs.Option.{option_to_list, MatchOption}
 use Rattle.std.specs.List.{list_any, All}
 use Rattle.std.proofs.lemmas.Grind.{take_at_read}
 use Rattle.std.proofs.lemmas.List.{take_all}
-use Rattle.std.proofs.lemmas.List.Elements.{All-contains}
+use Rattle.std.proofs.lemmas.List.Elements.{All-contains, All-nil}
 use Rattle.std.proofs.lemmas.Option.{slice_get-get_or}
 use Rattle.cap_grants.specs.declared.grant.AllowGrant.{AllowGrant}
-use Rattle.verdict_types.specs.Target.{Target}
-use Rattle.verdict_core.specs.Verdict.{matches, is_usable, is_covered, covers, grants_allow}
-use Rattle.verdict_types.specs.declared.request.Needs.{Needs}
-use Rattle.verdict_types.specs.declared.request.ClassCall.{ClassCall}
+use Rattle.request_types.specs.Target.{Target}
+use Rattle.verdict_core.specs.Verdict.{is_usable, is_covered, covers, grants_allow}
+use Rattle.request_types.specs.declared.request.Needs.{Needs}
+use Rattle.request_types.specs.declared.request.ClassCall.{ClassCall}
 use Rattle.compare_core.specs.declared.comparing.Example.{Example}
-use Rattle.compare_core.specs.Widening.{IsAskedBy, IsCallBy, IsGainedBy, WidensBy, IsExampleBy, AnswersBy, request_of}
+use Rattle.compare_core.specs.Widening.{AreNeeded, CanBeAsked, IsAskedBy, IsCallBy, IsGainedBy, WidensBy, IsExampleBy, AnswersBy, request_of}
 use Rattle.compare_core.specs.declared.registry.Registry.{Registry}
-use Rattle.compare_core.specs.Fresh.{IsBest}
-use Rattle.compare_core.specs.Questions.{AreEnough, shows, IsShownBy}
+use Rattle.compare_core.specs.Fresh.{IsBestTarget}
+use Rattle.compare_core.specs.Questions.{AreEnough, IsListed, IsShownBy, asks, listing_at, shows}
 use Rattle.compare_core.proofs.Asked.{all_slice_get, nothing_gained}
 use Rattle.compare_core.proofs.Bools.{both_left, both_right, both, negated, any_at, all_also}
 use Rattle.compare_core.proofs.Moves.{calling, Shown, one_grant_shows}
@@ -65,7 +65,7 @@ example_from registry old (g ∷ new) (e ∷ es) h k example at =
     by (inr silent) j q first rest = later (rest silent.1)
 
 -- what one grant allows, each ticket that has it allows
-allowed_among : (grants : Grants) (i : ℕ) (entry : List ℕ × AllowGrant) (target : Target) (needs : Needs) → slice_get grants i ≡ Some entry → grants_allow (entry ∷ []) target needs ≡ true → grants_allow grants target needs ≡ true
+pub allowed_among : (grants : Grants) (i : ℕ) (entry : List ℕ × AllowGrant) (target : Target) (needs : Needs) → slice_get grants i ≡ Some entry → grants_allow (entry ∷ []) target needs ≡ true → grants_allow grants target needs ≡ true
 allowed_among grants i entry target needs at h =
     both _ _
     (among (λ e. is_usable e.1 target needs) (both_left _ _ h))
@@ -103,14 +103,34 @@ asked_one registry needs None asked small k d l = absurd (omega arith)
 asked_one registry needs (Some one) asked small zero d l = let found = small one refl in all_slice_get (IsCallBy registry) needs.calls found.0 one asked found.1
 asked_one registry needs (Some one) asked small (suc k) d l = absurd (omega arith)
 
+at_most_one : (call : Option ClassCall) → length (option_to_list call) ≤ 16
+at_most_one None = omega arith
+at_most_one (Some one) = omega arith
+
+-- of no calls none is asked for
+no_call : (calls : List ClassCall) (call : Option ClassCall) → calls ≡ [] → ((one : ClassCall) → call ≡ Some one → (i : ℕ) × (slice_get calls i ≡ Some one)) → option_to_list call ≡ []
+no_call calls None none small = refl
+no_call calls (Some one) none small = let found = small one refl in nowhere found.0 (ap (λ l. slice_get l found.0) (sym none) ∙ found.1)
+  where
+    nowhere : (i : ℕ) → slice_get [] i ≡ Some one → option_to_list (Some one) ≡ []
+    nowhere i h = absurd (cc)
+
 pub nothing_widens : (registry : Registry) (old new : Grants) → AnswersBy registry old new [] → ¬ WidensBy registry old new
-nothing_widens registry old new h gained = by (one_grant_shows old new gained.0.target gained.0.needs gained.1.1 gained.1.2)
+nothing_widens registry old new h gained = by (one_grant_shows old new gained.0.target gained.0.needs gained.1.0.needs.something gained.1.1 gained.1.2)
   where
     by : Shown old new gained.0.target gained.0.needs → ⊥
     by shown =
         silent_at registry old new h shown.index shown.entry shown.at (
           record { target = gained.0.target; needs = calling gained.0.needs (option_to_list shown.call) },
-          (asked_one registry gained.0.needs shown.call gained.1.0 shown.small, shown.allowed, shown.denied),
+          (
+            record {
+              tags = gained.1.0.tags;
+              needs = record { calls = asked_one registry gained.0.needs shown.call gained.1.0.needs.calls shown.small; few = at_most_one shown.call; something = shown.something };
+              listing = λ empty. ((gained.1.0.listing empty).0, no_call gained.0.needs.calls shown.call (gained.1.0.listing empty).1 shown.small);
+            },
+            shown.allowed,
+            shown.denied,
+          ),
         )
 
 -- and with one the ticket widens something
@@ -120,19 +140,46 @@ no_examples registry old new (e ∷ es) h none = absurd (none (request_of e, gai
 
 -- what the questions at a grant's best target say of it
 
-pub silent_grant : (registry : Registry) (old new : Grants) (entry : List ℕ × AllowGrant) (target : Target) (asked : List Needs) (found : Option Needs) → new ≡ entry ∷ [] → AreEnough registry entry.1 old asked → IsBest matches entry.1 old target
-    → IsShownBy old new target asked found → found ≡ None → ¬ WidensBy registry old (entry ∷ [])
-silent_grant registry old new entry target asked None is enough best h none =
-    nothing_gained registry old entry target asked enough best (ap (λ alone. list_any (shows old alone target) asked) (sym is) ∙ h)
-silent_grant registry old new entry target asked (Some needs) is enough best h none = absurd (cc)
+pub silent_grant : (registry : Registry) (old new : Grants) (entry : List ℕ × AllowGrant) (target : Target) (asked : List Needs) (found : Option Needs) → new ≡ entry ∷ [] → AreEnough registry entry.1 old asked → IsBestTarget entry.1 old target
+    → IsShownBy old new target asked found → found ≡ None → shows old new (listing_at target) (asks true false []) ≡ false → ¬ WidensBy registry old (entry ∷ [])
+silent_grant registry old new entry target asked None is enough best h none unlisted =
+    nothing_gained registry old entry target asked enough best (ap (λ alone. list_any (shows old alone target) asked) (sym is) ∙ h) (ap (λ alone. shows old alone (listing_at target) (asks true false [])) (sym is) ∙ unlisted)
+silent_grant registry old new entry target asked (Some needs) is enough best h none unlisted = absurd (cc)
 
 pub shown_grant : (registry : Registry) (old new : Grants) (entry : List ℕ × AllowGrant) (path : List ℕ) (target : Target) (asked : List Needs) (found : Option Needs) (needs : Needs) → new ≡ entry ∷ [] → path ≡ entry.0
-    → AreEnough registry entry.1 old asked → IsShownBy old new target asked found → found ≡ Some needs → IsExampleBy registry old entry (record { path = path; target = target; needs = needs })
-shown_grant registry old new entry path target asked None needs is same enough h some = absurd (cc)
-shown_grant registry old new entry path target asked (Some m) needs is same enough h some =
+    → AreEnough registry entry.1 old asked → IsBestTarget entry.1 old target → IsShownBy old new target asked found → found ≡ Some needs → IsExampleBy registry old entry (record { path = path; target = target; needs = needs })
+shown_grant registry old new entry path target asked None needs is same enough best h some = absurd (cc)
+shown_grant registry old new entry path target asked (Some m) needs is same enough best h some =
     let equal : m ≡ needs = cc in
     let shown : shows old (entry ∷ []) target needs ≡ true = (λ i. shows old (sym is i) target (sym equal i)) ∙ h.1 in
-    (same, (subst (IsAskedBy registry) equal (All-contains (IsAskedBy registry) asked m enough.asked h.0), both_left _ _ shown, negated (grants_allow old target needs) (both_right (grants_allow (entry ∷ []) target needs) _ shown)))
+    let asked_for : CanBeAsked registry (record { target = target; needs = needs }) = record {
+      tags = best.possible;
+      needs = subst (AreNeeded registry) equal (All-contains (AreNeeded registry) asked m enough.asked h.0);
+      listing = λ empty. absurd (best.object.1 empty);
+    } in
+    (same, (asked_for, both_left _ _ shown, negated (grants_allow old target needs) (both_right (grants_allow (entry ∷ []) target needs) _ shown)))
+
+-- an example of a listing
+pub listed_grant : (registry : Registry) (old new : Grants) (entry : List ℕ × AllowGrant) (path : List ℕ) (target : Target) (example : Example) → new ≡ entry ∷ [] → path ≡ entry.0
+    → IsBestTarget entry.1 old target → IsListed old new path target (Some example) → IsExampleBy registry old entry example
+listed_grant registry old new entry path target example is same best h =
+    let place = listing_at target in
+    let needs = asks true false [] in
+    let shown : shows old (entry ∷ []) place needs ≡ true = ap (λ alone. shows old alone place needs) (sym is) ∙ h.1 in
+    let asked_for : CanBeAsked registry (record { target = place; needs = needs }) = record {
+      tags = best.possible;
+      needs = record { calls = All-nil (IsCallBy registry); few = omega arith; something = refl };
+      listing = λ empty. (refl, refl);
+    } in
+    subst (IsExampleBy registry old entry) (sym h.0)
+    (same, (asked_for, both_left _ _ shown, negated (grants_allow old place needs) (both_right (grants_allow (entry ∷ []) place needs) _ shown)))
+
+-- what is answered of a grant where no question shows anything at its best target
+pub listed_or_silent : (registry : Registry) (old new : Grants) (entry : List ℕ × AllowGrant) (path : List ℕ) (target : Target) (asked : List Needs) (shown : Option Needs) (found : Option Example) → new ≡ entry ∷ [] → path ≡ entry.0
+    → AreEnough registry entry.1 old asked → IsBestTarget entry.1 old target → IsShownBy old new target asked shown → shown ≡ None → IsListed old new path target found
+    → MatchOption found (¬ WidensBy registry old (entry ∷ [])) (IsExampleBy registry old entry)
+listed_or_silent registry old new entry path target asked shown None is same enough best h none unlisted = silent_grant registry old new entry target asked shown is enough best h none unlisted
+listed_or_silent registry old new entry path target asked shown (Some example) is same enough best h none listed = listed_grant registry old new entry path target example is same best listed
 
 pub append_nil : (l : List Example) → l ++ [] ≡ l
 append_nil [] = refl

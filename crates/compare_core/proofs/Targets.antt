@@ -1,5 +1,5 @@
 -- Which targets no other beats.
-use Rattle.std.proofs.Common.{◌≡◌, ℕ, List, [], ◌∷◌, Bool, true, false, ◌&&◌, ◌||◌, ◌==◌, Option, Some, None, slice_get, length, refl, sym, ap, ◌∙◌, nat_eq}
+use Rattle.std.proofs.Common.{◌≡◌, ◌≢◌, ℕ, List, [], ◌∷◌, Bool, true, false, ◌&&◌, ◌||◌, ◌==◌, Option, Some, None, slice_get, length, refl, sym, ap, ◌∙◌, nat_eq}
 use Rattle.std.specs.List.{list_any, starts_with}
 use Rattle.std.specs.Option.{option_map_or}
 use Rattle.std.specs.Str.{bytes_eq}
@@ -11,11 +11,12 @@ use Rattle.cap_grants.specs.declared.grant.Part.{Part}
 use Rattle.cap_grants.specs.declared.grant.Part.TheVariants.{Any, Is}
 use Rattle.cap_grants.specs.declared.grant.Tag.{Tag}
 use Rattle.common_types.specs.declared.tags.AppTags.{AppTags}
-use Rattle.verdict_types.specs.Target.{Target}
+use Rattle.request_types.specs.Target.{Target}
 use Rattle.verdict_core.specs.Verdict.{names, matches_namespace, matches_tag, matches_prefix, matches_part, matches_pairs, matches_application, matches}
 use Rattle.compare_core.specs.declared.field.Field.{Field}
 use Rattle.compare_core.specs.declared.field.Field.TheVariants as fields
-use Rattle.compare_core.specs.Fresh.{IsFresh, IsBest, IsNameFor, leads_into, name_of, name_of_part, name_of_namespace, name_of_key, name_of_value, takes_pool, takes_namespace, takes_tags, takes_object, both_any, is_empty_prefix, BestPairs}
+use Rattle.compare_core.specs.Questions.{listing_at}
+use Rattle.compare_core.specs.Fresh.{IsFresh, IsBest, IsBestObject, IsBestTarget, IsNameFor, leads_into, name_of, name_of_part, name_of_namespace, name_of_key, name_of_value, takes_pool, takes_namespace, takes_tags, takes_object, both_any, BestPairs}
 use Rattle.compare_core.proofs.Bools.{both_left, both_right, both, either_first, any_also, none_at}
 use Rattle.compare_core.proofs.Fronts.{same_text, text_same, front_of_front, front_of_itself, no_further}
 
@@ -103,11 +104,6 @@ matches_so : (mine prefix object : List ℕ) → matches_prefix (Some mine) obje
 matches_so mine prefix [] h k = absurd (false≢true h)
 matches_so mine prefix (b ∷ bs) h k = k
 
--- the empty name has no front but itself
-empty_front : (text : List ℕ) → starts_with nat_eq [] text ≡ true → (length text == 0) ≡ true
-empty_front [] h = refl
-empty_front (b ∷ bs) h = absurd (false≢true h)
-
 -- a grant's own prefix, where it is not empty
 pub prefix_itself : (g : AllowGrant) (old : Grants) (prefix : List ℕ) → g.prefix ≡ Some prefix → (length prefix == 0) ≡ false → IsBest takes_object g old prefix
 prefix_itself g old prefix is filled = (
@@ -140,26 +136,31 @@ prefix_continued g old prefix object is fresh = (
     moves i entry at (Some text) e h other k =
         matches_so prefix text other k (front_of_front other prefix text (begins_so prefix other k) (front_at fields.Prefix old prefix object fresh i entry at text e (begins_so text object h)))
 
--- the listing, which no prefix matches
-pub listing : (g : AllowGrant) (old : Grants) → g.prefix ≡ None → IsBest takes_object g old []
-listing g old is =
-    (ap (λ o. matches_prefix o []) is, λ i entry at h other k. moves entry.1.prefix h other)
-  where
-    moves : (o : Option (List ℕ)) → matches_prefix o [] ≡ true → (other : List ℕ) → matches_prefix o other ≡ true
-    moves None h other = refl
-    moves (Some text) h other = absurd (false≢true h)
+-- a name that a prefix matches is no listing's
+pub of_prefix : (g : AllowGrant) (old : Grants) (prefix object : List ℕ) → g.prefix ≡ Some prefix → IsBest takes_object g old object → IsBestObject g old object
+of_prefix g old prefix object is best = (
+  best.0,
+  λ empty. false≢true (ap (λ o. matches_prefix (Some prefix) o) (sym empty) ∙ (ap (λ o. matches_prefix o object) (sym is) ∙ best.0)),
+  λ i entry at h other filled k. best.1 i entry at h other k,
+)
 
--- a fresh name is as good as the listing, where no prefix of old is empty
-pub fresh_object : (g : AllowGrant) (old : Grants) (object : List ℕ) → g.prefix ≡ None → list_any (λ entry. is_empty_prefix entry.1.prefix) old ≡ false → IsFresh fields.Prefix old [] object → IsBest takes_object g old object
-fresh_object g old object is filled fresh =
-    (ap (λ o. matches_prefix o object) is, λ i entry at h other k. moves i entry at entry.1.prefix refl h other)
+-- a fresh name is as good as that of any object
+pub fresh_object : (g : AllowGrant) (old : Grants) (object : List ℕ) → g.prefix ≡ None → IsFresh fields.Prefix old [] object → IsBestObject g old object
+fresh_object g old object is fresh = (
+  ap (λ o. matches_prefix o object) is,
+  λ empty. false≢true (sym fresh.1 ∙ ap (starts_with nat_eq []) empty),
+  λ i entry at h other filled k. moves i entry at entry.1.prefix refl h other filled,
+)
   where
+    begins : (text other : List ℕ) → starts_with nat_eq [] text ≡ true → other ≢ [] → matches_prefix (Some text) other ≡ true
+    begins [] [] h filled = absurd (filled refl)
+    begins [] (b ∷ bs) h filled = refl
+    begins (x ∷ xs) other h filled = absurd (false≢true h)
+
     moves : (i : ℕ) (entry : List ℕ × AllowGrant) → slice_get old i ≡ Some entry → (o : Option (List ℕ)) → entry.1.prefix ≡ o → matches_prefix o object ≡ true
-        → (other : List ℕ) → matches_prefix o other ≡ true
-    moves i entry at None e h other = refl
-    moves i entry at (Some text) e h other =
-        let front = front_at fields.Prefix old [] object fresh i entry at text e (begins_so text object h) in
-        absurd (false≢true (sym (none_at (λ entry. is_empty_prefix entry.1.prefix) old i entry filled at) ∙ (ap is_empty_prefix e ∙ empty_front text front)))
+        → (other : List ℕ) → other ≢ [] → matches_prefix o other ≡ true
+    moves i entry at None e h other filled = refl
+    moves i entry at (Some text) e h other filled = begins text other (front_at fields.Prefix old [] object fresh i entry at text e (begins_so text object h)) filled
 
 -- tags
 
@@ -255,18 +256,47 @@ one_pair old tag key value some for_key for_value = record {
 
 -- whole targets
 
-pub best_target : (g : AllowGrant) (old : Grants) (target : Target) → IsBest takes_pool g old target.pool → IsBest takes_namespace g old target.namespace
-    → IsBest takes_tags g old target.tags → IsBest takes_object g old target.object → IsBest matches g old target
-best_target g old target pool namespace tags object = (
-  both _ _ (both _ _ (both _ _ pool.0 namespace.0) tags.0) object.0,
-  λ i entry at h other k.
-      let theirs3 = both_left (names entry.1.pool target.pool && matches_namespace entry.1.namespace target.namespace && matches_tag entry.1.tag target.tags) _ h in
-      let theirs2 = both_left (names entry.1.pool target.pool && matches_namespace entry.1.namespace target.namespace) _ theirs3 in
-      let mine3 = both_left (names g.pool other.pool && matches_namespace g.namespace other.namespace && matches_tag g.tag other.tags) _ k in
-      let mine2 = both_left (names g.pool other.pool && matches_namespace g.namespace other.namespace) _ mine3 in
-      both _ _ (both _ _ (both _ _
-      (pool.1 i entry at (both_left (names entry.1.pool target.pool) _ theirs2) other.pool (both_left (names g.pool other.pool) _ mine2))
-      (namespace.1 i entry at (both_right (names entry.1.pool target.pool) _ theirs2) other.namespace (both_right (names g.pool other.pool) _ mine2)))
-      (tags.1 i entry at (both_right (names entry.1.pool target.pool && matches_namespace entry.1.namespace target.namespace) _ theirs3) other.tags (both_right (names g.pool other.pool && matches_namespace g.namespace other.namespace) _ mine3)))
-      (object.1 i entry at (both_right (names entry.1.pool target.pool && matches_namespace entry.1.namespace target.namespace && matches_tag entry.1.tag target.tags) _ h) other.object (both_right (names g.pool other.pool && matches_namespace g.namespace other.namespace && matches_tag g.tag other.tags) _ k)),
-)
+-- a target is matched by its parts
+matches_by : (g : AllowGrant) (t : Target) → names g.pool t.pool ≡ true → matches_namespace g.namespace t.namespace ≡ true → matches_tag g.tag t.tags ≡ true → matches_prefix g.prefix t.object ≡ true → matches g t ≡ true
+matches_by g t pool namespace tags object = both _ _ (both _ _ (both _ _ pool namespace) tags) object
+
+by_pool : (g : AllowGrant) (t : Target) → matches g t ≡ true → names g.pool t.pool ≡ true
+by_pool g t h = both_left (names g.pool t.pool) _ (both_left (names g.pool t.pool && matches_namespace g.namespace t.namespace) _ (both_left (names g.pool t.pool && matches_namespace g.namespace t.namespace && matches_tag g.tag t.tags) _ h))
+
+by_namespace : (g : AllowGrant) (t : Target) → matches g t ≡ true → matches_namespace g.namespace t.namespace ≡ true
+by_namespace g t h = both_right (names g.pool t.pool) _ (both_left (names g.pool t.pool && matches_namespace g.namespace t.namespace) _ (both_left (names g.pool t.pool && matches_namespace g.namespace t.namespace && matches_tag g.tag t.tags) _ h))
+
+by_tags : (g : AllowGrant) (t : Target) → matches g t ≡ true → matches_tag g.tag t.tags ≡ true
+by_tags g t h = both_right (names g.pool t.pool && matches_namespace g.namespace t.namespace) _ (both_left (names g.pool t.pool && matches_namespace g.namespace t.namespace && matches_tag g.tag t.tags) _ h)
+
+by_object : (g : AllowGrant) (t : Target) → matches g t ≡ true → matches_prefix g.prefix t.object ≡ true
+by_object g t h = both_right (names g.pool t.pool && matches_namespace g.namespace t.namespace && matches_tag g.tag t.tags) _ h
+
+-- the grant matches its best target
+pub best_there : (g : AllowGrant) (old : Grants) (best : Target) → IsBestTarget g old best → matches g best ≡ true
+best_there g old best is = matches_by g best is.pool.0 is.namespace.0 is.tags.0 is.object.0
+
+-- and what matches that, matches each object of the grant
+pub best_moves : (g : AllowGrant) (old : Grants) (best other : Target) → IsBestTarget g old best → other.object ≢ [] → matches g other ≡ true
+    → (i : ℕ) (entry : List ℕ × AllowGrant) → slice_get old i ≡ Some entry → matches entry.1 best ≡ true → matches entry.1 other ≡ true
+best_moves g old best other is filled k i entry at h =
+    matches_by entry.1 other
+    (is.pool.1 i entry at (by_pool entry.1 best h) other.pool (by_pool g other k))
+    (is.namespace.1 i entry at (by_namespace entry.1 best h) other.namespace (by_namespace g other k))
+    (is.tags.1 i entry at (by_tags entry.1 best h) other.tags (by_tags g other k))
+    (is.object.2 i entry at (by_object entry.1 best h) other.object filled (by_object g other k))
+
+-- where it matches some listing, it matches that of the best target
+pub listing_there : (g : AllowGrant) (old : Grants) (best other : Target) → IsBestTarget g old best → other.object ≡ [] → matches g other ≡ true → matches g (listing_at best) ≡ true
+listing_there g old best other is empty k =
+    matches_by g (listing_at best) is.pool.0 is.namespace.0 is.tags.0 (ap (matches_prefix g.prefix) (sym empty) ∙ by_object g other k)
+
+-- and what matches that, matches each listing of the grant
+pub listing_moves : (g : AllowGrant) (old : Grants) (best other : Target) → IsBestTarget g old best → other.object ≡ [] → matches g other ≡ true
+    → (i : ℕ) (entry : List ℕ × AllowGrant) → slice_get old i ≡ Some entry → matches entry.1 (listing_at best) ≡ true → matches entry.1 other ≡ true
+listing_moves g old best other is empty k i entry at h =
+    matches_by entry.1 other
+    (is.pool.1 i entry at (by_pool entry.1 (listing_at best) h) other.pool (by_pool g other k))
+    (is.namespace.1 i entry at (by_namespace entry.1 (listing_at best) h) other.namespace (by_namespace g other k))
+    (is.tags.1 i entry at (by_tags entry.1 (listing_at best) h) other.tags (by_tags g other k))
+    (ap (matches_prefix entry.1.prefix) empty ∙ by_object entry.1 (listing_at best) h)

@@ -6,7 +6,7 @@ use Rattle.cap_grants.specs.declared.grant.Access.{Access}
 use Rattle.cap_grants.specs.declared.grant.Access.TheVariants as accesses
 use Rattle.cap_grants.specs.declared.grant.AllowGrant.{AllowGrant}
 use Rattle.verdict_core.specs.Verdict.{covers}
-use Rattle.verdict_types.specs.declared.request.ClassCall.{ClassCall}
+use Rattle.request_types.specs.declared.request.ClassCall.{ClassCall}
 use Rattle.compare_core.specs.Fresh.{IsFresh, name_of}
 use Rattle.compare_core.specs.Widening.{IsCallBy}
 use Rattle.compare_core.specs.declared.field.Field.{Field}

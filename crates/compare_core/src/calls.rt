@@ -19,7 +19,7 @@ fn name_of_call(
     grant: &AllowGrant,
     old: &Ticket,
 ) -> Result<Name, OutOfMemory>
-    requires { length old.now.grants ≤ 256 }
+    requires { length old.now.grants ≤ 16384 }
     ensures { IfOk result (λ name. IsNameOfCall field grant.now old.now.grants name) }
 {
     match name_of(field, grant) {
@@ -65,7 +65,7 @@ fn hardest(access: &Access, class: Name, method: Name) -> ClassCall
 /// The call of a grant that no other beats, or none where the grant covers none: each grant of the old ticket that
 /// covers it covers all that the grant does.
 fn best_calls(alloc: Global, grant: &AllowGrant, old: &Ticket) -> Result<Calls, OutOfMemory>
-    requires { length old.now.grants ≤ 256 }
+    requires { length old.now.grants ≤ 16384 }
     ensures { IfOk result (λ calls. AreCallsFor Registry.Every grant.now old.now.grants calls) }
 {
     let mut calls = Vec::new(alloc);
@@ -85,7 +85,7 @@ pub(crate) fn calls_for(
     grant: &AllowGrant,
     old: &Ticket,
 ) -> Result<Calls, OutOfMemory>
-    requires { length old.now.grants ≤ 256 }
+    requires { length old.now.grants ≤ 16384 }
     ensures { IfOk result (λ calls. AreCallsFor of grant.now old.now.grants calls) }
 {
     match of {

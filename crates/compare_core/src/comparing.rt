@@ -1,12 +1,13 @@
 //! What one ticket allows that another denies.
 
-ghost use Rattle.std.specs.Prelude.{◌≡◌, ◌≤◌, ◌↔◌, [], ◌∷◌, length, IfOk, MatchOption};
+ghost use Rattle.std.specs.Prelude.{◌≡◌, ◌↔◌, [], ◌∷◌, IfOk, MatchOption};
 ghost use Rattle.std.specs.List.{All};
+ghost use Rattle.compare_core.specs.Questions.{IsListed};
 ghost use Rattle.compare_core.specs.Widening.{Answers, AnswersBy, IsExampleBy, IsGained, IsGainedBy, Widens, WidensBy, request_of};
 
 use crate::best::best_target;
 use crate::owned_target::OwnedTarget;
-use crate::question::{questions, shown_needs};
+use crate::question::{asks_to_read, questions, shown_needs, shows};
 use crate::registry::Registry;
 use cap_text::AllowGrant;
 use common_types::OutOfMemory;
@@ -46,24 +47,48 @@ fn alone(
     Ok(grants)
 }
 
-/// An example of what a grant by itself allows and the old ticket denies, if there is anything.
-fn example_of(
+/// An example of a listing, of which new grants allow the reading where the old ticket denies it, if so.
+fn listing_example(
+    alloc: Global,
+    path: &Path,
+    old: &Ticket,
+    new: &[(Path, AllowGrant)],
+    target: OwnedTarget,
+) -> Result<Option<Example>, OutOfMemory>
+    ensures { IfOk result (λ found. IsListed old.now.grants new.now path.now target found) }
+{
+    let target = target.into_listing(alloc);
+    let needs = asks_to_read(alloc);
+    if !shows(old, new, &target, &needs) {
+        return Ok(None);
+    }
+    Ok(Some(Example {
+        path: path.copy()?,
+        target,
+        needs,
+    }))
+}
+
+/// An example of what a grant by itself allows and the old ticket denies, if there is anything. The requests are those of
+/// [`widening_by`], and the only error is out of memory.
+pub fn example_of(
     alloc: Global,
     registry: Registry,
     old: &Ticket,
     path: &Path,
     grant: &AllowGrant,
 ) -> Result<Option<Example>, OutOfMemory>
-    requires { length old.now.grants ≤ 256 }
     ensures { IfOk result (λ found. MatchOption found
         (¬ WidensBy registry old.now.grants ((path.now, grant.now) ∷ []))
         (λ example. IsExampleBy registry old.now.grants (path.now, grant.now) example)) }
 {
+    let _old_grants = old.grants();
     let questions = questions(alloc, registry, grant, old)?;
     let target = best_target(alloc, grant, old)?;
-    let new = alone(alloc, path, grant)?;
-    match shown_needs(&questions, old, new.as_slice(), &target)? {
-        None => Ok(None),
+    let entry = alone(alloc, path, grant)?;
+    let new = entry.as_slice();
+    match shown_needs(&questions, old, new, &target)? {
+        None => listing_example(alloc, path, old, new, target),
         Some(needs) => Ok(Some(Example {
             path: path.copy()?,
             target,
@@ -75,8 +100,9 @@ fn example_of(
 /// For each grant of `new`, in order, that by itself allows some request which `old` denies, its path and one such
 /// request. Where there is none, `new` allows nothing that `old` denies.
 ///
-/// The requests are those of all targets and of all needs whose calls are of the registry. When a ticket ends is not
-/// looked at. It has at most 256 grants, so that letters are left for names that `old` does not speak of.
+/// The requests are all that can be asked: of all pools, of all tags that a pool can have, of all namespaces and all objects, for
+/// something, by at most 16 calls of the registry; and the listings, which only read. When a ticket ends is not looked at. A
+/// ticket has at most `verdict_core::MAX_GRANTS` grants, so that characters are left for names that `old` does not speak of.
 pub fn widening_by(
     alloc: Global,
     registry: Registry,
@@ -87,7 +113,6 @@ pub fn widening_by(
     ensures gained { IfOk result (λ examples. All (λ example. IsGainedBy registry old.now.grants new.now.grants (request_of example)) examples.items) }
     ensures empty { IfOk result (λ examples. (examples.items ≡ []) ↔ ¬ WidensBy registry old.now.grants new.now.grants) }
 {
-    let _old_grants = old.grants();
     let mut examples = Vec::new(alloc);
     for entry in new.grants() {
         if let Some(example) = example_of(alloc, registry, old, &entry.0, &entry.1)? {
@@ -97,8 +122,7 @@ pub fn widening_by(
     Ok(examples)
 }
 
-/// The same over every class registry: the requests are those of all targets and all needs, with calls of any class and
-/// any method, on the default list or not, each of which reads, writes or both.
+/// The same over every class registry: the requests have calls of any class and any method, on the default list or not, each of which reads, writes or both.
 pub fn widening(alloc: Global, old: &Ticket, new: &Ticket) -> Result<Vec<Example>, OutOfMemory>
     ensures answers { IfOk result (λ examples. Answers old.now.grants new.now.grants examples.items) }
     ensures gained { IfOk result (λ examples. All (λ example. IsGained old.now.grants new.now.grants (request_of example)) examples.items) }

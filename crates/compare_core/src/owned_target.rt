@@ -1,8 +1,9 @@
 //! Targets that own their names.
 
-ghost use Rattle.std.specs.Prelude.{◌≡◌};
+ghost use Rattle.std.specs.Prelude.{◌≡◌, []};
 
 use common_types::{Name, Tags};
+use std::alloc::Global;
 use std::marker::Model;
 use verdict_core::Target;
 
@@ -29,7 +30,7 @@ impl Drop for OwnedTarget {
 }
 
 impl Model for OwnedTarget {
-    ghost use Rattle.verdict_types.specs.Target as verdict_core;
+    ghost use Rattle.request_types.specs.Target as verdict_core;
 
     ghost Value = { verdict_core.Target };
 
@@ -37,15 +38,33 @@ impl Model for OwnedTarget {
 }
 
 impl OwnedTarget {
+    /// The listing of its namespace. It takes no memory.
+    pub(crate) fn into_listing(self, alloc: Global) -> OwnedTarget
+        ensures { result ≡ record { pool = self.pool; tags = self.tags; namespace = self.namespace; object = [] } }
+    {
+        let OwnedTarget {
+            pool,
+            tags,
+            namespace,
+            object: _,
+        } = self;
+        OwnedTarget {
+            pool,
+            tags,
+            namespace,
+            object: Name::from_string(String::new(alloc)),
+        }
+    }
+
     /// The target, for a verdict. It copies nothing.
     pub fn as_target(&self) -> Target<'_>
         ensures { result ≡ self.now }
     {
         Target {
-            pool: self.pool.as_str(),
+            pool: self.pool.as_str().as_bytes(),
             tags: &self.tags,
-            namespace: self.namespace.as_str(),
-            object: self.object.as_str(),
+            namespace: self.namespace.as_str().as_bytes(),
+            object: self.object.as_str().as_bytes(),
         }
     }
 }

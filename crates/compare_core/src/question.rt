@@ -1,6 +1,6 @@
 //! The needs that are tried at a target.
 
-ghost use Rattle.std.specs.Prelude.{◌≡◌, ◌≤◌, ◌++◌, length, map, IfOk, OnOk};
+ghost use Rattle.std.specs.Prelude.{◌≡◌, ◌≤◌, ◌++◌, [], true, false, length, map, IfOk, OnOk};
 ghost use Rattle.compare_core.specs.Questions as spec;
 ghost use Rattle.compare_core.specs.Questions.{AreEnough, IsShownBy};
 
@@ -22,6 +22,13 @@ fn asks(reads: bool, writes: bool, calls: Vec<ClassCall>) -> Needs
         writes,
         calls: Calls::from_vec(calls),
     }
+}
+
+/// The needs of a listing.
+pub(crate) fn asks_to_read(alloc: Global) -> Needs
+    ensures { result ≡ spec.asks true false [] }
+{
+    asks(true, false, Vec::new(alloc))
 }
 
 /// Needs with one call.
@@ -54,7 +61,7 @@ fn push_calls(
     Ok(())
 }
 
-/// The needs with at most one of these calls: the plainest first, and those that need nothing last.
+/// The needs with at most one of these calls that ask for something: the plainest first.
 fn needs_with(alloc: Global, calls: &[ClassCall]) -> Result<Vec<Needs>, OutOfMemory>
     ensures { IfOk result (λ questions. questions.items ≡ spec.questions calls.now) }
 {
@@ -66,7 +73,6 @@ fn needs_with(alloc: Global, calls: &[ClassCall]) -> Result<Vec<Needs>, OutOfMem
     push_calls(&mut questions, alloc, true, false, calls)?;
     push_calls(&mut questions, alloc, false, true, calls)?;
     push_calls(&mut questions, alloc, true, true, calls)?;
-    questions.push(asks(false, false, Vec::new(alloc)))?;
     Ok(questions)
 }
 
@@ -77,14 +83,19 @@ pub(crate) fn questions(
     grant: &AllowGrant,
     old: &Ticket,
 ) -> Result<Vec<Needs>, OutOfMemory>
-    requires { length old.now.grants ≤ 256 }
+    requires { length old.now.grants ≤ 16384 }
     ensures { IfOk result (λ questions. AreEnough registry grant.now old.now.grants questions.items) }
 {
     needs_with(alloc, calls_for(alloc, registry, grant, old)?.as_slice())
 }
 
 /// Whether the new grants allow the needs at a target where the old one denies them.
-fn shows(old: &Ticket, new: &[(Path, AllowGrant)], target: &OwnedTarget, needs: &Needs) -> bool
+pub(crate) fn shows(
+    old: &Ticket,
+    new: &[(Path, AllowGrant)],
+    target: &OwnedTarget,
+    needs: &Needs,
+) -> bool
     ensures { result ≡ spec.shows old.now.grants new.now target.now needs.now }
 {
     grants_allow(new, &target.as_target(), needs)

@@ -4,10 +4,10 @@ use Rattle.std.proofs.lemmas.List.Sums.{fold-append}
 use Rattle.std.specs.Ordering.{eq_by_cmp}
 use Rattle.std.specs.FinMap.{empty, get, get-insert, get-remove}
 use Rattle.verdict_core.specs.Verdict.{report_of}
-use Rattle.object_ops.specs.Content.{Content}
+use Rattle.object_core.specs.Content.{Content}
 use Rattle.object_core.specs.Effect.{effect}
-use Rattle.object_ops.specs.Operations.{Run, left_by}
-use Rattle.object_ops.specs.declared.op.Op.{Op}
+use Rattle.object_core.specs.Operations.{Run, left_by}
+use Rattle.object_core.specs.declared.op.Op.{Op}
 use Rattle.store_core.specs.Request.{Sealed, Work, Vector, Listing, target_of, needs_for}
 use Rattle.store_core.specs.Store.{Store, ObjectName, name_cmp, with_object}
 use Rattle.store_core.specs.Names.{name_cmp_total, is_same-ties, same_from_is_same}

@@ -8,7 +8,7 @@ use Rattle.std.specs.FinMap.Entries.{find, where_key, is_sorted-where_key, find-
 use Rattle.std.specs.Cmp.{unsigned_Decides}
 use Rattle.std.proofs.lemmas.Slice.Eq.{bytes_eq-Decides}
 use Rattle.place_core.specs.Placement.{group_of}
-use Rattle.object_ops.specs.Content.{Content}
+use Rattle.object_core.specs.Content.{Content}
 use Rattle.object_core.specs.Effect.{effect}
 use Rattle.store_core.specs.Request.{Sealed, Work, Vector, Listing, object_of}
 use Rattle.store_core.specs.Store.{Store, ObjectName, name_cmp}

@@ -1,18 +1,20 @@
-//! What standard error tells beside an answer.
+//! Notes on standard error about requests: calls that the class registry lacks, and access that depends on a pool's tags.
 
-use crate::arguments::is_option;
-use crate::profile_notes::push_name;
-use crate::request_words::{asks_nothing, call_of};
-use crate::who::ALWAYS;
-use clap::ArgMatches;
-use common_types::{OutOfMemory, Tags};
-use gate_text::{Answer, Asked, Entity, VerdictFault, answer};
+use command_arguments::is_option;
+use command_steps::{Answered, RequestWords, call_of, with_line};
+use common_types::OutOfMemory;
+use gate_files::{Choice, Chosen, push_name, taken_line};
 use object_core::{NeedsFault, needs_of, registry};
 use std::alloc::{AllocError, Global};
 use std::fmt::Write;
-use verdict_core::Target;
+use verdict_core::Condition;
+use verdict_text::{Answer, Asked, ReadEntity, Verdict, answer_of, needs_asked};
 
-const ASKS_NOTHING: &str = "osdgate: the request asks nothing; did you forget --read?\n";
+/// The tick of each request that `who` answers.
+pub(crate) const FIRST_TICK: u64 = 0;
+
+/// The note where a grant is for pools with a tag, and nothing says which tags the pool has.
+const TAGS_NEEDED: &str = "access depends on the pool's tags, give --pools or --tag";
 
 /// Whether the class registry lacks the method of a call.
 fn is_unknown(alloc: Global, word: &str) -> Result<bool, OutOfMemory> {
@@ -32,136 +34,154 @@ fn push_registry(line: &mut String, alloc: Global) -> Result<(), OutOfMemory> {
     Ok(())
 }
 
-/// Adds which call the class registry does not have, which it has, and what to do.
+/// Adds which call the class registry lacks, which it has, and what to do.
 fn push_unknown(line: &mut String, alloc: Global, word: &str) -> Result<(), OutOfMemory> {
-    line.push_str("osdgate: the class registry has no ")?;
+    line.push_str("the class registry has no ")?;
     push_name(line, word)?;
     line.push_str(", only")?;
     push_registry(line, alloc)?;
     line.push_str(
-        "; a call of another one says what it does: --call CLASS.METHOD:r, :w or :rw, and :listed behind it where the class is on the default list\n",
+        "; a call of another one says what it does: --call CLASS.METHOD:r, :w or :rw, and :listed behind it where the class is on the default list",
     )
 }
 
-/// The line that tells of a call that the class registry does not have. A word that is an option without its dashes is
-/// told so.
-fn unknown_line(alloc: Global, word: &str) -> Result<String, OutOfMemory> {
+/// The note on a call that the class registry lacks. A word that is an option without its dashes is named so.
+fn unknown_note(alloc: Global, word: &str) -> Result<String, OutOfMemory> {
     if is_option(word) {
-        return format!(in alloc; "osdgate: {word} is no call; the option is --{word}\n");
+        return format!(in alloc; "{word} is no call; the option is --{word}");
     }
-    let mut line = String::new(alloc);
-    push_unknown(&mut line, alloc, word)?;
-    Ok(line)
+    let mut note = String::new(alloc);
+    push_unknown(&mut note, alloc, word)?;
+    Ok(note)
 }
 
-/// A line on the first call that the class registry does not have, or nothing.
-fn unknown_call(alloc: Global, matches: &ArgMatches<'_>) -> Result<String, OutOfMemory> {
-    if let Some(words) = matches.get_strs("calls") {
-        for word in words {
-            if is_unknown(alloc, word)? {
-                return unknown_line(alloc, word);
-            }
+/// The note on the first of some calls that the class registry lacks, empty if it has all.
+fn unknown_call(alloc: Global, words: &[&str]) -> Result<String, OutOfMemory> {
+    for word in words {
+        if is_unknown(alloc, word)? {
+            return unknown_note(alloc, word);
         }
     }
     Ok(String::new(alloc))
 }
 
-/// What came of a request.
-#[derive(Clone, Copy, PartialEq, Eq)]
-pub(crate) enum Outcome {
-    Answered,
-    /// Its calls are refused.
-    NoCalls,
-    /// The capability text is refused.
-    NoGrants,
-}
-
-impl Outcome {
-    pub(crate) fn of(answer: &Answer) -> Outcome {
-        match answer {
-            Ok(_) => Outcome::Answered,
-            Err(VerdictFault::Calls(_)) => Outcome::NoCalls,
-            Err(_) => Outcome::NoGrants,
-        }
-    }
-}
-
-/// A line on the call that the class registry does not have, where that is why there is no answer; one on a request that
-/// asks nothing, where there is an answer; or nothing.
-pub(crate) fn note_of(
+/// A line on the first call of a request that the class registry lacks, behind what names the request; empty if it has all.
+pub(crate) fn calls_line(
     alloc: Global,
-    matches: &ArgMatches<'_>,
-    outcome: Outcome,
+    request: &RequestWords<'_, '_>,
+    before: &str,
 ) -> Result<String, OutOfMemory> {
-    match outcome {
-        Outcome::NoCalls => unknown_call(alloc, matches),
-        Outcome::Answered if asks_nothing(matches) => String::from_str(alloc, ASKS_NOTHING),
-        _ => Ok(String::new(alloc)),
+    let note = unknown_call(alloc, request.call_words())?;
+    if note.is_empty() {
+        return Ok(note);
+    }
+    format!(in alloc; "osdgate: {before}{note}\n")
+}
+
+/// Whether the calls of a request are refused, whatever the text.
+pub(crate) fn refuses_calls(alloc: Global, asked: &Asked<'_>) -> Result<bool, OutOfMemory> {
+    match needs_asked(alloc, asked) {
+        Ok(_) => Ok(false),
+        Err(NeedsFault::OutOfMemory) => Err(AllocError),
+        Err(_) => Ok(true),
     }
 }
 
-/// The fault for which an entity has no verdict, if it has none.
-fn fault_of(
+/// A line on the tags that a request takes of a file of pools, empty if it takes none.
+pub(crate) fn tags_line(
     alloc: Global,
-    entity: &Entity,
-    asked: &Asked<'_>,
-) -> Result<Option<String>, OutOfMemory> {
-    match answer(alloc, entity.osd.as_str(), asked)? {
-        Ok(_) => Ok(None),
-        Err(fault) => Ok(Some(format!(in alloc; "{fault}")?)),
+    request: &RequestWords<'_, '_>,
+) -> Result<String, OutOfMemory> {
+    match request.pool() {
+        Some(pool) => taken_line(alloc, pool),
+        None => Ok(String::new(alloc)),
     }
 }
 
-/// Adds an entity and the number of the fault for which it has no verdict; answers whether it has none.
-fn push_unjudged(
-    line: &mut String,
+/// The lines on a request: the tags that it takes of a file of pools, and its first unknown call where its calls are refused.
+pub(crate) fn request_lines(
     alloc: Global,
-    entity: &Entity,
+    request: &RequestWords<'_, '_>,
+    calls_are_refused: bool,
+) -> Result<String, OutOfMemory> {
+    let lines = tags_line(alloc, request)?;
+    if calls_are_refused {
+        return with_line(lines, calls_line(alloc, request, ""));
+    }
+    Ok(lines)
+}
+
+/// Whether a request is denied by a grant that is for pools with a tag.
+pub(crate) fn fails_by_tag(answer: &Answer) -> bool {
+    match answer {
+        Ok(Verdict::Denied(report)) => report.lines().iter().any(|line| line.1 == Condition::Tag),
+        _ => false,
+    }
+}
+
+/// Whether an entity is denied by a grant that is for pools with a tag. A text without the word has no such grant.
+fn depends_on_tags(
+    alloc: Global,
+    entity: &ReadEntity,
     asked: &Asked<'_>,
 ) -> Result<bool, OutOfMemory> {
-    let Some(fault) = fault_of(alloc, entity, asked)? else {
+    if !entity.osd.text().contains("tag") {
         return Ok(false);
-    };
-    let number = fault.as_str().split(' ').next().unwrap_or("");
-    if !line.is_empty() {
-        line.push_str(", ")?;
     }
-    push_name(line, entity.name.as_str())?;
-    write!(line, " ({number})")?;
-    Ok(true)
+    Ok(fails_by_tag(&answer_of(alloc, entity.osd.read(), asked)?))
 }
 
-/// What asks for nothing, so that a text alone can be the reason that there is no verdict.
-fn nothing_asked<'a>(tags: &'a Tags) -> Asked<'a> {
-    Asked {
-        target: Target {
-            pool: "",
-            tags,
-            namespace: "",
-            object: "",
-        },
-        reads: false,
-        writes: false,
-        calls: &[],
-        stated: &[],
-        times: ALWAYS,
-    }
+/// The entities whose access depends on a pool's tags that are not known.
+#[derive(Drop)]
+struct TagNames {
+    /// Their names, with commas between them.
+    names: String,
+    /// That is not accepted of one of them.
+    fails: bool,
 }
 
-/// A line on the entities that have no verdict, since their texts are refused, or nothing.
-pub(crate) fn unjudged_line(alloc: Global, entities: &[Entity]) -> Result<String, OutOfMemory> {
-    let tags = Tags::from_vec(Vec::new(alloc));
-    let asked = nothing_asked(&tags);
+/// The entities that are denied by a grant for pools with a tag.
+fn tag_names(
+    alloc: Global,
+    chosen: &Chosen,
+    choice: Choice<'_>,
+    asked: &Asked<'_>,
+) -> Result<TagNames, OutOfMemory> {
     let mut names = String::new(alloc);
-    let mut count = 0usize;
-    for entity in entities {
-        if push_unjudged(&mut names, alloc, entity, &asked)? {
-            count = count.saturating_add(1);
+    let mut fails = false;
+    for entity in chosen.entities() {
+        if depends_on_tags(alloc, entity, asked)? {
+            names.push_str(if names.is_empty() { "" } else { ", " })?;
+            push_name(&mut names, entity.name.as_str())?;
+            fails = fails || !choice.accepts(entity.name.as_str());
         }
     }
-    match count {
-        0 => Ok(String::new(alloc)),
-        1 => format!(in alloc; "osdgate: 1 entity is not judged: {names}\n"),
-        _ => format!(in alloc; "osdgate: {count} entities are not judged: {names}\n"),
+    Ok(TagNames { names, fails })
+}
+
+/// An answer with a line on the entities whose access depends on tags that the request does not know, behind what names the
+/// request. Such an entity makes it fail, unless the choice accepts that.
+pub(crate) fn with_unknown_tags(
+    alloc: Global,
+    mut answered: Answered,
+    chosen: &Chosen,
+    choice: Choice<'_>,
+    request: &RequestWords<'_, '_>,
+    before: &str,
+) -> Result<Answered, OutOfMemory> {
+    if request.knows_tags() {
+        return Ok(answered);
     }
+    let found = tag_names(alloc, chosen, choice, &request.asked(FIRST_TICK))?;
+    if found.names.is_empty() {
+        return Ok(answered);
+    }
+    answered.printed.fails = answered.printed.fails || found.fails;
+    let names = found.names.as_str();
+    answered.with_note(format!(in alloc; "osdgate: {before}{TAGS_NEEDED}: {names}\n"))
+}
+
+/// The line on a verdict that depends on tags that the request does not know.
+pub(crate) fn verdict_tag_line(alloc: Global) -> Result<String, OutOfMemory> {
+    format!(in alloc; "osdgate: {TAGS_NEEDED}\n")
 }

@@ -1,159 +1,192 @@
-//! What `osdgate share` answers.
+//! `osdgate share`.
 
-use crate::answers::{Answered, entities_in, format_of, pools_given, refused_caps};
-use crate::file_fault::Purpose;
-use crate::input_files::InputFiles;
-use crate::no_answer::NoAnswer;
-use crate::pasted::refusal_line;
-use crate::profile_notes::push_name;
-use crate::request_words::{BadWords, value_of};
-use crate::who::tell_entities;
+use crate::limited::limited_entities;
 use clap::ArgMatches;
+use command_steps::{
+    Answered, BadWords, Methods, NoAnswer, chosen_in, first_fault_note, format_of, known_calls,
+    limited_rights, methods_line, methods_of, pools_given, reader_of,
+};
 use common_types::OutOfMemory;
-use gate_text::{Entity, Format, Printed};
+use gate_files::{Chosen, InputFiles, Screen};
 use share_core::Pool;
-use share_text::{Strictness, flow_entities, share_entities, share_texts};
+use share_text::{Strictness, flow_entities, share_entities, share_read};
 use std::alloc::Global;
 use std::io::Read;
+use verdict_core::ClassCall;
+use verdict_text::{Printed, ReadEntity, ReadText, Reader, Reading, Rules};
 
-/// The answer for two texts.
-fn answered_two<'a>(
-    alloc: Global,
-    first: &'a str,
-    second: &'a str,
-    check: bool,
-) -> Result<Answered<'a>, OutOfMemory> {
-    let caps = refused_caps(alloc, first, second)?;
-    Ok(Answered {
-        printed: share_texts(alloc, first, second, check)?,
-        caps,
-        note: refusal_line(alloc, caps)?,
-    })
+/// What is asked of the entities of a file.
+#[derive(Clone, Copy)]
+enum Question {
+    /// What each two of them both reach.
+    Shared(Strictness),
+    /// Where what each of them writes may come to. With a check a line fails.
+    Flows { check: bool },
 }
 
-/// The answer for texts, of which there must be two.
-fn answered_texts<'a>(
-    alloc: Global,
-    texts: &[&'a str],
-    check: bool,
-) -> Result<Answered<'a>, NoAnswer> {
+/// The two texts of the arguments.
+fn two_texts<'a>(texts: &[&'a str]) -> Result<(&'a str, &'a str), BadWords> {
     match texts {
-        [first, second] => answered_two(alloc, *first, *second, check).map_err(NoAnswer::from),
-        _ => Err(NoAnswer::Words(BadWords::TwoTexts)),
+        [first, second] => Ok((*first, *second)),
+        _ => Err(BadWords::TwoTexts),
     }
 }
 
-/// Whether one of some entities has this name.
-fn is_named(entities: &[Entity], name: &str) -> bool {
-    entities.iter().any(|entity| entity.name.as_str() == name)
-}
-
-/// Whether an entity has one of these names.
-fn is_left_out(entity: &Entity, names: &[&str]) -> bool {
-    names.iter().any(|name| entity.name.as_str() == *name)
-}
-
-/// That a file has no entity of a name that is to be left out.
-fn no_entity_line(alloc: Global, name: &str) -> Result<String, OutOfMemory> {
-    let mut line = String::from_str(alloc, "`--without` names no entity of the file: ")?;
-    push_name(&mut line, name)?;
-    Ok(line)
-}
-
-/// A line on the first of some names that no entity has, or nothing.
-fn missing_line(
-    alloc: Global,
-    entities: &[Entity],
-    names: &[&str],
-) -> Result<Option<String>, OutOfMemory> {
-    match names.iter().find(|name| !is_named(entities, name)) {
-        Some(name) => Ok(Some(no_entity_line(alloc, name)?)),
-        None => Ok(None),
+/// What the arguments ask of the entities of a file. At most one file is standard input.
+fn question_of(matches: &ArgMatches<'_>) -> Result<Question, BadWords> {
+    if matches.get_str("auth") == Some("-") && matches.get_str("pools") == Some("-") {
+        return Err(BadWords::OneInput);
     }
-}
-
-/// The entities of a file but for those that are left out, each of which it must have.
-fn kept_entities<F: InputFiles, R: Read>(
-    alloc: Global,
-    files: &F,
-    reader: &mut R,
-    matches: &ArgMatches<'_>,
-) -> Result<Vec<Entity>, NoAnswer> {
-    let names = matches.get_strs("without").unwrap_or(&[]);
-    let path = value_of(matches, "auth");
-    let mut entities = entities_in(alloc, files, reader, Purpose::Entities, path)?;
-    if let Some(line) = missing_line(alloc, entities.as_slice(), names)? {
-        return Err(NoAnswer::Told(line));
-    }
-    entities.retain(|entity| !is_left_out(entity, names));
-    Ok(entities)
-}
-
-/// Whether both files are standard input.
-fn is_one_input(matches: &ArgMatches<'_>) -> bool {
-    matches.get_str("auth") == Some("-") && matches.get_str("pools") == Some("-")
-}
-
-/// What is printed of some entities, of some pools where they are given.
-fn printed_entities(
-    alloc: Global,
-    entities: &[Entity],
-    pools: Option<&[Pool]>,
-    matches: &ArgMatches<'_>,
-    format: Format,
-) -> Result<Printed, OutOfMemory> {
     let check = matches.get_flag("check");
     if matches.get_flag("flows") {
-        return flow_entities(alloc, entities, pools, check);
+        return Ok(Question::Flows { check });
     }
-    let strictness = Strictness {
+    Ok(Question::Shared(Strictness {
         reads: matches.get_flag("reads"),
         check,
-        format,
+        format: format_of(matches),
+    }))
+}
+
+/// A text that was read.
+fn read_text(alloc: Global, rules: &Reader, text: &str) -> Result<ReadText, OutOfMemory> {
+    ReadText::of(alloc, rules, String::from_str(alloc, text)?, None)
+}
+
+/// A reading whose grants give what they do where requests call these methods alone.
+fn limited_reading(
+    alloc: Global,
+    reading: &Reading,
+    calls: &[ClassCall],
+) -> Result<Reading, OutOfMemory> {
+    match reading {
+        Ok(rights) => Ok(Ok(limited_rights(alloc, rights, calls)?)),
+        Err(fault) => Ok(Err(*fault)),
+    }
+}
+
+/// What is printed of two texts where requests call the methods of Ceph's class table alone.
+fn known_texts(
+    alloc: Global,
+    first: &Reading,
+    second: &Reading,
+    check: bool,
+) -> Result<Printed, OutOfMemory> {
+    let calls = known_calls(alloc)?;
+    let first = limited_reading(alloc, first, calls.as_slice())?;
+    let second = limited_reading(alloc, second, calls.as_slice())?;
+    share_read(alloc, &first, &second, check)
+}
+
+/// Of what is printed over every registry and over the methods of Ceph's class table, that which is asked for, with a line on
+/// whether they differ.
+fn by_methods(
+    alloc: Global,
+    methods: Methods,
+    every: Printed,
+    known: Printed,
+) -> Result<Answered, OutOfMemory> {
+    let differs = every.text != known.text;
+    let printed = if methods == Methods::Known {
+        known
+    } else {
+        every
     };
-    share_entities(alloc, entities, strictness, pools)
+    let line = String::from_str(alloc, methods_line(methods, differs))?;
+    Ok(Answered::noted(alloc, printed, line))
 }
 
-/// The answer for some entities.
-fn answered_entities<'a>(
+/// What two texts both reach.
+fn shared_texts(
     alloc: Global,
-    entities: &[Entity],
+    rules: &Reader,
+    texts: (&str, &str),
+    check: bool,
+    methods: Methods,
+    screen: Screen,
+) -> Result<Answered, OutOfMemory> {
+    let first = read_text(alloc, rules, texts.0)?;
+    let second = read_text(alloc, rules, texts.1)?;
+    let every = share_read(alloc, first.read(), second.read(), check)?;
+    let answered = match rules.rules() {
+        Rules::Project => Answered::of(alloc, every),
+        Rules::Ceph => {
+            let known = known_texts(alloc, first.read(), second.read(), check)?;
+            by_methods(alloc, methods, every, known)?
+        }
+    };
+    answered
+        .with_note(first_fault_note(alloc, &first, &second, screen))?
+        .about_text(first)?
+        .about_text(second)
+}
+
+/// What is printed of entities, of these pools alone if they are given.
+fn printed_entities(
+    alloc: Global,
+    entities: &[ReadEntity],
     pools: Option<&[Pool]>,
-    matches: &ArgMatches<'_>,
-    format: Format,
-) -> Result<Answered<'a>, OutOfMemory> {
-    let printed = printed_entities(alloc, entities, pools, matches, format)?;
-    tell_entities(alloc, Answered::of(alloc, printed), matches, entities)
+    question: Question,
+) -> Result<Printed, OutOfMemory> {
+    match question {
+        Question::Flows { check } => flow_entities(alloc, entities, pools, check),
+        Question::Shared(strictness) => share_entities(alloc, entities, strictness, pools),
+    }
 }
 
-/// The answer for the entities of a file.
-fn answered_file<'a, F: InputFiles, R: Read>(
+/// What the entities of a file share, of these pools alone if they are given.
+fn shared_entities(
     alloc: Global,
+    rules: &Reader,
+    chosen: &Chosen,
+    pools: Option<&[Pool]>,
+    question: Question,
+    methods: Methods,
+) -> Result<Answered, NoAnswer> {
+    let every = printed_entities(alloc, chosen.entities(), pools, question)?;
+    let answered = match limited_entities(alloc, rules, chosen)? {
+        None => {
+            let line = String::from_str(alloc, methods_line(methods, false))?;
+            Answered::noted(alloc, every, line)
+        }
+        Some(entities) => {
+            let known = printed_entities(alloc, entities.as_slice(), pools, question)?;
+            by_methods(alloc, methods, every, known)?
+        }
+    };
+    Ok(answered.about(alloc, chosen)?)
+}
+
+/// What the entities of a file share.
+fn shared_file<F: InputFiles, R: Read>(
+    alloc: Global,
+    matches: &ArgMatches<'_>,
     files: &F,
     reader: &mut R,
-    matches: &ArgMatches<'_>,
-    pools: Option<&[Pool]>,
-) -> Result<Answered<'a>, NoAnswer> {
-    let entities = kept_entities(alloc, files, reader, matches)?;
-    let entities = entities.as_slice();
-    let format = format_of(matches)?;
-    answered_entities(alloc, entities, pools, matches, format).map_err(NoAnswer::from)
-}
-
-/// The answer of `osdgate share`: of two texts, or of the entities of a file.
-pub(crate) fn answered_share<'a, F: InputFiles, R: Read>(
-    alloc: Global,
-    files: &F,
-    reader: &mut R,
-    matches: &ArgMatches<'a>,
-) -> Result<Answered<'a>, NoAnswer> {
-    if let Some(texts) = matches.get_strs("caps") {
-        return answered_texts(alloc, texts, matches.get_flag("check"));
-    }
-    if is_one_input(matches) {
-        return Err(NoAnswer::Words(BadWords::OneInput));
-    }
+) -> Result<Answered, NoAnswer> {
+    let question = question_of(matches)?;
+    let methods = methods_of(matches)?;
     let pools = pools_given(alloc, files, reader, matches)?;
     let pools = pools.as_ref().map(Vec::as_slice);
-    answered_file(alloc, files, reader, matches, pools)
+    let chosen = chosen_in(alloc, files, reader, matches)?;
+    let rules = reader_of(alloc, matches)?;
+    shared_entities(alloc, &rules, &chosen, pools, question, methods)
+}
+
+/// `osdgate share`: what two texts, or the entities of a file, both reach.
+pub(crate) fn share<F: InputFiles, R: Read>(
+    alloc: Global,
+    matches: &ArgMatches<'_>,
+    files: &F,
+    reader: &mut R,
+) -> Result<Answered, NoAnswer> {
+    let Some(texts) = matches.get_strs("caps") else {
+        return shared_file(alloc, matches, files, reader);
+    };
+    let texts = two_texts(texts)?;
+    let methods = methods_of(matches)?;
+    let rules = reader_of(alloc, matches)?;
+    let check = matches.get_flag("check");
+    let screen = files.screen();
+    Ok(shared_texts(alloc, &rules, texts, check, methods, screen)?)
 }

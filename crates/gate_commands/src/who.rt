@@ -1,266 +1,200 @@
-//! What `osdgate who` answers.
+//! `osdgate who`.
 
-use crate::answers::{
-    Answered, entities_in, format_of, or_bad_file, pools_given, tags_line, text_in, with_line,
-};
-use crate::file_fault::{FileFault, Purpose};
-use crate::input_files::InputFiles;
-use crate::no_answer::NoAnswer;
-use crate::notes::{Outcome, note_of, unjudged_line};
-use crate::profile_notes::entity_profile_lines;
-use crate::request_words::{BadWords, RequestWords, value_of};
-use crate::requests_file::{
-    RequestMatches, all_asked, all_matches, all_requests, lines_of, pools_note, requests_note,
-};
+use crate::notes::{FIRST_TICK, calls_line, refuses_calls, request_lines, with_unknown_tags};
 use clap::ArgMatches;
+use command_steps::{
+    Answered, BadWords, CallRules, KnownNames, LineRequest, NoAnswer, RequestWords, choice_knowing,
+    chosen_by, format_of, lines_of, or_bad_file, pools_given, requests_of, text_in, with_line,
+};
 use common_types::OutOfMemory;
-use gate_text::{Entity, Format, Printed, Times, who_table, who_text};
+use gate_files::{Choice, Chosen, FileFault, InputFiles, Purpose};
 use share_core::Pool;
 use std::alloc::Global;
 use std::io::Read;
+use verdict_text::{Asked, Format, Printed};
+use who_text::{who_table, who_text};
 
-/// For ever, and at once.
-pub(crate) const ALWAYS: Times = Times {
-    until: None,
-    tick: 0,
-};
-
-/// How many files are standard input, of which there may be one.
-fn inputs(matches: &ArgMatches<'_>) -> usize {
-    let names = ["auth", "pools", "requests"];
-    names
-        .iter()
-        .filter(|name| matches.get_str(name) == Some("-"))
-        .count()
-}
-
-/// What is told of a request.
-fn request_note(
-    alloc: Global,
-    matches: &ArgMatches<'_>,
-    request: &RequestWords<'_>,
-    outcome: Outcome,
-) -> Result<String, OutOfMemory> {
-    let note = tags_line(alloc, request)?;
-    with_line(note, note_of(alloc, matches, outcome))
-}
-
-/// What is printed of entities and a request, and what is told of the request.
-fn answered_request<'a>(
-    alloc: Global,
-    matches: &ArgMatches<'_>,
-    request: &RequestWords<'_>,
-    entities: &[Entity],
+/// What the arguments say, except the request.
+#[derive(Clone, Copy)]
+struct WhoArguments<'m> {
+    /// The file of requests, if one is given.
+    requests: Option<&'m str>,
+    choice: Choice<'m>,
+    /// Each entity is printed with its answer.
+    all: bool,
     format: Format,
-) -> Result<Answered<'a>, OutOfMemory> {
-    let all = matches.get_flag("all");
-    let printed = who_text(
-        alloc,
-        entities,
-        &request.asked(matches, ALWAYS),
-        all,
-        format,
-    )?;
-    let outcome = if printed.fails {
-        Outcome::NoCalls
-    } else {
-        Outcome::Answered
-    };
-    Ok(Answered {
-        note: request_note(alloc, matches, request, outcome)?,
-        printed,
-        caps: "",
-    })
+    /// Where calls are looked up.
+    calls: CallRules<'m>,
 }
 
-/// What is printed of entities and some requests, and what is told of the requests. Calls that are refused fail.
-fn answered_lines<'a>(
-    alloc: Global,
-    lines: &[RequestMatches<'_>],
-    requests: &[RequestWords<'_>],
-    entities: &[Entity],
-    format: Format,
-) -> Result<Answered<'a>, OutOfMemory> {
-    let asked = all_asked(alloc, requests, lines)?;
-    let (note, fails) = requests_note(alloc, lines, asked.as_slice())?;
-    Ok(Answered {
-        printed: Printed {
-            text: who_table(alloc, entities, asked.as_slice(), format)?,
-            fails,
-        },
-        caps: "",
-        note,
-    })
-}
-
-/// The same, and what is told of the pools of the requests.
-fn told_lines<'a>(
-    alloc: Global,
-    lines: &[RequestMatches<'_>],
-    requests: &[RequestWords<'_>],
-    entities: &[Entity],
-    pools: Option<&[Pool]>,
-    format: Format,
-) -> Result<Answered<'a>, OutOfMemory> {
-    let answered = answered_lines(alloc, lines, requests, entities, format)?;
-    answered.with_note(pools_note(alloc, pools, requests))
-}
-
-/// The same, of what clap takes of the lines.
-fn answered_matches<'a>(
-    alloc: Global,
-    lines: &[RequestMatches<'_>],
-    entities: &[Entity],
-    pools: Option<&[Pool]>,
-    format: Format,
-) -> Result<Answered<'a>, FileFault> {
-    let requests = all_requests(alloc, lines, pools)?;
-    let requests = requests.as_slice();
-    told_lines(alloc, lines, requests, entities, pools, format).map_err(FileFault::from)
-}
-
-/// What is printed of entities and the requests of a file with this text.
-fn answered_requests<'a>(
-    alloc: Global,
-    text: &str,
-    entities: &[Entity],
-    pools: Option<&[Pool]>,
-    format: Format,
-) -> Result<Answered<'a>, FileFault> {
-    let lines = lines_of(alloc, text)?;
-    let matches = all_matches(alloc, lines.as_slice())?;
-    answered_matches(alloc, matches.as_slice(), entities, pools, format)
-}
-
-/// Tells of entities that have no verdict, which fail unless those that are known were asked for.
-fn tell_unjudged<'a>(
-    alloc: Global,
-    mut answered: Answered<'a>,
-    matches: &ArgMatches<'_>,
-    entities: &[Entity],
-) -> Result<Answered<'a>, OutOfMemory> {
-    let unjudged = unjudged_line(alloc, entities)?;
-    if !unjudged.is_empty() && !matches.get_flag("known") {
-        answered.printed.fails = true;
+impl<'m> WhoArguments<'m> {
+    /// What the arguments say. At most one file is standard input.
+    fn of(matches: &'m ArgMatches<'_>, choice: Choice<'m>) -> Result<WhoArguments<'m>, BadWords> {
+        let files = ["auth", "pools", "requests"];
+        let inputs = files
+            .iter()
+            .filter(|name| matches.get_str(name) == Some("-"))
+            .count();
+        if inputs > 1 {
+            return Err(BadWords::OneInput);
+        }
+        Ok(WhoArguments {
+            requests: matches.get_str("requests"),
+            choice,
+            all: matches.get_flag("all"),
+            format: format_of(matches),
+            calls: CallRules::of(matches)?,
+        })
     }
-    answered.with_note(Ok(unjudged))
 }
 
-/// Tells of entities whose profiles Ceph has otherwise, and of those that have no verdict.
-pub(crate) fn tell_entities<'a>(
+/// Who is allowed one request.
+fn answer_one(
     alloc: Global,
-    answered: Answered<'a>,
-    matches: &ArgMatches<'_>,
-    entities: &[Entity],
-) -> Result<Answered<'a>, OutOfMemory> {
-    let answered = answered.with_note(entity_profile_lines(alloc, entities))?;
-    tell_unjudged(alloc, answered, matches, entities)
-}
-
-/// The same, but for those that have no verdict where all are asked for, and so are printed.
-fn tell_asked<'a>(
-    alloc: Global,
-    answered: Answered<'a>,
-    matches: &ArgMatches<'_>,
-    entities: &[Entity],
-) -> Result<Answered<'a>, OutOfMemory> {
-    if matches.get_flag("all") {
-        return answered.with_note(entity_profile_lines(alloc, entities));
-    }
-    tell_entities(alloc, answered, matches, entities)
-}
-
-/// What is printed of entities and a request, and all that is told.
-fn told_request<'a>(
-    alloc: Global,
-    matches: &ArgMatches<'_>,
-    request: &RequestWords<'_>,
-    entities: &[Entity],
-    format: Format,
-) -> Result<Answered<'a>, OutOfMemory> {
-    let answered = answered_request(alloc, matches, request, entities, format)?;
-    if answered.printed.fails {
+    arguments: &WhoArguments<'_>,
+    request: &RequestWords<'_, '_>,
+    chosen: &Chosen,
+) -> Result<Answered, OutOfMemory> {
+    let entities = chosen.entities();
+    let asked = request.asked(FIRST_TICK);
+    let printed = who_text(alloc, entities, &asked, arguments.all, arguments.format)?;
+    let calls_are_refused = printed.fails;
+    let note = request_lines(alloc, request, calls_are_refused)?;
+    let answered = Answered::noted(alloc, printed, note);
+    if calls_are_refused {
         return Ok(answered);
     }
-    tell_asked(alloc, answered, matches, entities)
+    let answered = answered.about(alloc, chosen)?;
+    with_unknown_tags(alloc, answered, chosen, arguments.choice, request, "")
 }
 
-/// The answer of `osdgate who` of one request. Its words are looked at before the file of entities is.
-fn answered_one<'a, F: InputFiles, R: Read>(
+/// The requests of some lines.
+fn all_asked<'a>(
     alloc: Global,
-    files: &F,
-    reader: &mut R,
-    matches: &ArgMatches<'_>,
-    pools: Option<&[Pool]>,
-    format: Format,
-) -> Result<Answered<'a>, NoAnswer> {
-    let request = RequestWords::of(alloc, matches, pools)?;
-    let path = value_of(matches, "auth");
-    let entities = entities_in(alloc, files, reader, Purpose::Entities, path)?;
-    told_request(alloc, matches, &request, entities.as_slice(), format).map_err(NoAnswer::from)
+    requests: &'a [LineRequest<'_, '_>],
+) -> Result<Vec<Asked<'a>>, OutOfMemory> {
+    let mut all = Vec::with_capacity(alloc, requests.len())?;
+    for line in requests {
+        all.push(line.request.asked(FIRST_TICK))?;
+    }
+    Ok(all)
 }
 
-/// What is printed of entities and the requests of a file with this text, and all that is told.
-fn told_requests<'a>(
+/// A line on each request whose calls are refused.
+fn refused_lines(alloc: Global, requests: &[LineRequest<'_, '_>]) -> Result<String, OutOfMemory> {
+    let mut lines = String::new(alloc);
+    for line in requests {
+        if refuses_calls(alloc, &line.request.asked(FIRST_TICK))? {
+            let before = format!(in alloc; "line {}: ", line.number)?;
+            lines = with_line(lines, calls_line(alloc, &line.request, before.as_str()))?;
+        }
+    }
+    Ok(lines)
+}
+
+/// An answer with a line for each request whose tags are not known.
+fn with_tag_lines(
     alloc: Global,
-    matches: &ArgMatches<'_>,
+    answered: Answered,
+    arguments: &WhoArguments<'_>,
+    requests: &[LineRequest<'_, '_>],
+    chosen: &Chosen,
+) -> Result<Answered, OutOfMemory> {
+    let mut answered = answered;
+    for line in requests {
+        let before = format!(in alloc; "line {}: ", line.number)?;
+        let request = &line.request;
+        let choice = arguments.choice;
+        answered = with_unknown_tags(alloc, answered, chosen, choice, request, before.as_str())?;
+    }
+    Ok(answered)
+}
+
+/// Whether the calls of some request are refused.
+fn some_refused(alloc: Global, asked: &[Asked<'_>]) -> Result<bool, OutOfMemory> {
+    for one in asked {
+        if refuses_calls(alloc, one)? {
+            return Ok(true);
+        }
+    }
+    Ok(false)
+}
+
+/// A table of who is allowed which of some requests. Calls that are refused fail.
+fn answer_each(
+    alloc: Global,
+    arguments: &WhoArguments<'_>,
+    requests: &[LineRequest<'_, '_>],
+    chosen: &Chosen,
+) -> Result<Answered, OutOfMemory> {
+    let asked = all_asked(alloc, requests)?;
+    let printed = Printed {
+        text: who_table(alloc, chosen.entities(), asked.as_slice(), arguments.format)?,
+        fails: some_refused(alloc, asked.as_slice())?,
+    };
+    let answered = Answered::noted(alloc, printed, refused_lines(alloc, requests)?);
+    let answered = answered.about(alloc, chosen)?;
+    with_tag_lines(alloc, answered, arguments, requests, chosen)
+}
+
+/// Who is allowed each of the requests of a file with this text.
+fn answer_lines(
+    alloc: Global,
+    arguments: &WhoArguments<'_>,
     text: &str,
-    entities: &[Entity],
     pools: Option<&[Pool]>,
-    format: Format,
-) -> Result<Answered<'a>, FileFault> {
-    let answered = answered_requests(alloc, text, entities, pools, format)?;
-    tell_asked(alloc, answered, matches, entities).map_err(FileFault::from)
+    chosen: &Chosen,
+) -> Result<Answered, FileFault> {
+    let lines = lines_of(alloc, text)?;
+    let requests = requests_of(alloc, lines.as_slice(), pools, arguments.calls)?;
+    Ok(answer_each(alloc, arguments, requests.as_slice(), chosen)?)
 }
 
-/// The answer of `osdgate who` of each request of a file, on these entities.
-fn answered_file<'a, F: InputFiles, R: Read>(
+/// Who is allowed the request of the arguments. The request is checked before the file of entities is read.
+fn who_one<F: InputFiles, R: Read>(
     alloc: Global,
+    matches: &ArgMatches<'_>,
+    arguments: &WhoArguments<'_>,
+    pools: Option<&[Pool]>,
     files: &F,
     reader: &mut R,
+) -> Result<Answered, NoAnswer> {
+    let request = RequestWords::of(alloc, matches, pools, arguments.calls)?;
+    let chosen = chosen_by(alloc, files, reader, matches, arguments.choice)?;
+    Ok(answer_one(alloc, arguments, &request, &chosen)?)
+}
+
+/// Who is allowed each request of a file. The file of entities is read first.
+fn who_each<F: InputFiles, R: Read>(
+    alloc: Global,
     matches: &ArgMatches<'_>,
-    entities: &[Entity],
+    arguments: &WhoArguments<'_>,
+    path: &str,
     pools: Option<&[Pool]>,
-    format: Format,
-) -> Result<Answered<'a>, NoAnswer> {
-    let path = value_of(matches, "requests");
+    files: &F,
+    reader: &mut R,
+) -> Result<Answered, NoAnswer> {
+    let chosen = chosen_by(alloc, files, reader, matches, arguments.choice)?;
     let text = text_in(alloc, files, reader, Purpose::Requests, path)?;
-    let text = text.as_str();
-    let answered = told_requests(alloc, matches, text, entities, pools, format);
+    let answered = answer_lines(alloc, arguments, text.as_str(), pools, &chosen);
     or_bad_file(alloc, Purpose::Requests, path, answered)
 }
 
-/// The answer of `osdgate who` of each request of a file.
-fn answered_each<'a, F: InputFiles, R: Read>(
+/// `osdgate who`: which entities of a file are allowed a request, or each request of a file.
+pub(crate) fn who<F: InputFiles, R: Read>(
     alloc: Global,
+    matches: &ArgMatches<'_>,
     files: &F,
     reader: &mut R,
-    matches: &ArgMatches<'_>,
-    pools: Option<&[Pool]>,
-    format: Format,
-) -> Result<Answered<'a>, NoAnswer> {
-    let path = value_of(matches, "auth");
-    let entities = entities_in(alloc, files, reader, Purpose::Entities, path)?;
-    let entities = entities.as_slice();
-    answered_file(alloc, files, reader, matches, entities, pools, format)
-}
-
-/// The answer of `osdgate who`: of one request, or of each of a file.
-pub(crate) fn answered_who<'a, F: InputFiles, R: Read>(
-    alloc: Global,
-    files: &F,
-    reader: &mut R,
-    matches: &ArgMatches<'_>,
-) -> Result<Answered<'a>, NoAnswer> {
-    if inputs(matches) > 1 {
-        return Err(NoAnswer::Words(BadWords::OneInput));
-    }
-    let format = format_of(matches)?;
+) -> Result<Answered, NoAnswer> {
+    let known = KnownNames::of(alloc, files, reader, matches)?;
+    let patterns = known.patterns(alloc)?;
+    let choice = choice_knowing(matches, patterns.as_slice());
+    let arguments = WhoArguments::of(matches, choice)?;
     let pools = pools_given(alloc, files, reader, matches)?;
     let pools = pools.as_ref().map(Vec::as_slice);
-    if matches.get_str("requests").is_some() {
-        answered_each(alloc, files, reader, matches, pools, format)
-    } else {
-        answered_one(alloc, files, reader, matches, pools, format)
+    match arguments.requests {
+        None => who_one(alloc, matches, &arguments, pools, files, reader),
+        Some(path) => who_each(alloc, matches, &arguments, path, pools, files, reader),
     }
 }

@@ -1,19 +1,21 @@
 //! Lists of grants are expanded.
 
-ghost use Rattle.std.specs.Prelude.{◌≡◌, ◌≤◌, ◌+◌, ◌++◌, length, map, take, IfOk};
-ghost use Rattle.grant_core.specs.Flat.{filled, filled_use, flat, under};
+ghost use Rattle.std.specs.Prelude.{◌≡◌, ◌≤◌, ◌++◌, [], ◌∷◌, length, map, IfOk, OnOk};
+ghost use Rattle.grant_core.specs.Flat.{filled, filled_use, flat, numbered, under};
+ghost use Rattle.grant_core.specs.Flat as spec;
 ghost use Rattle.grant_core.specs.Found.{parts_before};
 ghost use Rattle.common_types.specs.Refused.{RefusedFirst};
 ghost use Rattle.grant_core.specs.Refusal.{expand_refusal};
 ghost use Rattle.grant_core.specs.Table.{table_of, IsSized};
-ghost use Rattle.grant_core.specs.Tree.{flat_branches};
+ghost use Rattle.grant_core.specs.Tree.{below};
 
 use crate::fault::ExpandFault;
 use crate::filling::{filled_allow, filled_use};
+use crate::path::Path;
 use crate::refusal::check_list;
 use crate::table::{Profile, ProfileTable, find_before};
-use crate::tree::{Branches, GrantTree};
-use cap_text::{CapList, Grant, ProfileUse};
+use crate::tree::GrantTree;
+use cap_text::{AllowGrant, CapList, Grant, ProfileUse};
 use common_types::{Name, OutOfMemory};
 use indexmap::IndexMap;
 use std::alloc::Global;
@@ -30,82 +32,137 @@ pub fn expand(alloc: Global, table: &ProfileTable, list: &CapList) -> Result<Gra
 {
     let profiles = table.profiles();
     check_list(profiles, list.grants())?;
-    let branches = grow_list(alloc, profiles, list.grants())?;
-    Ok(GrantTree::new(branches))
+    let grants = grow_list(alloc, profiles, list.grants())?;
+    Ok(GrantTree::new(grants))
 }
 
-// The branches of a list's grants, with all profiles. A list is filled as the body of a use that gives nothing.
+// What a list's grants come to with all profiles. A list is filled as the body of a use that gives nothing.
 fn grow_list(
     alloc: Global,
     profiles: &IndexMap<String, Profile>,
-    grants: &[Grant],
-) -> Result<Branches, OutOfMemory>
+    list: &[Grant],
+) -> Result<Vec<(Path, AllowGrant)>, OutOfMemory>
     requires sized { IsSized profiles.now.entries }
-    requires few { length grants.now ≤ 64 }
-    ensures { IfOk result (λ branches. flat_branches branches ≡ flat (table_of profiles.now.entries) grants.now) }
+    requires few { length list.now ≤ 64 }
+    ensures { IfOk result (λ grants. grants.items ≡ flat (table_of profiles.now.entries) list.now) }
 {
     let nowhere = ProfileUse {
         name: Name::from_string(String::new(alloc)),
         pool: None,
         namespace: None,
     };
-    grow(alloc, profiles, profiles.len(), &nowhere, grants)
+    let mut above = Vec::new(alloc);
+    let mut grants = Vec::new(alloc);
+    grow(
+        profiles,
+        profiles.len(),
+        &nowhere,
+        list,
+        &mut above,
+        &mut grants,
+    )?;
+    Ok(grants)
 }
 
-// The branches of the grants of a body where it is used, with the profiles before a place.
+// Adds what the grants of a body come to where it is used, with the profiles before a place. Their paths begin with the
+// numbers above.
 #[cycle(grow)]
 fn grow(
-    alloc: Global,
     profiles: &IndexMap<String, Profile>,
     before: usize,
     used: &ProfileUse,
-    grants: &[Grant],
-) -> Result<Branches, OutOfMemory>
+    body: &[Grant],
+    above: &mut Vec<usize>,
+    grants: &mut Vec<(Path, AllowGrant)>,
+) -> Result<(), OutOfMemory>
     requires sized { IsSized profiles.now.entries }
     requires within { before ≤ length profiles.now.entries }
-    requires few { length grants.now ≤ 64 }
-    ensures { IfOk result (λ branches. flat_branches branches
-        ≡ flat (take before (table_of profiles.now.entries)) (map (filled used.now) grants.now)) }
+    requires few { length body.now ≤ 64 }
+    ensures above { OnOk result (above.new.items ≡ above.old.items) }
+    ensures grants { OnOk result (grants.new.items ≡ grants.old.items
+        ++ map (below above.old.items) (numbered (parts_before profiles.now.entries before) 1 (map (filled used.now) body.now))) }
 {
-    let mut branches = Branches::End;
-    for i in (0..grants.len()).rev() {
-        let number = i + 1;
-        branches = match &grants[i] {
-            Grant::Allow(allow) => {
-                let filled = filled_allow(used, allow)?;
-                Branches::Leaf(number, filled, Box::new(alloc, branches)?)
-            }
-            Grant::Profile(inner) => {
-                grow_use(alloc, profiles, before, number, used, inner, branches)?
-            }
-        };
+    for (i, grant) in body.iter().enumerate() {
+        grow_one(profiles, before, used, i + 1, grant, above, grants)?;
     }
-    Ok(branches)
+    Ok(())
 }
 
-// The branches of a use in a body where that is used, with those after it.
+// Adds what the grant of a number comes to.
 #[cycle(grow)]
-fn grow_use(
-    alloc: Global,
+fn grow_one(
     profiles: &IndexMap<String, Profile>,
     before: usize,
-    number: usize,
     used: &ProfileUse,
-    inner: &ProfileUse,
-    rest: Branches,
-) -> Result<Branches, OutOfMemory>
+    number: usize,
+    grant: &Grant,
+    above: &mut Vec<usize>,
+    grants: &mut Vec<(Path, AllowGrant)>,
+) -> Result<(), OutOfMemory>
     requires sized { IsSized profiles.now.entries }
     requires within { before ≤ length profiles.now.entries }
-    ensures { IfOk result (λ branches. flat_branches branches
-        ≡ map (under number) (parts_before profiles.now.entries before (filled_use used.now inner.now)) ++ flat_branches rest) }
+    ensures above { OnOk result (above.new.items ≡ above.old.items) }
+    ensures grants { OnOk result (grants.new.items ≡ grants.old.items
+        ++ map (below above.old.items) (numbered (parts_before profiles.now.entries before) number (filled used.now grant.now ∷ []))) }
+{
+    match grant {
+        Grant::Allow(allow) => push_allow(used, number, allow, above, grants),
+        Grant::Profile(inner) => grow_use(profiles, before, used, number, inner, above, grants),
+    }
+}
+
+// Adds a grant of a body where that is used, with its path.
+fn push_allow(
+    used: &ProfileUse,
+    number: usize,
+    allow: &AllowGrant,
+    above: &mut Vec<usize>,
+    grants: &mut Vec<(Path, AllowGrant)>,
+) -> Result<(), OutOfMemory>
+    ensures above { OnOk result (above.new.items ≡ above.old.items) }
+    ensures grants { OnOk result
+        (grants.new.items ≡ grants.old.items ++ (above.old.items ++ number ∷ [], spec.filled_allow used.now allow.now) ∷ []) }
+{
+    above.push(number)?;
+    let path = Path::of(*grants.allocator(), above.as_slice())?;
+    grants.push((path, filled_allow(used, allow)?))?;
+    above.pop();
+    Ok(())
+}
+
+// Adds what a use in a body comes to where that is used. Its paths begin with the numbers above and its own.
+#[cycle(grow)]
+fn grow_use(
+    profiles: &IndexMap<String, Profile>,
+    before: usize,
+    used: &ProfileUse,
+    number: usize,
+    inner: &ProfileUse,
+    above: &mut Vec<usize>,
+    grants: &mut Vec<(Path, AllowGrant)>,
+) -> Result<(), OutOfMemory>
+    requires sized { IsSized profiles.now.entries }
+    requires within { before ≤ length profiles.now.entries }
+    ensures above { OnOk result (above.new.items ≡ above.old.items) }
+    ensures grants { OnOk result (grants.new.items ≡ grants.old.items
+        ++ map (below above.old.items) (map (under number) (parts_before profiles.now.entries before (filled_use used.now inner.now)))) }
 {
     let Some((earlier, profile)) = find_before(profiles, &inner.name, before) else {
-        return Ok(rest);
+        return Ok(());
     };
     if profile.size == 0 {
-        return Ok(rest);
+        return Ok(());
     }
     let inner = filled_use(used, inner)?;
-    let branches = grow(alloc, profiles, earlier, &inner, profile.body.grants())?;
-    Ok(Branches::Use(number, Box::new(alloc, branches)?, Box::new(alloc, rest)?))
+    above.push(number)?;
+    grow(
+        profiles,
+        earlier,
+        &inner,
+        profile.body.grants(),
+        above,
+        grants,
+    )?;
+    above.pop();
+    Ok(())
 }

@@ -6,21 +6,21 @@ use Rattle.entry_core.specs.Log.{is_in}
 use Rattle.store_core.specs.Request.{Sealed}
 use Rattle.store_core.specs.declared.entry.Entry.{Entry}
 use Rattle.store_core.specs.declared.sealed.GroupId.{GroupId}
-use Rattle.whole_logs.specs.ActingSets.{daemons}
+use Rattle.group_model_whole.specs.ActingSets.{daemons}
 use Rattle.peer_core.specs.Steps.{blank, restarted}
 use Rattle.peer_core.specs.Copy.{copy_step}
-use Rattle.whole_logs.specs.Each.{Each}
-use Rattle.whole_logs.specs.Asked.{IsAsked, InLog}
-use Rattle.whole_logs.proofs.Eaches.{Each-append, Each-map, Each-map_all, Each-weaker, Each-get, Each-set, Each-remove}
-use Rattle.whole_logs.specs.Group.{Group as WholeGroup, start as whole_start, group_step as whole_group_step}
-use Rattle.suffix_core.proofs.Locked.{asked_push}
-use Rattle.suffix_core.proofs.Lists.{Each-rest}
-use Rattle.suffix_core.proofs.Twins.{twin_of, lock_stands, run_asked}
-use Rattle.suffix_core.proofs.Events.{Lock, step_locked, start_locked}
-use Rattle.suffix_core.specs.Types.{Role, Idle, Peering, Installing, Active, Offer, Copy, Body, Interval, Query, Info, Install, Installed, Append, Appended, Request, Reply, NotHere, Party, Osd, Client, Sent}
-use Rattle.suffix_core.specs.Asked.{InRole, InCopy, InBody, AllAsked}
-use Rattle.suffix_core.specs.Group.{Group, Event, Submit, Deliver, Lose, Repeat, NewInterval, Restart, Kick, Answer, last_set, is_answered, is_submitted, same_set, to_daemon, to_primary, answered, copy_hears, arrives, without, deliver, lose, again, has_all_requests, has_all_intervals, take_request, submit, resent, announced, begin, with_up, retransmit_from, retransmit_primary, group_step, run, start}
-use Rattle.suffix_core.specs.Reached.{IsReached}
+use Rattle.group_model_whole.specs.Each.{Each}
+use Rattle.group_model_whole.specs.Asked.{IsAsked, InLog}
+use Rattle.group_model_whole.proofs.Eaches.{Each-append, Each-map, Each-map_all, Each-weaker, Each-get, Each-set, Each-remove}
+use Rattle.group_model_whole.specs.Group.{Group as WholeGroup, start as whole_start, group_step as whole_group_step}
+use Rattle.group_model.proofs.Locked.{asked_push}
+use Rattle.group_model.proofs.Lists.{Each-rest}
+use Rattle.group_model.proofs.Twins.{twin_of, lock_stands, run_asked}
+use Rattle.group_model.proofs.Events.{Lock, step_locked, start_locked}
+use Rattle.group_model.specs.Types.{Role, Idle, Peering, Installing, Active, Offer, Copy, Body, Interval, Query, Info, Install, Installed, Append, Appended, Request, Reply, NotHere, Party, Osd, Client, Sent}
+use Rattle.group_model.specs.Asked.{InRole, InCopy, InBody, AllAsked}
+use Rattle.group_model.specs.Group.{Group, Event, Submit, Deliver, Lose, Repeat, NewInterval, Restart, Kick, Answer, last_set, is_answered, is_submitted, same_set, to_daemon, to_primary, answered, copy_hears, arrives, without, deliver, lose, again, has_all_requests, has_all_intervals, take_request, submit, resent, announced, begin, with_up, retransmit_from, retransmit_primary, group_step, run, start}
+use Rattle.group_model.specs.Reached.{IsReached}
 use Rattle.group_core.proofs.Asks.{comes_in, kicked_in}
 
 kept_if : {X : Type 0} (P : X → Type 0) (b : Bool) (x : X) (xs : List X) → P x → Each P xs → Each P (if b then x ∷ xs else xs)

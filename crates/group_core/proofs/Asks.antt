@@ -7,19 +7,19 @@ use Rattle.store_core.specs.Request.{Sealed}
 use Rattle.store_core.specs.declared.entry.Entry.{Entry}
 use Rattle.peer_core.specs.Steps.{Stepped, still, send}
 use Rattle.peer_core.specs.Copy.{promise_interval, on_request, on_request_as, busy_request, waits, on_query, info, query, uninformed, learn_sets, leads, lead, on_interval, on_append, acknowledged, queries, retransmit, retransmit_as, append_again, complete, on_installed, on_appended, on_install, install_fitted, install_from, on_body, install_chosen, fit_chosen, try_choice, on_info, on_info_as}
-use Rattle.peer_messages.specs.Starts.{start_for}
+use Rattle.group_messages.specs.Starts.{start_for}
 use Rattle.peer_core.specs.ActingSets.{others, asked, all_count, counted, missing}
 use Rattle.peer_core.specs.Serve.{serve, push_new, serve_one}
-use Rattle.whole_logs.specs.Decided.{not_in_flight, last}
+use Rattle.group_model_whole.specs.Decided.{not_in_flight, last}
 use Rattle.peer_core.specs.Decided.{with_entry}
-use Rattle.peer_messages.specs.Beginnings.{common_of, count_at}
+use Rattle.group_messages.specs.Beginnings.{common_of, count_at}
 use Rattle.entry_core.specs.Fitting.{part_of, fitted, decided_behind, kept, agreed, can_fit}
 use Rattle.peer_core.specs.Choice.{can_choose, best, own_offer, is_better, is_informed}
-use Rattle.suffix_core.specs.Types.{Offer, Role, Idle, Peering, Installing, Active, Copy, Body, Interval, Query, Info, Install, Installed, Append, Appended, Request, Reply, NotHere, Party, Osd, Client, Sent}
-use Rattle.whole_logs.specs.Each.{Each}
-use Rattle.whole_logs.specs.Asked.{InLog}
-use Rattle.suffix_core.specs.Asked.{InRole, InCopy, InBody}
-use Rattle.whole_logs.proofs.Eaches.{Each-append, Each-push, Each-take, Each-drop, Each-map, Each-map_all}
+use Rattle.group_model.specs.Types.{Offer, Role, Idle, Peering, Installing, Active, Copy, Body, Interval, Query, Info, Install, Installed, Append, Appended, Request, Reply, NotHere, Party, Osd, Client, Sent}
+use Rattle.group_model_whole.specs.Each.{Each}
+use Rattle.group_model_whole.specs.Asked.{InLog}
+use Rattle.group_model.specs.Asked.{InRole, InCopy, InBody}
+use Rattle.group_model_whole.proofs.Eaches.{Each-append, Each-push, Each-take, Each-drop, Each-map, Each-map_all}
 
 module _ (P : Sealed → Type 0) where
   pub record InStep (s : Stepped) : Type 0 where

@@ -6,21 +6,21 @@ use Rattle.std.proofs.Math.Seq.{take-append_seam}
 use Rattle.std.proofs.lemmas.List.{append-nil}
 use Rattle.entry_core.specs.Log.{is_in}
 use Rattle.store_core.specs.Request.{Sealed}
-use Rattle.whole_logs.specs.ActingSets.{daemons}
+use Rattle.group_model_whole.specs.ActingSets.{daemons}
 use Rattle.peer_core.specs.Steps.{Stepped, blank, restarted}
 use Rattle.peer_core.specs.Copy.{copy_step}
 use Rattle.peer_core.specs.Decided.{decided_by}
 use Rattle.store_core.specs.declared.sealed.GroupId.{GroupId}
-use Rattle.suffix_core.specs.Types.{Daemon, Body, Interval, Query, Info, Install, Installed, Append, Appended, Request, Reply, NotHere, Osd, Client, Sent}
-use Rattle.suffix_core.specs.Group.{Group, Answer, Event, Submit, Deliver, Lose, Repeat, NewInterval, Restart, Kick, Unreachable, Full, Doubled, last_set, is_answered, answers_after, answered, to_daemon, to_primary, steps, copy_hears, arrives, without, deliver, lose, again, is_submitted, has_all_requests, has_all_intervals, take_request, begin, with_up, same_set, announced, resent, retransmit_primary, group_step, refusal_of, refusal_at, refusal_to, missing_at, IsSet, EventFits, start}
+use Rattle.group_model.specs.Types.{Daemon, Body, Interval, Query, Info, Install, Installed, Append, Appended, Request, Reply, NotHere, Osd, Client, Sent}
+use Rattle.group_model.specs.Group.{Group, Answer, Event, Submit, Deliver, Lose, Repeat, NewInterval, Restart, Kick, Unreachable, Full, Doubled, last_set, is_answered, answers_after, answered, to_daemon, to_primary, steps, copy_hears, arrives, without, deliver, lose, again, is_submitted, has_all_requests, has_all_intervals, take_request, begin, with_up, same_set, announced, resent, retransmit_primary, group_step, refusal_of, refusal_at, refusal_to, missing_at, IsSet, EventFits, start}
 use Rattle.group_wire.specs.Furthest.{furthest}
-use Rattle.suffix_core.specs.Reached.{IsReached, HasJustTaken, unsent}
+use Rattle.group_model.specs.Reached.{IsReached, HasJustTaken, unsent}
 use Rattle.group_core.specs.Sound.{IsSound}
-use Rattle.suffix_core.proofs.Twins.{reached_step, reached_start}
-use Rattle.suffix_core.proofs.Refusals.{opens_is}
+use Rattle.group_model.proofs.Twins.{reached_step, reached_start}
+use Rattle.group_model.proofs.Refusals.{opens_is}
 use Rattle.group_core.proofs.Reached.{reached_audit, audit_count}
-use Rattle.whole_logs.proofs.Groups.{get-set_same}
-pub use Rattle.whole_logs.proofs.Calls.{get_below, get_past, get_in, get_or_some}
+use Rattle.group_model_whole.proofs.Groups.{get-set_same}
+pub use Rattle.group_model_whole.proofs.Calls.{get_below, get_past, get_in, get_or_some}
 use Rattle.group_core.proofs.Daemons.{furthest-map, restarted_if}
 
 -- the event was not refused, and the group is the next one

@@ -1,8 +1,8 @@
 -- A restart takes nothing from the copy that is furthest on.
 use Rattle.std.proofs.Common.{◌≡◌, Bool, true, false, List, [], ◌∷◌, map, refl, ◌∙◌, ap, if◌then◌else◌}
 use Rattle.peer_core.specs.Steps.{restarted}
-use Rattle.whole_logs.specs.Choice.{best}
-use Rattle.suffix_core.specs.Types.{Copy}
+use Rattle.group_model_whole.specs.Choice.{best}
+use Rattle.group_model.specs.Types.{Copy}
 use Rattle.group_wire.specs.Furthest.{whole_offer, furthest}
 
 map-offers : (f : Copy → Copy) → ((c : Copy) → whole_offer (f c) ≡ whole_offer c) → (cs : List Copy) → map whole_offer (map f cs) ≡ map whole_offer cs

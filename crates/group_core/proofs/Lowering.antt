@@ -3,11 +3,11 @@ use Rattle.std.proofs.Common.{ℕ, ◌≡◌, ◌<◌, false, List, refl, sym, �
 use Rattle.std.specs.Prelude.{Option, Some, None, slice_get}
 use Rattle.std.specs.List.{remove}
 use Rattle.entry_core.specs.Log.{is_in}
-use Rattle.suffix_core.specs.Types.{Sent, Osd}
-use Rattle.suffix_core.specs.Group.{Group, Deliver, Lose, group_step, refusal_of, refusal_at, missing_at}
-use Rattle.suffix_core.specs.Budget.{budget}
-use Rattle.suffix_core.specs.Reached.{IsReached}
-use Rattle.suffix_core.proofs.Lowering.{deliver_lowers, lose_lowers}
+use Rattle.group_model.specs.Types.{Sent, Osd}
+use Rattle.group_model.specs.Group.{Group, Deliver, Lose, group_step, refusal_of, refusal_at, missing_at}
+use Rattle.group_model.specs.Budget.{budget}
+use Rattle.group_model.specs.Reached.{IsReached}
+use Rattle.group_model.proofs.Lowering.{deliver_lowers, lose_lowers}
 use Rattle.group_core.specs.Sound.{IsSound}
 use Rattle.group_core.proofs.Calls.{dropped_is}
 

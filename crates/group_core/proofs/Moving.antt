@@ -5,9 +5,9 @@ use Rattle.entry_core.specs.Log.{is_in}
 use Rattle.place_core.specs.Placement.{numbers_of}
 use Rattle.peer_core.specs.Steps.{restarted}
 use Rattle.group_wire.specs.declared.opening.Opening.{Opening}
-use Rattle.group_types.specs.declared.group_move.GroupMove.TheVariants.{NewInterval as Moves, Restart as Restarts}
-use Rattle.suffix_core.specs.Types.{Daemon, Sent}
-use Rattle.suffix_core.specs.Group.{Group, NewInterval, Restart, last_set, same_set, announced, resent}
+use Rattle.group_messages.specs.declared.group_move.GroupMove.TheVariants.{NewInterval as Moves, Restart as Restarts}
+use Rattle.group_model.specs.Types.{Daemon, Sent}
+use Rattle.group_model.specs.Group.{Group, NewInterval, Restart, last_set, same_set, announced, resent}
 use Rattle.group_wire.specs.Furthest.{furthest}
 use Rattle.group_core.specs.Moves.{IsOpening, IsReady, HasOpened}
 use Rattle.group_core.proofs.Calls.{Next, next_same, next_begun, next_restarted, next_rejoined}

@@ -2,19 +2,19 @@
 use Rattle.std.proofs.Common.{ℕ, ◌≡◌, ◌≤◌, true, List, [], ◌∷◌, map, length, subst}
 use Rattle.entry_core.specs.Log.{Legal}
 use Rattle.store_core.specs.Request.{Sealed}
-use Rattle.whole_logs.specs.Types.{Daemon, Role as WholeRole}
-use Rattle.whole_logs.specs.Each.{Each}
-use Rattle.whole_logs.specs.Asked.{IsReplied}
-use Rattle.whole_logs.specs.Sane.{RoleIsSane as WholeRoleIsSane, IsSane as IsWholeSane}
-use Rattle.whole_logs.proofs.Reached.{reached_sane as whole_reached_sane}
-use Rattle.suffix_core.specs.Standing.{Both, SameRole, SameCopy}
-use Rattle.suffix_core.proofs.Twins.{twin_of, lock_stands, reached_holds}
-use Rattle.suffix_core.specs.Fits.{FitsAnswerTrue}
-use Rattle.suffix_core.proofs.Fitting.{fit_answers}
-use Rattle.suffix_core.specs.Types.{Role, Idle, Peering, Installing, Active, Copy}
-use Rattle.suffix_core.specs.Group.{Group, Answer, is_distinct}
-use Rattle.suffix_core.specs.Sane.{RoleIsSane, IsSane, AllSane}
-use Rattle.suffix_core.specs.Reached.{IsReached}
+use Rattle.group_model_whole.specs.Types.{Daemon, Role as WholeRole}
+use Rattle.group_model_whole.specs.Each.{Each}
+use Rattle.group_model_whole.specs.Asked.{IsReplied}
+use Rattle.group_model_whole.specs.Sane.{RoleIsSane as WholeRoleIsSane, IsSane as IsWholeSane}
+use Rattle.group_model_whole.proofs.Reached.{reached_sane as whole_reached_sane}
+use Rattle.group_model.specs.Standing.{Both, SameRole, SameCopy}
+use Rattle.group_model.proofs.Twins.{twin_of, lock_stands, reached_holds}
+use Rattle.group_model.specs.Fits.{FitsAnswerTrue}
+use Rattle.group_model.proofs.Fitting.{fit_answers}
+use Rattle.group_model.specs.Types.{Role, Idle, Peering, Installing, Active, Copy}
+use Rattle.group_model.specs.Group.{Group, Answer, is_distinct}
+use Rattle.group_model.specs.Sane.{RoleIsSane, IsSane, AllSane}
+use Rattle.group_model.specs.Reached.{IsReached}
 
 pub reached_answers : (g : Group) → IsReached g → Each (λ (a : Answer). IsReplied g.audit a.id a.reply) g.answers
 reached_answers g r = (reached_holds g r).answers

@@ -3,24 +3,24 @@ use Rattle.std.proofs.Common.{ℕ, ◌≡◌, ◌≤◌, List, [], ◌∷◌, ma
 use Rattle.std.specs.Prelude.{Some, slice_get}
 use Rattle.entry_core.specs.Log.{Legal}
 use Rattle.store_core.specs.declared.entry.Entry.{Entry}
-use Rattle.whole_logs.specs.Choice.{own_offer, best}
-use Rattle.whole_logs.specs.Decided.{decided_by as whole_decided_by}
+use Rattle.group_model_whole.specs.Choice.{own_offer, best}
+use Rattle.group_model_whole.specs.Decided.{decided_by as whole_decided_by}
 use Rattle.peer_core.specs.Decided.{decided_by}
-use Rattle.whole_logs.specs.Types.{Daemon}
-use Rattle.whole_logs.specs.Furthest.{furthest as whole_furthest}
-use Rattle.whole_logs.specs.History.{Begins}
-use Rattle.whole_logs.proofs.Audits.{audit_length}
-use Rattle.whole_logs.proofs.AskedOnce.{decided_few as whole_decided_few}
-use Rattle.whole_logs.proofs.Reached.{reached_audit as whole_reached_audit, reached_fits as whole_reached_fits}
-use Rattle.suffix_core.specs.Standing.{Both, SameCopy}
-use Rattle.suffix_core.proofs.Agreeing.{CopyAgrees}
-use Rattle.suffix_core.proofs.Lists.{Beside, beside}
-use Rattle.suffix_core.proofs.Hearing.{shown_same}
-use Rattle.suffix_core.proofs.Twins.{twin_of, lock_stands, run_legal}
-use Rattle.suffix_core.specs.Types.{Copy}
-use Rattle.suffix_core.specs.Group.{Group, audit_after}
+use Rattle.group_model_whole.specs.Types.{Daemon}
+use Rattle.group_model_whole.specs.Furthest.{furthest as whole_furthest}
+use Rattle.group_model_whole.specs.History.{Begins}
+use Rattle.group_model_whole.proofs.Audits.{audit_length}
+use Rattle.group_model_whole.proofs.AskedOnce.{decided_few as whole_decided_few}
+use Rattle.group_model_whole.proofs.Reached.{reached_audit as whole_reached_audit, reached_fits as whole_reached_fits}
+use Rattle.group_model.specs.Standing.{Both, SameCopy}
+use Rattle.group_model.proofs.Agreeing.{CopyAgrees}
+use Rattle.group_model.proofs.Lists.{Beside, beside}
+use Rattle.group_model.proofs.Hearing.{shown_same}
+use Rattle.group_model.proofs.Twins.{twin_of, lock_stands, run_legal}
+use Rattle.group_model.specs.Types.{Copy}
+use Rattle.group_model.specs.Group.{Group, audit_after}
 use Rattle.group_wire.specs.Furthest.{whole_offer, furthest}
-use Rattle.suffix_core.specs.Reached.{IsReached}
+use Rattle.group_model.specs.Reached.{IsReached}
 
 -- the copy that is furthest on is the same of both
 

@@ -5,19 +5,19 @@ use Rattle.std.specs.List.{remove}
 use Rattle.std.proofs.lemmas.List.Edits.{length-remove}
 use Rattle.entry_core.specs.Log.{is_in}
 use Rattle.peer_core.specs.Copy.{copy_step}
-use Rattle.whole_logs.specs.Copy.{copy_step as whole_copy_step}
-use Rattle.whole_logs.specs.Types.{Daemon, Sent as WholeSent}
-use Rattle.whole_logs.specs.Group.{Group as WholeGroup, group_step as whole_group_step, deliver as whole_deliver, arrives as whole_arrives, without as whole_without, copy_hears as whole_copy_hears}
-use Rattle.whole_logs.proofs.Reached.{reached_bounded as whole_reached_bounded}
-use Rattle.whole_logs.proofs.Sends.{sent_few as whole_sent_few}
-use Rattle.suffix_core.specs.Standing.{SameSent, SameCopy}
-use Rattle.suffix_core.proofs.Lists.{Beside, beside}
-use Rattle.suffix_core.proofs.Events.{step_locked}
-use Rattle.suffix_core.proofs.Twins.{twin_of, lock_stands}
-use Rattle.suffix_core.proofs.Counts.{sent_many}
-use Rattle.suffix_core.specs.Types.{Copy, Sent, Osd}
-use Rattle.suffix_core.specs.Group.{Group, Deliver, group_step}
-use Rattle.suffix_core.specs.Reached.{IsReached}
+use Rattle.group_model_whole.specs.Copy.{copy_step as whole_copy_step}
+use Rattle.group_model_whole.specs.Types.{Daemon, Sent as WholeSent}
+use Rattle.group_model_whole.specs.Group.{Group as WholeGroup, group_step as whole_group_step, deliver as whole_deliver, arrives as whole_arrives, without as whole_without, copy_hears as whole_copy_hears}
+use Rattle.group_model_whole.proofs.Reached.{reached_bounded as whole_reached_bounded}
+use Rattle.group_model_whole.proofs.Sends.{sent_few as whole_sent_few}
+use Rattle.group_model.specs.Standing.{SameSent, SameCopy}
+use Rattle.group_model.proofs.Lists.{Beside, beside}
+use Rattle.group_model.proofs.Events.{step_locked}
+use Rattle.group_model.proofs.Twins.{twin_of, lock_stands}
+use Rattle.group_model.proofs.Counts.{sent_many}
+use Rattle.group_model.specs.Types.{Copy, Sent, Osd}
+use Rattle.group_model.specs.Group.{Group, Deliver, group_step}
+use Rattle.group_model.specs.Reached.{IsReached}
 use Rattle.group_core.proofs.Calls.{arrived_is, get_in}
 
 whole_arrived : (g : WholeGroup) (k d : ℕ) (m : WholeSent) (found : Option Daemon) → slice_get g.wire k ≡ Some m → m.to ≡ Osd d → is_in g.up d ≡ true → slice_get g.copies d ≡ found → whole_group_step g (Deliver k) ≡ whole_copy_hears (whole_without g k) m d found

@@ -1,11 +1,11 @@
 -- Settling only adds.
 use Rattle.std.proofs.Common.{ℕ, ◌≡◌, [], replicate, sym, ◌∙◌, subst}
 use Rattle.std.specs.Prelude.{Some}
-use Rattle.whole_logs.specs.Types.{EntryReply}
-use Rattle.whole_logs.specs.History.{Begins}
-use Rattle.suffix_core.specs.Group.{Group, Deliver, settle, answer_of}
-use Rattle.suffix_core.proofs.Runs.{settle_is_run}
-use Rattle.suffix_core.proofs.Additions.{audit_grows, answer_stands}
+use Rattle.group_model_whole.specs.Types.{EntryReply}
+use Rattle.group_model_whole.specs.History.{Begins}
+use Rattle.group_model.specs.Group.{Group, Deliver, settle, answer_of}
+use Rattle.group_model.proofs.Runs.{settle_is_run}
+use Rattle.group_model.proofs.Additions.{audit_grows, answer_stands}
 
 pub settle_grows : (g new : Group) (n : ℕ) → new ≡ settle n g → Begins g.audit new.audit
 settle_grows g new n is = subst (λ (v : Group). Begins g.audit v.audit) (sym (is ∙ settle_is_run n [] g)) (audit_grows [] (replicate n (Deliver 0)) g)

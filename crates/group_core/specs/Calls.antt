@@ -1,7 +1,7 @@
 -- Statement: contracts of public calls use it.
 -- Calls on a group, as its events.
-use Rattle.suffix_core.specs.Group.{Event}
-use Rattle.suffix_core.specs.Group as group
+use Rattle.group_model.specs.Group.{Event}
+use Rattle.group_model.specs.Group as group
 use Rattle.group_core.specs.declared.call.GroupCall.{GroupCall}
 use Rattle.group_core.specs.declared.call.GroupCall.TheVariants as calls
 

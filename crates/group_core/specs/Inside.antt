@@ -4,7 +4,7 @@ use Rattle.std.specs.Prelude.{take}
 use Rattle.place_core.specs.Placement.{numbers_of}
 use Rattle.group_core.specs.declared.state.GroupState.{GroupState}
 use Rattle.group_wire.specs.Furthest.{furthest}
-use Rattle.suffix_core.specs.Group.{Group}
+use Rattle.group_model.specs.Group.{Group}
 
 -- what was decided is the beginning of the log of the copy that is furthest on
 abbrev pub group_of : GroupState → Group

@@ -4,10 +4,10 @@ use Rattle.std.specs.Prelude.{ℕ, ◌≡◌, ◌≤◌, ◌<◌, List, [], ◌�
 use Rattle.entry_core.specs.Log.{is_in}
 use Rattle.place_core.specs.Placement.{numbers_of}
 use Rattle.group_wire.specs.declared.opening.Opening.{Opening}
-use Rattle.group_types.specs.declared.group_move.GroupMove.{GroupMove}
-use Rattle.group_types.specs.declared.group_move.GroupMove.TheVariants.{NewInterval as Moves, Restart as Restarts}
-use Rattle.suffix_core.specs.Types.{Sent}
-use Rattle.suffix_core.specs.Group.{Group, Event, NewInterval, Restart, last_set, same_set, announced, resent, EventFits}
+use Rattle.group_messages.specs.declared.group_move.GroupMove.{GroupMove}
+use Rattle.group_messages.specs.declared.group_move.GroupMove.TheVariants.{NewInterval as Moves, Restart as Restarts}
+use Rattle.group_model.specs.Types.{Sent}
+use Rattle.group_model.specs.Group.{Group, Event, NewInterval, Restart, last_set, same_set, announced, resent, EventFits}
 use Rattle.group_core.specs.Sound.{IsSound}
 
 abbrev pub event_of : GroupMove → Event

@@ -1,12 +1,12 @@
 //! Calls by a value, which says which one it is.
 
 ghost use Rattle.std.specs.Prelude.{◌≡◌, ℕ, IsOk, None};
-ghost use Rattle.suffix_core.specs.Group.{refusal_of, Lose};
-ghost use Rattle.suffix_core.specs.Reached.{Steps};
+ghost use Rattle.group_model.specs.Group.{refusal_of, Lose};
+ghost use Rattle.group_model.specs.Reached.{Steps};
 ghost use Rattle.group_core.specs.Calls.{event_of};
 
 use crate::group::Group;
-use group_types::GroupFault;
+use group_messages::GroupFault;
 
 /// What happens to a group between requests and moves. A message is named by its place on the wire, counted from 0.
 #[derive(Clone, Copy, Drop)]

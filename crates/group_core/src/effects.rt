@@ -2,16 +2,17 @@
 
 ghost use Rattle.std.specs.Prelude.{◌≡◌, ◌≤◌, ◌<◌, ◌+◌, ◌*◌, ◌∷◌, [], ◌++◌, ◌==◌, ◌&&◌, not, false, length, map, take, remove, IfOk, OnOk, OnErr, slice_get, Some, if◌then◌else◌};
 ghost use Rattle.peer_core.specs.Steps.{blank, restarted};
-ghost use Rattle.whole_logs.specs.ActingSets.{daemons};
+ghost use Rattle.group_model_whole.specs.ActingSets.{daemons};
 ghost use Rattle.peer_core.specs.Copy.{copy_step};
 ghost use Rattle.entry_core.specs.Log.{is_in};
 ghost use Rattle.place_core.specs.Placement.{numbers_of};
-ghost use Rattle.suffix_core.specs.Types as types;
-ghost use Rattle.suffix_core.specs.Group.{is_submitted, answers_after, announced, resent};
-ghost use Rattle.suffix_core.specs.Reached.{unsent};
+ghost use Rattle.group_model.specs.Types as types;
+ghost use Rattle.group_model.specs.Group.{is_submitted, answers_after, announced, resent};
+ghost use Rattle.group_model.specs.Reached.{unsent};
 
-use entry_core::{Items, OutOfMemory, Sealed, TryCopy};
-use group_types::IntervalSets;
+use common_types::{Items, OutOfMemory, TryCopy};
+use entry_core::Sealed;
+use group_messages::IntervalSets;
 use group_wire::{Answer, Ledger, Wire, at, is_up, open, prepare};
 use peer_core::{Body, Daemon, Message, Sent};
 use place_core::{ActingSet, DaemonSet};

@@ -2,15 +2,15 @@
 
 ghost use Rattle.std.specs.Prelude.{◌≡◌, true, is_some, IfOk, IfErr, IsOk, OnOk, Some, None, if◌then◌else◌};
 ghost use Rattle.entry_core.specs.Log.{is_in};
-ghost use Rattle.suffix_core.specs.Group.{refusal_of, same_set, last_set, IsSet, EventFits};
+ghost use Rattle.group_model.specs.Group.{refusal_of, same_set, last_set, IsSet, EventFits};
 ghost use Rattle.group_core.specs.Inside.{group_of};
 ghost use Rattle.group_core.specs.Moves as moves;
-ghost use Rattle.suffix_core.specs.Reached.{Refuses};
+ghost use Rattle.group_model.specs.Reached.{Refuses};
 
 use crate::effects::{change_up, restart_one};
 use crate::group::{Group, INTERVALS};
 use crate::state::GroupState;
-use group_types::{GroupFault, GroupMove, IntervalSets};
+use group_messages::{GroupFault, GroupMove, IntervalSets};
 use group_wire::{Opening, Wire, has_member, last_set, open, prepare, same_set};
 use place_core::ActingSet;
 use std::marker::Model;
@@ -123,7 +123,7 @@ impl Group {
 }
 
 impl PreparedGroup {
-    ghost use Rattle.suffix_core.specs.Group.{group_step};
+    ghost use Rattle.group_model.specs.Group.{group_step};
 
     /// Moves the group. It takes no memory.
     pub fn commit(self) -> Group

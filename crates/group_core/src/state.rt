@@ -1,7 +1,7 @@
 //! What a group has.
 
 use entry_core::GroupId;
-use group_types::IntervalSets;
+use group_messages::IntervalSets;
 use group_wire::{Ledger, Wire};
 use peer_core::Daemon;
 use place_core::DaemonSet;

@@ -7,16 +7,16 @@ use Rattle.store_core.specs.declared.sealed.GroupId.{GroupId}
 use Rattle.store_core.specs.Request.{Sealed}
 use Rattle.entry_core.specs.Locality.{group_for}
 use Rattle.place_core.specs.Placement.{numbers_of}
-use Rattle.map_commands.specs.State.{MapState}
-use Rattle.map_commands.specs.Map.{map_of, after}
-use Rattle.map_commands.specs.declared.command.MapCommand.{MapCommand}
-use Rattle.map_commands.specs.declared.command.MapCommand.TheVariants.{PoolCreate, AppEnable, AppSet, AppRm, OsdUp, OsdDown, OsdRestart}
-use Rattle.suffix_core.specs.Types.{Sent}
-use Rattle.whole_logs.specs.Each.{Each}
-use Rattle.suffix_core.specs.Group.{Group, group_step, run}
-use Rattle.suffix_core.specs.Group as group
-use Rattle.wire_steps.specs.Wire.{kept, place_of, TellsStep}
-use Rattle.wire_steps.proofs.Steps.{Sends, nothing, sends}
+use Rattle.map_core.specs.State.{MapState}
+use Rattle.map_core.specs.Map.{map_of, after}
+use Rattle.map_core.specs.declared.command.MapCommand.{MapCommand}
+use Rattle.map_core.specs.declared.command.MapCommand.TheVariants.{PoolCreate, AppEnable, AppSet, AppRm, OsdUp, OsdDown, OsdRestart}
+use Rattle.group_model.specs.Types.{Sent}
+use Rattle.group_model_whole.specs.Each.{Each}
+use Rattle.group_model.specs.Group.{Group, group_step, run}
+use Rattle.group_model.specs.Group as group
+use Rattle.group_story.specs.Wire.{kept, place_of, TellsStep}
+use Rattle.group_story.proofs.Steps.{Sends, nothing, sends}
 use Rattle.world_events.specs.declared.event.Event.{Event}
 use Rattle.world_events.specs.declared.event.Event.TheVariants.{Auth, Map, Open, Renew, Close, Submit, List as ListNames, Deliver, Lose, Repeat, Kick}
 use Rattle.world_events.specs.declared.fault.WorldFault.{WorldFault as Fault}

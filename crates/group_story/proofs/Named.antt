@@ -4,13 +4,13 @@ use Rattle.std.specs.Prelude.{nat_le}
 use Rattle.std.specs.List.{find}
 use Rattle.std.specs.Option.{option_map, option_map_or}
 use Rattle.store_core.specs.declared.sealed.GroupId.{GroupId}
-use Rattle.map_commands.specs.State.{History}
-use Rattle.map_commands.specs.Map.{is_named, map_of, pool_in}
+use Rattle.map_core.specs.State.{History}
+use Rattle.map_core.specs.Map.{is_named, map_of, pool_in}
 use Rattle.map_core.specs.Refusal.{first_of, acting_refusal, groups_in, is_word}
-use Rattle.map_commands.specs.declared.fault.MapFault.{MapFault}
-use Rattle.map_commands.specs.declared.fault.MapFault.TheVariants as fault
-use Rattle.map_commands.specs.declared.pool.Pool.{Pool}
-use Rattle.map_commands.specs.declared.command.MapCommand.{MapCommand}
+use Rattle.map_core.specs.declared.fault.MapFault.{MapFault}
+use Rattle.map_core.specs.declared.fault.MapFault.TheVariants as fault
+use Rattle.map_core.specs.declared.pool.Pool.{Pool}
+use Rattle.map_core.specs.declared.command.MapCommand.{MapCommand}
 use Rattle.map_core.specs.Laws.{HasPool, later}
 use Rattle.map_core.proofs.Kept.{pools_stay}
 use Rattle.world_events.specs.declared.event.Event.{Event}

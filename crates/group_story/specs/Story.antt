@@ -2,15 +2,15 @@
 -- What an event of a world does to the messages of one of its groups: it takes one, or none, and sends others behind those that stay.
 use Rattle.std.specs.Prelude.{ℕ, ◌≡◌, List, [], ◌++◌, Option, Some, None, if◌then◌else◌}
 use Rattle.store_core.specs.declared.sealed.GroupId.{GroupId}
-use Rattle.suffix_core.specs.Types.{Sent}
-use Rattle.suffix_core.specs.Group.{Group}
+use Rattle.group_model.specs.Types.{Sent}
+use Rattle.group_model.specs.Group.{Group}
 use Rattle.world_events.specs.declared.event.Event.{Event}
 use Rattle.world_events.specs.declared.event.Event.TheVariants.{Auth, Map, Open, Renew, Close, Submit, List as ListNames, Deliver, Lose, Repeat, Kick}
 use Rattle.world_events.specs.declared.fault.WorldFault.{WorldFault as Fault}
 use Rattle.world_front.specs.Groups.{is_same_group}
 use Rattle.world_front.specs.Front.{group_refusal}
 use Rattle.world_core.specs.World.{World, group_at}
-use Rattle.wire_steps.specs.Wire.{kept, TellsStep}
+use Rattle.group_story.specs.Wire.{kept, TellsStep}
 
 -- the messages of a group on their way; none where the map has no such group
 abbrev pub wire_where : Option Fault → Option Group → List Sent

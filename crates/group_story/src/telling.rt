@@ -1,15 +1,20 @@
 //! What an event does to the messages of a group.
 
-ghost use Rattle.std.specs.Prelude.{◌≡◌, true, false, IfOk};
+ghost use Rattle.std.specs.Prelude.{◌≡◌, ℕ, true, false, IfOk};
 ghost use Rattle.world_front.specs.Groups.{is_same_group};
+ghost use Rattle.world_front.specs.Front.{told_of};
+ghost use Rattle.world_front.specs.Refusing.{RefusedOrMemory};
+ghost use Rattle.common_types.specs.Refused.{RefusedExactly};
+ghost use Rattle.world_events.specs.declared.event.Event.TheVariants as happens;
+ghost use Rattle.store_core.specs.declared.sealed.GroupId.{GroupId};
 ghost use Rattle.group_story.specs.Story.{wire_in, place_in, TellsEvent};
-ghost use Rattle.world_core.specs.World.{counts, world_step};
+ghost use Rattle.world_core.specs.World.{counts, refusal_of, world_step};
 
+use crate::wire::{WireStep, hold_wire, tell_step};
 use common_types::OutOfMemory;
 use entry_core::GroupId;
 use peer_core::Sent;
 use std::alloc::Global;
-use wire_steps::{WireStep, hold_wire, tell_step};
 use world_core::{Event, Told, World, WorldFault};
 
 /// What an event came to.
@@ -55,16 +60,21 @@ fn wire_of<'a>(world: &'a World, group: &GroupId) -> &'a [Sent]
     }
 }
 
-/// Carries out an event in a world, as `World::apply` does, and tells of one group which message the event took from those on their
+/// Carries out an event in a world, as `World::apply` does, and lists for one group which message the event took from those on their
 /// way, and which it sent.
 ///
-/// Where memory is refused for what is to be told, the event may have happened all the same.
+/// `done` is what `World::apply` answers: what the event tells, or the first reason to refuse it. An event that takes memory may be
+/// refused as out of memory instead; a loss never is. `OutOfMemory`: an allocation for the listed messages failed, and the event may
+/// have happened.
 pub fn step_and_tell(
     alloc: Global,
     world: &mut World,
     group: &GroupId,
     event: Event,
 ) -> Result<GroupStep, OutOfMemory>
+    ensures done { IfOk result (λ told. IfOk told.done (λ done. done ≡ told_of world.old.front event)) }
+    ensures refused { IfOk result (λ told. RefusedOrMemory (refusal_of world.old event) told.done) }
+    ensures lost { IfOk result (λ told. (at : GroupId) (place : ℕ) → event ≡ happens.Lose at place → RefusedExactly (refusal_of world.old event) told.done) }
     ensures steps { IfOk result (λ told. counts event told.done ≡ true → world.new ≡ world_step world.old event) }
     ensures unchanged { IfOk result (λ told. counts event told.done ≡ false → world.new ≡ world.old) }
     ensures tells { IfOk result (λ told. counts event told.done ≡ true → TellsEvent group.now world.old event world.new told.wire.taken told.wire.sent.items) }

@@ -9,9 +9,9 @@ use Rattle.std.proofs.lemmas.Option.{same_Some, none-some, cond_some, slice_get_
 use Rattle.std.proofs.lemmas.List.Folds.{list_any-append}
 use Rattle.std.proofs.lemmas.Map.Keys.{IsDistinct-head, IsDistinct-tail}
 use Rattle.store_core.specs.Request.{Sealed}
-use Rattle.suffix_core.specs.Types.{Body}
-use Rattle.suffix_core.specs.Group.{Answer, is_answered, is_submitted, to_daemon, to_primary}
-use Rattle.whole_logs.proofs.ById.{same_turned, some_has}
+use Rattle.group_model.specs.Types.{Body}
+use Rattle.group_model.specs.Group.{Answer, is_answered, is_submitted, to_daemon, to_primary}
+use Rattle.group_model_whole.proofs.ById.{same_turned, some_has}
 use Rattle.group_wire.specs.Places.{places_from, open_places, IsPlaceOf, IsRising}
 
 -- ---- two lists, one behind the other

@@ -2,9 +2,9 @@
 -- The copy that is furthest on: its log begins with all that was decided.
 use Rattle.std.specs.Prelude.{List, [], ◌∷◌, map}
 use Rattle.store_core.specs.declared.entry.Entry.{Entry}
-use Rattle.whole_logs.specs.Types.{PeerInfo}
-use Rattle.whole_logs.specs.Choice.{best}
-use Rattle.suffix_core.specs.Types.{Copy}
+use Rattle.group_model_whole.specs.Types.{PeerInfo}
+use Rattle.group_model_whole.specs.Choice.{best}
+use Rattle.group_model.specs.Types.{Copy}
 
 -- what a copy that sent its whole log would tell
 abbrev pub whole_offer : Copy → PeerInfo

@@ -2,7 +2,7 @@
 -- What was asked of a group and what was answered, and where the requests stand that have no answer.
 use Rattle.std.specs.Prelude.{ℕ, ◌≡◌, ◌+◌, ◌≤◌, Bool, ◌==◌, not, List, [], ◌∷◌, Some, slice_get, if◌then◌else◌}
 use Rattle.store_core.specs.Request.{Sealed}
-use Rattle.suffix_core.specs.Group.{Answer, is_answered}
+use Rattle.group_model.specs.Group.{Answer, is_answered}
 
 pub record Ledger : Type 0 where
   pub requests : List Sealed

@@ -1,7 +1,7 @@
 -- Refinement: only contracts inside the crate use it.
 -- Messages on their way, and for how many more there is room.
 use Rattle.std.specs.Prelude.{ℕ, List}
-use Rattle.suffix_core.specs.Types.{Sent}
+use Rattle.group_model.specs.Types.{Sent}
 
 pub record WireRoom : Type 0 where
   pub sent : List Sent

@@ -1,10 +1,11 @@
 //! The answers that reached the client.
 
 ghost use Rattle.std.specs.Prelude.{◌≡◌, ◌+◌, ◌<◌, ◌++◌, [], ◌∷◌, false, OnOk, OnErr, option_copied};
-ghost use Rattle.suffix_core.specs.Group.{is_answered, answer_of};
+ghost use Rattle.group_model.specs.Group.{is_answered, answer_of};
 
 use crate::element_at::at;
-use entry_core::{Id, IdHash, Items, OutOfMemory, Reply, TryCopy};
+use common_types::{Items, OutOfMemory, TryCopy};
+use entry_core::{Id, IdHash, Reply};
 use indexmap::IndexSet;
 use std::alloc::Global;
 use std::marker::Model;
@@ -22,7 +23,7 @@ impl Drop for Answer {
 }
 
 impl Model for Answer {
-    ghost use Rattle.group_types.specs.Answers as answer;
+    ghost use Rattle.group_messages.specs.Answers as answer;
 
     ghost Value = { answer.Answer };
 
@@ -52,7 +53,7 @@ impl Drop for Answers {
 
 impl Model for Answers {
     ghost use Rattle.std.specs.Prelude.{List, ◌≡◌, map};
-    ghost use Rattle.group_types.specs.Answers as answer;
+    ghost use Rattle.group_messages.specs.Answers as answer;
 
     ghost Value = { List answer.Answer };
 

@@ -3,9 +3,9 @@
 ghost use Rattle.std.specs.Prelude.{◌≡◌};
 ghost use Rattle.entry_core.specs.Log.{is_in};
 ghost use Rattle.place_core.specs.Placement.{numbers_of};
-ghost use Rattle.suffix_core.specs.Group.{last_set, same_set};
+ghost use Rattle.group_model.specs.Group.{last_set, same_set};
 
-use group_types::IntervalSets;
+use group_messages::IntervalSets;
 use place_core::{ActingSet, DaemonSet};
 
 /// Whether a daemon is one of those that are up. It takes no memory.
@@ -23,7 +23,7 @@ pub fn has_member(set: &ActingSet, daemon: u8) -> bool
 }
 
 /// Whether two sets have the same members in the same order. It takes no memory.
-#[tactic(auto, using(whole_logs::proofs::Sets::equals_is))]
+#[tactic(auto, using(group_model_whole::proofs::Sets::equals_is))]
 pub fn same_set(one: &ActingSet, other: &ActingSet) -> bool
     ensures { result ≡ same_set one.now other.now }
 {

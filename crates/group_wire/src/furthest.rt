@@ -1,7 +1,7 @@
 //! The copy that is furthest on.
 
 ghost use Rattle.std.specs.Prelude.{◌≡◌};
-ghost use Rattle.whole_logs.specs.Choice.{is_better};
+ghost use Rattle.group_model_whole.specs.Choice.{is_better};
 ghost use Rattle.group_wire.specs.Furthest.{whole_offer};
 ghost use Rattle.group_wire.specs.Furthest.{furthest as furthest_log};
 

@@ -2,12 +2,13 @@
 
 ghost use Rattle.std.specs.Prelude.{◌≡◌, ◌-◌, ◌++◌, [], ◌∷◌, ◌==◌, not, false, length, take, OnOk, OnErr, option_copied};
 ghost use Rattle.std.specs.List.{filter};
-ghost use Rattle.suffix_core.specs.Group.{is_submitted, is_answered, answer_of};
+ghost use Rattle.group_model.specs.Group.{is_submitted, is_answered, answer_of};
 ghost use Rattle.group_wire.specs.Places.{IsRising, open_places};
 
 use crate::answers::{Answer, Answers};
 use crate::requests::Requests;
-use entry_core::{Id, OutOfMemory, Reply, Sealed, TryCopy};
+use common_types::{OutOfMemory, TryCopy};
+use entry_core::{Id, Reply, Sealed};
 use std::alloc::Global;
 use std::marker::Model;
 

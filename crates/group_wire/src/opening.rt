@@ -1,13 +1,13 @@
 //! What an interval begins with, made before it begins.
 
 ghost use Rattle.std.specs.Prelude.{◌≡◌, ◌≤◌, ◌++◌, ◌∷◌, [], IfOk, OnOk, vec_len};
-ghost use Rattle.suffix_core.specs.Group.{announced, resent};
+ghost use Rattle.group_model.specs.Group.{announced, resent};
 
 use crate::ledger::Ledger;
 use crate::sending::{announced, resent};
 use crate::wire::Wire;
-use entry_core::OutOfMemory;
-use group_types::IntervalSets;
+use common_types::OutOfMemory;
+use group_messages::IntervalSets;
 use peer_core::Sent;
 use place_core::ActingSet;
 use std::alloc::Global;

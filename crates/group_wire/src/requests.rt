@@ -1,10 +1,11 @@
 //! The requests that were submitted to a group.
 
 ghost use Rattle.std.specs.Prelude.{◌≡◌, ◌-◌, ◌++◌, [], ◌∷◌, false, length, take, OnOk, OnErr, MatchOption};
-ghost use Rattle.suffix_core.specs.Group.{is_submitted};
+ghost use Rattle.group_model.specs.Group.{is_submitted};
 ghost use Rattle.group_wire.specs.Places.{IsPlaceOf};
 
-use entry_core::{Id, IdHash, Items, OutOfMemory, Sealed, TryCopy};
+use common_types::{Items, OutOfMemory, TryCopy};
+use entry_core::{Id, IdHash, Sealed};
 use indexmap::IndexSet;
 use std::alloc::Global;
 use std::marker::Model;

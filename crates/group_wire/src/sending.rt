@@ -2,14 +2,15 @@
 
 ghost use Rattle.std.specs.Prelude.{◌≡◌, ◌∷◌, [], ◌++◌, map, slice_get, IfOk, OnOk};
 ghost use Rattle.std.specs.List.{filter_map};
-ghost use Rattle.suffix_core.specs.Types.{Request};
-ghost use Rattle.suffix_core.specs.Group.{to_daemon, to_primary, last_set, announced, resent, retransmit_primary};
+ghost use Rattle.group_model.specs.Types.{Request};
+ghost use Rattle.group_model.specs.Group.{to_daemon, to_primary, last_set, announced, resent, retransmit_primary};
 
 use crate::daemon_sets::last_set;
 use crate::element_at::at;
 use crate::ledger::Ledger;
-use entry_core::{OutOfMemory, Sealed, TryCopy};
-use group_types::{IntervalSets, Party};
+use common_types::{OutOfMemory, TryCopy};
+use entry_core::Sealed;
+use group_messages::{IntervalSets, Party};
 use peer_core::{Body, Daemon, Sent};
 use place_core::ActingSet;
 use std::alloc::Global;

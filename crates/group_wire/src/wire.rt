@@ -2,7 +2,7 @@
 
 ghost use Rattle.std.specs.Prelude.{◌≡◌, ◌+◌, ◌-◌, ◌<◌, ◌≤◌, ◌++◌, [], length, take, remove, IfOk, OnOk, OnErr, vec_len};
 
-use entry_core::{Items, OutOfMemory, TryCopy};
+use common_types::{Items, OutOfMemory, TryCopy};
 use peer_core::Sent;
 use std::alloc::Global;
 use std::marker::Model;

@@ -1,16 +1,21 @@
 -- What a list allows that has some grants of another one, and what compare_core says of it.
-use Rattle.std.proofs.Common.{◌≡◌, ℕ, ◌+◌, List, [], ◌∷◌, ◌++◌, Bool, true, false, ◌&&◌, ◌||◌, map, reverse, refl, sym, ap, subst, ◌∙◌, inl, inr, IsTrue, ◌↔◌}
-use Rattle.std.specs.List.{list_any}
+use Rattle.std.proofs.Common.{◌≡◌, ◌⊎◌, ℕ, suc, ◌+◌, List, [], ◌∷◌, ◌++◌, Bool, true, false, ◌&&◌, ◌||◌, Some, map, reverse, slice_get, refl, sym, ap, subst, ◌∙◌, inl, inr, IsTrue, ◌↔◌}
+use Rattle.std.specs.List.{list_any, list_all}
 use Rattle.std.proofs.lemmas.Bool.{false≢true}
+use Rattle.std.proofs.lemmas.List.{append-nil}
 use Rattle.std.proofs.lemmas.List.Folds.{list_any-append}
 use Rattle.cap_grants.specs.declared.grant.AllowGrant.{AllowGrant}
 use Rattle.cap_grants.specs.declared.grant.Grant.{Grant}
 use Rattle.cap_grants.specs.declared.grant.Grant.TheVariants.{Allow, Profile}
 use Rattle.cap_grants.specs.declared.grant.ProfileUse.{ProfileUse}
 use Rattle.grant_core.specs.Flat.{Flat, Table, flat, numbered, parts_of, under}
+use Rattle.request_types.specs.Target.{Target}
+use Rattle.request_types.specs.declared.request.Needs.{Needs}
 use Rattle.verdict_core.specs.Verdict.{covers, grants_allow, is_covered, is_usable}
-use Rattle.compare_core.specs.Widening.{Widens}
-use Rattle.compare_core.proofs.Bools.{all_also, both, both_left, both_right, not_both, true_or_false}
+use Rattle.compare_core.specs.Widening.{AnswersBy, Widens, WidensBy}
+use Rattle.compare_core.specs.declared.registry.Registry.TheVariants.{Every}
+use Rattle.compare_core.proofs.Bools.{all_also, any_at, both, both_left, both_right, either_first, not_both, some_pass, true_or_false}
+use Rattle.compare_core.proofs.Gains.{allowed_among, nothing_widens}
 use Rattle.lint_core.specs.Lint.{AllowsAll}
 
 -- whether some grant that a grant comes to passes a test
@@ -53,6 +58,59 @@ any_more table test front middle behind h =
     any_numbered (parts_of (reverse table)) test 1 (front ++ (middle ++ behind)) ∙ (list_any-append pass front (middle ++ behind)
     ∙ (ap (λ others. list_any pass front || others) (list_any-append pass middle behind) ∙ or_more (list_any pass front) (list_any pass middle) (list_any pass behind) few))
 
+or_split : (a m b : Bool) → (a || (m || b)) ≡ true → ((a || b) ≡ true) ⊎ (m ≡ true)
+or_split true m b h = inl refl
+or_split false true b h = inr refl
+or_split false false b h = inl h
+
+-- where some grant passes, one of the grants around passes, or one between
+any_split : (table : Table) (test : AllowGrant → Bool) (front middle behind : List Grant)
+    → list_any (λ entry. test entry.1) (flat table (front ++ (middle ++ behind))) ≡ true
+    → (list_any (λ entry. test entry.1) (flat table (front ++ behind)) ≡ true) ⊎ (list_any (λ entry. test entry.1) (flat table middle) ≡ true)
+any_split table test front middle behind h =
+    let pass : Grant → Bool = some_of (parts_of (reverse table)) test in
+    let many : (list_any pass front || (list_any pass middle || list_any pass behind)) ≡ true =
+    sym (ap (λ others. list_any pass front || others) (list_any-append pass middle behind)) ∙ (sym (list_any-append pass front (middle ++ behind))
+    ∙ (sym (any_numbered (parts_of (reverse table)) test 1 (front ++ (middle ++ behind))) ∙ h)) in
+    elim (or_split (list_any pass front) (list_any pass middle) (list_any pass behind) many) [
+      | inl around ↦ inl (any_numbered (parts_of (reverse table)) test 1 (front ++ behind) ∙ (list_any-append pass front behind ∙ around))
+      | inr between ↦ inr (any_numbered (parts_of (reverse table)) test 1 middle ∙ between)
+    ]
+
+-- a grant alone allows the request
+passes : Target → Needs → AllowGrant → Bool
+passes target needs g = is_usable g target needs && list_all (covers g.access) needs.calls
+
+only_one : (b : Bool) → (b || false) ≡ true → b ≡ true
+only_one true h = refl
+only_one false h = h
+
+passes_alone : (entry : List ℕ × AllowGrant) (target : Target) (needs : Needs) → grants_allow (entry ∷ []) target needs ≡ true → passes target needs entry.1 ≡ true
+unfolding passes
+passes_alone entry target needs h =
+    both _ _ (only_one _ (both_left _ _ h))
+    (all_also (is_covered (entry ∷ []) target needs) (covers entry.1.access) needs.calls
+    (λ call covered. both_right (is_usable entry.1 target needs) _ (only_one _ covered)) (both_right (list_any (λ e. is_usable e.1 target needs) (entry ∷ [])) _ h))
+
+allows_alone : (entry : List ℕ × AllowGrant) (target : Target) (needs : Needs) → passes target needs entry.1 ≡ true → grants_allow (entry ∷ []) target needs ≡ true
+unfolding passes
+allows_alone entry target needs h =
+    let useful : is_usable entry.1 target needs ≡ true = both_left _ _ h in
+    both _ _ (either_first _ _ useful)
+    (all_also (covers entry.1.access) (is_covered (entry ∷ []) target needs) needs.calls
+    (λ call covered. either_first _ _ (both _ _ useful covered)) (both_right (is_usable entry.1 target needs) _ h))
+
+-- a list allows what some grant of it allows alone
+some_allows : (grants : Flat) (target : Target) (needs : Needs) → list_any (λ entry. passes target needs entry.1) grants ≡ true → grants_allow grants target needs ≡ true
+some_allows grants target needs h =
+    let found = some_pass (λ (entry : List ℕ × AllowGrant). passes target needs entry.1) grants h in
+    allowed_among grants found.0 found.1.0 target needs found.1.1.0 (allows_alone found.1.0 target needs found.1.1.1)
+
+-- no grant widens anything alone
+none_alone : (old new : Flat) → ((i : ℕ) (entry : List ℕ × AllowGrant) → slice_get new i ≡ Some entry → ¬ WidensBy Every old (entry ∷ [])) → AnswersBy Every old new []
+none_alone old [] h = tt
+none_alone old (entry ∷ new) h = (h 0 entry refl, none_alone old new (λ i e at. h (suc i) e at))
+
 -- a list allows all that it allows without some of its grants
 pub more : (table : Table) (front middle behind : List Grant) → AllowsAll (flat table (front ++ (middle ++ behind))) (flat table (front ++ behind))
 more table front middle behind target needs asked h =
@@ -73,6 +131,29 @@ pub all_from_silent : (grants others : Flat) → ¬ Widens grants others → All
 all_from_silent grants others none target needs asked h =
     elim (true_or_false (grants_allow grants target needs)) [ inl allowed ↦ allowed | inr denied ↦ absurd (none (record { target = target; needs = needs }, (asked, h, denied))) ]
 
+-- a list without some grants allows all that it does where it allows all that these do
+pub around_enough : (table : Table) (front middle behind : List Grant) → AllowsAll (flat table (front ++ behind)) (flat table middle)
+    → AllowsAll (flat table (front ++ behind)) (flat table (front ++ (middle ++ behind)))
+around_enough table front middle behind enough =
+    all_from_silent few many (nothing_widens Every few many (none_alone few many silent))
+  where
+    few : Flat
+    few = flat table (front ++ behind)
+
+    many : Flat
+    many = flat table (front ++ (middle ++ behind))
+
+    silent : (i : ℕ) (entry : List ℕ × AllowGrant) → slice_get many i ≡ Some entry → ¬ WidensBy Every few (entry ∷ [])
+    silent i entry at gained =
+        let target : Target = gained.0.target in
+        let needs : Needs = gained.0.needs in
+        let passing : list_any (λ e. passes target needs e.1) many ≡ true =
+        any_at (λ (e : List ℕ × AllowGrant). passes target needs e.1) many i entry at (passes_alone entry target needs gained.1.1) in
+        elim (any_split table (passes target needs) front middle behind passing) [
+          | inl around ↦ not_both (grants_allow few target needs) (some_allows few target needs around) gained.1.2
+          | inr between ↦ not_both (grants_allow few target needs) (enough target needs gained.1.0 (some_allows (flat table middle) target needs between)) gained.1.2
+        ]
+
 pub silent_from_all : (grants others : Flat) → AllowsAll grants others → ¬ Widens grants others
 silent_from_all grants others all gained =
     not_both (grants_allow grants gained.0.target gained.0.needs) (all gained.0.target gained.0.needs gained.1.0 gained.1.1) gained.1.2
@@ -87,3 +168,21 @@ answer_yes grants others rest whole all answer p q said = along grants others re
 pub answer_no : (grants others rest whole : Flat) (all : Bool) → (IsTrue all ↔ AllowsAll rest whole) → rest ≡ grants → whole ≡ others → all ≡ false → ¬ AllowsAll grants others
 answer_no grants others rest whole all answer p q said allowed =
     false≢true (sym said ∙ answer.1 (along rest whole grants others (sym p) (sym q) allowed))
+
+-- a list allows all that some of its grants do
+pub between : (table : Table) (front middle behind : List Grant) → AllowsAll (flat table (front ++ (middle ++ behind))) (flat table middle)
+between table front middle behind =
+    through (flat table (front ++ (middle ++ behind))) (flat table (middle ++ behind)) (flat table middle)
+    (more table [] front (middle ++ behind))
+    (subst (λ l. AllowsAll (flat table (middle ++ l)) (flat table middle)) (append-nil behind)
+    (subst (λ l. AllowsAll (flat table (middle ++ (behind ++ []))) (flat table l)) (append-nil middle) (more table middle behind [])))
+
+-- what an answer on some grants of a list says of the list
+pub rest_answer : (table : Table) (front middle behind : List Grant) (rest own : Flat) (all : Bool) → (IsTrue all ↔ AllowsAll rest own)
+    → rest ≡ flat table (front ++ behind) → own ≡ flat table middle → IsTrue all ↔ AllowsAll (flat table (front ++ behind)) (flat table (front ++ (middle ++ behind)))
+rest_answer table front middle behind rest own all answer p q =
+    let few : Flat = flat table (front ++ behind) in
+    let many : Flat = flat table (front ++ (middle ++ behind)) in (
+      λ yes. around_enough table front middle behind (along few (flat table middle) rest own p q (answer.0 yes)),
+      λ enough. answer.1 (along rest own few (flat table middle) (sym p) (sym q) (through few many (flat table middle) enough (between table front middle behind))),
+    )

@@ -1,6 +1,6 @@
 -- No grant of a text is idle: some target is matched by it, and some request is given by its access.
-use Rattle.std.proofs.Common.{◌≡◌, ℕ, ◌+◌, ◌-◌, ◌<◌, List, [], ◌∷◌, ◌++◌, Bool, true, false, not, ◌||◌, Option, None, Some, map, reverse, take, length, get_or, codes, cond, refl, sym, subst, ◌∙◌, arith}
-use Rattle.std.specs.List.{list_any, list_all}
+use Rattle.std.proofs.Common.{◌≡◌, ◌≢◌, ◌≤◌, ℕ, ◌+◌, ◌-◌, ◌<◌, List, [], ◌∷◌, ◌++◌, Bool, true, false, not, ◌||◌, Option, None, Some, map, reverse, take, length, get_or, codes, cond, refl, sym, subst, ◌∙◌, arith}
+use Rattle.std.specs.List.{AllPairs, list_any, list_all}
 use Rattle.std.specs.Str.{bytes_eq}
 use Rattle.std.proofs.lemmas.List.Elements.{All-nil, All-cons}
 use Rattle.std.proofs.lemmas.List.Folds.{list_any-append}
@@ -22,15 +22,17 @@ use Rattle.common_types.specs.declared.tags.AppTags.{AppTags}
 use Rattle.grant_core.specs.BuiltIn.{built_in}
 use Rattle.grant_core.specs.Flat.{Flat, filled_use, flat, parts_of, under}
 use Rattle.grant_core.specs.Refusal.{has_profile}
-use Rattle.verdict_types.specs.Target.{Target}
+use Rattle.request_types.specs.Target.{Target}
 use Rattle.verdict_core.specs.Verdict.{can_read, can_write, covers, is_covered, is_usable, matches, matches_namespace, matches_pairs, matches_prefix, matches_tag, names}
-use Rattle.verdict_types.specs.declared.request.ClassCall.{ClassCall}
-use Rattle.verdict_types.specs.declared.request.Needs.{Needs}
-use Rattle.compare_core.specs.Widening.{IsAskedBy, IsCallBy}
+use Rattle.request_types.specs.declared.request.ClassCall.{ClassCall}
+use Rattle.request_types.specs.declared.request.Needs.{Needs}
+use Rattle.compare_core.specs.Widening.{IsAskedBy, IsCallBy, asks_something}
 use Rattle.compare_core.specs.declared.registry.Registry.TheVariants.{Every}
+use Rattle.compare_core.proofs.Possible.{no_application, none_differ, one_application, one_differs}
+use Rattle.map_core.specs.PossibleTags.{ArePossible}
 use Rattle.compare_core.proofs.Bools.{all_also, both, both_left, either_first}
 use Rattle.compare_core.proofs.Fronts.{front_of_itself, text_same}
-use Rattle.lint_core.specs.Idle.{AreIdle, NoneIsIdle, asks_something}
+use Rattle.lint_core.specs.Idle.{AreIdle, NoneIsIdle}
 use Rattle.lint_core.specs.Lint.{alone}
 use Rattle.lint_core.specs.Parts.{CanExpand}
 use Rattle.lint_core.proofs.Allowed.{any_of_use}
@@ -49,36 +51,41 @@ namespace_for None = ([], refl)
 namespace_for (Some (Exact name)) = (name, text_same name name refl)
 namespace_for (Some (Prefix front)) = (front, front_of_itself front)
 
-object_for : (wanted : Option (List ℕ)) → (object : List ℕ) × (matches_prefix wanted object ≡ true)
-object_for None = ([], refl)
-object_for (Some []) = (97 ∷ [], refl)
-object_for (Some (b ∷ bs)) = (b ∷ bs, front_of_itself (b ∷ bs))
+filled : (b : ℕ) (bs : List ℕ) → b ∷ bs ≢ []
+filled b bs e = absurd (cc)
 
-pairs_for : (key value : Part) → (pairs : List (List ℕ × List ℕ)) × (matches_pairs key value pairs ≡ true)
-pairs_for Any Any = ([], refl)
-pairs_for Any (Is value) = (([], value) ∷ [], either_first _ _ (text_same value value refl))
-pairs_for (Is key) Any = ((key, []) ∷ [], either_first _ _ (both _ _ (text_same key key refl) refl))
-pairs_for (Is key) (Is value) = ((key, value) ∷ [], either_first _ _ (both _ _ (text_same key key refl) (text_same value value refl)))
+object_for : (wanted : Option (List ℕ)) → (object : List ℕ) × (matches_prefix wanted object ≡ true) × (object ≢ [])
+object_for None = (97 ∷ [], refl, filled 97 [])
+object_for (Some []) = (97 ∷ [], refl, filled 97 [])
+object_for (Some (b ∷ bs)) = (b ∷ bs, front_of_itself (b ∷ bs), filled b bs)
 
-tags_for : (wanted : Option Tag) → (tags : List AppTags) × (matches_tag wanted tags ≡ true)
-tags_for None = ([], refl)
+pairs_for : (key value : Part) → (pairs : List (List ℕ × List ℕ)) × (matches_pairs key value pairs ≡ true) × AllPairs (λ p q. p.0 ≢ q.0) pairs
+pairs_for Any Any = ([], refl, none_differ (λ p q. p.0 ≢ q.0))
+pairs_for Any (Is value) = (([], value) ∷ [], either_first _ _ (text_same value value refl), one_differs (λ p q. p.0 ≢ q.0) ([], value))
+pairs_for (Is key) Any = ((key, []) ∷ [], either_first _ _ (both _ _ (text_same key key refl) refl), one_differs (λ p q. p.0 ≢ q.0) (key, []))
+pairs_for (Is key) (Is value) = ((key, value) ∷ [], either_first _ _ (both _ _ (text_same key key refl) (text_same value value refl)), one_differs (λ p q. p.0 ≢ q.0) (key, value))
+
+tags_for : (wanted : Option Tag) → (tags : List AppTags) × (matches_tag wanted tags ≡ true) × ArePossible tags
+tags_for None = ([], refl, no_application)
 tags_for (Some tag) =
     let pairs = pairs_for tag.key tag.value in
-    (record { application = tag.application; pairs = pairs.0 } ∷ [], either_first _ _ (both _ _ (text_same tag.application tag.application refl) pairs.1))
+    let app : AppTags = record { application = tag.application; pairs = pairs.0 } in
+    (app ∷ [], either_first _ _ (both _ _ (text_same tag.application tag.application refl) pairs.1), one_application app pairs.2)
 
-target_for : (g : AllowGrant) → (target : Target) × (matches g target ≡ true)
+target_for : (g : AllowGrant) → (target : Target) × (matches g target ≡ true) × ArePossible target.tags × (target.object ≢ [])
 target_for g =
     let pool = pool_for g.pool in
     let tags = tags_for g.tag in
     let namespace = namespace_for g.namespace in
     let object = object_for g.prefix in
-    (record { pool = pool.0; tags = tags.0; namespace = namespace.0; object = object.0 }, both _ _ (both _ _ (both _ _ pool.1 namespace.1) tags.1) object.1)
+    (record { pool = pool.0; tags = tags.0; namespace = namespace.0; object = object.0 }, both _ _ (both _ _ (both _ _ pool.1 namespace.1) tags.1) object.1, tags.2, object.2)
 
 -- ---- a request that an access gives
 
 record Given (access : Access) : Type 0 where
   needs : Needs
   asked : IsAskedBy Every needs
+  few : length needs.calls ≤ 16
   something : asks_something needs ≡ true
   reads : (not needs.reads || can_read access) ≡ true
   writes : (not needs.writes || can_write access) ≡ true
@@ -99,19 +106,19 @@ listed_call reads writes = record { class = []; method = []; class_reads = reads
 given_call : (access : Access) (call : ClassCall) → IsCallBy Every call → covers access call ≡ true → Given access
 unfolding a_call
 given_call access call asked covered =
-    record { needs = a_call call; asked = All-cons (IsCallBy Every) call [] asked (All-nil (IsCallBy Every)); something = refl; reads = refl; writes = refl; calls = both _ _ covered refl }
+    record { needs = a_call call; asked = All-cons (IsCallBy Every) call [] asked (All-nil (IsCallBy Every)); few = omega arith; something = refl; reads = refl; writes = refl; calls = both _ _ covered refl }
 
 given_flags : (r w x y : Bool) → (r || (w || (x || y))) ≡ true → Given (Flags (record { read = r; write = w; class_read = x; class_write = y }))
 unfolding a_read a_write listed_call
-given_flags true w x y h = record { needs = a_read; asked = All-nil (IsCallBy Every); something = refl; reads = refl; writes = refl; calls = refl }
-given_flags false true x y h = record { needs = a_write; asked = All-nil (IsCallBy Every); something = refl; reads = refl; writes = refl; calls = refl }
+given_flags true w x y h = record { needs = a_read; asked = All-nil (IsCallBy Every); few = omega arith; something = refl; reads = refl; writes = refl; calls = refl }
+given_flags false true x y h = record { needs = a_write; asked = All-nil (IsCallBy Every); few = omega arith; something = refl; reads = refl; writes = refl; calls = refl }
 given_flags false false true y h = given_call (Flags (record { read = false; write = false; class_read = true; class_write = y })) (listed_call true false) refl refl
 given_flags false false false true h = given_call (Flags (record { read = false; write = false; class_read = false; class_write = true })) (listed_call false true) refl refl
 given_flags false false false false h = absurd (cc)
 
 given : (access : Access) → is_access access ≡ true → Given access
 unfolding a_read
-given All h = record { needs = a_read; asked = All-nil (IsCallBy Every); something = refl; reads = refl; writes = refl; calls = refl }
+given All h = record { needs = a_read; asked = All-nil (IsCallBy Every); few = omega arith; something = refl; reads = refl; writes = refl; calls = refl }
 given (Flags flags) h = given_flags flags.read flags.write flags.class_read flags.class_write h
 given (Class class method) h =
     let name = pool_for method in
@@ -122,7 +129,7 @@ allow_gives entry h idle =
     let target = target_for entry.1 in
     let gives = given entry.1.access h in
     let useful : is_usable entry.1 target.0 gives.needs ≡ true = both _ _ (both _ _ target.1 gives.reads) gives.writes in
-    idle target.0 gives.needs gives.asked gives.something
+    idle target.0 gives.needs (record { tags = target.2; needs = record { calls = gives.asked; few = gives.few; something = gives.something }; listing = λ empty. absurd (target.3 empty) })
     (both _ _ (either_first _ _ useful)
     (all_also (covers entry.1.access) (is_covered (entry ∷ []) target.0 gives.needs) gives.needs.calls (λ call covered. either_first _ _ (both _ _ useful covered)) gives.calls))
 
@@ -194,11 +201,11 @@ profile_reads used known =
     (last_passes used (inner_parts used))
 
 use_gives : (used : ProfileUse) → has_profile built_in used.name ≡ true → ¬ AreIdle (flat built_in (Profile used ∷ []))
-unfolding a_read
+unfolding a_read place_of
 use_gives used known idle =
     let useful : list_any (λ entry. is_usable entry.1 (place_of used) a_read) (flat built_in (Profile used ∷ [])) ≡ true =
     any_of_use (parts_of (reverse built_in)) (λ g. is_usable g (place_of used) a_read) 1 used ∙ either_first _ _ (profile_reads used known) in
-    idle (place_of used) a_read (All-nil (IsCallBy Every)) refl (both _ _ useful refl)
+    idle (place_of used) a_read (record { tags = no_application; needs = record { calls = All-nil (IsCallBy Every); few = omega arith; something = refl }; listing = λ empty. (refl, refl) }) (both _ _ useful refl)
 
 -- ---- a grant of a list
 

@@ -3,3 +3,4 @@ pub mod Idle
 pub mod Places
 pub mod Steps
 pub mod Sublists
+pub mod Everywhere

@@ -1,5 +1,5 @@
 -- One grant more is looked at, from the last one to the first.
-use Rattle.std.proofs.Common.{◌≡◌, ℕ, zero, suc, ◌+◌, ◌<◌, List, [], ◌∷◌, ◌++◌, take, drop, length, get_or, refl, sym, ap, subst, ◌∙◌, Option, None, Some, arith, inr, inl}
+use Rattle.std.proofs.Common.{◌≡◌, ◌⊎◌, ℕ, zero, suc, ◌+◌, ◌<◌, List, [], ◌∷◌, ◌++◌, take, drop, length, get_or, refl, sym, ap, subst, ◌∙◌, Option, None, Some, arith, inr, inl}
 use Rattle.std.specs.List.{remove, slice_get}
 use Rattle.std.specs.Option.{MatchOption}
 use Rattle.std.proofs.lemmas.Grind.{take_at_read}
@@ -8,7 +8,7 @@ use Rattle.std.proofs.Math.Seq.{drop-cons}
 use Rattle.std.proofs.Math.Numerals.{add-one}
 use Rattle.cap_grants.specs.declared.grant.Grant.{Grant}
 use Rattle.grant_core.specs.Flat.{Table, flat}
-use Rattle.lint_core.specs.Lint.{AllowsAll, Covers, IsFirstCover, IsSublist, IsTidied}
+use Rattle.lint_core.specs.Lint.{AllowsAll, AreKept, Covers, IsFirstCover, IsSublist, IsTidied}
 use Rattle.lint_core.specs.declared.findings.Standing.{Standing}
 use Rattle.lint_core.specs.Parts.{CanExpand, IsTidyFrom}
 use Rattle.lint_core.proofs.Allowed.{all_of_itself, more, through}
@@ -36,6 +36,18 @@ front_expands table grants kept place h whole =
     let d : Grant = first_of_list grants place h in
     part table (take place grants) (get_or grants place d ∷ []) kept (subst (CanExpand table) (before grants place d kept h) whole)
 
+drop_whole : (grants : List Grant) → drop (length grants) grants ≡ []
+drop_whole [] = refl
+drop_whole (grant ∷ grants) = drop_whole grants
+
+-- one more is looked at, which goes or stays
+chosen_by : (table : Table) (list grants kept next : List Grant) (place : ℕ) (d : Grant) → place < length grants → AreKept table list (take (place + 1) grants) (drop (place + 1) grants) kept
+    → (AllowsAll (flat table (take place grants ++ kept)) (flat table list) × (next ≡ kept)) ⊎ ((¬ AllowsAll (flat table (take place grants ++ kept)) (flat table list)) × (next ≡ get_or grants place d ∷ kept))
+    → AreKept table list (take place grants) (drop place grants) next
+chosen_by table list grants kept next place d h chosen step =
+    subst (λ behind. AreKept table list (take place grants) behind next) (sym (behind_is grants place d h))
+    (kept, subst (λ front. AreKept table list front (drop (place + 1) grants) kept) ((take_at_read grants place d h).1) chosen, step)
+
 -- nothing is looked at yet
 pub tidy_end : (table : Table) (grants : List Grant) → CanExpand table grants → IsTidyFrom table grants (length grants) []
 tidy_end table grants whole =
@@ -45,6 +57,7 @@ tidy_end table grants whole =
       among = tt;
       same = subst (λ l. AllowsAll (flat table l) (flat table grants)) (sym all) (all_of_itself (flat table grants));
       no_more = subst (λ l. AllowsAll (flat table grants) (flat table l)) (sym all) (all_of_itself (flat table grants));
+      chosen = subst (λ behind. AreKept table grants (take (length grants) grants) behind []) (sym (drop_whole grants)) refl;
       needed = λ k h. absurd (omega arith);
     }
 
@@ -61,6 +74,7 @@ tidy_without table grants kept place h tidy all =
       same = all;
       no_more = through (flat table grants) (flat table (front ++ (grant ∷ kept))) (flat table (front ++ kept))
           (subst (λ l. AllowsAll (flat table grants) (flat table l)) (before grants place d kept h) tidy.no_more) (more table front (grant ∷ []) kept);
+      chosen = chosen_by table grants grants kept kept place d h tidy.chosen (inl (all, refl));
       needed = λ k within whole. tidy.needed k within
           (subst (λ l. AllowsAll (flat table l) (flat table grants)) (sym (before grants place d (remove kept k) h))
           (through (flat table (front ++ (grant ∷ remove kept k))) (flat table (front ++ remove kept k)) (flat table grants) (more table front (grant ∷ []) (remove kept k)) whole));
@@ -75,6 +89,7 @@ tidy_with table grants kept place d h tidy less =
       among = subst (IsSublist (grant ∷ kept)) (sym (behind_is grants place d h)) (inl (refl, tidy.among));
       same = subst (λ l. AllowsAll (flat table l) (flat table grants)) (before grants place d kept h) tidy.same;
       no_more = subst (λ l. AllowsAll (flat table grants) (flat table l)) (before grants place d kept h) tidy.no_more;
+      chosen = chosen_by table grants grants kept (grant ∷ kept) place d h tidy.chosen (inr (less, refl));
       needed = each;
     }
   where
@@ -93,6 +108,7 @@ tidied_all table grants kept list tidied tidy same is =
       kept = tidy.among;
       same = (tidy.same, tidy.no_more);
       needed = λ place within needless. tidy.needed place within (through (flat table (remove kept place)) (flat table kept) (flat table grants) needless.0 tidy.same);
+      first_stay = tidy.chosen;
     }))
 
 -- one more is answered

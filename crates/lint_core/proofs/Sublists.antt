@@ -140,6 +140,13 @@ needless_by table grants place all = (
       (more table (take place grants) (alone grants place) (drop (suc place) grants)),
 )
 
+-- the grants around a place and the one there are the list
+pub around : (grants : List Grant) (place : ℕ)
+    → take place grants ++ (alone grants place ++ take (length grants - (place + 1)) (drop (place + 1) grants)) ≡ grants
+around grants place =
+    ap (λ rest. take place grants ++ (alone grants place ++ rest)) (take_all (length grants - (place + 1)) (drop (place + 1) grants) (simp length-drop (omega arith)))
+    ∙ sym (split grants place)
+
 -- one grant alone
 pub only : (table : Table) (grants : List Grant) (place : ℕ) → CanExpand table grants → CanExpand table (alone grants place)
 only table grants place whole =

@@ -1,25 +1,21 @@
 -- Statement: contracts of public calls use it.
 -- Grants that can allow nothing, of which no text has one (this project's profile).
-use Rattle.std.specs.Prelude.{◌≡◌, ◌||◌, ◌==◌, ◌<◌, ℕ, List, Bool, true, None, not, length}
+use Rattle.std.specs.Prelude.{◌≡◌, ◌<◌, ℕ, List, true, None, length}
 use Rattle.cap_text.specs.Grammar.{Spells}
 use Rattle.cap_grants.specs.declared.grant.Grant.{Grant}
 use Rattle.grant_core.specs.BuiltIn.{built_in}
 use Rattle.grant_core.specs.Flat.{Flat, flat}
 use Rattle.grant_core.specs.Refusal.{expand_refusal}
-use Rattle.verdict_types.specs.Target.{Target}
+use Rattle.request_types.specs.Target.{Target}
 use Rattle.verdict_core.specs.Verdict.{grants_allow}
-use Rattle.verdict_types.specs.declared.request.Needs.{Needs}
-use Rattle.compare_core.specs.Widening.{IsAskedBy}
+use Rattle.request_types.specs.declared.request.Needs.{Needs}
+use Rattle.compare_core.specs.Widening.{CanBeAsked}
 use Rattle.compare_core.specs.declared.registry.Registry.TheVariants.{Every}
 use Rattle.lint_core.specs.Lint.{alone}
 
--- a request asks to read or to write, or has a call
-abbrev pub asks_something : Needs → Bool
-asks_something needs = needs.reads || (needs.writes || not (length needs.calls == 0))
-
--- at no target they allow a request that asks for something, over any class registry
+-- they allow no request that can be asked, over any class registry
 abbrev pub AreIdle : Flat → Type 0
-AreIdle grants = (target : Target) (needs : Needs) → IsAskedBy Every needs → asks_something needs ≡ true → ¬ (grants_allow grants target needs ≡ true)
+AreIdle grants = (target : Target) (needs : Needs) → CanBeAsked Every (record { target = target; needs = needs }) → ¬ (grants_allow grants target needs ≡ true)
 
 -- no grant that a text spells and the built-in profiles expand is idle
 abbrev pub NoneIsIdle : List ℕ → List Grant → Type 0

@@ -1,21 +1,21 @@
 -- Statement: contracts of public calls use it.
 -- Which grants of a list nobody needs, said by what is allowed alone. A grant here is one of the list: an allow, or a use of a
 -- profile with all that it comes to (this project's profile).
-use Rattle.std.specs.Prelude.{◌≡◌, ◌≢◌, ℕ, ◌+◌, ◌<◌, ◌⊎◌, List, [], ◌∷◌, true, Some, length}
+use Rattle.std.specs.Prelude.{◌≡◌, ◌≢◌, ℕ, ◌+◌, ◌<◌, ◌⊎◌, List, [], ◌∷◌, ◌++◌, true, Some, length}
 use Rattle.std.specs.List.{remove, slice_get, slice_range}
 use Rattle.cap_grants.specs.declared.grant.Grant.{Grant}
 use Rattle.grant_core.specs.Flat.{Flat, Table, flat}
-use Rattle.verdict_types.specs.Target.{Target}
+use Rattle.request_types.specs.Target.{Target}
 use Rattle.verdict_core.specs.Verdict.{grants_allow}
-use Rattle.verdict_types.specs.declared.request.Needs.{Needs}
-use Rattle.compare_core.specs.Widening.{IsAskedBy}
+use Rattle.request_types.specs.declared.request.Needs.{Needs}
+use Rattle.compare_core.specs.Widening.{CanBeAsked}
 use Rattle.compare_core.specs.declared.registry.Registry.TheVariants.{Every}
 use Rattle.lint_core.specs.declared.findings.Standing.{Standing}
 use Rattle.lint_core.specs.declared.findings.Standing.TheVariants.{Needed, Needless, Covered}
 
--- every request that the other grants allow, these allow too: at each target, each needs, over every class registry
+-- every request that can be asked and that the other grants allow, these allow too, over every class registry
 abbrev pub AllowsAll : Flat → Flat → Type 0
-AllowsAll grants others = (target : Target) (needs : Needs) → IsAskedBy Every needs → grants_allow others target needs ≡ true → grants_allow grants target needs ≡ true
+AllowsAll grants others = (target : Target) (needs : Needs) → CanBeAsked Every (record { target = target; needs = needs }) → grants_allow others target needs ≡ true → grants_allow grants target needs ≡ true
 
 -- neither denies a request that the other allows
 abbrev pub AllowSame : Flat → Flat → Type 0
@@ -58,8 +58,18 @@ IsSublist [] grants = Unit {0}
 IsSublist (kept ∷ others) [] = ⊥
 IsSublist (kept ∷ others) (grant ∷ grants) = ((kept ≡ grant) × IsSublist others grants) ⊎ IsSublist (kept ∷ others) grants
 
--- some of the grants, which allow the same as all, and none of which is needless among them
+-- Behind a front of a list, of its other grants these are kept: each goes just where those before it, with those kept behind it,
+-- allow all that the list does. So of grants that could each go the first one stays.
+abbrev pub AreKept : Table → List Grant → List Grant → List Grant → List Grant → Type 0
+AreKept table list front [] kept = kept ≡ []
+AreKept table list front (grant ∷ behind) kept =
+    (others : List Grant) × AreKept table list (front ++ grant ∷ []) behind others
+    × ((AllowsAll (flat table (front ++ others)) (flat table list) × (kept ≡ others)) ⊎ ((¬ AllowsAll (flat table (front ++ others)) (flat table list)) × (kept ≡ grant ∷ others)))
+
+-- Some of the grants, which allow the same as all, and none of which is needless among them. Of grants that could each go the
+-- first one stays.
 pub record IsTidied (table : Table) (grants tidied : List Grant) : Type 0 where
   pub kept : IsSublist tidied grants
   pub same : AllowSame (flat table tidied) (flat table grants)
   pub needed : (place : ℕ) → place < length tidied → ¬ IsNeedless table tidied place
+  pub first_stay : AreKept table grants [] grants tidied

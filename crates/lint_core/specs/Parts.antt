@@ -6,7 +6,7 @@ use Rattle.cap_grants.specs.declared.grant.Grant.{Grant}
 use Rattle.cap_grants.specs.Spellable.{is_spellable}
 use Rattle.grant_core.specs.Flat.{Table, flat}
 use Rattle.grant_core.specs.Refusal.{expand_refusal}
-use Rattle.lint_core.specs.Lint.{AllowsAll, IsSublist}
+use Rattle.lint_core.specs.Lint.{AllowsAll, AreKept, IsSublist}
 
 -- grants that make a list, and can be expanded
 pub record CanExpand (table : Table) (grants : List Grant) : Type 0 where
@@ -21,4 +21,5 @@ pub record IsTidyFrom (table : Table) (grants : List Grant) (place : ℕ) (kept 
   pub among : IsSublist kept (drop place grants)
   pub same : AllowsAll (flat table (take place grants ++ kept)) (flat table grants)
   pub no_more : AllowsAll (flat table grants) (flat table (take place grants ++ kept))
+  pub chosen : AreKept table grants (take place grants) (drop place grants) kept
   pub needed : (k : ℕ) → k < length kept → ¬ AllowsAll (flat table (take place grants ++ remove kept k)) (flat table grants)

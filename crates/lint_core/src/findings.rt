@@ -2,17 +2,15 @@
 
 ghost use Rattle.std.specs.Prelude.{◌≡◌, ℕ, ◌<◌, length, IfOk, MatchOption};
 ghost use Rattle.common_types.specs.Refused.{RefusedFirst};
-ghost use Rattle.grant_core.specs.Flat.{flat};
 ghost use Rattle.grant_core.specs.Refusal.{expand_refusal};
 ghost use Rattle.lint_core.specs.Lint.{AreStandings, Covers, IsFirstCover, IsStanding};
 ghost use Rattle.lint_core.specs.Parts.{CanExpand};
 
-use crate::tickets::{allows_all, part_ticket, parts_allow_all, whole_ticket};
+use crate::tickets::{allows_all, part_ticket, parts_allow_rest, whole_ticket};
 use cap_text::{CapList, Grant};
 use common_types::OutOfMemory;
 use grant_core::{ExpandFault, ProfileTable};
 use std::alloc::Global;
-use verdict_core::Ticket;
 
 /// How a grant of a list stands to the others.
 #[derive(Clone, Copy, Debug)]
@@ -49,21 +47,20 @@ fn first_cover(
     Ok(None)
 }
 
-/// How the grant at a place of a list with this ticket stands to the others.
+/// How the grant at a place of a list stands to the others.
 fn standing_at(
     alloc: Global,
     table: &ProfileTable,
     grants: &[Grant],
-    whole: &Ticket,
     place: usize,
 ) -> Result<Standing, OutOfMemory>
     requires expands { CanExpand table.now grants.now }
-    requires whole { whole.now.grants ≡ flat table.now grants.now }
     requires within { place < length grants.now }
     ensures { IfOk result (λ standing. IsStanding table.now grants.now place standing) }
 {
     let (front, behind) = (&grants[..place], &grants[place + 1..]);
-    if !parts_allow_all(alloc, table, front, behind, whole)? {
+    let own = &grants[place..place + 1];
+    if !parts_allow_rest(alloc, table, front, own, behind)? {
         return Ok(Standing::Needed);
     }
     match first_cover(alloc, table, grants, place)? {
@@ -77,15 +74,13 @@ fn standings(
     alloc: Global,
     table: &ProfileTable,
     grants: &[Grant],
-    whole: &Ticket,
 ) -> Result<Vec<Standing>, OutOfMemory>
-    requires expands { CanExpand table.now grants.now }
-    requires whole { whole.now.grants ≡ flat table.now grants.now }
+    requires { CanExpand table.now grants.now }
     ensures { IfOk result (λ standings. AreStandings table.now grants.now standings.items) }
 {
     let mut standings = Vec::new(alloc);
     for place in 0..grants.len() {
-        standings.push(standing_at(alloc, table, grants, whole, place)?)?;
+        standings.push(standing_at(alloc, table, grants, place)?)?;
     }
     Ok(standings)
 }
@@ -98,7 +93,7 @@ fn standings(
 /// looked at alone: of two equal grants each is needless, and yet not both can go; [`crate::tidied`] leaves one.
 ///
 /// A list that cannot be expanded is refused by its first fault, or memory is; both leave table and list as they are. The
-/// time is that of as many comparisons of the whole list as it has grants, at most 64.
+/// time is that of one comparison of the whole list, and for a redundant grant a comparison with each other grant alone.
 pub fn needless(
     alloc: Global,
     table: &ProfileTable,
@@ -107,6 +102,6 @@ pub fn needless(
     ensures exact { IfOk result (λ standings. AreStandings table.now list.now standings.items) }
     ensures refused { RefusedFirst (expand_refusal table.now list.now) ExpandFault.OutOfMemory result }
 {
-    let whole = whole_ticket(alloc, table, list)?;
-    Ok(standings(alloc, table, list.grants(), &whole)?)
+    let _whole = whole_ticket(alloc, table, list)?;
+    Ok(standings(alloc, table, list.grants())?)
 }

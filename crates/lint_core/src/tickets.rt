@@ -24,7 +24,7 @@ pub(crate) fn whole_ticket(
     ensures refused { RefusedFirst (expand_refusal table.now list.now) ExpandFault.OutOfMemory result }
 {
     let tree = expand(alloc, table, list)?;
-    Ok(Ticket::of(alloc, &tree, None)?)
+    Ok(Ticket::of(tree, None))
 }
 
 /// Adds copies of some grants.
@@ -66,6 +66,24 @@ pub(crate) fn allows_all(
     ensures { IfOk result (λ all. IsTrue all ↔ AllowsAll ticket.now.grants other.now.grants) }
 {
     Ok(widening(alloc, ticket, other)?.is_empty())
+}
+
+/// Whether the grants before and behind others allow all that they allow with these. It compares them with these alone.
+pub(crate) fn parts_allow_rest(
+    alloc: Global,
+    table: &ProfileTable,
+    front: &[Grant],
+    middle: &[Grant],
+    behind: &[Grant],
+) -> Result<bool, OutOfMemory>
+    requires parts { CanExpand table.now (front.now ++ behind.now) }
+    requires middle { CanExpand table.now middle.now }
+    ensures { IfOk result (λ all. IsTrue all ↔ AllowsAll (flat table.now (front.now ++ behind.now)) (flat table.now (front.now ++ (middle.now ++ behind.now)))) }
+{
+    let parts = part_ticket(alloc, table, front, behind)?;
+    let own = part_ticket(alloc, table, &[], middle)?;
+    let all = allows_all(alloc, &parts, &own)?;
+    Ok(all)
 }
 
 /// Whether the grants before and behind a place of a list allow all that a ticket does.

@@ -1,6 +1,6 @@
 -- Statement: contracts of public calls use it.
 -- What is printed of grants that nobody needs (this project's profile). Every line ends with byte 10.
-use Rattle.std.specs.Prelude.{ℕ, ◌≡◌, ◌≢◌, ◌⊎◌, ◌+◌, ◌&&◌, ◌==◌, not, List, [], ◌∷◌, ◌++◌, Bool, true, false, codes, decimal, length, is_some, string_bytes, if◌then◌else◌, ◌||◌, replicate, Option, None, Some}
+use Rattle.std.specs.Prelude.{ℕ, ◌≡◌, ◌⊎◌, ◌+◌, ◌<◌, ◌&&◌, ◌==◌, not, List, [], ◌∷◌, ◌++◌, Bool, true, false, codes, decimal, length, is_some, string_bytes, if◌then◌else◌, ◌||◌, replicate, Option, None, Some}
 use Rattle.std.specs.List.{list_any}
 use Rattle.cap_text.specs.Grammar.{Spells}
 use Rattle.cap_text.specs.Printed.{printed}
@@ -13,13 +13,12 @@ use Rattle.lint_core.specs.Pools.{without_pools}
 use Rattle.lint_core.specs.declared.findings.Standing.{Standing}
 use Rattle.lint_core.specs.declared.findings.Standing.TheVariants.{Needed, Needless, Covered}
 use Rattle.share_core.specs.declared.pools.Pool.{Pool}
-use Rattle.answer_text.specs.Caret.{shown}
-use Rattle.gate_text.specs.Compared.{IsFaultOf, fault_text}
-use Rattle.gate_text.specs.Entities.{AreAllTold}
-use Rattle.answer_text.specs.Text.{refused_text}
-use Rattle.gate_text.specs.declared.compare.TextFault.{TextFault}
-use Rattle.gate_text.specs.declared.compare.TextFault.TheVariants.{OutOfMemory}
-use Rattle.answer_text.specs.declared.entity.Entity.{Entity}
+use Rattle.verdict_text.specs.Caret.{shown}
+use Rattle.verdict_text.specs.Reading.{IsFaultOf, fault_text}
+use Rattle.verdict_text.specs.EachTold.{AreAllTold}
+use Rattle.verdict_text.specs.Text.{refused_text}
+use Rattle.verdict_text.specs.declared.reading.TextFault.{TextFault}
+use Rattle.verdict_text.specs.declared.entity.Entity.{Entity}
 
 -- the line of a grant's number, behind what stands before it; a grant that is needed has none
 abbrev pub standing_line : List ℕ → ℕ → Standing → List ℕ
@@ -68,7 +67,6 @@ SpellsList caps grants = Spells caps grants × (expand_refusal built_in grants �
 pub record IsRefusal (caps text : List ℕ) (fails : Bool) : Type 0 where
   pub fault : TextFault
   pub is : IsFaultOf caps fault
-  pub real : fault ≢ OutOfMemory
   pub printed : text ≡ refused_text (fault_text fault)
   pub ends : fails ≡ true
 
@@ -89,14 +87,31 @@ pub record IsLinted (pools : Option (List Pool)) (check : Bool) (caps text : Lis
 abbrev pub IsLintAnswer : Option (List Pool) → Bool → List ℕ → List ℕ → Bool → Type 0
 IsLintAnswer pools check caps text fails = IsLinted pools check caps text fails ⊎ IsRefusal caps text fails
 
--- The canonical form of the text without needless grants, on a line. It fails where a check was asked for and a grant went.
+-- the canonical form of these grants, which can be read again, on a line; it fails where a check was asked for and a grant went
+pub record IsTidyLine (check : Bool) (grants tidied : List Grant) (text : List ℕ) (fails : Bool) : Type 0 where
+  pub again : Spells (printed tidied) tidied
+  pub form : text ≡ printed tidied ++ codes "\n"
+  pub ends : fails ≡ (check && not (length tidied == length grants))
+
+abbrev pub too_long_line : ℕ → List ℕ
+too_long_line size = codes "refused tidied text of " ++ (decimal size ++ codes " bytes, of at most 4096\n")
+
+-- the canonical form is longer than a text may be, which fails
+pub record IsTooLong (tidied : List Grant) (text : List ℕ) (fails : Bool) : Type 0 where
+  pub long : 4096 < length (printed tidied)
+  pub told : text ≡ too_long_line (length (printed tidied))
+  pub ends : fails ≡ true
+
+abbrev pub IsTidyForm : Bool → List Grant → List Grant → List ℕ → Bool → Type 0
+IsTidyForm check grants tidied text fails = IsTidyLine check grants tidied text fails ⊎ IsTooLong tidied text fails
+
+-- the text without needless grants
 pub record IsTidyText (check : Bool) (caps text : List ℕ) (fails : Bool) : Type 0 where
   pub grants : List Grant
   pub spelled : SpellsList caps grants
   pub tidied : List Grant
   pub is : IsTidied built_in grants tidied
-  pub form : text ≡ printed tidied ++ codes "\n"
-  pub ends : fails ≡ (check && not (length tidied == length grants))
+  pub printed_so : IsTidyForm check grants tidied text fails
 
 abbrev pub IsTidyAnswer : Bool → List ℕ → List ℕ → Bool → Type 0
 IsTidyAnswer check caps text fails = IsTidyText check caps text fails ⊎ IsRefusal caps text fails
@@ -112,7 +127,7 @@ pub record IsEntityLinted (pools : Option (List Pool)) (check : Bool) (entity : 
 
 -- an entity whose text is refused is left out
 abbrev pub IsLeftOut : Entity → List ℕ → Bool → Type 0
-IsLeftOut entity text fails = (fault : TextFault) × IsFaultOf (string_bytes entity.osd) fault × (fault ≢ OutOfMemory) × (text ≡ []) × (fails ≡ false)
+IsLeftOut entity text fails = (fault : TextFault) × IsFaultOf (string_bytes entity.osd) fault × (text ≡ []) × (fails ≡ false)
 
 abbrev pub IsEntityTold : Option (List Pool) → Bool → Entity → List ℕ → Bool → Type 0
 IsEntityTold pools check entity text fails = IsEntityLinted pools check entity text fails ⊎ IsLeftOut entity text fails

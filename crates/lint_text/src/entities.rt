@@ -1,17 +1,17 @@
 //! What is printed of the entities of a cluster.
 
 ghost use Rattle.std.specs.Prelude.{◌≡◌, ◌++◌, ◌&&◌, codes, length, option_copied, IfOk, string_bytes};
-ghost use Rattle.answer_text.specs.Caret.{shown};
+ghost use Rattle.verdict_text.specs.Caret.{shown};
 ghost use Rattle.grant_core.specs.BuiltIn.{built_in};
 ghost use Rattle.lint_text.specs.Linted.{AreLinted, IsEntityTold, has_mistake, lines_from};
 
 use crate::lines::{is_mistaken, push_lines};
 use crate::reading::{Judged, judged_text};
 use common_types::OutOfMemory;
-use gate_text::{Entity, Printed, TextFault, push_shown_text};
 use grant_core::ProfileTable;
 use lint_core::Pool;
-use std::alloc::{AllocError, Global};
+use std::alloc::Global;
+use verdict_text::{Entity, Printed, push_shown_text};
 
 /// What is printed of an entity whose grants are looked at: their lines, behind its name.
 fn linted(alloc: Global, name: &str, judged: &Judged, check: bool) -> Result<Printed, OutOfMemory>
@@ -46,9 +46,8 @@ fn told(
     requires { profiles.now ≡ built_in }
     ensures { IfOk result (λ printed. IsEntityTold (option_copied pools.entry) check entity.now (string_bytes printed.text) printed.fails) }
 {
-    match judged_text(alloc, profiles, entity.osd.as_str(), pools) {
+    match judged_text(alloc, profiles, entity.osd.as_str(), pools)? {
         Ok(judged) => linted(alloc, entity.name.as_str(), &judged, check),
-        Err(TextFault::OutOfMemory) => Err(AllocError),
         Err(_) => Ok(Printed {
             text: String::new(alloc),
             fails: false,

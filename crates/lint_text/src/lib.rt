@@ -3,12 +3,22 @@
 //! Each text is a value, made of a capability text or of entities. Each call borrows what it is given, and its only error is
 //! want of memory: what is wrong with a capability text is part of what is printed. The forms of the lines are this
 //! project's profile.
+//!
+//! # What contracts see
+//!
+//! A `Printed`, as in `verdict_text`. The lines of an entity stand behind its name.
+//!
+//! # Costs
+//!
+//! Those of `lint_core`, for each text.
 #![tactic(auto)]
 
+mod ceph;
 mod entities;
 mod lines;
 mod reading;
 mod texts;
 
+pub use ceph::{lint_ceph_caps, lint_ceph_entities};
 pub use entities::lint_entities;
 pub use texts::{lint_caps, tidy_caps};

@@ -11,7 +11,7 @@ use lint_core::Standing;
 use std::fmt::Write;
 
 /// Adds the line of a grant that is needless, behind what stands before it.
-fn push_standing(
+pub(crate) fn push_standing(
     text: &mut String,
     before: &str,
     number: usize,
@@ -53,7 +53,7 @@ fn push_reach(
 }
 
 /// Adds the line of a grant that matches no pool.
-fn push_without(
+pub(crate) fn push_without(
     text: &mut String,
     before: &str,
     number: usize,

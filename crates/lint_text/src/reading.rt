@@ -1,19 +1,16 @@
 //! A capability text, and how its grants stand to one another.
 
-ghost use Rattle.std.specs.Prelude.{◌≡◌, IfOk, IfErr, option_copied};
-ghost use Rattle.cap_text.specs.Grammar.{Spells};
+ghost use Rattle.std.specs.Prelude.{◌≡◌, IfOk, option_copied};
 ghost use Rattle.grant_core.specs.BuiltIn.{built_in};
-ghost use Rattle.gate_text.specs.Compared.{IsFaultOf};
-ghost use Rattle.lint_text.specs.Judged.{IsJudged, IsKept};
+ghost use Rattle.lint_text.specs.Judged.{IsJudgedList, IsJudgedText, IsKeptList, IsKeptText};
 ghost use Rattle.lint_text.specs.Linted.{poolless_by};
-ghost use Rattle.gate_text.specs.declared.compare.TextFault.{TextFault};
 
 use cap_text::{CapFault, CapList, FaultKind, parse};
 use common_types::OutOfMemory;
-use gate_text::TextFault;
 use grant_core::{ExpandFault, ProfileTable};
 use lint_core::{Pool, Standing, needless, poolless, tidied};
 use std::alloc::{AllocError, Global};
+use verdict_text::TextFault;
 
 /// The grants of a text, and how each stands to the others.
 pub(crate) struct Judged {
@@ -45,23 +42,6 @@ impl Drop for Kept {
     }
 }
 
-/// The grants that a text spells.
-pub(crate) fn list_of(alloc: Global, caps: &str) -> Result<CapList, TextFault>
-    ensures list { IfOk result (λ list. Spells caps.now list) }
-    ensures refused { IfErr result (λ fault. IsFaultOf caps.now fault) }
-{
-    match parse(alloc, caps) {
-        Ok(list) => Ok(list),
-        Err(
-            CapFault {
-                kind: FaultKind::OutOfMemory,
-                ..
-            },
-        ) => Err(TextFault::OutOfMemory),
-        Err(fault) => Err(TextFault::Spelling(fault)),
-    }
-}
-
 /// Whether each grant of a list that can be expanded matches no pool, by the built-in profiles. Where no pools are given
 /// none is told so.
 fn without_pools(
@@ -82,59 +62,99 @@ fn without_pools(
     }
 }
 
-/// The grants of a list, and how they stand to one another and to the pools.
+/// The grants of a list that is expanded, and how they stand to one another and to the pools.
 fn judged_with(
     alloc: Global,
     profiles: &ProfileTable,
     list: CapList,
     standings: Vec<Standing>,
     pools: Option<&[Pool]>,
-) -> Result<Judged, TextFault>
+) -> Result<Judged, OutOfMemory>
     requires { profiles.now ≡ built_in }
-    ensures judged { IfOk result (λ judged. (judged.list ≡ list) × (judged.standings.items ≡ standings.items) × (judged.without.items ≡ poolless_by (option_copied pools.entry) list)) }
-    ensures refused { IfErr result (λ fault. fault ≡ TextFault.OutOfMemory) }
+    ensures { IfOk result (λ judged. (judged.list ≡ list) × (judged.standings.items ≡ standings.items) × (judged.without.items ≡ poolless_by (option_copied pools.entry) list)) }
 {
-    match without_pools(alloc, profiles, &list, pools) {
-        Ok(without) => Ok(Judged {
-            list,
-            standings,
-            without,
-        }),
-        Err(_) => Err(TextFault::OutOfMemory),
+    let without = without_pools(alloc, profiles, &list, pools)?;
+    Ok(Judged {
+        list,
+        standings,
+        without,
+    })
+}
+
+/// How the grants of a list stand to one another and to the pools, or why it is not expanded.
+#[tactic(auto, using(crate::proofs::Stepped::poolless_length))]
+fn judged_list(
+    alloc: Global,
+    profiles: &ProfileTable,
+    list: CapList,
+    pools: Option<&[Pool]>,
+) -> Result<Result<Judged, TextFault>, OutOfMemory>
+    requires { profiles.now ≡ built_in }
+    ensures { IfOk result (λ judged. IsJudgedList (option_copied pools.entry) list judged) }
+{
+    match needless(alloc, profiles, &list) {
+        Ok(standings) => Ok(Ok(judged_with(alloc, profiles, list, standings, pools)?)),
+        Err(ExpandFault::OutOfMemory) => Err(AllocError),
+        Err(fault) => Ok(Err(TextFault::Expansion(fault))),
     }
 }
 
-/// How the grants of a text stand to one another and to the pools, by the built-in profiles, which are made once for all
-/// texts.
-#[tactic(auto, using(crate::proofs::Stepped::poolless_length))]
+/// Reads a text. How its grants stand to one another and to the pools, or its first fault, by the built-in profiles, which
+/// the caller makes once for all texts. An `Err` is out of memory alone.
 pub(crate) fn judged_text(
     alloc: Global,
     profiles: &ProfileTable,
     caps: &str,
     pools: Option<&[Pool]>,
-) -> Result<Judged, TextFault>
+) -> Result<Result<Judged, TextFault>, OutOfMemory>
     requires { profiles.now ≡ built_in }
-    ensures judged { IfOk result (λ judged. IsJudged (option_copied pools.entry) caps.now judged) }
-    ensures refused { IfErr result (λ fault. IsFaultOf caps.now fault) }
+    ensures { IfOk result (λ judged. IsJudgedText (option_copied pools.entry) caps.now judged) }
 {
-    let list = list_of(alloc, caps)?;
-    match needless(alloc, profiles, &list) {
-        Ok(standings) => judged_with(alloc, profiles, list, standings, pools),
-        Err(ExpandFault::OutOfMemory) => Err(TextFault::OutOfMemory),
-        Err(fault) => Err(TextFault::Expansion(fault)),
+    match parse(alloc, caps) {
+        Ok(list) => judged_list(alloc, profiles, list, pools),
+        Err(
+            CapFault {
+                kind: FaultKind::OutOfMemory,
+                ..
+            },
+        ) => Err(AllocError),
+        Err(fault) => Ok(Err(TextFault::Spelling(fault))),
     }
 }
 
-/// What is kept of the grants of a text, by the built-in profiles.
-pub(crate) fn kept_of(alloc: Global, profiles: &ProfileTable, caps: &str) -> Result<Kept, TextFault>
+/// What is kept of the grants of a list, or why it is not expanded.
+fn kept_list(
+    alloc: Global,
+    profiles: &ProfileTable,
+    list: CapList,
+) -> Result<Result<Kept, TextFault>, OutOfMemory>
     requires { profiles.now ≡ built_in }
-    ensures kept { IfOk result (λ kept. IsKept caps.now kept) }
-    ensures refused { IfErr result (λ fault. IsFaultOf caps.now fault) }
+    ensures { IfOk result (λ kept. IsKeptList list kept) }
 {
-    let list = list_of(alloc, caps)?;
     match tidied(alloc, profiles, &list) {
-        Ok(kept) => Ok(Kept { list, kept }),
-        Err(ExpandFault::OutOfMemory) => Err(TextFault::OutOfMemory),
-        Err(fault) => Err(TextFault::Expansion(fault)),
+        Ok(kept) => Ok(Ok(Kept { list, kept })),
+        Err(ExpandFault::OutOfMemory) => Err(AllocError),
+        Err(fault) => Ok(Err(TextFault::Expansion(fault))),
+    }
+}
+
+/// Reads a text. What is kept of its grants, or its first fault, by the built-in profiles. An `Err` is out of memory alone.
+pub(crate) fn kept_of(
+    alloc: Global,
+    profiles: &ProfileTable,
+    caps: &str,
+) -> Result<Result<Kept, TextFault>, OutOfMemory>
+    requires { profiles.now ≡ built_in }
+    ensures { IfOk result (λ kept. IsKeptText caps.now kept) }
+{
+    match parse(alloc, caps) {
+        Ok(list) => kept_list(alloc, profiles, list),
+        Err(
+            CapFault {
+                kind: FaultKind::OutOfMemory,
+                ..
+            },
+        ) => Err(AllocError),
+        Err(fault) => Ok(Err(TextFault::Spelling(fault))),
     }
 }

@@ -1,22 +1,24 @@
 //! What is printed of one capability text.
 
-ghost use Rattle.std.specs.Prelude.{◌≡◌, ◌&&◌, ◌++◌, ◌==◌, [], not, true, codes, length, option_copied, IfOk, string_bytes};
-ghost use Rattle.cap_text.specs.Printed.{printed as printed_list};
-ghost use Rattle.gate_text.specs.Compared.{fault_text};
-ghost use Rattle.answer_text.specs.Text.{refused_text};
-ghost use Rattle.lint_text.specs.Linted.{IsLintAnswer, IsTidyAnswer, has_mistake, lines_from, or_nothing};
+ghost use Rattle.std.specs.Prelude.{◌≡◌, ◌&&◌, [], true, length, option_copied, IfOk, string_bytes};
+ghost use Rattle.verdict_text.specs.Reading.{fault_text};
+ghost use Rattle.verdict_text.specs.Text.{refused_text};
+ghost use Rattle.lint_text.specs.Linted.{IsLintAnswer, IsTidyAnswer, IsTidyForm, has_mistake, lines_from, or_nothing, too_long_line};
 
 use crate::lines::{is_mistaken, push_lines};
 use crate::reading::{Judged, Kept, judged_text, kept_of};
 use cap_text::print;
 use common_types::OutOfMemory;
-use gate_text::{Printed, TextFault};
 use grant_core::ProfileTable;
 use lint_core::Pool;
-use std::alloc::{AllocError, Global};
+use std::alloc::Global;
+use verdict_text::{Printed, TextFault};
+
+/// The most bytes of a text that can be read.
+const MAX_BYTES: usize = 4096;
 
 /// What is printed of a text that is refused, which fails.
-fn refused(alloc: Global, fault: TextFault) -> Result<Printed, OutOfMemory>
+pub(crate) fn refused(alloc: Global, fault: TextFault) -> Result<Printed, OutOfMemory>
     ensures { IfOk result (λ printed. (string_bytes printed.text ≡ refused_text (fault_text fault)) × (printed.fails ≡ true)) }
 {
     let text = format!(in alloc; "refused {fault}\n")?;
@@ -60,19 +62,29 @@ pub fn lint_caps(
     ensures { IfOk result (λ printed. IsLintAnswer (option_copied pools.entry) check caps.now (string_bytes printed.text) printed.fails) }
 {
     let profiles = ProfileTable::builtin(alloc)?;
-    match judged_text(alloc, &profiles, caps, pools) {
+    match judged_text(alloc, &profiles, caps, pools)? {
         Ok(judged) => linted(alloc, &judged, check),
-        Err(TextFault::OutOfMemory) => Err(AllocError),
         Err(fault) => refused(alloc, fault),
     }
 }
 
-/// The canonical form of what is kept of a list, on a line. With a check it fails where a grant went.
+/// What is printed where a tidied text of this many bytes could not be read again, which fails.
+fn too_long(alloc: Global, size: usize) -> Result<Printed, OutOfMemory>
+    ensures { IfOk result (λ printed. (string_bytes printed.text ≡ too_long_line size) × (printed.fails ≡ true)) }
+{
+    let text = format!(in alloc; "refused tidied text of {size} bytes, of at most 4096\n")?;
+    Ok(Printed { text, fails: true })
+}
+
+/// The canonical form of what is kept of a list, on a line. With a check it fails where a grant went. A form that is longer than
+/// a text may be is refused.
 fn tidy(alloc: Global, kept: &Kept, check: bool) -> Result<Printed, OutOfMemory>
-    ensures text { IfOk result (λ printed. string_bytes printed.text ≡ printed_list kept.now.kept ++ codes "\n") }
-    ensures fails { IfOk result (λ printed. printed.fails ≡ (check && not (length kept.now.kept == length kept.now.list))) }
+    ensures { IfOk result (λ printed. IsTidyForm check kept.now.list kept.now.kept (string_bytes printed.text) printed.fails) }
 {
     let mut text = print(alloc, &kept.kept)?;
+    if text.len() > MAX_BYTES {
+        return too_long(alloc, text.len());
+    }
     text.push_str("\n")?;
     let fails = check && kept.kept.grants().len() != kept.list.grants().len();
     Ok(Printed { text, fails })
@@ -81,13 +93,15 @@ fn tidy(alloc: Global, kept: &Kept, check: bool) -> Result<Printed, OutOfMemory>
 /// What the program prints of a capability text to tidy it up: the canonical form of some of its grants, which allow the
 /// same as all and none of which is needless among them, on a line. Of grants that could each go the earlier ones stay. With
 /// a check it fails where a grant went. A text that has no grants prints `refused FAULT`, which fails.
+///
+/// What is printed can be read again and spells these grants. A canonical form of more than 4,096 bytes, the most that a text
+/// may have, prints `refused tidied text of N bytes, of at most 4096` instead, which fails.
 pub fn tidy_caps(alloc: Global, caps: &str, check: bool) -> Result<Printed, OutOfMemory>
     ensures { IfOk result (λ printed. IsTidyAnswer check caps.now (string_bytes printed.text) printed.fails) }
 {
     let profiles = ProfileTable::builtin(alloc)?;
-    match kept_of(alloc, &profiles, caps) {
+    match kept_of(alloc, &profiles, caps)? {
         Ok(kept) => tidy(alloc, &kept, check),
-        Err(TextFault::OutOfMemory) => Err(AllocError),
         Err(fault) => refused(alloc, fault),
     }
 }

@@ -2,15 +2,15 @@
 use Rattle.std.proofs.Common.{◌≡◌, ℕ, zero, suc, ◌+◌, ◌<◌, ◌≤◌, List, [], ◌∷◌, ◌++◌, length, take, fold, Bool, true, false, not, ◌||◌, ◌&&◌, cond, None, All, nat_le, refl, ◌∙◌, arith, subst}
 use Rattle.std.proofs.lemmas.Bool.Decides.{nat_tests}
 use Rattle.std.proofs.lemmas.List.Elements.{All-nil, All-cons, All-head, All-tail, All-push}
-use Rattle.map_commands.specs.State.{MapState}
-use Rattle.map_commands.specs.Map.{change_first, is_named, tagged, created, pools_after, after, initial, map_after}
+use Rattle.map_core.specs.State.{MapState}
+use Rattle.map_core.specs.Map.{change_first, is_named, tagged, created, pools_after, after, initial, map_after}
 use Rattle.map_core.specs.Refusal.{first_of, refusal, tests, in_limits, is_last}
-use Rattle.map_commands.specs.PoolLimits.{HasLimits, IsPool}
+use Rattle.map_core.specs.PoolLimits.{HasLimits, IsPool}
 use Rattle.map_core.specs.Limits.{AcceptedFrom}
-use Rattle.map_commands.specs.declared.pool.Pool.{Pool}
-use Rattle.map_commands.specs.declared.command.MapCommand.{MapCommand}
-use Rattle.map_commands.specs.declared.command.MapCommand.TheVariants.{PoolCreate, AppEnable, AppSet, AppRm, OsdUp, OsdDown, OsdRestart}
-use Rattle.map_commands.specs.declared.fault.MapFault.{MapFault}
+use Rattle.map_core.specs.declared.pool.Pool.{Pool}
+use Rattle.map_core.specs.declared.command.MapCommand.{MapCommand}
+use Rattle.map_core.specs.declared.command.MapCommand.TheVariants.{PoolCreate, AppEnable, AppSet, AppRm, OsdUp, OsdDown, OsdRestart}
+use Rattle.map_core.specs.declared.fault.MapFault.{MapFault}
 
 -- no fault: each test fails
 abbrev pub AllFail : List (Bool × MapFault) → Type 0

@@ -6,24 +6,24 @@ use Rattle.std.proofs.lemmas.Result.{IfOk-weaker}
 use Rattle.std.proofs.lemmas.Bool.{false≢true}
 use Rattle.std.specs.Option.{option_map, IfSome}
 use Rattle.place_core.specs.Placement.{acting_of, numbers_of}
-use Rattle.map_commands.specs.State.{MapState, History}
-use Rattle.map_commands.specs.Map.{after, initial, map_after, map_of, epoch_of, pools_after, up_after, pool_in, view_of, view_at, is_named}
+use Rattle.map_core.specs.State.{MapState, History}
+use Rattle.map_core.specs.Map.{after, initial, map_after, map_of, epoch_of, pools_after, up_after, pool_in, view_of, view_at, is_named}
 use Rattle.common_types.specs.Refused.{RefusedFirst}
 use Rattle.map_core.specs.Refusal.{refusal, first_of, acting_tests, view_refusal, is_word}
-use Rattle.map_commands.specs.PoolLimits.{IsPool, HasLimits}
+use Rattle.map_core.specs.PoolLimits.{IsPool, HasLimits}
 use Rattle.map_core.specs.Limits.{AcceptedFrom}
-use Rattle.map_commands.specs.Intervals.{size_in, set_of}
-use Rattle.map_commands.specs.Replay.{no_pool, pool_step}
-use Rattle.map_commands.specs.declared.fault.MapFault.TheVariants as faults
-use Rattle.map_commands.specs.declared.pool.PoolView.{PoolView}
+use Rattle.map_core.specs.Intervals.{size_in, set_of}
+use Rattle.map_core.specs.Replay.{no_pool, pool_step}
+use Rattle.map_core.specs.declared.fault.MapFault.TheVariants as faults
+use Rattle.map_core.specs.declared.pool.PoolView.{PoolView}
 use Rattle.map_core.proofs.Acceptance.{accepted_take, limits_of, limits_step, all_fail, not_false}
-use Rattle.map_commands.proofs.IntervalLists.{none_found, All-find, if_some_along}
-use Rattle.map_commands.proofs.OnePool.{pool_in_history}
+use Rattle.map_core.proofs.IntervalLists.{none_found, All-find, if_some_along}
+use Rattle.map_core.proofs.OnePool.{pool_in_history}
 use Rattle.std.proofs.Math.Seq.{take-length}
 use Rattle.std.proofs.lemmas.Bool.Decides.{nat_tests}
-use Rattle.map_commands.specs.declared.pool.Pool.{Pool}
-use Rattle.map_commands.specs.declared.command.MapCommand.{MapCommand}
-use Rattle.map_commands.specs.declared.fault.MapFault.{MapFault}
+use Rattle.map_core.specs.declared.pool.Pool.{Pool}
+use Rattle.map_core.specs.declared.command.MapCommand.{MapCommand}
+use Rattle.map_core.specs.declared.fault.MapFault.{MapFault}
 
 pub daemons_stay : (state : MapState) (commands : List MapCommand) → (fold after state commands).daemons ≡ state.daemons
 daemons_stay state [] = refl

@@ -9,18 +9,18 @@ use Rattle.std.proofs.lemmas.List.{length-set}
 use Rattle.std.proofs.lemmas.List.Elements.{filter_passes, All-contains}
 use Rattle.place_core.specs.Placement.{IsActing, acting_of, numbers_of}
 use Rattle.place_core.proofs.Counted.{acting_is, acting_set_is}
-use Rattle.map_commands.specs.State.{MapState, History}
-use Rattle.map_commands.specs.Map.{after, initial, map_of, epoch_of}
+use Rattle.map_core.specs.State.{MapState, History}
+use Rattle.map_core.specs.Map.{after, initial, map_of, epoch_of}
 use Rattle.map_core.specs.Refusal.{refusal, tests}
 use Rattle.map_core.specs.Limits.{AcceptedFrom}
-use Rattle.map_commands.specs.Intervals.{size_in, set_of, begun, restarts}
+use Rattle.map_core.specs.Intervals.{size_in, set_of, begun, restarts}
 use Rattle.map_core.specs.ActingSets.{IsSetOf}
 use Rattle.map_core.specs.Laws.{later, SetsAreActing, UpAreThere}
 use Rattle.map_core.proofs.Acceptance.{limits_of, all_fail, accepted_push}
-use Rattle.map_commands.proofs.IntervalLists.{size_small}
+use Rattle.map_core.proofs.IntervalLists.{size_small}
 use Rattle.map_core.proofs.Current.{daemons_stay, after_push}
-use Rattle.map_commands.specs.declared.command.MapCommand.{MapCommand}
-use Rattle.map_commands.specs.declared.command.MapCommand.TheVariants.{PoolCreate, AppEnable, AppSet, AppRm, OsdUp, OsdDown, OsdRestart}
+use Rattle.map_core.specs.declared.command.MapCommand.{MapCommand}
+use Rattle.map_core.specs.declared.command.MapCommand.TheVariants.{PoolCreate, AppEnable, AppSet, AppRm, OsdUp, OsdDown, OsdRestart}
 
 -- sixteen flags, and none is set past the daemons that there are
 pub record FlagsFit (state : MapState) : Type 0 where

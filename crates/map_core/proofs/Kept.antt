@@ -10,21 +10,21 @@ use Rattle.std.proofs.lemmas.List.{append-nil, take-append-drop}
 use Rattle.std.proofs.lemmas.List.Sums.{fold-append}
 use Rattle.std.proofs.lemmas.List.Quantifiers.{all_pairs_push}
 use Rattle.place_core.specs.Placement.{acting_of, numbers_of}
-use Rattle.map_commands.specs.State.{MapState, History}
-use Rattle.map_commands.specs.Map.{change_first, is_named, tagged, created, pools_after, after, initial, map_after, map_of, pool_in, view_of, view_at}
+use Rattle.map_core.specs.State.{MapState, History}
+use Rattle.map_core.specs.Map.{change_first, is_named, tagged, created, pools_after, after, initial, map_after, map_of, pool_in, view_of, view_at}
 use Rattle.map_core.specs.Refusal.{refusal, tests, in_limits, is_last}
-use Rattle.map_commands.specs.Replay.{pool_step, change_some}
+use Rattle.map_core.specs.Replay.{pool_step, change_some}
 use Rattle.map_core.specs.Limits.{AcceptedFrom}
-use Rattle.map_commands.specs.Intervals.{size_in, set_of, restarts, begun, intervals_from, intervals_of}
+use Rattle.map_core.specs.Intervals.{size_in, set_of, restarts, begun, intervals_from, intervals_of}
 use Rattle.map_core.specs.Laws.{PoolsDiffer, PoolsAreFew, HasPool, PoolsStay, ViewsAreOfPools, CommandsBeginIntervals, EndIn, PresentSetIsLast, moves_daemons, OthersLeaveSets}
 use Rattle.map_core.proofs.Acceptance.{all_fail, or_left, or_right}
-use Rattle.map_commands.proofs.OnePool.{pool_in_history}
-use Rattle.map_commands.proofs.IntervalLists.{intervals_push, size_stays}
+use Rattle.map_core.proofs.OnePool.{pool_in_history}
+use Rattle.map_core.proofs.IntervalLists.{intervals_push, size_stays}
 use Rattle.map_core.proofs.Daemons.{set_sized}
-use Rattle.map_commands.specs.declared.pool.Pool.{Pool}
-use Rattle.map_commands.specs.declared.pool.PoolView.{PoolView}
-use Rattle.map_commands.specs.declared.command.MapCommand.{MapCommand}
-use Rattle.map_commands.specs.declared.command.MapCommand.TheVariants.{PoolCreate, AppEnable, AppSet, AppRm, OsdUp, OsdDown, OsdRestart}
+use Rattle.map_core.specs.declared.pool.Pool.{Pool}
+use Rattle.map_core.specs.declared.pool.PoolView.{PoolView}
+use Rattle.map_core.specs.declared.command.MapCommand.{MapCommand}
+use Rattle.map_core.specs.declared.command.MapCommand.TheVariants.{PoolCreate, AppEnable, AppSet, AppRm, OsdUp, OsdDown, OsdRestart}
 
 -- ---- names
 

@@ -1,3 +1,6 @@
+pub mod FirstPlaces
+pub mod IntervalLists
+pub mod OnePool
 pub mod Acceptance
 pub mod Current
 pub mod Daemons

@@ -10,17 +10,17 @@ use Rattle.std.proofs.lemmas.List.Elements.{All-nil, All-cons, All-head, All-tai
 use Rattle.std.proofs.lemmas.List.Kept.{AllPairs-cons}
 use Rattle.std.proofs.lemmas.List.Quantifiers.{all_pairs_push}
 use Rattle.common_types.specs.declared.tags.AppTags.{AppTags}
-use Rattle.map_commands.specs.State.{MapState, History}
-use Rattle.map_commands.specs.Map.{change_first, is_named, is_app, is_key, put_pair, without_pair, with_pairs, tags_after, tagged, created, pools_after, after, initial, map_after, map_of, pool_in, view_of, view_at}
+use Rattle.map_core.specs.State.{MapState, History}
+use Rattle.map_core.specs.Map.{change_first, is_named, is_app, is_key, put_pair, without_pair, with_pairs, tags_after, tagged, created, pools_after, after, initial, map_after, map_of, pool_in, view_of, view_at}
 use Rattle.map_core.specs.Refusal.{refusal, tests, tags_in, has_app}
 use Rattle.map_core.specs.Limits.{AcceptedFrom}
 use Rattle.map_core.specs.PossibleTags.{ArePossible}
 use Rattle.map_core.specs.Laws.{TagsArePossible, ViewsArePossible}
 use Rattle.map_core.proofs.Acceptance.{all_fail, accepted_take}
-use Rattle.map_commands.specs.declared.pool.Pool.{Pool}
-use Rattle.map_commands.specs.declared.pool.PoolView.{PoolView}
-use Rattle.map_commands.specs.declared.command.MapCommand.{MapCommand}
-use Rattle.map_commands.specs.declared.command.MapCommand.TheVariants.{PoolCreate, AppEnable, AppSet, AppRm, OsdUp, OsdDown, OsdRestart}
+use Rattle.map_core.specs.declared.pool.Pool.{Pool}
+use Rattle.map_core.specs.declared.pool.PoolView.{PoolView}
+use Rattle.map_core.specs.declared.command.MapCommand.{MapCommand}
+use Rattle.map_core.specs.declared.command.MapCommand.TheVariants.{PoolCreate, AppEnable, AppSet, AppRm, OsdUp, OsdDown, OsdRestart}
 
 -- ---- lists whose elements differ
 

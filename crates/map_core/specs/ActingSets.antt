@@ -2,8 +2,8 @@
 -- What every acting set of a map is.
 use Rattle.std.specs.Prelude.{◌≡◌, ℕ, ◌<◌, List, Some, All}
 use Rattle.place_core.specs.Placement.{IsActing, IsActingSet, numbers_of}
-use Rattle.map_commands.specs.State.{MapState}
-use Rattle.map_commands.specs.Intervals.{size_in}
+use Rattle.map_core.specs.State.{MapState}
+use Rattle.map_core.specs.Intervals.{size_in}
 
 -- the up daemons by the group's ranking, cut at the pool's size: at most five, each once, each of them up and one that the map has
 pub record IsSetOf (state : MapState) (pool : List ℕ) (group : ℕ) (members : List ℕ) : Type 0 where

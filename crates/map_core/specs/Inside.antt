@@ -1,8 +1,8 @@
 -- Refinement: only contracts inside the crate use it.
 -- What the map's fields stand for.
 use Rattle.std.specs.Prelude.{◌≡◌, ◌<◌, ◌≤◌, length}
-use Rattle.map_commands.specs.State.{History}
-use Rattle.map_commands.specs.Map.{map_after}
+use Rattle.map_core.specs.State.{History}
+use Rattle.map_core.specs.Map.{map_after}
 use Rattle.map_core.specs.Limits.{IsAccepted}
 use Rattle.map_core.specs.declared.map.ClusterMap.TheInside.{Inside}
 

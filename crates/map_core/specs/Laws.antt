@@ -3,16 +3,16 @@
 use Rattle.std.specs.Prelude.{◌≡◌, ◌≢◌, ℕ, ◌<◌, ◌≤◌, List, [], ◌∷◌, ◌++◌, Bool, true, false, Option, None, Some, length, map, All, AllPairs}
 use Rattle.std.specs.Option.{option_to_list}
 use Rattle.place_core.specs.Placement.{numbers_of}
-use Rattle.map_commands.specs.State.{MapState, History}
-use Rattle.map_commands.specs.Map.{after, map_of, pool_in, view_at}
+use Rattle.map_core.specs.State.{MapState, History}
+use Rattle.map_core.specs.Map.{after, map_of, pool_in, view_at}
 use Rattle.map_core.specs.Limits.{IsAccepted}
-use Rattle.map_commands.specs.Intervals.{set_of, begun, intervals_of}
+use Rattle.map_core.specs.Intervals.{set_of, begun, intervals_of}
 use Rattle.map_core.specs.ActingSets.{IsSetOf}
 use Rattle.map_core.specs.PossibleTags.{ArePossible}
-use Rattle.map_commands.specs.declared.pool.Pool.{Pool}
-use Rattle.map_commands.specs.declared.pool.PoolView.{PoolView}
-use Rattle.map_commands.specs.declared.command.MapCommand.{MapCommand}
-use Rattle.map_commands.specs.declared.command.MapCommand.TheVariants.{OsdUp, OsdDown}
+use Rattle.map_core.specs.declared.pool.Pool.{Pool}
+use Rattle.map_core.specs.declared.pool.PoolView.{PoolView}
+use Rattle.map_core.specs.declared.command.MapCommand.{MapCommand}
+use Rattle.map_core.specs.declared.command.MapCommand.TheVariants.{OsdUp, OsdDown}
 
 -- a history with these commands after its own
 abbrev pub later : History → List MapCommand → History

@@ -1,3 +1,9 @@
+pub mod Intervals
+pub mod Map
+pub mod PoolLimits
+pub mod Printed
+pub mod Replay
+pub mod State
 pub mod Inside
 pub mod Laws
 pub mod Limits

@@ -1,10 +1,10 @@
 -- Statement: contracts of public calls use it.
 -- What holds of every map: each command was one that nothing refused.
 use Rattle.std.specs.Prelude.{◌≡◌, ⊤, ℕ, ◌+◌, List, [], ◌∷◌, None}
-use Rattle.map_commands.specs.State.{MapState, History}
-use Rattle.map_commands.specs.Map.{initial, after}
+use Rattle.map_core.specs.State.{MapState, History}
+use Rattle.map_core.specs.Map.{initial, after}
 use Rattle.map_core.specs.Refusal.{refusal}
-use Rattle.map_commands.specs.declared.command.MapCommand.{MapCommand}
+use Rattle.map_core.specs.declared.command.MapCommand.{MapCommand}
 
 -- from a state and an epoch on, nothing refuses a command where it stands
 abbrev pub AcceptedFrom : MapState → ℕ → List MapCommand → Type 0

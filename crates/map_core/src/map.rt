@@ -2,23 +2,25 @@
 
 ghost use Rattle.std.specs.Prelude.{◌≡◌, ◌≤◌, ◌++◌, [], ◌∷◌, OnOk, OnErr, IfOk, Some, None, Option, All, IsOkAnd, IfSome, IsTrue, ◌↔◌, option_copied};
 ghost use Rattle.std.specs.Option.{option_to_list};
-ghost use Rattle.map_commands.specs.Map.{epoch_of, map_of, after};
-ghost use Rattle.map_commands.specs.Map as spec;
+ghost use Rattle.map_core.specs.Map.{epoch_of, map_of, after};
+ghost use Rattle.map_core.specs.Map as spec;
 ghost use Rattle.common_types.specs.Refused.{RefusedFirst};
 ghost use Rattle.map_core.specs.Refusal as tests;
-ghost use Rattle.map_commands.specs.Intervals.{set_of, intervals_of};
-ghost use Rattle.map_commands.specs.Intervals as intervals;
-ghost use Rattle.map_commands.specs.PoolLimits.{IsPool, HasLimits};
+ghost use Rattle.map_core.specs.Intervals.{set_of, intervals_of};
+ghost use Rattle.map_core.specs.Intervals as intervals;
+ghost use Rattle.map_core.specs.PoolLimits.{IsPool, HasLimits};
 ghost use Rattle.map_core.specs.Limits.{IsAccepted};
 ghost use Rattle.map_core.specs.ActingSets.{IsSetOf};
-ghost use Rattle.map_commands.specs.State.{GoesOn};
+ghost use Rattle.map_core.specs.State.{GoesOn};
 
+use crate::acting_sets::{set_of_size, size_after, size_in};
+use crate::command::{MapCommand, begin_with, copy_commands};
+use crate::edits::change_pools;
+use crate::fault::MapFault;
+use crate::pool::{Epoch, Pool, PoolView, copy_pools, find_pool};
 use crate::refusals::{acting_refusal, is_word, refusal};
+use crate::replay::{view_now, view_then};
 use common_types::{Name, OutOfMemory};
-use map_commands::{
-    Epoch, MapCommand, MapFault, Pool, PoolView, begin_with, change_pools, copy_commands,
-    copy_pools, find_pool, set_of_size, size_after, size_in, view_now, view_then,
-};
 use place_core::{ActingSet, DaemonSet};
 use std::alloc::Global;
 use std::marker::Model;
@@ -46,7 +48,7 @@ impl Drop for ClusterMap {
 }
 
 impl Model for ClusterMap {
-    ghost use Rattle.map_commands.specs.State.{History};
+    ghost use Rattle.map_core.specs.State.{History};
 
     ghost Value = { History };
 

@@ -4,10 +4,12 @@ ghost use Rattle.std.specs.Prelude.{◌≡◌, option_copied};
 ghost use Rattle.std.specs.List.{find};
 ghost use Rattle.map_core.specs.Refusal.{first_of, create_tests, enable_tests, set_tests, remove_tests, daemon_tests, acting_tests};
 ghost use Rattle.map_core.specs.Refusal as spec;
-ghost use Rattle.map_commands.specs.Map as map;
+ghost use Rattle.map_core.specs.Map as map;
 
+use crate::command::MapCommand;
+use crate::fault::MapFault;
+use crate::pool::{Pool, find_pool};
 use common_types::{AppTags, Name, are_word_bytes};
-use map_commands::{MapCommand, MapFault, Pool, find_pool};
 use place_core::DaemonSet;
 
 const LAST_EPOCH: u32 = 65535;

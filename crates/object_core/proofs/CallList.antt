@@ -4,8 +4,8 @@ use Rattle.std.specs.Option.{option_to_list}
 use Rattle.std.specs.List.{filter_map, cons_option}
 use Rattle.std.proofs.lemmas.Grind.{take_at_read}
 use Rattle.std.proofs.lemmas.List.Elements.{filter_map-append}
-use Rattle.verdict_types.specs.declared.request.ClassCall.{ClassCall}
-use Rattle.object_ops.specs.declared.op.Op.{Op}
+use Rattle.request_types.specs.declared.request.ClassCall.{ClassCall}
+use Rattle.object_core.specs.declared.op.Op.{Op}
 use Rattle.object_core.specs.Needs.{call_of}
 
 one : (o : Option ClassCall) → cons_option o [] ≡ option_to_list o

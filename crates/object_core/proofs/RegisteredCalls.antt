@@ -6,7 +6,7 @@ use Rattle.std.specs.Str.{bytes_eq}
 use Rattle.std.proofs.lemmas.Bool.{false≢true}
 use Rattle.std.proofs.lemmas.Slice.Eq.{bytes_eq-Decides}
 use Rattle.std.proofs.lemmas.List.Elements.{All-nil, All-cons}
-use Rattle.verdict_types.specs.declared.request.ClassCall.{ClassCall}
+use Rattle.request_types.specs.declared.request.ClassCall.{ClassCall}
 use Rattle.object_core.specs.declared.class.Method.{Method}
 use Rattle.object_core.specs.declared.class.Method.TheVariants.{CounterGet, CounterAdd, VaultPeek}
 use Rattle.object_core.specs.Needs.{registered, IsRegistered, registry}

@@ -6,10 +6,10 @@ use Rattle.std.proofs.lemmas.Bool.{cases_lt}
 use Rattle.std.proofs.lemmas.Slice.Eq.{bytes_eq-Decides}
 use Rattle.std.proofs.lemmas.List.Edits.{length-remove, get_or-remove_below, get_or-remove_above}
 use Rattle.std.proofs.lemmas.List.Quantifiers.{position-Some}
-use Rattle.object_ops.proofs.AttributeNames.{Attribute, Differ, has_name}
-use Rattle.object_ops.specs.Content.{Content, place_of}
-use Rattle.object_ops.specs.Operations.{or_no_data}
-use Rattle.object_ops.specs.declared.op.Op.TheVariants.{GetAttribute}
+use Rattle.object_core.proofs.AttributeNames.{Attribute, Differ, has_name}
+use Rattle.object_core.specs.Content.{Content, place_of}
+use Rattle.object_core.specs.Operations.{or_no_data}
+use Rattle.object_core.specs.declared.op.Op.TheVariants.{GetAttribute}
 use Rattle.object_core.specs.Effect.{Effect, effect_of, changes, looks}
 use Rattle.object_core.specs.Laws.{RemovedIsGone}
 

@@ -2,13 +2,13 @@
 use Rattle.std.proofs.Common.{◌≡◌, ℕ, List, [], ◌∷◌, ◌++◌, Option, Result, Ok, Err, suc, ◌+◌, ◌<◌, ◌≤◌, length, get_or, drop, drop-cons, refl, sym, ap, ◌∙◌, arith, zero, Bool, true, false, ◌&&◌}
 use Rattle.std.specs.List.{list_all}
 use Rattle.std.proofs.lemmas.List.{drop_all}
-use Rattle.object_ops.specs.Content.{Content}
+use Rattle.object_core.specs.Content.{Content}
 use Rattle.object_core.specs.Effect.{Effect, effect_of, go_on, run_from, with_output}
 use Rattle.object_core.specs.Needs.{only_looks}
 use Rattle.object_core.specs.ToldSteps.{StaysAs}
-use Rattle.object_ops.specs.Operations.{Run}
-use Rattle.object_ops.specs.declared.op.Op.{Op}
-use Rattle.object_ops.specs.declared.outcome.Change.{Change}
+use Rattle.object_core.specs.Operations.{Run}
+use Rattle.object_core.specs.declared.op.Op.{Op}
+use Rattle.object_core.specs.declared.outcome.Change.{Change}
 
 -- a run after these outputs
 abbrev pub with_outputs : List (List ℕ) → Run → Run

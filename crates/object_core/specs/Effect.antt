@@ -3,12 +3,12 @@
 -- errors; classes and limits are this project's profile.
 use Rattle.std.specs.Prelude.{ℕ, ◌+◌, ◌^◌, List, [], ◌∷◌, ◌++◌, if◌then◌else◌, Option, None, Some, Result, Ok, Err, length, nat_lt, codes}
 use Rattle.std.specs.Fmt.{decimal}
-use Rattle.object_ops.specs.Bytes.{part_of, resized, overwritten}
-use Rattle.object_ops.specs.Content.{Content, bytes_of, attributes_of, value_of}
-use Rattle.object_ops.specs.Number.{number_of}
-use Rattle.object_ops.specs.Operations.{Answer, Changed, Run, found, put, or_no_data, or_invalid, created, attribute_set, attribute_removed}
-use Rattle.object_ops.specs.declared.op.Op.{Op}
-use Rattle.object_ops.specs.declared.op.Op.TheVariants.{Read, Stat, Write, WriteFull, Append, Truncate, Remove, Create, GetAttribute, SetAttribute, RemoveAttribute, Call}
+use Rattle.object_core.specs.Bytes.{part_of, resized, overwritten}
+use Rattle.object_core.specs.Content.{Content, bytes_of, attributes_of, value_of}
+use Rattle.object_core.specs.Number.{number_of}
+use Rattle.object_core.specs.Operations.{Answer, Changed, Run, found, put, or_no_data, or_invalid, created, attribute_set, attribute_removed}
+use Rattle.object_core.specs.declared.op.Op.{Op}
+use Rattle.object_core.specs.declared.op.Op.TheVariants.{Read, Stat, Write, WriteFull, Append, Truncate, Remove, Create, GetAttribute, SetAttribute, RemoveAttribute, Call}
 use Rattle.object_core.specs.Needs.{method_of}
 use Rattle.object_core.specs.declared.class.Method.{Method}
 use Rattle.object_core.specs.declared.class.Method.TheVariants.{CounterGet, CounterAdd, VaultPeek}

@@ -1,9 +1,9 @@
 -- Statement: contracts of public calls use it.
 -- Laws of objects.
 use Rattle.std.specs.Prelude.{◌≡◌, ℕ, List, Option, Some, Ok, Err}
-use Rattle.object_ops.specs.Content.{Content, AreAttributes}
+use Rattle.object_core.specs.Content.{Content, AreAttributes}
 use Rattle.object_core.specs.Effect.{effect_of}
-use Rattle.object_ops.specs.declared.op.Op.TheVariants.{GetAttribute, RemoveAttribute}
+use Rattle.object_core.specs.declared.op.Op.TheVariants.{GetAttribute, RemoveAttribute}
 
 -- after rmxattr of a name, getxattr of that name fails with ENODATA
 abbrev pub RemovedIsGone : Type 0

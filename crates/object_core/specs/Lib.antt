@@ -3,3 +3,9 @@ pub mod Faults
 pub mod Laws
 pub mod Needs
 pub mod ToldSteps
+pub mod Bytes
+pub mod Content
+pub mod Digits
+pub mod Number
+pub mod Operations
+pub mod ToldEffects

@@ -5,12 +5,12 @@ use Rattle.std.specs.Prelude.{◌≡◌, ℕ, List, [], ◌∷◌, Bool, true, f
 use Rattle.std.specs.Option.{option_map}
 use Rattle.std.specs.List.{list_any, filter_map}
 use Rattle.std.specs.Str.{bytes_eq}
-use Rattle.verdict_types.specs.declared.request.Needs.{Needs}
-use Rattle.verdict_types.specs.declared.request.ClassCall.{ClassCall}
+use Rattle.request_types.specs.declared.request.Needs.{Needs}
+use Rattle.request_types.specs.declared.request.ClassCall.{ClassCall}
 use Rattle.object_core.specs.declared.class.Method.{Method}
 use Rattle.object_core.specs.declared.class.Method.TheVariants.{CounterGet, CounterAdd, VaultPeek}
-use Rattle.object_ops.specs.declared.op.Op.{Op}
-use Rattle.object_ops.specs.declared.op.Op.TheVariants.{Read, Stat, Write, WriteFull, Append, Truncate, Remove, Create, GetAttribute, SetAttribute, RemoveAttribute, Call}
+use Rattle.object_core.specs.declared.op.Op.{Op}
+use Rattle.object_core.specs.declared.op.Op.TheVariants.{Read, Stat, Write, WriteFull, Append, Truncate, Remove, Create, GetAttribute, SetAttribute, RemoveAttribute, Call}
 use Rattle.object_core.specs.declared.needs.NeedsFault.{NeedsFault}
 use Rattle.object_core.specs.declared.needs.NeedsFault.TheVariants.{EmptyVector, TooManyOps, NoMethod}
 

@@ -1,12 +1,12 @@
 -- Statement: contracts of public calls use it.
 -- How the program tells steps: a change that was not made stands for the object that was given.
 use Rattle.std.specs.Prelude.{◌≡◌, ℕ, List, [], Option, Result, Ok, Err}
-use Rattle.object_ops.specs.Content.{Content}
-use Rattle.object_ops.specs.ToldEffects.{after}
-use Rattle.object_ops.specs.declared.outcome.Change.{Change}
-use Rattle.object_ops.specs.declared.outcome.Change.TheVariants as change
-use Rattle.object_ops.specs.declared.outcome.Outcome.{Outcome}
-use Rattle.object_ops.specs.declared.outcome.Outcome.TheVariants.{Done, Failed}
+use Rattle.object_core.specs.Content.{Content}
+use Rattle.object_core.specs.ToldEffects.{after}
+use Rattle.object_core.specs.declared.outcome.Change.{Change}
+use Rattle.object_core.specs.declared.outcome.Change.TheVariants as change
+use Rattle.object_core.specs.declared.outcome.Outcome.{Outcome}
+use Rattle.object_core.specs.declared.outcome.Outcome.TheVariants.{Done, Failed}
 use Rattle.object_core.specs.Effect.{Effect}
 
 abbrev pub told_step : Option Content → Result (List ℕ × Change) ℕ → Effect

@@ -4,14 +4,18 @@ ghost use Rattle.std.specs.Prelude.{◌≡◌, true, IfOk, option_copied};
 ghost use Rattle.object_core.specs.Effect.{added, effect_of_method};
 ghost use Rattle.object_core.specs.Effect as spec;
 ghost use Rattle.object_core.specs.Needs as registry;
-ghost use Rattle.object_ops.specs.Number as numbers;
+ghost use Rattle.object_core.specs.Number as numbers;
 ghost use Rattle.object_core.specs.ToldSteps.{StaysAs, kept_step, changed_step, told_step};
-ghost use Rattle.object_ops.specs.ToldEffects.{after};
+ghost use Rattle.object_core.specs.ToldEffects.{after};
 
+use crate::bytes::Bytes;
 use crate::class::{Method, method_of};
+use crate::errors::{EINVAL, EOPNOTSUPP, ERANGE};
+use crate::looking::{counter_get, decimal, vault_peek};
+use crate::number::number_of;
+use crate::object::Object;
+use crate::outcome::Change;
 use common_types::{Name, OutOfMemory, TryCopy};
-use object_ops::looking::{counter_get, decimal, vault_peek};
-use object_ops::{Bytes, Change, EINVAL, EOPNOTSUPP, ERANGE, Object, number_of};
 use std::alloc::Global;
 
 /// An output and what became of the object, or the number of an error.

@@ -4,7 +4,7 @@ ghost use Rattle.std.specs.Prelude.{◌≡◌, IfOk};
 ghost use Rattle.std.specs.List.{All, Contains};
 ghost use Rattle.object_core.specs.Needs as spec;
 ghost use Rattle.object_core.specs.Needs.{IsRegistered};
-ghost use Rattle.verdict_types.specs.declared.request.ClassCall.{ClassCall};
+ghost use Rattle.request_types.specs.declared.request.ClassCall.{ClassCall};
 
 use common_types::{Name, OutOfMemory};
 use std::alloc::Global;

@@ -9,8 +9,9 @@ ghost use Rattle.object_core.specs.Needs as spec;
 ghost use Rattle.object_core.specs.declared.needs.NeedsFault.TheVariants as faults;
 
 use crate::class::{method_of, registered};
+use crate::errors::{EINVAL, EOPNOTSUPP};
+use crate::op::Op;
 use common_types::OutOfMemory;
-use object_ops::{EINVAL, EOPNOTSUPP, Op};
 use std::alloc::{AllocError, AllocFailed, Global};
 use std::error::Error;
 use std::fmt;

@@ -5,11 +5,14 @@ ghost use Rattle.std.specs.List.{list_all};
 ghost use Rattle.object_core.specs.Effect.{effect, effect_of};
 ghost use Rattle.object_core.specs.Needs.{only_looks};
 ghost use Rattle.object_core.specs.ToldSteps.{KeepsObject, StaysAs, told_step};
-ghost use Rattle.object_ops.specs.ToldEffects.{after, told};
+ghost use Rattle.object_core.specs.ToldEffects.{after, told};
 
 use crate::calling::{Step, call, changes, looks};
+use crate::object::Object;
+use crate::op::Op;
+use crate::outcome::{Change, Outcome, Outputs};
+use crate::{changing, looking};
 use common_types::OutOfMemory;
-use object_ops::{Change, Object, Op, Outcome, Outputs, changing, looking};
 use std::alloc::Global;
 
 /// One operation on what became of the given object so far.

@@ -2,7 +2,8 @@
 #![tactic(auto)]
 
 use command_line::run_command;
-use gate_commands::{refuse_words, words};
+use command_steps::refuse_words;
+use gate_files::words;
 use std::process::ExitCode;
 use workload::run_workload;
 

@@ -33,8 +33,8 @@ impl Work for Expand<'_> {
 }
 
 /// Whether the ticket of a tree has grants.
-fn has_grants(alloc: Global, tree: &GrantTree) -> Result<bool, OutOfMemory> {
-    Ok(!Ticket::of(alloc, tree, None)?.grants().is_empty())
+fn has_grants(tree: GrantTree) -> bool {
+    !Ticket::of(tree, None).grants().is_empty()
 }
 
 /// A list, of which a ticket is made.
@@ -44,7 +44,7 @@ struct MakeTicket<'a>(Expand<'a>);
 impl Work for MakeTicket<'_> {
     fn once(&self, _turn: usize) -> Result<bool, OutOfMemory> {
         match expand(self.0.alloc, self.0.table, self.0.list) {
-            Ok(tree) => has_grants(self.0.alloc, &tree),
+            Ok(tree) => Ok(has_grants(tree)),
             Err(ExpandFault::OutOfMemory) => Err(AllocError),
             Err(_) => Ok(false),
         }

@@ -49,11 +49,7 @@ fn expanded(alloc: Global, list: &CapList) -> Result<GrantTree, Fault> {
 
 /// The ticket of a list.
 fn ticket_of_list(alloc: Global, list: &CapList) -> Result<Ticket, Fault> {
-    let tree = expanded(alloc, list)?;
-    match Ticket::of(alloc, &tree, None) {
-        Ok(ticket) => Ok(ticket),
-        Err(_) => Err(Fault::OutOfMemory),
-    }
+    Ok(Ticket::of(expanded(alloc, list)?, None))
 }
 
 /// The ticket of a text.

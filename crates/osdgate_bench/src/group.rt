@@ -4,8 +4,8 @@ ghost use Rattle.std.specs.Prelude.{◌≡◌, IfOk};
 
 use crate::fault::Fault;
 use crate::grants::ticket_of;
-use common_types::{Name, OutOfMemory, Tags};
-use entry_core::{GroupId, Id, Sealed, TryCopy};
+use common_types::{Name, OutOfMemory, Tags, TryCopy};
+use entry_core::{GroupId, Id, Sealed};
 use group_core::Group;
 use map_core::PoolView;
 use object_core::{Bytes, Op};

@@ -2,8 +2,8 @@
 
 use crate::fault::Fault;
 use crate::group::{all, request, three_daemons};
-use common_types::{Name, OutOfMemory};
-use entry_core::{Sealed, TryCopy};
+use common_types::{Name, OutOfMemory, TryCopy};
+use entry_core::Sealed;
 use group_core::Group;
 use place_core::{ActingSet, DaemonSet};
 use std::alloc::Global;

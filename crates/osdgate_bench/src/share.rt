@@ -3,17 +3,17 @@
 use crate::fault::Fault;
 use cap_text::parse;
 use common_types::OutOfMemory;
-use gate_text::{Entity, Format};
 use share_text::{Strictness, share_entities};
 use std::alloc::Global;
 use std::time::Clock;
 use stopwatch::{Table, Work};
+use verdict_text::{Format, ReadEntity, ReadText, Reader, Rules};
 
 /// Entities, none of which shares anything with another one.
 #[derive(Drop)]
 struct Tenants {
     alloc: Global,
-    entities: Vec<Entity>,
+    entities: Vec<ReadEntity>,
 }
 
 impl Work for Tenants {
@@ -33,22 +33,23 @@ impl Work for Tenants {
 }
 
 /// The entity of a number, with three grants for a pool of its own.
-fn entity(alloc: Global, name: &str, number: u32) -> Result<Entity, Fault> {
+fn entity(alloc: Global, reader: &Reader, name: &str, number: u32) -> Result<ReadEntity, Fault> {
     let pool = format!(in alloc; "{name}{number}")?;
     let osd = format!(in alloc;
         "allow rw pool={pool}, allow r pool={pool} namespace=a, allow class-read pool={pool} object_prefix b"
     )?;
     let _list = parse(alloc, osd.as_str())?;
-    Ok(Entity {
+    Ok(ReadEntity {
         name: format!(in alloc; "client.{number}")?,
-        osd,
+        osd: ReadText::of(alloc, reader, osd, None)?,
     })
 }
 
-fn entities(alloc: Global, name: &str, count: u32) -> Result<Vec<Entity>, Fault> {
+fn entities(alloc: Global, name: &str, count: u32) -> Result<Vec<ReadEntity>, Fault> {
+    let reader = Reader::of(alloc, Rules::Project)?;
     let mut entities = Vec::new(alloc);
     for number in 0..count {
-        entities.push(entity(alloc, name, number)?)?;
+        entities.push(entity(alloc, &reader, name, number)?)?;
     }
     Ok(entities)
 }

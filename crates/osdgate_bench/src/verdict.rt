@@ -143,10 +143,10 @@ impl OwnedTarget {
 
     fn as_target(&self) -> Target<'_> {
         Target {
-            pool: self.pool.as_str(),
+            pool: self.pool.as_str().as_bytes(),
             tags: &self.tags,
-            namespace: "spaces",
-            object: self.object.as_str(),
+            namespace: b"spaces",
+            object: self.object.as_str().as_bytes(),
         }
     }
 }

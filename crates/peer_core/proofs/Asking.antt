@@ -5,7 +5,7 @@ use Rattle.std.specs.Prelude.{Result, Ok, Err, OnOk, IfOk}
 use Rattle.std.specs.declared.alloc.AllocError.{AllocError}
 use Rattle.entry_core.specs.Log.{is_in}
 use Rattle.peer_core.specs.Types.{Copy, Sent, Osd}
-use Rattle.group_types.specs.ActingSets.{daemons}
+use Rattle.group_messages.specs.ActingSets.{daemons}
 use Rattle.peer_core.specs.ActingSets.{is_asked}
 use Rattle.peer_core.specs.Choice.{is_informed}
 use Rattle.peer_core.specs.Steps.{send}

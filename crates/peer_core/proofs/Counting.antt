@@ -3,7 +3,7 @@ use Rattle.std.proofs.Common.{suc, ◌≡◌, ◌-◌, List, [], ◌∷◌, ◌+
 use Rattle.std.specs.Prelude.{Option, Some, None, slice_get, Result, Ok, Err, OnOk, IfOk}
 use Rattle.std.specs.declared.alloc.AllocError.{AllocError}
 use Rattle.peer_core.specs.Types.{Entry, Copy, Sent}
-use Rattle.group_types.specs.Decided.{last}
+use Rattle.group_messages.specs.Decided.{last}
 use Rattle.peer_core.specs.Serve.{serve}
 use Rattle.peer_core.specs.Stages.{replies}
 use Rattle.peer_core.specs.Copy.{complete}

@@ -10,8 +10,8 @@ use Rattle.entry_core.specs.Log.{decide, ids}
 use Rattle.entry_core.specs.Fitting.{requests_of, part_of, agreed, decided_behind, kept, can_fit, fitted}
 use Rattle.entry_core.proofs.Fitting.{numbers_of}
 use Rattle.peer_core.specs.Types.{Sealed, Entry, Offer}
-use Rattle.peer_messages.specs.Beginnings.{common, told_ids}
-use Rattle.peer_messages.proofs.Alike.{common_none, common_within, common_short, common_long, ids-length, ids-take, ids-drop}
+use Rattle.group_messages.specs.Beginnings.{common, told_ids}
+use Rattle.group_messages.proofs.Alike.{common_none, common_within, common_short, common_long, ids-length, ids-take, ids-drop}
 use Rattle.peer_core.proofs.Told.{take_none, parts, goes_on}
 
 -- lists

@@ -9,11 +9,11 @@ use Rattle.entry_core.specs.Fitting.{fitted}
 use Rattle.entry_core.proofs.Fitting.{fit_of_nothing}
 use Rattle.peer_core.specs.Types.{Sealed, Entry, Copy, Sent, Party, Offer, Common, Peering, Installing, Active, Installed}
 use Rattle.peer_core.specs.ActingSets.{others, missing}
-use Rattle.peer_messages.specs.Beginnings.{common_of, count_at}
+use Rattle.group_messages.specs.Beginnings.{common_of, count_at}
 use Rattle.peer_core.specs.Steps.{still, send}
 use Rattle.peer_core.specs.Serve.{serve}
 use Rattle.peer_core.specs.Copy.{promise_interval, install_from, install_chosen, fit_chosen, install_fitted}
-use Rattle.peer_messages.proofs.Alike.{count_kept, map_alike}
+use Rattle.group_messages.proofs.Alike.{count_kept, map_alike}
 use Rattle.peer_core.proofs.Serving.{none_left, missing_all}
 
 -- a loop over members, some of whom are passed over

@@ -2,8 +2,8 @@
 use Prim.Native.Nat.{zero}
 use Rattle.std.proofs.Common.{ℕ, suc, ◌≡◌, ◌≤◌, ◌<◌, ◌+◌, ◌-◌, List, [], ◌∷◌, ◌++◌, length, take, drop, min, refl, sym, ap, ◌∙◌, arith}
 use Rattle.std.proofs.lemmas.List.{length-take-le, drop-take}
-use Rattle.peer_messages.specs.Beginnings.{common}
-use Rattle.peer_messages.proofs.Alike.{common_front, common_short, common_long, common_within}
+use Rattle.group_messages.specs.Beginnings.{common}
+use Rattle.group_messages.proofs.Alike.{common_front, common_short, common_long, common_within}
 
 pub take_none : {X : Type 0} (t : ℕ) → take t (let none : List X = [] in none) ≡ []
 take_none zero = refl

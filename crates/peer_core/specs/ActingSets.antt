@@ -3,7 +3,7 @@
 use Rattle.std.specs.Prelude.{ℕ, Bool, ◌==◌, ◌||◌, ◌&&◌, not, List, filter}
 use Rattle.std.specs.List.{list_any, list_all}
 use Rattle.entry_core.specs.Log.{is_in}
-use Rattle.group_types.specs.ActingSets.{set_of, daemons}
+use Rattle.group_messages.specs.ActingSets.{set_of, daemons}
 use Rattle.peer_core.specs.Types.{Copy}
 
 -- the other members of the interval that was promised

@@ -2,8 +2,8 @@
 -- Which copy's log begins an interval, and when it may be chosen.
 use Rattle.std.specs.Prelude.{ℕ, ◌+◌, ◌-◌, Bool, ◌==◌, ◌||◌, ◌&&◌, nat_lt, List, [], ◌∷◌, length, take, if◌then◌else◌}
 use Rattle.std.specs.List.{list_any, list_all}
-use Rattle.group_types.specs.ActingSets.{set_of}
-use Rattle.group_types.specs.ActingSets.{covers}
+use Rattle.group_messages.specs.ActingSets.{set_of}
+use Rattle.group_messages.specs.ActingSets.{covers}
 use Rattle.peer_core.specs.Types.{Offer, Copy}
 
 -- the length of the log that was told

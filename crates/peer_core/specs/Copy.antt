@@ -6,16 +6,16 @@ use Rattle.store_core.specs.Request.{Sealed}
 use Rattle.entry_core.specs.Log.{find, is_in, ids}
 use Rattle.entry_core.specs.Fitting.{part_of, last_id, fitted}
 use Rattle.store_core.specs.declared.entry.Entry.{Entry}
-use Rattle.group_types.specs.ActingSets.{set_of, is_primary}
-use Rattle.group_types.specs.Decided.{not_in_flight, last}
+use Rattle.group_messages.specs.ActingSets.{set_of, is_primary}
+use Rattle.group_messages.specs.Decided.{not_in_flight, last}
 use Rattle.peer_core.specs.Types.{Party, Client, Osd, Body, Interval, Query, Info, Install, Installed, Append, Appended, Request, Reply, NotHere, Message, Sent, Offer, Role, Idle, Peering, Installing, Active, Copy}
 use Rattle.peer_core.specs.Steps.{Stepped, still, send}
 use Rattle.peer_core.specs.ActingSets.{others, counted, all_count, missing, asked}
 use Rattle.peer_core.specs.Decided.{with_entry}
 use Rattle.peer_core.specs.Serve.{reply_with, serve}
 use Rattle.peer_core.specs.Choice.{best, own_offer, is_informed, can_choose}
-use Rattle.peer_messages.specs.Beginnings.{common_of, count_at}
-use Rattle.peer_messages.specs.Starts.{start_for}
+use Rattle.group_messages.specs.Beginnings.{common_of, count_at}
+use Rattle.group_messages.specs.Starts.{start_for}
 
 -- a copy that hears of an interval promises it, and drops its role if that is new
 abbrev pub promise_interval : Copy → ℕ → Copy

@@ -4,7 +4,7 @@ use Rattle.std.specs.Prelude.{List, [], ◌∷◌, ◌++◌}
 use Rattle.store_core.specs.Request.{Sealed}
 use Rattle.entry_core.specs.Log.{decide}
 use Rattle.store_core.specs.declared.entry.Entry.{Entry}
-use Rattle.group_types.specs.Decided.{not_in_flight}
+use Rattle.group_messages.specs.Decided.{not_in_flight}
 use Rattle.peer_core.specs.Types.{Role, Idle, Peering, Installing, Active, Copy}
 
 -- a copy with one more entry, which it decides itself

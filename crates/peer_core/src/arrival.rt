@@ -1,9 +1,9 @@
 //! What a message makes of a copy.
 
 use crate::state::State;
-use entry_core::{Items, OutOfMemory, Sealed};
-use group_types::Party;
-use peer_messages::{Body, Message, PeerInfo, Sent};
+use common_types::{Items, OutOfMemory};
+use entry_core::Sealed;
+use group_messages::{Body, Message, Party, PeerInfo, Sent};
 
 impl State {
     ghost use Rattle.std.specs.Prelude.{◌≡◌, IfOk, OnErr};

@@ -4,8 +4,9 @@ ghost use Rattle.std.specs.Prelude.{◌≡◌, ◌+◌, length, IfOk};
 ghost use Rattle.peer_core.specs.Choice.{is_better};
 
 use crate::state::State;
-use entry_core::{Items, OutOfMemory, Sealed, TryCopy};
-use peer_messages::PeerInfo;
+use common_types::{Items, OutOfMemory, TryCopy};
+use entry_core::Sealed;
+use group_messages::PeerInfo;
 use place_core::ActingSet;
 use std::alloc::Global;
 
@@ -45,7 +46,7 @@ fn is_better(offer: &PeerInfo, number: u8, base: u64, start: usize, part: &[Seal
 impl State {
     ghost use Rattle.std.specs.Prelude.{◌≡◌, ◌-◌, ◌||◌, nat_lt, length, take, IfOk};
     ghost use Rattle.std.specs.List.{list_any, list_all};
-    ghost use Rattle.group_types.specs.ActingSets.{covers};
+    ghost use Rattle.group_messages.specs.ActingSets.{covers};
     ghost use Rattle.peer_core.specs.Choice.{best, own_offer, is_informed, can_choose};
 
     /// The base of the best offer, this copy's own among them, and its start and its part.

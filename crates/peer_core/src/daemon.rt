@@ -6,8 +6,9 @@ ghost use Rattle.peer_core.specs.Decided.{decided_by};
 ghost use Rattle.peer_core.specs.Copy.{copy_step, retransmit};
 
 use crate::state::State;
-use entry_core::{Entry, Items, Log, OutOfMemory, TryCopy};
-use peer_messages::{Message, Role, Sent};
+use common_types::{Items, OutOfMemory, TryCopy};
+use entry_core::{Entry, Log};
+use group_messages::{Message, Role, Sent};
 use std::alloc::Global;
 use std::marker::Model;
 

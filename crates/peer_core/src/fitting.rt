@@ -2,8 +2,9 @@
 
 ghost use Rattle.std.specs.Prelude.{◌≤◌, length};
 
-use entry_core::{Entry, Items, Log, OutOfMemory, Sealed, TryCopy};
-use peer_messages::{PeerInfo, alike_part, alike_requests, part_from};
+use common_types::{Items, OutOfMemory, TryCopy};
+use entry_core::{Entry, Log, Sealed};
+use group_messages::{PeerInfo, alike_part, alike_requests, part_from};
 
 /// A log, how many of its entries stay, and the requests that come behind these.
 ///
@@ -21,8 +22,8 @@ impl<'a> Fitting<'a> {
     ghost use Rattle.entry_core.specs.Log.{ids};
     ghost use Rattle.entry_core.specs.Fitting.{fitted, part_of};
     ghost use Rattle.peer_core.specs.Types as types;
-    ghost use Rattle.peer_messages.specs.Beginnings as beginnings;
-    ghost use Rattle.peer_messages.specs.Beginnings.{common, told_ids};
+    ghost use Rattle.group_messages.specs.Beginnings as beginnings;
+    ghost use Rattle.group_messages.specs.Beginnings.{common, told_ids};
     ghost use Rattle.peer_core.specs.Fittings.{becomes};
 
     /// A log that stays as it is.

@@ -6,9 +6,9 @@ ghost use Rattle.entry_core.specs.Fitting.{fitted};
 use crate::fitting::Fitting;
 use crate::serve::decide_each;
 use crate::state::State;
-use entry_core::{Items, Log, OutOfMemory, Sealed, TryCopy};
-use group_types::Party;
-use peer_messages::{Body, Common, PeerInfo, Role, Sent};
+use common_types::{Items, OutOfMemory, TryCopy};
+use entry_core::{Log, Sealed};
+use group_messages::{Body, Common, Party, PeerInfo, Role, Sent};
 use place_core::ActingSet;
 use std::mem;
 
@@ -36,7 +36,7 @@ impl State {
     ghost use Rattle.entry_core.specs.Fitting.{fitted};
     ghost use Rattle.peer_core.specs.Types as types;
     ghost use Rattle.peer_core.specs.ActingSets.{others};
-    ghost use Rattle.peer_messages.specs.Beginnings.{common_of};
+    ghost use Rattle.group_messages.specs.Beginnings.{common_of};
     ghost use Rattle.peer_core.specs.Fittings.{becomes};
     ghost use Rattle.peer_core.specs.Serve.{serve};
     ghost use Rattle.peer_core.specs.Copy.{fit_chosen, install_chosen, install_fitted, install_from, on_install, on_installed};

@@ -2,9 +2,11 @@
 
 use crate::peers::{is_primary, set_of};
 use crate::state::State;
-use entry_core::{Id, Items, OutOfMemory};
-use group_types::{IntervalSets, Party};
-use peer_messages::{Body, PeerInfo, Queue, Role, Sent, part_from, start_for};
+use common_types::{Items, OutOfMemory};
+use entry_core::Id;
+use group_messages::{
+    Body, IntervalSets, Party, PeerInfo, Queue, Role, Sent, part_from, start_for,
+};
 use place_core::ActingSet;
 use std::mem;
 

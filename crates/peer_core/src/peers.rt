@@ -4,13 +4,13 @@ ghost use Rattle.std.specs.Prelude.{◌≡◌, ◌≤◌, ◌==◌, ◌&&◌, �
 ghost use Rattle.std.specs.List.{list_any};
 ghost use Rattle.entry_core.specs.Log.{is_in};
 ghost use Rattle.place_core.specs.Distinct.{is_distinct};
-ghost use Rattle.group_types.specs.ActingSets.{set_of, is_primary};
+ghost use Rattle.group_messages.specs.ActingSets.{set_of, is_primary};
 
 use crate::fitting::Fitting;
 use crate::state::State;
-use entry_core::{Items, OutOfMemory, Sealed, TryCopy};
-use group_types::Party;
-use peer_messages::{Body, Common, PeerInfo, Sent, count_at};
+use common_types::{Items, OutOfMemory, TryCopy};
+use entry_core::Sealed;
+use group_messages::{Body, Common, Party, PeerInfo, Sent, count_at};
 use place_core::ActingSet;
 
 /// The numbers that daemons have.
@@ -63,9 +63,9 @@ impl State {
     ghost use Rattle.entry_core.specs.Log.{is_in};
     ghost use Rattle.place_core.specs.Distinct.{is_distinct};
     ghost use Rattle.peer_core.specs.Types as types;
-    ghost use Rattle.group_types.specs.ActingSets.{set_of};
+    ghost use Rattle.group_messages.specs.ActingSets.{set_of};
     ghost use Rattle.peer_core.specs.ActingSets.{others, counted, all_count, missing, is_asked};
-    ghost use Rattle.peer_messages.specs.Beginnings.{count_at};
+    ghost use Rattle.group_messages.specs.Beginnings.{count_at};
     ghost use Rattle.peer_core.specs.Choice.{is_informed};
     ghost use Rattle.peer_core.specs.Steps.{send};
     ghost use Rattle.peer_core.specs.Copy.{uninformed, query, install_from};

@@ -3,9 +3,9 @@
 use crate::fitting::Fitting;
 use crate::serve::reply_to;
 use crate::state::State;
-use entry_core::{Items, OutOfMemory, Sealed};
-use group_types::Party;
-use peer_messages::{Body, Role, Sent};
+use common_types::{Items, OutOfMemory};
+use entry_core::Sealed;
+use group_messages::{Body, Party, Role, Sent};
 use place_core::ActingSet;
 
 impl State {
@@ -13,7 +13,7 @@ impl State {
     ghost use Rattle.entry_core.specs.Log.{find};
     ghost use Rattle.peer_core.specs.Types as types;
     ghost use Rattle.peer_core.specs.ActingSets.{missing};
-    ghost use Rattle.group_types.specs.Decided.{last};
+    ghost use Rattle.group_messages.specs.Decided.{last};
     ghost use Rattle.peer_core.specs.Stages.{replies};
     ghost use Rattle.peer_core.specs.Serve.{serve};
     ghost use Rattle.peer_core.specs.Copy as rules;

@@ -6,9 +6,9 @@ ghost use Rattle.entry_core.specs.Log.{find};
 ghost use Rattle.peer_core.specs.Stages.{log_with, entry_of, reply_of, log_after, replies_to};
 
 use crate::state::State;
-use entry_core::{Decided, Items, Log, OutOfMemory, Reply, Sealed, TryCopy};
-use group_types::Party;
-use peer_messages::{Body, Queue, Role, Sent};
+use common_types::{Items, OutOfMemory, TryCopy};
+use entry_core::{Decided, Log, Reply, Sealed};
+use group_messages::{Body, Party, Queue, Role, Sent};
 use place_core::ActingSet;
 
 /// A daemon's reply to the request of an id.

@@ -2,9 +2,9 @@
 
 ghost use Rattle.std.specs.Prelude.{◌≡◌};
 
-use entry_core::{Log, OutOfMemory, TryCopy};
-use group_types::IntervalSets;
-use peer_messages::{Queue, Role};
+use common_types::{OutOfMemory, TryCopy};
+use entry_core::Log;
+use group_messages::{IntervalSets, Queue, Role};
 use std::alloc::Global;
 
 /// A daemon's copy of a group: the promise, the base and the log, which a restart keeps, and what it does at present.

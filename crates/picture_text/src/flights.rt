@@ -47,30 +47,63 @@ fn sent(story: &Story, lanes: &[Party], message: usize, begins: Option<usize>) -
     }
 }
 
-/// Ends the flight of a message, which may have begun before the first row.
-fn end_flight(
-    flights: &mut Vec<Flight>,
-    unseen: Flight,
-    end: End,
-    row: usize,
-) -> Result<(), OutOfMemory> {
-    for flight in flights.iter_mut() {
-        if flight.message == unseen.message {
-            flight.ends = row;
-            flight.end = end;
-            return Ok(());
-        }
+/// Flights, and of each message the place of its flight.
+struct Flights {
+    flights: Vec<Flight>,
+    places: Vec<Option<usize>>,
+}
+
+impl Drop for Flights {
+    fn drop(self) {
+        let Flights {
+            flights: _,
+            places: _,
+        } = self;
     }
-    let mut flight = unseen;
-    flight.ends = row;
-    flight.end = end;
-    flights.push(flight)?;
-    Ok(())
+}
+
+impl Flights {
+    /// No flight of so many messages.
+    fn new(alloc: Global, messages: usize) -> Result<Flights, OutOfMemory> {
+        Ok(Flights {
+            flights: Vec::new(alloc),
+            places: vec![in alloc; None; messages]?,
+        })
+    }
+
+    fn push(&mut self, flight: Flight) -> Result<(), OutOfMemory> {
+        let place = self.flights.len();
+        self.flights.push(flight)?;
+        if let Some(of_message) = self.places.get_mut(flight.message) {
+            *of_message = Some(place);
+        }
+        Ok(())
+    }
+
+    /// Ends the flight of a message, which may have begun before the first row.
+    fn end(&mut self, unseen: Flight, end: End, row: usize) -> Result<(), OutOfMemory> {
+        if let Some(Some(place)) = self.places.get(unseen.message) {
+            if let Some(flight) = self.flights.get_mut(*place) {
+                flight.ends = row;
+                flight.end = end;
+                return Ok(());
+            }
+        }
+        let mut flight = unseen;
+        flight.ends = row;
+        flight.end = end;
+        self.push(flight)
+    }
+
+    fn into_vec(self) -> Vec<Flight> {
+        let Flights { flights, places: _ } = self;
+        flights
+    }
 }
 
 /// Each message that the rows tell of, without its track.
 fn told_flights(alloc: Global, story: &Story, lanes: &[Party]) -> Result<Vec<Flight>, OutOfMemory> {
-    let mut flights = Vec::new(alloc);
+    let mut flights = Flights::new(alloc, story.messages.len())?;
     for (row, told) in story.rows.iter().enumerate() {
         for happening in &told.happenings {
             match happening {
@@ -78,7 +111,7 @@ fn told_flights(alloc: Global, story: &Story, lanes: &[Party]) -> Result<Vec<Fli
                     flights.push(sent(story, lanes, *message, Some(row)))?;
                 }
                 Happening::Ended { message, end } => {
-                    end_flight(&mut flights, sent(story, lanes, *message, None), *end, row)?;
+                    flights.end(sent(story, lanes, *message, None), *end, row)?;
                 }
                 _ => (),
             }
@@ -86,14 +119,29 @@ fn told_flights(alloc: Global, story: &Story, lanes: &[Party]) -> Result<Vec<Fli
     }
     for (place, message) in story.waiting.iter().enumerate() {
         let row = story.rows.len().saturating_add(place);
-        end_flight(
-            &mut flights,
-            sent(story, lanes, *message, None),
-            End::OnItsWay,
-            row,
-        )?;
+        let unseen = sent(story, lanes, *message, None);
+        flights.end(unseen, End::OnItsWay, row)?;
     }
+    let mut flights = flights.into_vec();
+    flights.retain(|flight| flight.ends != usize::MAX);
     Ok(flights)
+}
+
+/// The lane to which the first message of each row that ends there comes.
+pub(crate) fn reached_lanes(
+    alloc: Global,
+    flights: &[Flight],
+    rows: usize,
+) -> Result<Vec<Option<usize>>, OutOfMemory> {
+    let mut reached = vec![in alloc; None; rows]?;
+    for flight in flights {
+        if let Some(lane) = reached.get_mut(flight.ends) {
+            if lane.is_none() {
+                *lane = Some(flight.to);
+            }
+        }
+    }
+    Ok(reached)
 }
 
 /// Until which row each track of a lane is taken.

@@ -141,6 +141,8 @@ pub struct Story {
     pub messages: Vec<Message>,
     /// The messages that are on their way at the end, in the order in which they were sent.
     pub waiting: Vec<usize>,
+    /// How many messages more are on their way, which are left out.
+    pub waiting_left_out: usize,
     /// The daemons of all acting sets of the group.
     pub daemons: DaemonSet,
 }
@@ -154,6 +156,7 @@ impl Drop for Story {
             rows: _,
             messages: _,
             waiting: _,
+            waiting_left_out: _,
             daemons: _,
         } = self;
     }

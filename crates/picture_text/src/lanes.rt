@@ -1,6 +1,6 @@
 //! Where everything of a picture stands: the lanes from left to right, the rows from the top to the bottom.
 
-use crate::flights::{Flight, TRACKS, flights_of};
+use crate::flights::{Flight, TRACKS, flights_of, reached_lanes};
 use crate::happenings::{End, Happening, Party, Row, Story};
 use crate::lengths::Px;
 use crate::notes::{Note, notes_of};
@@ -30,7 +30,7 @@ const NOTES: Px = Px(300);
 /// The least width, which the foot takes.
 const LEAST_WIDTH: Px = Px(1286);
 /// The height of what stands below the last row.
-const FOOT: Px = Px(64);
+const FOOT: Px = Px(88);
 
 /// So many bytes of a script's line stand side by side, and so many such pieces below one another.
 pub(crate) const LINE_BYTES: usize = 52;
@@ -58,6 +58,8 @@ pub(crate) struct Place {
 pub(crate) struct Layout {
     pub(crate) lanes: Vec<Lane>,
     pub(crate) flights: Vec<Flight>,
+    /// Of each row the lane to which a message comes that ends there.
+    pub(crate) reached: Vec<Option<usize>>,
     /// The notes at the right of each row.
     pub(crate) notes: Vec<Vec<Note>>,
     /// The places of the rows, and behind them of the messages that are on their way at the end.
@@ -75,6 +77,7 @@ impl Drop for Layout {
         let Layout {
             lanes: _,
             flights: _,
+            reached: _,
             notes: _,
             places: _,
             notes_x: _,
@@ -294,9 +297,11 @@ pub(crate) fn layout_of(alloc: Global, story: &Story) -> Result<Layout, OutOfMem
     let notes = notes_of_rows(alloc, story)?;
     let (places, bottom) = places_of(alloc, story, notes.as_slice())?;
     let width = LEAST_WIDTH.or_more(notes_x + notes_width(notes.as_slice()));
+    let reached = reached_lanes(alloc, flights.as_slice(), story.rows.len())?;
     Ok(Layout {
         lanes,
         flights,
+        reached,
         notes,
         places,
         notes_x,

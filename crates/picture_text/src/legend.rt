@@ -19,10 +19,16 @@ enum Mark {
     Restarts,
     Decided,
     Answered,
+    Waits,
+    Peering,
+    Entries,
+    Requests,
+    Denied,
 }
 
 use Mark::{
-    Again, Answered, Decided, Delivered, Down, Follows, Leads, Lost, Restarts, Unreachable,
+    Again, Answered, Decided, Delivered, Denied, Down, Entries, Follows, Leads, Lost, Peering,
+    Requests, Restarts, Unreachable, Waits,
 };
 
 const UPPER: [(Mark, &str); 5] = [
@@ -41,8 +47,26 @@ const LOWER: [(Mark, &str); 5] = [
     (Answered, "a request is answered"),
 ];
 
+const LAST: [(Mark, &str); 5] = [
+    (Waits, "a message that is on its way at the end"),
+    (Peering, "messages of peering"),
+    (Entries, "messages of the log"),
+    (Requests, "requests and replies"),
+    (Denied, "a request is denied"),
+];
+
 fn push_arrow(out: &mut String, class: &str, x: Px, y: Px) -> Result<(), OutOfMemory> {
     push_line(out, class, x, y, x + Px(22), y)
+}
+
+/// An arrow in the colour of a kind of messages.
+fn push_kind(out: &mut String, class: &str, x: Px, y: Px) -> Result<(), OutOfMemory> {
+    match class {
+        " moves" => push_arrow(out, "flight moves", x, y)?,
+        " asks" => push_arrow(out, "flight asks", x, y)?,
+        _ => push_arrow(out, "flight", x, y)?,
+    }
+    push_tip(out, class, Way::Right, x + Px(26), y)
 }
 
 /// A mark, left of what it means.
@@ -70,6 +94,14 @@ fn push_sample(out: &mut String, mark: Mark, x: Px, y: Px) -> Result<(), OutOfMe
         Restarts => push_restart(out, x + Px(20), y - Px(2)),
         Decided => push_mark(out, false, x + Px(20), y),
         Answered => push_mark(out, true, x + Px(20), y),
+        Waits => {
+            push_arrow(out, "flight", x, y)?;
+            push_tip(out, "", Way::Right, x + Px(28), y)
+        }
+        Peering => push_kind(out, " moves", x, y),
+        Entries => push_kind(out, "", x, y),
+        Requests => push_kind(out, " asks", x, y),
+        Denied => push_text(out, "denied", x, y + Px(4), b"1.1"),
     }
 }
 
@@ -86,5 +118,6 @@ fn push_row(out: &mut String, marks: &[(Mark, &str)], y: Px) -> Result<(), OutOf
 /// Adds what the marks mean, below the last row.
 pub(crate) fn push_legend(out: &mut String, bottom: Px) -> Result<(), OutOfMemory> {
     push_row(out, &UPPER, bottom + Px(22))?;
-    push_row(out, &LOWER, bottom + Px(46))
+    push_row(out, &LOWER, bottom + Px(46))?;
+    push_row(out, &LAST, bottom + Px(70))
 }

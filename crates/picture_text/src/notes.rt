@@ -9,6 +9,8 @@ use std::alloc::Global;
 pub(crate) enum About {
     Decided,
     Answered,
+    /// A request was denied, as it was decided or answered.
+    Denied,
     Daemon,
     Refused,
 }
@@ -20,7 +22,16 @@ pub(crate) struct Note {
     pub(crate) text: String,
 }
 
+/// What lines are about that say so of a verdict or an answer: of a denial, whose first line ends with the word.
+fn about_of(about: About, lines: &[String]) -> About {
+    match lines.first() {
+        Some(line) if line.as_str().ends_with("denied") => About::Denied,
+        _ => about,
+    }
+}
+
 fn push_lines(notes: &mut Vec<Note>, about: About, lines: &[String]) -> Result<(), OutOfMemory> {
+    let about = about_of(about, lines);
     for line in lines {
         notes.push(Note {
             about,

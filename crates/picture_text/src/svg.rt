@@ -22,6 +22,9 @@ const BANDS: Px = Px(422);
 /// The left edge of the lines' texts, behind their numbers.
 const LINES: Px = Px(64);
 
+/// The names of the lanes are repeated after so many rows.
+const NAMES_EVERY: usize = 40;
+
 /// How the picture begins: its size, its title and its style.
 fn push_opening(
     alloc: Global,
@@ -62,6 +65,23 @@ fn push_heads(alloc: Global, out: &mut String, layout: &Layout) -> Result<(), Ou
         push_rect(out, "box", lane.x - Px(30), Px(60), Px(60), Px(24))?;
         let name = party_name(alloc, lane.party)?;
         push_text(out, "head", lane.x, Px(76), name.as_bytes())?;
+    }
+    Ok(())
+}
+
+/// The names of the lanes once more, at the top of every fortieth row, for those who scroll.
+fn push_names(alloc: Global, out: &mut String, layout: &Layout) -> Result<(), OutOfMemory> {
+    for place in layout.places.iter().skip(NAMES_EVERY).step_by(NAMES_EVERY) {
+        for lane in &layout.lanes {
+            let name = party_name(alloc, lane.party)?;
+            push_text(
+                out,
+                "head quiet",
+                lane.x,
+                place.top + Px(4),
+                name.as_bytes(),
+            )?;
+        }
     }
     Ok(())
 }
@@ -251,6 +271,7 @@ fn push_notes(
         let class = match note.about {
             About::Decided => "decided",
             About::Answered => "answered",
+            About::Denied => "denied",
             About::Daemon => "quiet",
             About::Refused => "refused",
         };
@@ -262,12 +283,8 @@ fn push_notes(
 
 /// The lane at which a row's message ended.
 fn reached(layout: &Layout, row: usize) -> Option<Px> {
-    for flight in &layout.flights {
-        if flight.ends == row {
-            return Some(layout.lanes.get(flight.to)?.x);
-        }
-    }
-    None
+    let lane = (*layout.reached.get(row)?)?;
+    Some(layout.lanes.get(lane)?.x)
 }
 
 /// A mark at the lane where a request was decided, or was answered.
@@ -316,8 +333,21 @@ fn push_rows(
     Ok(())
 }
 
+/// What stands beside the messages that are on their way, of which some may be left out.
+fn rest_text(alloc: Global, story: &Story) -> Result<String, OutOfMemory> {
+    match story.waiting_left_out {
+        0 => String::from_str(alloc, "still on their way"),
+        count => format!(in alloc; "still on their way, and {count} more"),
+    }
+}
+
 /// Where the script ended, above the messages that are on their way.
-fn push_rest(out: &mut String, story: &Story, layout: &Layout) -> Result<(), OutOfMemory> {
+fn push_rest(
+    alloc: Global,
+    out: &mut String,
+    story: &Story,
+    layout: &Layout,
+) -> Result<(), OutOfMemory> {
     if story.waiting.is_empty() {
         return Ok(());
     }
@@ -325,13 +355,8 @@ fn push_rest(out: &mut String, story: &Story, layout: &Layout) -> Result<(), Out
         return Ok(());
     };
     push_rule(out, layout, place.top)?;
-    push_text(
-        out,
-        "quiet",
-        LINES,
-        place.top + Px(18),
-        b"still on their way",
-    )
+    let text = rest_text(alloc, story)?;
+    push_text(out, "quiet", LINES, place.top + Px(18), text.as_bytes())
 }
 
 /// A story as a picture.
@@ -342,11 +367,12 @@ pub fn svg_of(alloc: Global, story: &Story) -> Result<String, OutOfMemory> {
     push_bands(alloc, &mut out, story, &layout)?;
     push_lanes(&mut out, story, &layout)?;
     push_heads(alloc, &mut out, &layout)?;
+    push_names(alloc, &mut out, &layout)?;
     for flight in &layout.flights {
         push_flight(alloc, &mut out, story, &layout, flight)?;
     }
     push_rows(alloc, &mut out, story, &layout)?;
-    push_rest(&mut out, story, &layout)?;
+    push_rest(alloc, &mut out, story, &layout)?;
     push_legend(&mut out, layout.bottom)?;
     out.push_str("</svg>\n")?;
     Ok(out)

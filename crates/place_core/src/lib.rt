@@ -1,4 +1,13 @@
 //! Placement: the group of an object, and the daemons that serve a group.
+//!
+//! # What contracts see
+//!
+//! A set of daemons is its sixteen flags, an acting set its list of at most five numbers.
+//!
+//! # Costs
+//!
+//! An acting set is sixteen short hashes and a selection in place. The text that ranks a daemon is never built: its hash goes
+//! over the parts.
 #![tactic(auto)]
 
 mod acting_sets;

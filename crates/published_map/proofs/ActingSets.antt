@@ -4,11 +4,11 @@ use Rattle.std.specs.Prelude.{Option, None}
 use Rattle.std.specs.Option.{option_map}
 use Rattle.std.proofs.lemmas.List.{take_all}
 use Rattle.place_core.specs.Placement.{acting_of, numbers_of}
-use Rattle.map_commands.specs.State.{History}
-use Rattle.map_commands.specs.Map.{epoch_of, map_of, map_after, view_at, view_of, pool_in}
-use Rattle.map_commands.specs.Intervals.{set_of, size_in}
-use Rattle.map_commands.specs.declared.pool.Pool.{Pool}
-use Rattle.map_commands.specs.declared.pool.PoolView.{PoolView}
+use Rattle.map_core.specs.State.{History}
+use Rattle.map_core.specs.Map.{epoch_of, map_of, map_after, view_at, view_of, pool_in}
+use Rattle.map_core.specs.Intervals.{set_of, size_in}
+use Rattle.map_core.specs.declared.pool.Pool.{Pool}
+use Rattle.map_core.specs.declared.pool.PoolView.{PoolView}
 
 has_both : {X Y Z U : Type 0} → (f : X → Y) (g : X → Z) (e : Z → U) (o : Option X) (y : Y) → option_map f o ≡ Some y → None ≢ option_map e (option_map g o)
 has_both f g e None y is none = cc

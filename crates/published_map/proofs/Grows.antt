@@ -6,8 +6,8 @@ use lib.ListN.{get_elem?}
 use Rattle.std.proofs.lemmas.List.{append_assoc, append-nil}
 use Rattle.left_right.specs.Register.{Admits, TurnsAt, Forks, Merges}
 use Rattle.atomic_table.proofs.Lists.{at_set, at_snoc}
-use Rattle.map_commands.specs.State.{History, GoesOn}
-use Rattle.map_commands.specs.declared.command.MapCommand.{MapCommand}
+use Rattle.map_core.specs.State.{History, GoesOn}
+use Rattle.map_core.specs.declared.command.MapCommand.{MapCommand}
 use Rattle.published_map.specs.declared.published.PublishedMap.{PublishedMap}
 use Rattle.published_map.specs.declared.published.Knowledge.{Knowledge}
 use Rattle.published_map.specs.Published.{with_command, with_commands, GoesOnFrom, Covers, CoversAll, Sees, nothing_known, informed}

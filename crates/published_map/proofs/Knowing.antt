@@ -1,7 +1,7 @@
 -- Who has seen a map that covers what was known knows all that was known.
 use Rattle.std.proofs.Common.{◌≡◌, subst}
 use Rattle.std.specs.Prelude.{Some}
-use Rattle.map_commands.specs.State.{History, GoesOn}
+use Rattle.map_core.specs.State.{History, GoesOn}
 use Rattle.published_map.specs.declared.published.Knowledge.{Knowledge}
 use Rattle.published_map.specs.Published.{Covers, GoesOnFrom, KnowsAll, Sees}
 use Rattle.published_map.proofs.Grows.{from_through}

@@ -3,15 +3,15 @@
 use Rattle.std.specs.Prelude.{◌≡◌, ℕ, List, Some, Result, IfOk}
 use Rattle.common_types.specs.Refused.{RefusedFirst}
 use Rattle.place_core.specs.Placement.{group_of}
-use Rattle.map_commands.specs.State.{History}
-use Rattle.map_commands.specs.Map.{epoch_of, map_of, view_at}
-use Rattle.map_commands.specs.Intervals.{set_of}
-use Rattle.map_commands.specs.PoolLimits.{HasLimits}
+use Rattle.map_core.specs.State.{History}
+use Rattle.map_core.specs.Map.{epoch_of, map_of, view_at}
+use Rattle.map_core.specs.Intervals.{set_of}
+use Rattle.map_core.specs.PoolLimits.{HasLimits}
 use Rattle.map_core.specs.Limits.{IsAccepted}
 use Rattle.map_core.specs.Refusal.{view_refusal}
-use Rattle.map_commands.specs.declared.fault.MapFault.{MapFault}
-use Rattle.map_commands.specs.declared.fault.MapFault.TheVariants as faults
-use Rattle.map_commands.specs.declared.pool.PoolView.{PoolView}
+use Rattle.map_core.specs.declared.fault.MapFault.{MapFault}
+use Rattle.map_core.specs.declared.fault.MapFault.TheVariants as faults
+use Rattle.map_core.specs.declared.pool.PoolView.{PoolView}
 use Rattle.published_map.specs.declared.places.Located.{Located}
 
 -- refused first as the map refuses a view of the pool, else for want of memory

@@ -3,7 +3,7 @@
 use Rattle.std.specs.Prelude.{◌≡◌, ℕ, List, Some}
 use mathlib.Core.Option.{some}
 use lib.ListN.{get_elem?}
-use Rattle.map_commands.specs.State.{History, GoesOn}
+use Rattle.map_core.specs.State.{History, GoesOn}
 use Rattle.published_map.specs.declared.published.Knowledge.{Knowledge}
 use Rattle.published_map.specs.Published.{CoversAll}
 

@@ -3,8 +3,8 @@
 use Rattle.std.specs.Prelude.{◌≡◌, ℕ, List, [], ◌∷◌, ◌++◌, Option, Some, None}
 use mathlib.Core.Option.{some}
 use lib.ListN.{get_elem?}
-use Rattle.map_commands.specs.State.{History, GoesOn}
-use Rattle.map_commands.specs.declared.command.MapCommand.{MapCommand}
+use Rattle.map_core.specs.State.{History, GoesOn}
+use Rattle.map_core.specs.declared.command.MapCommand.{MapCommand}
 use Rattle.published_map.specs.declared.published.Knowledge.{Knowledge}
 
 abbrev pub with_command : History → MapCommand → History

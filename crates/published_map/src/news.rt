@@ -2,7 +2,7 @@
 
 ghost use Rattle.std.specs.Prelude.{◌≡◌, Some, IfErr, IfSome, OnOk, OnErr};
 ghost use Rattle.left_right.specs.Sides.{view as known};
-ghost use Rattle.map_commands.specs.State.{History};
+ghost use Rattle.map_core.specs.State.{History};
 ghost use Rattle.published_map.specs.Published.{Covers, KnowsAll};
 ghost use Rattle.published_map.specs.Told.{knowledge_of};
 

@@ -2,9 +2,9 @@
 
 ghost use Rattle.std.specs.Prelude.{◌≡◌, Some, IfOk};
 ghost use Rattle.left_right.specs.Sides.{view as known};
-ghost use Rattle.map_commands.specs.PoolLimits.{HasLimits};
+ghost use Rattle.map_core.specs.PoolLimits.{HasLimits};
 ghost use Rattle.map_core.specs.Limits.{IsAccepted};
-ghost use Rattle.map_commands.specs.Map.{epoch_of, view_at};
+ghost use Rattle.map_core.specs.Map.{epoch_of, view_at};
 ghost use Rattle.published_map.specs.Answers.{RefusedOf, SaysOf};
 ghost use Rattle.published_map.specs.Published.{AnswersBy};
 

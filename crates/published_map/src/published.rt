@@ -51,7 +51,7 @@ pub struct SeenMap {
 
 impl Model for SeenMap {
     ghost use Rattle.std.specs.Prelude.{Option, None};
-    ghost use Rattle.map_commands.specs.State.{History};
+    ghost use Rattle.map_core.specs.State.{History};
 
     ghost Value = { Option History };
 

@@ -1,7 +1,7 @@
 //! Which group a picture shows where none is named: the one with most messages.
 
-use common_types::OutOfMemory;
-use entry_core::{GroupId, TryCopy};
+use common_types::{OutOfMemory, TryCopy};
+use entry_core::GroupId;
 use std::alloc::Global;
 use world_core::{Event, World, place_of};
 

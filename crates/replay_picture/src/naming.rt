@@ -2,7 +2,7 @@
 
 use common_types::OutOfMemory;
 use entry_core::{GroupId, Id};
-use group_types::Party;
+use group_messages::Party;
 use peer_core::Body;
 use picture_text::Topic;
 use std::alloc::Global;
@@ -33,6 +33,13 @@ fn of_place(alloc: Global, kind: &str, interval: u64, place: usize) -> Result<St
     format!(in alloc; "{kind} {interval}, place {place}")
 }
 
+fn of_entry(alloc: Global, interval: u64, index: usize, id: Id) -> Result<String, OutOfMemory> {
+    let mut text = of_place(alloc, "Append", interval, index)?;
+    text.push_str(", ")?;
+    push_id(&mut text, id)?;
+    Ok(text)
+}
+
 fn of_request(alloc: Global, kind: &str, id: Id) -> Result<String, OutOfMemory> {
     let mut text = String::from_str(alloc, kind)?;
     text.push_str(" ")?;
@@ -51,8 +58,8 @@ pub(crate) fn name_of(alloc: Global, body: &Body) -> Result<String, OutOfMemory>
         Body::Append {
             interval,
             index,
-            ..
-        } => of_place(alloc, "Append", *interval, *index),
+            request,
+        } => of_entry(alloc, *interval, *index, request.id()),
         Body::Appended { interval, index } => of_place(alloc, "Appended", *interval, *index),
         Body::Request(request) => of_request(alloc, "Request", request.id()),
         Body::Reply { id, .. } => of_request(alloc, "Reply", *id),

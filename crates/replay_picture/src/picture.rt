@@ -1,12 +1,12 @@
 //! A script's bytes as a picture.
 
-use crate::replaying::{busiest_group, has_group, row_count, story_of};
-use common_types::OutOfMemory;
-use entry_core::{GroupId, TryCopy};
+use crate::replaying::{busiest_group, has_group, row_counts, story_of};
+use common_types::{OutOfMemory, TryCopy};
+use entry_core::GroupId;
 use picture_text::{Story, mermaid_of, svg_of};
 use std::alloc::Global;
 
-/// A picture has at most so many rows, the last ones.
+/// A picture has at most so many rows, the last ones. Those of messages that are on their way at the end are among them.
 const MOST_ROWS: usize = 2_000;
 
 /// What a picture is written as.
@@ -50,8 +50,8 @@ fn copy_group(group: &Option<GroupId>) -> Result<Option<GroupId>, OutOfMemory> {
 
 /// What happens to a group in the last rows of a script.
 fn last_rows(alloc: Global, script: &[u8], group: &Option<GroupId>) -> Result<Story, OutOfMemory> {
-    let count = row_count(alloc, script, copy_group(group)?)?;
-    let first = count.saturating_sub(MOST_ROWS);
+    let (count, waiting) = row_counts(alloc, script, copy_group(group)?)?;
+    let first = count.saturating_add(waiting).saturating_sub(MOST_ROWS);
     story_of(alloc, script, copy_group(group)?, first)
 }
 

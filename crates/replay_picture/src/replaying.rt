@@ -2,8 +2,8 @@
 
 use crate::naming::title_of;
 use crate::watching::Watched;
-use common_types::{Name, OutOfMemory};
-use entry_core::{GroupId, TryCopy};
+use common_types::{Name, OutOfMemory, TryCopy};
+use entry_core::GroupId;
 use picture_text::{Beginning, Happening, Row, ScriptLine, Story};
 use place_core::{ActingSet, DaemonSet};
 use script_text::{Line, Lines};
@@ -14,6 +14,9 @@ use world_script::{Command, read_line};
 
 /// No settling takes so many deliveries.
 const MOST_DELIVERIES: u32 = u32::MAX;
+
+/// So many messages that are on their way at the end have a row.
+const MOST_WAITING: usize = 200;
 
 /// The rows of a picture as they are made, and the world that they are made of.
 struct Replay {
@@ -308,12 +311,15 @@ impl Replay {
             rows,
             messages: Vec::new(self.alloc),
             waiting: Vec::new(self.alloc),
+            waiting_left_out: 0,
             daemons: DaemonSet::first(0),
         };
         if let Some(watched) = &mut self.watched {
             story.daemons = watched.daemons;
             mem::swap(&mut story.messages, &mut watched.messages);
             mem::swap(&mut story.waiting, &mut watched.waiting);
+            story.waiting_left_out = story.waiting.len().saturating_sub(MOST_WAITING);
+            story.waiting.truncate(MOST_WAITING);
         }
         Ok(story)
     }
@@ -344,15 +350,19 @@ pub(crate) fn has_group(
     }
 }
 
-/// How many rows the picture of a group has.
-pub(crate) fn row_count(
+/// How many rows the picture of a group has, and how many more its messages have that are on their way at the end.
+pub(crate) fn row_counts(
     alloc: Global,
     script: &[u8],
     group: Option<GroupId>,
-) -> Result<usize, OutOfMemory> {
+) -> Result<(usize, usize), OutOfMemory> {
     let mut replay = Replay::new(alloc, group, usize::MAX);
     replay.replay(script)?;
-    Ok(replay.count)
+    let waiting = match &replay.watched {
+        None => 0,
+        Some(watched) => watched.waiting.len().min(MOST_WAITING),
+    };
+    Ok((replay.count, waiting))
 }
 
 /// What a script does to a group, from a row on.

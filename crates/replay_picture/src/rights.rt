@@ -163,10 +163,10 @@ impl Rights {
             return Ok(nothing);
         };
         let target = Target {
-            pool: ask.pool.as_str(),
+            pool: ask.pool.as_str().as_bytes(),
             tags: &pool.tags,
-            namespace: ask.namespace.as_str(),
-            object,
+            namespace: ask.namespace.as_str().as_bytes(),
+            object: object.as_bytes(),
         };
         granting(self.alloc, ticket.as_ticket().grants(), &target, needs)
     }

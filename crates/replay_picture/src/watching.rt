@@ -7,14 +7,13 @@ use crate::rights::{Noted, Rights};
 use common_types::OutOfMemory;
 use entry_core::{GroupId, Id};
 use grant_core::ProfileTable;
-use group_story::{GroupStep, step_and_tell};
-use group_types::{GroupFault, Party};
+use group_messages::{GroupFault, Party};
+use group_story::{GroupStep, WireStep, step_and_tell};
 use map_core::MapCommand;
 use peer_core::{Body, Sent};
 use picture_text::{Change, End, Happening, Message};
 use place_core::{ActingSet, DaemonSet};
 use std::alloc::{AllocError, Global};
-use wire_steps::WireStep;
 use world_core::{Event, World, WorldFault};
 
 /// A world, and what is known of the group that is watched.

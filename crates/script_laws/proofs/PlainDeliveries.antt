@@ -11,13 +11,13 @@ use Rattle.store_core.specs.Request.{Sealed}
 use Rattle.store_core.specs.declared.entry.Entry.{Entry}
 use Rattle.store_core.specs.declared.sealed.GroupId.{GroupId}
 use Rattle.entry_core.proofs.Lawful.{decision_tells_the_store}
-use Rattle.suffix_core.specs.Types.{Sent, Party, Client, Osd}
-use Rattle.whole_logs.specs.Each.{Each}
-use Rattle.suffix_core.specs.Group.{Group, group_step, run, deliver, delivered, delivered_now, delivered_to, refusal_to, refusal_at}
-use Rattle.suffix_core.specs.Group as group
-use Rattle.group_types.specs.declared.fault.GroupFault.TheVariants as group_fault
-use Rattle.whole_laws.specs.Calm.{answer_with}
-use Rattle.suffix_core.proofs.Runs.{delivered_idle}
+use Rattle.group_model.specs.Types.{Sent, Party, Client, Osd}
+use Rattle.group_model_whole.specs.Each.{Each}
+use Rattle.group_model.specs.Group.{Group, group_step, run, deliver, delivered, delivered_now, delivered_to, refusal_to, refusal_at}
+use Rattle.group_model.specs.Group as group
+use Rattle.group_messages.specs.declared.fault.GroupFault.TheVariants as group_fault
+use Rattle.group_model_whole.specs.Calm.{answer_with}
+use Rattle.group_model.proofs.Runs.{delivered_idle}
 use Rattle.world_events.specs.declared.event.Event.{Event}
 use Rattle.world_events.specs.declared.event.Event.TheVariants.{Deliver}
 use Rattle.world_events.specs.declared.fault.WorldFault.TheVariants.{Group as OfGroup}

@@ -5,16 +5,16 @@ use Rattle.std.specs.Option.{option_map, option_map_or, option_or}
 use Rattle.std.specs.Str.{bytes_eq}
 use Rattle.std.proofs.lemmas.List.Elements.{filter-append}
 use Rattle.grant_core.specs.BuiltIn.{built_in}
-use Rattle.map_commands.specs.State.{MapState}
-use Rattle.map_commands.specs.Map.{is_named, created, after, map_of, epoch_of}
+use Rattle.map_core.specs.State.{MapState}
+use Rattle.map_core.specs.Map.{is_named, created, after, map_of, epoch_of}
 use Rattle.map_core.specs.Refusal.{refusal}
-use Rattle.map_commands.specs.PoolLimits.{IsPool}
-use Rattle.map_commands.specs.Replay.{pool_step}
-use Rattle.map_commands.specs.declared.pool.Pool.{Pool}
-use Rattle.map_commands.specs.declared.command.MapCommand.{MapCommand}
-use Rattle.map_commands.specs.declared.command.MapCommand.TheVariants.{PoolCreate, AppEnable, AppSet, AppRm, OsdUp, OsdDown, OsdRestart}
+use Rattle.map_core.specs.PoolLimits.{IsPool}
+use Rattle.map_core.specs.Replay.{pool_step}
+use Rattle.map_core.specs.declared.pool.Pool.{Pool}
+use Rattle.map_core.specs.declared.command.MapCommand.{MapCommand}
+use Rattle.map_core.specs.declared.command.MapCommand.TheVariants.{PoolCreate, AppEnable, AppSet, AppRm, OsdUp, OsdDown, OsdRestart}
 use Rattle.map_core.proofs.Current.{after_push}
-use Rattle.map_commands.proofs.OnePool.{pool_after_step}
+use Rattle.map_core.proofs.OnePool.{pool_after_step}
 use Rattle.place_core.specs.Placement.{numbers_of}
 use Rattle.store_core.specs.Deciding.{store_of}
 use Rattle.entry_core.specs.Locality.{group_for}
@@ -22,13 +22,13 @@ use Rattle.entry_core.specs.Log.{is_in}
 use Rattle.store_core.specs.Request.{Sealed}
 use Rattle.store_core.specs.declared.entry.Entry.{Entry}
 use Rattle.store_core.specs.declared.sealed.GroupId.{GroupId}
-use Rattle.whole_logs.specs.Each.{Each}
-use Rattle.suffix_core.specs.Group.{Group, last_set, same_set, has_all_intervals, group_step, run, start}
-use Rattle.suffix_core.specs.Group as group
-use Rattle.group_types.specs.declared.fault.GroupFault.{GroupFault}
-use Rattle.group_types.specs.declared.fault.GroupFault.TheVariants as group_fault
-use Rattle.whole_laws.specs.Calm.{IsCalm, answer_with}
-use Rattle.group_laws.proofs.CalmGroups.{begins_calm}
+use Rattle.group_model_whole.specs.Each.{Each}
+use Rattle.group_model.specs.Group.{Group, last_set, same_set, has_all_intervals, group_step, run, start}
+use Rattle.group_model.specs.Group as group
+use Rattle.group_messages.specs.declared.fault.GroupFault.{GroupFault}
+use Rattle.group_messages.specs.declared.fault.GroupFault.TheVariants as group_fault
+use Rattle.group_model_whole.specs.Calm.{IsCalm, answer_with}
+use Rattle.group_model.proofs.CalmGroups.{begins_calm}
 use Rattle.world_events.specs.declared.event.Ask.{Ask}
 use Rattle.world_events.specs.declared.event.Event.{Event}
 use Rattle.world_events.specs.declared.event.Event.TheVariants.{Auth, Map, Open, Renew, Close, Submit, List as ListNames, Deliver, Lose, Repeat, Kick}

@@ -6,24 +6,24 @@ use Rattle.entry_core.specs.Log.{is_in}
 use Rattle.store_core.specs.Request.{Sealed}
 use Rattle.store_core.specs.declared.entry.Entry.{Entry}
 use Rattle.store_core.specs.declared.sealed.GroupId.{GroupId}
-use Rattle.whole_logs.specs.ActingSets.{daemons}
+use Rattle.group_model_whole.specs.ActingSets.{daemons}
 use Rattle.peer_core.specs.Steps.{restarted}
-use Rattle.whole_logs.specs.Each.{Each}
-use Rattle.group_types.specs.Answers.{Answer}
-use Rattle.suffix_core.specs.Group.{Group, IsSet, last_set, is_submitted, has_all_requests, has_all_intervals, take_request, begin, with_up, same_set, group_step, run, start}
-use Rattle.suffix_core.specs.Group as group
-use Rattle.suffix_core.specs.Budget.{budget, settled_group, settle_count}
-use Rattle.whole_laws.specs.Quiet.{IsQuiet, opening_cost, request_cost}
-use Rattle.group_laws.specs.Quiet.{made_by}
-use Rattle.whole_laws.specs.Calm.{IsCalm, IsSmall, unserved_cost, answer_with}
-use Rattle.group_laws.specs.Calm.{IsCalmGroup}
-use Rattle.group_laws.specs.Laws.{KeepsCount, DecidesInOrder}
-use Rattle.group_laws.proofs.Statements.{serves_in_time, decides_in_order, answers_nothing, serving_keeps_count, waiting_keeps_count}
-use Rattle.group_laws.proofs.CalmGroups.{steps_calm, settles_calm}
-use Rattle.group_laws.proofs.Statements.{quiet_opening}
-use Rattle.group_laws.proofs.Statements.{small_opening}
-use Rattle.group_laws.proofs.SameGroups.{same_step, same_run}
-use Rattle.suffix_core.proofs.Runs.{delivered_idle}
+use Rattle.group_model_whole.specs.Each.{Each}
+use Rattle.group_messages.specs.Answers.{Answer}
+use Rattle.group_model.specs.Group.{Group, IsSet, last_set, is_submitted, has_all_requests, has_all_intervals, take_request, begin, with_up, same_set, group_step, run, start}
+use Rattle.group_model.specs.Group as group
+use Rattle.group_model.specs.Budget.{budget, settled_group, settle_count}
+use Rattle.group_model_whole.specs.Quiet.{IsQuiet, opening_cost, request_cost}
+use Rattle.group_model.specs.Quiet.{made_by}
+use Rattle.group_model_whole.specs.Calm.{IsCalm, IsSmall, unserved_cost, answer_with}
+use Rattle.group_model.specs.Calm.{IsCalmGroup}
+use Rattle.group_model.specs.Laws.{KeepsCount, DecidesInOrder}
+use Rattle.group_model.proofs.Statements.{serves_in_time, decides_in_order, answers_nothing, serving_keeps_count, waiting_keeps_count}
+use Rattle.group_model.proofs.CalmGroups.{steps_calm, settles_calm}
+use Rattle.group_model.proofs.Statements.{quiet_opening}
+use Rattle.group_model.proofs.Statements.{small_opening}
+use Rattle.group_model.proofs.SameGroups.{same_step, same_run}
+use Rattle.group_model.proofs.Runs.{delivered_idle}
 use Rattle.script_laws.specs.Plain.{serving_cost, waiting_cost}
 use Rattle.world_core.proofs.Requests.{message_facts}
 use Rattle.world_core.proofs.Intervals.{same_set_refl}

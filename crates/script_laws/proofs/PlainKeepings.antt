@@ -6,10 +6,10 @@ use Rattle.std.specs.Ordering.{eq_by_cmp}
 use Rattle.std.specs.declared.cmp.Ordering.TheVariants.{Equal}
 use Rattle.std.specs.FinMap.{get, entries, remove, get-entries, entries_sorted, entries-insert, get-remove, empty, get-empty}
 use Rattle.std.specs.FinMap.Entries.{where_key, is_sorted-where_key, find-where_key, same_entries}
-use Rattle.object_ops.specs.Content.{Content}
+use Rattle.object_core.specs.Content.{Content}
 use Rattle.object_core.specs.Effect.{effect}
-use Rattle.object_ops.specs.declared.outcome.Change.{Change}
-use Rattle.object_ops.specs.declared.outcome.Change.TheVariants.{Kept, Became}
+use Rattle.object_core.specs.declared.outcome.Change.{Change}
+use Rattle.object_core.specs.declared.outcome.Change.TheVariants.{Kept, Became}
 use Rattle.verdict_core.specs.Verdict.{report_of}
 use Rattle.store_core.specs.Request.{Sealed, Work, Vector, Listing, target_of, needs_for}
 use Rattle.store_core.specs.Store.{Store, ObjectName, name_cmp}
@@ -23,9 +23,9 @@ use Rattle.world_events.specs.declared.fault.WorldFault.{WorldFault as Fault}
 use Rattle.world_events.specs.declared.event.Event.TheVariants as happens
 use Rattle.world_front.specs.Groups.{is_for}
 use Rattle.world_front.specs.Front.{front_refusal}
-use Rattle.script_commands.specs.declared.command.Command.{Command}
-use Rattle.script_commands.specs.declared.command.Command.TheVariants.{Osds, Happens, Submit, List as ListNames, Locate, ShowUser, ListUsers, Tick, Settle, KickAll, LoseAll, Answer as AskAnswer, Listing as AskListing, Ready}
-use Rattle.script_commands.specs.Command.{read_line}
+use Rattle.world_script.specs.declared.command.Command.{Command}
+use Rattle.world_script.specs.declared.command.Command.TheVariants.{Osds, Happens, Submit, List as ListNames, Locate, ShowUser, ListUsers, Tick, Settle, KickAll, LoseAll, Answer as AskAnswer, Listing as AskListing, Ready}
+use Rattle.world_script.specs.Command.{read_line}
 use Rattle.world_script.specs.Script.{Step, Goes, IsBad, IsOther, Output, stepped, line_step, behind, onward, outputs, kept, begins, ask_now, places}
 use Rattle.script_laws.specs.Plain.{in_store, PlainIn, first_in, with_reply, decides_in, serves_in, cost, SettledIn, settles_in, settles_all_in, settled_step, is_enough, is_move, is_message, asks, judged, plain_event, plain_step_in, output_in, plain_output}
 use Rattle.script_laws.specs.Worked.{Objects, in_list, left_in, performed_in, answer_in, left_by}

@@ -7,17 +7,17 @@ use Rattle.std.proofs.lemmas.Bool.Decides.{nat_tests}
 use Rattle.script_text.specs.Lines.{script_lines, is_blank}
 use Rattle.script_text.specs.Text.{line, numeral}
 use Rattle.grant_core.specs.BuiltIn.{built_in}
-use Rattle.map_commands.specs.Map.{map_of}
+use Rattle.map_core.specs.Map.{map_of}
 use Rattle.entry_core.specs.Log.{find, is_in}
 use Rattle.store_core.specs.Request.{Sealed}
 use Rattle.store_core.specs.declared.entry.Entry.{Entry}
 use Rattle.store_core.specs.declared.sealed.GroupId.{GroupId}
-use Rattle.whole_logs.specs.Choice.{covers}
-use Rattle.whole_logs.specs.Each.{Each}
-use Rattle.whole_logs.specs.Asked.{IsAsked}
-use Rattle.suffix_core.specs.Group.{Group, answer_of, submitted, last_set}
-use Rattle.whole_laws.specs.Calm.{answer_with}
-use Rattle.suffix_core.specs.Recovery.{is_ready, greatest_base}
+use Rattle.group_model_whole.specs.Choice.{covers}
+use Rattle.group_model_whole.specs.Each.{Each}
+use Rattle.group_model_whole.specs.Asked.{IsAsked}
+use Rattle.group_model.specs.Group.{Group, answer_of, submitted, last_set}
+use Rattle.group_model_whole.specs.Calm.{answer_with}
+use Rattle.group_model.specs.Recovery.{is_ready, greatest_base}
 use Rattle.entry_core.specs.Locality.{group_for}
 use Rattle.world_events.specs.declared.event.Event.{Event}
 use Rattle.world_events.specs.declared.fault.WorldFault.{WorldFault as Fault}
@@ -29,9 +29,9 @@ use Rattle.world_core.specs.World.{World, first_world, group_at, members_of, par
 use Rattle.world_core.specs.Standing.{audit_in, audit_at}
 use Rattle.world_core.specs.Answers.{answer_in as answer_in_group, answer_to, answer_at}
 use Rattle.world_laws.specs.Places.{IsFoundByPlace}
-use Rattle.script_commands.specs.declared.command.Command.{Command}
-use Rattle.script_commands.specs.declared.command.Command.TheVariants.{Osds, Happens, Submit, List as ListNames, Locate, ShowUser, ListUsers, Tick, Settle, KickAll, LoseAll, Answer as AskAnswer, Listing, Ready}
-use Rattle.script_commands.specs.Command.{read_line}
+use Rattle.world_script.specs.declared.command.Command.{Command}
+use Rattle.world_script.specs.declared.command.Command.TheVariants.{Osds, Happens, Submit, List as ListNames, Locate, ShowUser, ListUsers, Tick, Settle, KickAll, LoseAll, Answer as AskAnswer, Listing, Ready}
+use Rattle.world_script.specs.Command.{read_line}
 use Rattle.script_printing.specs.Text.{id_text, told_text, refused_text, or_refused, asked_text, users_text, ready_text}
 use Rattle.world_script.specs.Script.{Step, Goes, IsBad, IsOther, stepped, line_step, behind, onward, outputs, kept, begins, ask_now, places, locate_text, show_text, answer_in, listing_in, Machine, prints, does, event_told, event_line, ready_in, ready_line_text, goes, machine_step, script_step, Wrote}
 use Rattle.script_laws.specs.Plain.{Plain, Settled, decides, serves, settles, first_plain, is_enough, least_of, is_move, is_message, asks, judged, plain_event, tells, ready_plain, plain_step, IsPlain, PlainScriptsPrint, PlainBeginnings, PlainScriptsWrite}

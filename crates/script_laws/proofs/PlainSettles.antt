@@ -5,21 +5,21 @@ use Rattle.std.specs.List.{filter, list_any}
 use Rattle.std.proofs.lemmas.List.Elements.{filter-append}
 use Rattle.std.proofs.lemmas.List.Sums.{fold-append}
 use Rattle.grant_core.specs.BuiltIn.{built_in}
-use Rattle.map_commands.specs.State.{MapState}
-use Rattle.map_commands.specs.Map.{map_of}
+use Rattle.map_core.specs.State.{MapState}
+use Rattle.map_core.specs.Map.{map_of}
 use Rattle.store_core.specs.Deciding.{store_of}
 use Rattle.entry_core.specs.Log.{Legal, LegalFrom}
 use Rattle.store_core.specs.Request.{Sealed}
 use Rattle.store_core.specs.declared.entry.Entry.{Entry}
 use Rattle.store_core.specs.declared.sealed.GroupId.{GroupId}
-use Rattle.whole_logs.specs.Each.{Each}
-use Rattle.suffix_core.specs.Group.{Group, run}
-use Rattle.suffix_core.specs.Group as group
-use Rattle.suffix_core.specs.Budget.{budget, settled_group, settle_count}
-use Rattle.whole_laws.specs.Quiet.{request_cost}
-use Rattle.whole_laws.specs.Calm.{answer_with, unserved_cost}
-use Rattle.whole_logs.proofs.Audits.{legal_rest}
-use Rattle.group_laws.proofs.SameGroups.{same_settle}
+use Rattle.group_model_whole.specs.Each.{Each}
+use Rattle.group_model.specs.Group.{Group, run}
+use Rattle.group_model.specs.Group as group
+use Rattle.group_model.specs.Budget.{budget, settled_group, settle_count}
+use Rattle.group_model_whole.specs.Quiet.{request_cost}
+use Rattle.group_model_whole.specs.Calm.{answer_with, unserved_cost}
+use Rattle.group_model_whole.proofs.Audits.{legal_rest}
+use Rattle.group_model.proofs.SameGroups.{same_settle}
 use Rattle.world_events.specs.declared.event.Event.{Event}
 use Rattle.world_events.specs.declared.event.Event.TheVariants.{Deliver}
 use Rattle.world_front.specs.Groups.{is_same_group, is_for}

@@ -6,11 +6,11 @@ use Rattle.std.specs.Str.{bytes_eq}
 use Rattle.std.proofs.lemmas.List.Elements.{filter-append}
 use Rattle.std.proofs.lemmas.List.Sums.{fold-append}
 use Rattle.grant_core.specs.BuiltIn.{built_in}
-use Rattle.map_commands.specs.State.{MapState}
-use Rattle.map_commands.specs.Map.{is_named, after, map_of}
-use Rattle.map_commands.specs.Intervals.{set_of, begun, restarts}
-use Rattle.map_commands.specs.declared.pool.Pool.{Pool}
-use Rattle.map_commands.specs.declared.command.MapCommand.{MapCommand}
+use Rattle.map_core.specs.State.{MapState}
+use Rattle.map_core.specs.Map.{is_named, after, map_of}
+use Rattle.map_core.specs.Intervals.{set_of, begun, restarts}
+use Rattle.map_core.specs.declared.pool.Pool.{Pool}
+use Rattle.map_core.specs.declared.command.MapCommand.{MapCommand}
 use Rattle.map_core.specs.Laws.{HasPool}
 use Rattle.map_core.proofs.Current.{after_push}
 use Rattle.map_core.proofs.Kept.{pools_stay}
@@ -19,12 +19,12 @@ use Rattle.place_core.specs.Placement.{acting_of, numbers_of}
 use Rattle.store_core.specs.Deciding.{store_of}
 use Rattle.store_core.specs.Request.{Sealed}
 use Rattle.store_core.specs.declared.sealed.GroupId.{GroupId}
-use Rattle.whole_logs.specs.Each.{Each}
-use Rattle.suffix_core.specs.Group.{Group, group_step, last_set}
-use Rattle.suffix_core.specs.Group as group
-use Rattle.suffix_core.specs.Budget.{settle_count}
-use Rattle.whole_laws.specs.Calm.{IsCalm, answer_with}
-use Rattle.group_laws.proofs.SameGroups.{same_step, takes_last}
+use Rattle.group_model_whole.specs.Each.{Each}
+use Rattle.group_model.specs.Group.{Group, group_step, last_set}
+use Rattle.group_model.specs.Group as group
+use Rattle.group_model.specs.Budget.{settle_count}
+use Rattle.group_model_whole.specs.Calm.{IsCalm, answer_with}
+use Rattle.group_model.proofs.SameGroups.{same_step, takes_last}
 use Rattle.world_events.specs.declared.event.Event.{Event}
 use Rattle.world_front.specs.Groups.{is_same_group, is_for}
 use Rattle.world_front.specs.Front.{Front}

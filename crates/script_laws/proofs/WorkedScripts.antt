@@ -1,8 +1,8 @@
 -- Scripts, worked through.
 use Rattle.std.proofs.Common.{◌≡◌, refl, ◌∙◌, sym, subst}
 use Rattle.std.specs.Fmt.{digits}
-use Rattle.map_commands.specs.Map.{pool_in, view_at}
-use Rattle.map_commands.specs.Intervals.{size_in, set_of}
+use Rattle.map_core.specs.Map.{pool_in, view_at}
+use Rattle.map_core.specs.Intervals.{size_in, set_of}
 use Rattle.map_core.specs.Refusal.{is_word, tags_in, pairs_in, has_app, has_key, in_limits, refusal, groups_in}
 use Rattle.place_core.specs.Placement.{rank_of, is_before, acting_of, numbers_of}
 use Rattle.cap_text.specs.Machine.{step}

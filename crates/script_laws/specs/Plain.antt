@@ -8,21 +8,21 @@ use Rattle.std.specs.FinMap.{empty}
 use Rattle.script_text.specs.Text.{line, numeral}
 use Rattle.script_text.specs.declared.fault.ScriptFault.{ScriptFault}
 use Rattle.grant_core.specs.BuiltIn.{built_in}
-use Rattle.map_commands.specs.State.{MapState}
-use Rattle.map_commands.specs.Map.{map_of, after, is_named}
-use Rattle.map_commands.specs.Intervals.{set_of, begun}
-use Rattle.map_commands.specs.declared.pool.Pool.{Pool}
-use Rattle.map_commands.specs.declared.command.MapCommand.{MapCommand}
+use Rattle.map_core.specs.State.{MapState}
+use Rattle.map_core.specs.Map.{map_of, after, is_named}
+use Rattle.map_core.specs.Intervals.{set_of, begun}
+use Rattle.map_core.specs.declared.pool.Pool.{Pool}
+use Rattle.map_core.specs.declared.command.MapCommand.{MapCommand}
 use Rattle.store_core.specs.Request.{Sealed}
 use Rattle.store_core.specs.Store.{Store}
 use Rattle.store_core.specs.Deciding.{Decision, decision_on, name_of}
 use Rattle.store_core.specs.Objects.{changed}
 use Rattle.store_core.specs.declared.reply.Reply.{Reply}
 use Rattle.store_core.specs.declared.sealed.GroupId.{GroupId}
-use Rattle.suffix_core.specs.Group.{answer_of}
-use Rattle.group_types.specs.Answers.{Answer}
-use Rattle.whole_laws.specs.Quiet.{opening_cost, request_cost}
-use Rattle.whole_laws.specs.Calm.{unserved_cost}
+use Rattle.group_model.specs.Group.{answer_of}
+use Rattle.group_messages.specs.Answers.{Answer}
+use Rattle.group_model_whole.specs.Quiet.{opening_cost, request_cost}
+use Rattle.group_model_whole.specs.Calm.{unserved_cost}
 use Rattle.world_events.specs.declared.event.Event.{Event}
 use Rattle.world_events.specs.declared.fault.WorldFault.{WorldFault as Fault}
 use Rattle.world_events.specs.declared.event.Event.TheVariants.{Map, Deliver, Lose, Repeat, Kick}
@@ -30,8 +30,8 @@ use Rattle.world_events.specs.declared.event.Event.TheVariants as happens
 use Rattle.world_front.specs.Groups.{is_same_group, is_for}
 use Rattle.world_front.specs.Front.{Front, first_front, front_step, front_refusal, sealed_by, told_of, group_refusal}
 use Rattle.world_core.specs.World.{members_of}
-use Rattle.script_commands.specs.declared.command.Command.{Command}
-use Rattle.script_commands.specs.declared.command.Command.TheVariants.{Osds, Happens, Submit, List as ListNames, Locate, ShowUser, ListUsers, Tick, Settle, KickAll, LoseAll, Answer as AskAnswer, Listing, Ready}
+use Rattle.world_script.specs.declared.command.Command.{Command}
+use Rattle.world_script.specs.declared.command.Command.TheVariants.{Osds, Happens, Submit, List as ListNames, Locate, ShowUser, ListUsers, Tick, Settle, KickAll, LoseAll, Answer as AskAnswer, Listing, Ready}
 use Rattle.script_printing.specs.Text.{id_text, told_text, refused_text, or_refused, asked_text, users_text, ready_text}
 use Rattle.world_script.specs.Script.{Step, Goes, IsOther, Ending, Whole, BadAt, OtherAt, Output, output_of, begins, ask_now, places, locate_text, show_text, answer_in, listing_in, script_output, Wrote, WroteOf}
 

@@ -4,10 +4,10 @@ use Rattle.std.specs.Prelude.{◌≡◌, ℕ, List, [], ◌∷◌, ◌++◌, not
 use Rattle.std.specs.List.{filter, flat_map}
 use Rattle.std.specs.Ordering.{eq_by_cmp}
 use Rattle.std.specs.FinMap.Entries.{find, put, where_key}
-use Rattle.object_ops.specs.Content.{Content}
+use Rattle.object_core.specs.Content.{Content}
 use Rattle.object_core.specs.Effect.{effect}
-use Rattle.object_ops.specs.declared.outcome.Change.{Change}
-use Rattle.object_ops.specs.declared.outcome.Change.TheVariants.{Kept, Became}
+use Rattle.object_core.specs.declared.outcome.Change.{Change}
+use Rattle.object_core.specs.declared.outcome.Change.TheVariants.{Kept, Became}
 use Rattle.verdict_core.specs.Verdict.{report_of}
 use Rattle.store_core.specs.Request.{Sealed, Work, Vector, Listing, target_of, needs_for}
 use Rattle.store_core.specs.Store.{ObjectName, name_cmp}

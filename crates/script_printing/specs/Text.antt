@@ -4,8 +4,8 @@ use Rattle.std.specs.Prelude.{ℕ, ◌/◌, ◌%◌, List, ◌++◌, Bool, Optio
 use Rattle.std.specs.List.{flat_map}
 use Rattle.std.specs.Map.{keys_of}
 use Rattle.script_text.specs.Text.{line, item, quoted}
-use Rattle.verdict_types.specs.Text.{report_line}
-use Rattle.verdict_types.specs.declared.request.Condition.{Condition}
+use Rattle.request_types.specs.Text.{report_line}
+use Rattle.request_types.specs.declared.request.Condition.{Condition}
 use Rattle.auth_db.specs.Users.{Users}
 use Rattle.auth_db.specs.declared.caps.Caps.{Caps}
 use Rattle.store_core.specs.declared.reply.Reply.{Reply}

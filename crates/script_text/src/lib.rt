@@ -21,6 +21,5 @@ pub use laws::{
 pub use lines::{Line, Lines};
 pub use numbers::{number_of, pair_of};
 pub use printing::{push_item, push_number, push_quoted};
-pub use std::alloc::AllocError as OutOfMemory;
 pub use streams::{end_line, read_script, write_text};
 pub use words::Words;

@@ -12,17 +12,17 @@ use Rattle.std.proofs.lemmas.List.Elements.{All-nil, All-cons, All-head, All-tai
 use Rattle.std.proofs.lemmas.List.Sums.{fold-append}
 use Rattle.std.proofs.Math.Seq.{take-length}
 use Rattle.common_types.specs.declared.tags.AppTags.{AppTags}
-use Rattle.map_commands.specs.State.{MapState, History}
-use Rattle.map_commands.specs.Map.{change_first, is_named, is_app, is_key, put_pair, with_pairs, tags_after, tagged, created, pools_after, after, initial, map_after, map_of, epoch_of, pool_in, view_of, view_at}
+use Rattle.map_core.specs.State.{MapState, History}
+use Rattle.map_core.specs.Map.{change_first, is_named, is_app, is_key, put_pair, with_pairs, tags_after, tagged, created, pools_after, after, initial, map_after, map_of, epoch_of, pool_in, view_of, view_at}
 use Rattle.map_core.specs.Refusal.{first_of, refusal, tests, tags_in, pairs_in, has_app, has_key, has_pool, is_word, in_limits, is_last}
 use Rattle.map_core.specs.Limits.{AcceptedFrom}
 use Rattle.map_core.specs.PossibleTags.{ArePossible}
-use Rattle.map_commands.specs.declared.fault.MapFault.{MapFault}
-use Rattle.map_commands.specs.declared.pool.Pool.{Pool}
-use Rattle.map_commands.specs.declared.pool.PoolView.{PoolView}
-use Rattle.map_commands.specs.declared.command.MapCommand.{MapCommand}
-use Rattle.map_commands.specs.declared.command.MapCommand.TheVariants.{PoolCreate, AppEnable, AppSet}
-use Rattle.verdict_types.specs.Target.{Target}
+use Rattle.map_core.specs.declared.fault.MapFault.{MapFault}
+use Rattle.map_core.specs.declared.pool.Pool.{Pool}
+use Rattle.map_core.specs.declared.pool.PoolView.{PoolView}
+use Rattle.map_core.specs.declared.command.MapCommand.{MapCommand}
+use Rattle.map_core.specs.declared.command.MapCommand.TheVariants.{PoolCreate, AppEnable, AppSet}
+use Rattle.request_types.specs.Target.{Target}
 use Rattle.share_core.specs.Held.{IsHeld, IsPairOfWords, HasWords, CanBeNamed, TargetsAreHeld}
 
 abbrev Pair : Type 0

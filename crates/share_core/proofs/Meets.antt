@@ -13,7 +13,7 @@ use Rattle.cap_grants.specs.declared.grant.Part.{Part}
 use Rattle.cap_grants.specs.declared.grant.Part.TheVariants.{Any, Is}
 use Rattle.cap_grants.specs.declared.grant.Tag.{Tag}
 use Rattle.common_types.specs.declared.tags.AppTags.{AppTags}
-use Rattle.verdict_types.specs.Target.{Target}
+use Rattle.request_types.specs.Target.{Target}
 use Rattle.verdict_core.specs.Verdict.{names, matches, matches_namespace, matches_prefix, matches_part, matches_pairs, matches_application, matches_tag}
 use Rattle.compare_core.specs.Fresh.{both_any}
 use Rattle.compare_core.proofs.Bools.{both_left, both_right, both, either_first, true_or_false, fails, some_pass, any_at}

@@ -5,10 +5,10 @@ use Rattle.std.proofs.lemmas.Bool.{false≢true}
 use Rattle.cap_grants.specs.declared.grant.AllowGrant.{AllowGrant}
 use Rattle.cap_grants.specs.declared.grant.Access.{Access}
 use Rattle.cap_grants.specs.declared.grant.Access.TheVariants.{All, Flags, Class}
-use Rattle.verdict_types.specs.Target.{Target}
+use Rattle.request_types.specs.Target.{Target}
 use Rattle.verdict_core.specs.Verdict.{matches, names, can_read, can_write, covers, is_usable, grants_allow, is_covered}
-use Rattle.verdict_types.specs.declared.request.ClassCall.{ClassCall}
-use Rattle.verdict_types.specs.declared.request.Needs.{Needs}
+use Rattle.request_types.specs.declared.request.ClassCall.{ClassCall}
+use Rattle.request_types.specs.declared.request.Needs.{Needs}
 use Rattle.compare_core.proofs.Bools.{both_left, both_right, both, either_first, true_or_false, some_pass, any_at, all_at}
 use Rattle.compare_core.proofs.Fronts.{text_same}
 use Rattle.share_core.specs.declared.touches.Touch.{Touch}

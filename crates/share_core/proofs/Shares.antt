@@ -9,7 +9,7 @@ use Rattle.cap_grants.specs.declared.grant.AllowGrant.{AllowGrant}
 use Rattle.compare_core.proofs.Bools.{both_left, both_right, both, fails, some_pass, any_at}
 use Rattle.share_core.specs.declared.touches.Touch.{Touch}
 use Rattle.share_core.specs.declared.reaching.Shared.{Shared}
-use Rattle.share_core.specs.Sharing.{IsShared, Share, pairs, IsExampleOf, PairShares, Answers}
+use Rattle.share_core.specs.Sharing.{IsShared, IsSharedObject, Share, pairs, IsExampleOf, PairShares, Answers}
 use Rattle.share_core.specs.Meeting.{gives, common, reach, shared_by, example_of}
 use Rattle.share_core.proofs.Meets.{can_meet, must_meet, is_object}
 use Rattle.share_core.proofs.OneGrants.{one_grant, may_by, only_one}
@@ -96,12 +96,12 @@ answers_of one other (pair ∷ rest) = go (reaches one other pair) refl (answers
 -- each is shared by the whole tickets too
 
 abbrev AllShared : List Entry → Touch → List Entry → Touch → List Shared → Type 0
-AllShared ones one others other examples = All (λ (example : Shared). IsShared ones one others other example.target) examples
+AllShared ones one others other examples = All (λ (example : Shared). IsSharedObject ones one others other example.target) examples
 
 shared_with : (ones others : List Entry) (one other : Touch) (mine : Entry) (i : ℕ) → slice_get ones i ≡ Some mine → (some : List Entry)
     → ((j : ℕ) (theirs : Entry) → slice_get some j ≡ Some theirs → (k : ℕ) × (slice_get others k ≡ Some theirs))
     → AllShared ones one others other (filter_map (example_of one other) (map (λ theirs. (mine, theirs)) some))
-shared_with ones others one other mine i at [] among = All-nil (λ (example : Shared). IsShared ones one others other example.target)
+shared_with ones others one other mine i at [] among = All-nil (λ (example : Shared). IsSharedObject ones one others other example.target)
 shared_with ones others one other mine i at (theirs ∷ some) among =
     go (reach one other mine.1 theirs.1) refl (shared_with ones others one other mine i at some (λ j entry bt. among (suc j) entry bt)) (among 0 theirs refl)
   where
@@ -109,20 +109,20 @@ shared_with ones others one other mine i at (theirs ∷ some) among =
         → (k : ℕ) × (slice_get others k ≡ Some theirs)
         → AllShared ones one others other (cons_option (if b then Some (shared_by (mine, theirs)) else None) (filter_map (example_of one other) (map (λ theirs. (mine, theirs)) some)))
     go true e rest here =
-        All-cons (λ (example : Shared). IsShared ones one others other example.target) (shared_by (mine, theirs)) _ (shared_at ones others one other i here.0 mine theirs at here.1 e) rest
+        All-cons (λ (example : Shared). IsSharedObject ones one others other example.target) (shared_by (mine, theirs)) _ (shared_at ones others one other i here.0 mine theirs at here.1 e, is_object mine.1.prefix theirs.1.prefix) rest
     go false e rest here = rest
 
 some_shared : (ones others : List Entry) (one other : Touch) (some : List Entry) → ((i : ℕ) (mine : Entry) → slice_get some i ≡ Some mine → (k : ℕ) × (slice_get ones k ≡ Some mine))
     → AllShared ones one others other (filter_map (example_of one other) (pairs some others))
-some_shared ones others one other [] among = All-nil (λ (example : Shared). IsShared ones one others other example.target)
+some_shared ones others one other [] among = All-nil (λ (example : Shared). IsSharedObject ones one others other example.target)
 some_shared ones others one other (mine ∷ some) among =
     let here = among 0 mine refl in
     subst (AllShared ones one others other) (sym (filter_map-append (example_of one other) (map (λ theirs. (mine, theirs)) others) (pairs some others)))
-    (All-append (λ (example : Shared). IsShared ones one others other example.target) _ _
+    (All-append (λ (example : Shared). IsSharedObject ones one others other example.target) _ _
     (shared_with ones others one other mine here.0 here.1 others (λ j theirs bt. (j, bt)))
     (some_shared ones others one other some (λ i entry at. among (suc i) entry at)))
 
-pub all_shared : (ones others : List Entry) (one other : Touch) → All (λ (example : Shared). IsShared ones one others other example.target) (filter_map (example_of one other) (pairs ones others))
+pub all_shared : (ones others : List Entry) (one other : Touch) → All (λ (example : Shared). IsSharedObject ones one others other example.target) (filter_map (example_of one other) (pairs ones others))
 all_shared ones others one other = some_shared ones others one other ones (λ i entry at. (i, at))
 
 -- no examples, just where nothing is shared

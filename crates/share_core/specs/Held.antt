@@ -3,13 +3,13 @@
 use Rattle.std.specs.Prelude.{◌≡◌, ◌≤◌, ℕ, List, Option, Some, true, length}
 use Rattle.std.specs.List.{All}
 use Rattle.common_types.specs.declared.tags.AppTags.{AppTags}
-use Rattle.map_commands.specs.State.{History}
-use Rattle.map_commands.specs.Map.{view_at, epoch_of}
+use Rattle.map_core.specs.State.{History}
+use Rattle.map_core.specs.Map.{view_at, epoch_of}
 use Rattle.map_core.specs.Limits.{IsAccepted}
 use Rattle.map_core.specs.PossibleTags.{ArePossible}
 use Rattle.map_core.specs.Refusal.{is_word}
-use Rattle.map_commands.specs.declared.pool.PoolView.{PoolView}
-use Rattle.verdict_types.specs.Target.{Target}
+use Rattle.map_core.specs.declared.pool.PoolView.{PoolView}
+use Rattle.request_types.specs.Target.{Target}
 
 -- some map has a pool of that name with just these tags
 pub record IsHeld (target : Target) : Type 0 where

@@ -6,10 +6,10 @@ use Rattle.std.specs.List.{All, list_any}
 use Rattle.cap_grants.specs.declared.grant.AllowGrant.{AllowGrant}
 use Rattle.common_types.specs.declared.tags.AppTags.{AppTags}
 pub use Rattle.map_core.specs.PossibleTags.{ArePossible}
-use Rattle.verdict_types.specs.Target.{Target}
+use Rattle.request_types.specs.Target.{Target}
 use Rattle.verdict_core.specs.Verdict.{grants_allow}
-use Rattle.verdict_types.specs.declared.request.ClassCall.{ClassCall}
-use Rattle.verdict_types.specs.declared.request.Needs.{Needs}
+use Rattle.request_types.specs.declared.request.ClassCall.{ClassCall}
+use Rattle.request_types.specs.declared.request.Needs.{Needs}
 use Rattle.share_core.specs.declared.touches.Touch.{Touch}
 use Rattle.share_core.specs.declared.touches.Touch.TheVariants.{Read, Write, Call, AnyRead, AnyWrite}
 use Rattle.share_core.specs.declared.reaching.Shared.{Shared}
@@ -48,6 +48,10 @@ May grants target touch = (needs : Needs) × IsTouch touch needs × (grants_allo
 -- a target of a pool that can be, at which the ones may touch as the one does, and the others as the other does
 abbrev pub IsShared : List (List ℕ × AllowGrant) → Touch → List (List ℕ × AllowGrant) → Touch → Target → Type 0
 IsShared ones one others other target = ArePossible target.tags × May ones target one × May others target other
+
+-- such a target that is an object, and no listing
+abbrev pub IsSharedObject : List (List ℕ × AllowGrant) → Touch → List (List ℕ × AllowGrant) → Touch → Target → Type 0
+IsSharedObject ones one others other target = IsShared ones one others other target × (target.object ≢ [])
 
 -- there is such a target, among all pools, tags, namespaces and objects, and the listings
 abbrev pub Share : List (List ℕ × AllowGrant) → Touch → List (List ℕ × AllowGrant) → Touch → Type 0

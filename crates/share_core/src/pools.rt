@@ -1,23 +1,21 @@
 //! Whether two tickets reach a common object in pools that are given.
 
-ghost use Rattle.std.specs.Prelude.{◌≡◌, ◌≢◌, ◌↔◌, ◌&&◌, [], Option, Some, None, IfOk, IsTrue, option_copied};
+ghost use Rattle.std.specs.Prelude.{◌≡◌, ◌≢◌, ◌↔◌, [], Option, Some, None, IfOk, IsTrue, option_copied};
 ghost use Rattle.std.specs.List.{list_any, find};
-ghost use Rattle.std.specs.Str.{bytes_eq};
 ghost use Rattle.share_core.specs.Meeting as spec;
 ghost use Rattle.share_core.specs.Pools as rule;
 ghost use Rattle.share_core.specs.Sharing.{IsExampleAt, IsExampleIn, ShareIn};
-ghost use Rattle.verdict_core.specs.Verdict as verdict;
 
-use crate::giving::{gives, names};
+use crate::giving::gives;
 use crate::meetings::{namespaces_meet, pools_meet, prefixes_meet};
 use crate::targets::{common_namespace, common_object};
 use crate::touches::Touch;
-use cap_text::{AllowGrant, Part, Tag};
-use common_types::{AppTags, Name, OutOfMemory, Pairs, Tags, TryCopy};
+use cap_text::AllowGrant;
+use common_types::{Name, OutOfMemory, Tags, TryCopy};
 use compare_core::OwnedTarget;
 use grant_core::Path;
 use std::alloc::Global;
-use verdict_core::Ticket;
+use verdict_core::{Ticket, matches_tag, names};
 
 /// A pool of a cluster, and the applications that it is tagged with.
 #[derive(Debug)]
@@ -32,72 +30,12 @@ impl Drop for Pool {
     }
 }
 
-fn matches_part(part: &Part, name: &Name) -> bool
-    ensures { result ≡ verdict.matches_part part.now name.now }
-{
-    match part {
-        Part::Any => true,
-        Part::Is(wanted) => wanted.equals(name),
-    }
-}
-
-/// Whether some pair has this value.
-fn has_value(value: &Name, pairs: &Pairs) -> bool
-    ensures { result ≡ list_any (λ pair. bytes_eq value.now pair.1) pairs.now }
-{
-    pairs.as_slice().iter().any(|pair| value.equals(&pair.1))
-}
-
-/// Whether some pair has this key, and a value that agrees.
-fn has_pair(key: &Name, value: &Part, pairs: &Pairs) -> bool
-    ensures { result ≡ list_any (λ pair. bytes_eq key.now pair.0 && verdict.matches_part value.now pair.1) pairs.now }
-{
-    pairs
-        .as_slice()
-        .iter()
-        .any(|pair| key.equals(&pair.0) && matches_part(value, &pair.1))
-}
-
-fn matches_pairs(key: &Part, value: &Part, pairs: &Pairs) -> bool
-    ensures { result ≡ verdict.matches_pairs key.now value.now pairs.now }
-{
-    match (key, value) {
-        (Part::Any, Part::Any) => true,
-        (Part::Any, Part::Is(value)) => has_value(value, pairs),
-        (Part::Is(key), value) => has_pair(key, value, pairs),
-    }
-}
-
-fn matches_application(tag: &Tag, app: &AppTags) -> bool
-    ensures { result ≡ verdict.matches_application tag.now app.now }
-{
-    tag.application.equals(&app.application) && matches_pairs(&tag.key, &tag.value, &app.pairs)
-}
-
-/// Whether some application of the pool agrees with a tag.
-fn has_application(tag: &Tag, tags: &Tags) -> bool
-    ensures { result ≡ list_any (verdict.matches_application tag.now) tags.now }
-{
-    tags.as_slice()
-        .iter()
-        .any(|app| matches_application(tag, app))
-}
-
-fn matches_tag(wanted: &Option<Tag>, tags: &Tags) -> bool
-    ensures { result ≡ verdict.matches_tag wanted.now tags.now }
-{
-    match wanted {
-        None => true,
-        Some(tag) => has_application(tag, tags),
-    }
-}
-
 /// Whether a grant is for a pool, by its name and its tags. Namespaces and prefixes of objects are not looked at, since a pool
 /// can have any (this project's profile). It takes no memory.
 pub fn is_for(g: &AllowGrant, pool: &Pool) -> bool
     ensures { result ≡ rule.is_for g.now pool.now }
 {
-    names(&g.pool, &pool.name) && matches_tag(&g.tag, &pool.tags)
+    names(&g.pool, pool.name.as_str().as_bytes()) && matches_tag(&g.tag, &pool.tags)
 }
 
 fn both_for(g: &AllowGrant, h: &AllowGrant, pool: &Pool) -> bool

@@ -3,7 +3,7 @@
 ghost use Rattle.std.specs.Prelude.{◌≡◌, ◌≢◌, ◌↔◌, ◌++◌, [], map, IfOk, OnOk, IsTrue, true, ◌&&◌};
 ghost use Rattle.std.specs.List.{All, list_any, filter_map};
 ghost use Rattle.share_core.specs.Meeting.{reach, example_of};
-ghost use Rattle.share_core.specs.Sharing.{Answers, IsShared, Share, pairs};
+ghost use Rattle.share_core.specs.Sharing.{Answers, IsSharedObject, Share, pairs};
 
 use crate::giving::gives;
 use crate::meetings::meet;
@@ -141,7 +141,7 @@ pub fn sharing(
     other: &Touch,
 ) -> Result<Vec<Shared>, OutOfMemory>
     ensures answers { IfOk result (λ examples. Answers one.now other.now (pairs ones.now.grants others.now.grants) examples.items) }
-    ensures shared { IfOk result (λ examples. All (λ example. IsShared ones.now.grants one.now others.now.grants other.now example.target) examples.items) }
+    ensures shared { IfOk result (λ examples. All (λ example. IsSharedObject ones.now.grants one.now others.now.grants other.now example.target) examples.items) }
     ensures empty { IfOk result (λ examples. (examples.items ≡ []) ↔ ¬ Share ones.now.grants one.now others.now.grants other.now) }
 {
     examples(alloc, ones.grants(), one, others.grants(), other)

@@ -3,3 +3,5 @@ pub mod FoundTold
 pub mod Results
 pub mod Telling
 pub mod NearTold
+pub mod Given
+pub mod Lives

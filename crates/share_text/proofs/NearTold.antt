@@ -24,9 +24,9 @@ pub no_share : (pools : Option (List Pool)) (kind : Kind) (ones others : Flat) �
 no_share None kind ones others apart = (apart.anywhere (one_touch kind) (other_touch kind)).0
 no_share (Some pools) kind ones others apart = (apart.in_pools pools (one_touch kind) (other_touch kind)).0
 
-apart_told : (pools : Option (List Pool)) (strictness : Strictness) (one other : Tenant) → AreApart one.ticket.grants other.ticket.grants → IsPairTold pools strictness one other [] false
+apart_told : (pools : Option (List Pool)) (strictness : Strictness) (one other : Tenant) → AreApart one.ticket.now.grants other.ticket.now.grants → IsPairTold pools strictness one other [] false
 apart_told pools strictness one other apart =
-    let none : (kind : Kind) → ¬ ShareWithin pools kind one.ticket.grants other.ticket.grants = λ kind. no_share pools kind one.ticket.grants other.ticket.grants apart in
+    let none : (kind : Kind) → ¬ ShareWithin pools kind one.ticket.now.grants other.ticket.now.grants = λ kind. no_share pools kind one.ticket.now.grants other.ticket.now.grants apart in
     (None, (none WritesWrites, none WritesReads, none ReadsWrites, λ reads. none ReadsReads), (refl, refl))
 
 -- Places in order, from one place on: before the first, between any two and behind the last, all tickets are apart.
@@ -147,35 +147,35 @@ skipped IsTold whole all k (suc n) text fails inside silent so_far =
 abbrev pub TellsPair : Option (List Pool) → Strictness → Tenant → Tenant → List Tenant → List ℕ → Bool → Type 0
 TellsPair pools strictness one other behind text fails = IsPairTold pools strictness one other text fails
 
-grants_at : (all : List Tenant) (q : ℕ) (other : Tenant) → slice_get all q ≡ Some other → slice_get (grants_of all) q ≡ Some other.ticket.grants
-grants_at all q other at = slice_get-map (λ (tenant : Tenant). tenant.ticket.grants) all q ∙ ap (option_map (λ (tenant : Tenant). tenant.ticket.grants)) at
+grants_at : (all : List Tenant) (q : ℕ) (other : Tenant) → slice_get all q ≡ Some other → slice_get (grants_of all) q ≡ Some other.ticket.now.grants
+grants_at all q other at = slice_get-map (λ (tenant : Tenant). tenant.ticket.now.grants) all q ∙ ap (option_map (λ (tenant : Tenant). tenant.ticket.now.grants)) at
 
 pub length_grants : (all : List Tenant) → length (grants_of all) ≡ length all
 length_grants [] = refl
 length_grants (x ∷ xs) = ap suc (length_grants xs)
 
 skip_to : (pools : Option (List Pool)) (strictness : Strictness) (one : Tenant) (whole all : List Tenant) (k p : ℕ) (text : List ℕ) (fails : Bool) → k ≤ p → p ≤ length all
-    → ((q : ℕ) (other : Flat) → slice_get (grants_of all) q ≡ Some other → k ≤ q → q < p → AreApart one.ticket.grants other)
+    → ((q : ℕ) (other : Flat) → slice_get (grants_of all) q ≡ Some other → k ≤ q → q < p → AreApart one.ticket.now.grants other)
     → ToldUpTo (TellsPair pools strictness one) whole all k text fails → ToldUpTo (TellsPair pools strictness one) whole all p text fails
 skip_to pools strictness one whole all k p text fails past inside apart so_far =
     let same : k + (p - k) ≡ p = omega (arith, past) in
     let within : k + (p - k) ≤ length all = omega (arith, past, inside) in
     subst (λ m. ToldUpTo (TellsPair pools strictness one) whole all m text fails) same
     (skipped (TellsPair pools strictness one) whole all k (p - k) text fails within
-    (λ q other at low high. apart_told pools strictness one other (apart q other.ticket.grants (grants_at all q other at) low (omega (arith, past, high)))) so_far)
+    (λ q other at low high. apart_told pools strictness one other (apart q other.ticket.now.grants (grants_at all q other at) low (omega (arith, past, high)))) so_far)
 
 -- what is told before a place, of whom the near ones are left
 pub record NearTold (pools : Option (List Pool)) (strictness : Strictness) (one : Tenant) (whole all : List Tenant) (near : List ℕ) (text : List ℕ) (fails : Bool) : Type 0 where
   pub place : ℕ
-  pub steps : NearFrom one.ticket.grants (grants_of all) place near
+  pub steps : NearFrom one.ticket.now.grants (grants_of all) place near
   pub told : ToldUpTo (TellsPair pools strictness one) whole all place text fails
 
 pub first_near : (pools : Option (List Pool)) (strictness : Strictness) (one : Tenant) (all : List Tenant) (from : ℕ) (near text : List ℕ) (fails : Bool) → text ≡ [] → fails ≡ false
-    → AreNear one.ticket.grants (grants_of all) from near → NearTold pools strictness one (drop from all) all near text fails
+    → AreNear one.ticket.now.grants (grants_of all) from near → NearTold pools strictness one (drop from all) all near text fails
 first_near pools strictness one all from near text fails empty passes are =
     subst (λ t. NearTold pools strictness one (drop from all) all near t fails) (sym empty)
     (subst (λ f. NearTold pools strictness one (drop from all) all near [] f) (sym passes)
-    (record { place = from; steps = near_from one.ticket.grants (grants_of all) from near are; told = λ rest later told. told }))
+    (record { place = from; steps = near_from one.ticket.now.grants (grants_of all) from near are; told = λ rest later told. told }))
 
 one_near : (pools : Option (List Pool)) (strictness : Strictness) (one : Tenant) (whole all : List Tenant) (p : ℕ) (ps : List ℕ) (other : Tenant) (old new front : List ℕ) (fails ends first : Bool)
     → other ≡ get_or all p other → IsPairTold pools strictness one other front first → new ≡ old ++ front → ends ≡ (fails || first)

@@ -8,7 +8,7 @@ use Rattle.std.proofs.lemmas.List.Elements.{Contains-append_left, Contains-push,
 use Rattle.std.proofs.lemmas.Option.{slice_get-get_or}
 use Rattle.flow_core.specs.Chains.{IsStep}
 use Rattle.flow_core.proofs.Listing.{in_none}
-use Rattle.answer_text.specs.Caret.{shown}
+use Rattle.verdict_text.specs.Caret.{shown}
 use Rattle.grant_core.specs.Flat.{Flat}
 use Rattle.share_core.specs.Near.{AreApart, AreNear}
 use Rattle.share_core.specs.declared.pools.Pool.{Pool}
@@ -75,10 +75,10 @@ is_near grants tenants near place are (k, low, is) =
     omega (arith, inside, is, length_grants tenants)
 
 pub grants_near : (grants : Flat) (tenants : List Tenant) (near : List ℕ) (i : ℕ) (tenant : Tenant) → AreNear grants (grants_of tenants) 0 near → i < length near
-    → tenant ≡ get_or tenants (slice_index near i) tenant → grants_at tenants (slice_index near i) ≡ tenant.ticket.grants
+    → tenant ≡ get_or tenants (slice_index near i) tenant → grants_at tenants (slice_index near i) ≡ tenant.ticket.now.grants
 grants_near grants tenants near i tenant are inside at =
     let below : slice_index near i < length (grants_of tenants) = (are.inside i 0 inside).1 in
-    seen_at (λ (tenant : Tenant). tenant.ticket.grants) tenants (slice_index near i) tenant [] (omega (arith, below, length_grants tenants)) at
+    seen_at (λ (tenant : Tenant). tenant.ticket.now.grants) tenants (slice_index near i) tenant [] (omega (arith, below, length_grants tenants)) at
 
 reads_near : (pools : Option (List Pool)) (grants : Flat) (tenants : List Tenant) (near : List ℕ) (place : ℕ) → ShareWithin pools WritesReads grants (grants_at tenants place)
     → Contains near place ⊎ AreApart grants (grants_at tenants place) → Contains near place

@@ -1,7 +1,7 @@
 -- What a result says of the value in it.
 use Rattle.std.proofs.Common.{◌≡◌, ◌↔◌, List, [], Result, Ok, Err, IfOk, subst, All}
 use Rattle.grant_core.specs.Flat.{Flat}
-use Rattle.share_core.specs.Sharing.{Answers, IsShared, Share, pairs}
+use Rattle.share_core.specs.Sharing.{Answers, IsSharedObject, Share, pairs}
 use Rattle.share_core.specs.declared.reaching.Shared.{Shared}
 use Rattle.share_core.specs.declared.touches.Touch.{Touch}
 use Rattle.share_text.specs.Kinds.{one_touch, other_touch}
@@ -15,7 +15,7 @@ of_kind P kind one other is also h = subst (λ o. P (one_touch kind) o) also (su
 
 pub examples_so : {V E : Type 0} (items : V → List Shared) (r : Result V E) (kind : Kind) (ones others : Flat)
     → IfOk r (λ x. Answers (one_touch kind) (other_touch kind) (pairs ones others) (items x))
-    → IfOk r (λ x. All (λ (example : Shared). IsShared ones (one_touch kind) others (other_touch kind) example.target) (items x))
+    → IfOk r (λ x. All (λ (example : Shared). IsSharedObject ones (one_touch kind) others (other_touch kind) example.target) (items x))
     → IfOk r (λ x. (items x ≡ []) ↔ (¬ Share ones (one_touch kind) others (other_touch kind)))
     → IfOk r (λ x. AreExamples kind ones others (items x))
 examples_so items (Ok x) kind ones others answers shared empty = record { answers = answers; shared = shared; empty = empty }

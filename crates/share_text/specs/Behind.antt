@@ -5,4 +5,4 @@ use Rattle.grant_core.specs.Flat.{Flat}
 use Rattle.share_text.specs.declared.tenants.Tenant.{Tenant}
 
 abbrev pub grants_of : List Tenant → List Flat
-grants_of tenants = map (λ tenant. tenant.ticket.grants) tenants
+grants_of tenants = map (λ tenant. tenant.ticket.now.grants) tenants

@@ -5,8 +5,8 @@ use Rattle.std.specs.Prelude.{ℕ, zero, suc, ◌≡◌, ◌≢◌, ◌<◌, ◌
 use Rattle.std.specs.List.{slice_index_or}
 use Rattle.flow_core.specs.Chains.{IsChain, IsShortest, IsStep}
 use Rattle.grant_core.specs.Flat.{Flat}
-use Rattle.answer_text.specs.Caret.{shown}
-use Rattle.answer_text.specs.declared.entity.Entity.{Entity}
+use Rattle.verdict_text.specs.Caret.{shown}
+use Rattle.verdict_text.specs.declared.entity.ReadEntity.{ReadEntity}
 use Rattle.share_core.specs.declared.pools.Pool.{Pool}
 use Rattle.share_text.specs.Kinds.{ShareWithin}
 use Rattle.share_text.specs.Tenants.{AreTenants}
@@ -16,10 +16,10 @@ use Rattle.share_text.specs.declared.tenants.Tenant.{Tenant}
 -- A tenant goes by its place among the tenants. A place with no tenant has no name and no grants.
 
 abbrev pub name_at : List Tenant → ℕ → List ℕ
-name_at tenants place = slice_index_or (map (λ (tenant : Tenant). string_bytes tenant.name) tenants) place []
+name_at tenants place = slice_index_or (map (λ (tenant : Tenant). tenant.name.now) tenants) place []
 
 abbrev pub grants_at : List Tenant → ℕ → Flat
-grants_at tenants place = slice_index_or (map (λ (tenant : Tenant). tenant.ticket.grants) tenants) place []
+grants_at tenants place = slice_index_or (map (λ (tenant : Tenant). tenant.ticket.now.grants) tenants) place []
 
 -- the one tenant writes what the other reads, at some target; where pools are given, at one of theirs
 abbrev pub WritesTo : Option (List Pool) → List Tenant → ℕ → ℕ → Type 0
@@ -67,5 +67,5 @@ AreReachesTold pools check tenants text fails =
     OfEach (λ writer. OfEach (IsPlaceTold pools check tenants writer) (length tenants)) (length tenants) text fails
 
 -- what is printed of some entities, and whether the command fails
-abbrev pub AreFlowsTold : Option (List Pool) → Bool → List Entity → List ℕ → Bool → Type 0
+abbrev pub AreFlowsTold : Option (List Pool) → Bool → List ReadEntity → List ℕ → Bool → Type 0
 AreFlowsTold pools check entities text fails = (tenants : List Tenant) × AreTenants entities tenants × AreReachesTold pools check tenants text fails

@@ -2,8 +2,8 @@
 -- In what ways two share an object (this project's profile): what the one does, and what the other does, both at one target.
 use Rattle.std.specs.Prelude.{ℕ, List, Bool, true, false, Option, Some, None, codes}
 use Rattle.grant_core.specs.Flat.{Flat}
-use Rattle.verdict_types.specs.Target.{Target}
-use Rattle.share_core.specs.Sharing.{IsExampleIn, IsShared, Share, ShareIn}
+use Rattle.request_types.specs.Target.{Target}
+use Rattle.share_core.specs.Sharing.{IsExampleIn, IsSharedObject, Share, ShareIn}
 use Rattle.share_core.specs.declared.pools.Pool.{Pool}
 use Rattle.share_core.specs.declared.touches.Touch.{Touch}
 use Rattle.share_core.specs.declared.touches.Touch.TheVariants.{AnyRead, AnyWrite}
@@ -35,9 +35,9 @@ kind_words WritesReads = codes "writes reads"
 kind_words ReadsWrites = codes "reads writes"
 kind_words ReadsReads = codes "reads reads"
 
--- at this target
+-- at this target, which is an object and no listing
 abbrev pub IsSharedSo : Kind → Flat → Flat → Target → Type 0
-IsSharedSo kind ones others target = IsShared ones (one_touch kind) others (other_touch kind) target
+IsSharedSo kind ones others target = IsSharedObject ones (one_touch kind) others (other_touch kind) target
 
 -- at some target
 abbrev pub ShareSo : Kind → Flat → Flat → Type 0

@@ -4,3 +4,5 @@ pub mod Kinds
 pub mod Tenants
 pub mod Texts
 pub mod Behind
+pub mod Addresses
+pub mod Live

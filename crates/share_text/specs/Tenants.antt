@@ -1,18 +1,17 @@
 -- Statement: contracts of public calls use it.
 -- What is printed of what the entities of a file share (this project's profile). Every line ends with byte 10.
-use Rattle.std.specs.Prelude.{ℕ, ◌≡◌, ◌≢◌, ◌⊎◌, ◌&&◌, ◌||◌, List, [], ◌∷◌, ◌++◌, Bool, true, false, Option, Some, None, codes, string_bytes}
+use Rattle.std.specs.Prelude.{ℕ, ◌≡◌, ◌⊎◌, ◌&&◌, ◌||◌, List, [], ◌∷◌, ◌++◌, Bool, true, false, Option, Some, None, Result, Ok, Err, codes, string_bytes}
 use Rattle.serde_json.specs.Data.{Data, object, string, member, no_members}
 use Rattle.grant_core.specs.Flat.{Flat}
-use Rattle.verdict_types.specs.Target.{Target}
-use Rattle.answer_text.specs.Caret.{shown}
-use Rattle.gate_text.specs.Compared.{ComesTo, IsFaultOf}
-use Rattle.answer_text.specs.Documents.{list_by, piece}
-use Rattle.answer_text.specs.Request.{target_words}
-use Rattle.gate_text.specs.declared.compare.TextFault.{TextFault}
-use Rattle.gate_text.specs.declared.compare.TextFault.TheVariants.{OutOfMemory}
-use Rattle.answer_text.specs.declared.entity.Entity.{Entity}
-use Rattle.answer_text.specs.declared.format.Format.{Format}
-use Rattle.answer_text.specs.declared.format.Format.TheVariants.{Text, Json}
+use Rattle.request_types.specs.Target.{Target}
+use Rattle.rights_core.specs.Rights.{Rights, live_grants}
+use Rattle.verdict_text.specs.Caret.{shown}
+use Rattle.verdict_text.specs.Documents.{list_by, piece}
+use Rattle.compare_text.specs.Request.{target_words}
+use Rattle.verdict_text.specs.declared.reading.TextFault.{TextFault}
+use Rattle.verdict_text.specs.declared.entity.ReadEntity.{ReadEntity}
+use Rattle.verdict_text.specs.declared.format.Format.{Format}
+use Rattle.verdict_text.specs.declared.format.Format.TheVariants.{Text, Json}
 use Rattle.share_core.specs.declared.pools.Pool.{Pool}
 use Rattle.share_text.specs.Kinds.{IsSharedWithin, ShareWithin, is_written, kind_words}
 use Rattle.share_text.specs.declared.kind.Kind.{Kind}
@@ -20,20 +19,22 @@ use Rattle.share_text.specs.declared.kind.Kind.TheVariants.{WritesWrites, Writes
 use Rattle.share_text.specs.declared.tenants.Strictness.{Strictness}
 use Rattle.share_text.specs.declared.tenants.Tenant.{Tenant}
 
--- the entity's text comes to the tenant's grants
-abbrev pub IsTenant : Entity → Tenant → Type 0
-IsTenant entity tenant = (string_bytes tenant.name ≡ string_bytes entity.name) × ComesTo (string_bytes entity.osd) tenant.ticket.grants
+-- the tenant has the entity's name, and a ticket of the grants that some address has
+abbrev pub IsTenant : ReadEntity → Tenant → Type 0
+IsTenant entity tenant =
+    (tenant.name.now ≡ string_bytes entity.name) × (rights : Rights) × (entity.osd.read ≡ Ok rights)
+    × (tenant.ticket.now.grants ≡ live_grants rights.grants)
 
--- the entity's text has no grants
-abbrev pub IsUnjudged : Entity → Type 0
-IsUnjudged entity = (fault : TextFault) × IsFaultOf (string_bytes entity.osd) fault × (fault ≢ OutOfMemory)
+-- the entity's text grants nothing
+abbrev pub IsUnjudged : ReadEntity → Type 0
+IsUnjudged entity = (fault : TextFault) × (entity.osd.read ≡ Err fault)
 
-abbrev pub IsTenantOrNone : Entity → Option Tenant → Type 0
+abbrev pub IsTenantOrNone : ReadEntity → Option Tenant → Type 0
 IsTenantOrNone entity (Some tenant) = IsTenant entity tenant
 IsTenantOrNone entity None = IsUnjudged entity
 
--- the entities that come to grants, in order; the others are left out
-abbrev pub AreTenants : List Entity → List Tenant → Type 0
+-- the entities whose texts have rights, in order; the others are left out
+abbrev pub AreTenants : List ReadEntity → List Tenant → Type 0
 AreTenants [] tenants = tenants ≡ []
 AreTenants (entity ∷ entities) tenants =
     ((tenant : Tenant) × (rest : List Tenant) × IsTenant entity tenant × AreTenants entities rest × (tenants ≡ tenant ∷ rest))
@@ -80,12 +81,12 @@ pair_by Json kind one other target = piece (pair_document kind one other target)
 abbrev pub IsToldBy : Option (List Pool) → Strictness → Option Kind → Tenant → Tenant → List ℕ → Bool → Type 0
 IsToldBy pools strictness None one other text fails = (text ≡ []) × (fails ≡ false)
 IsToldBy pools strictness (Some kind) one other text fails =
-    (target : Target) × IsSharedWithin pools kind one.ticket.grants other.ticket.grants target
-    × (text ≡ pair_by strictness.format kind (string_bytes one.name) (string_bytes other.name) target) × (fails ≡ (strictness.check && is_written kind))
+    (target : Target) × IsSharedWithin pools kind one.ticket.now.grants other.ticket.now.grants target
+    × (text ≡ pair_by strictness.format kind one.name.now other.name.now target) × (fails ≡ (strictness.check && is_written kind))
 
 abbrev pub IsPairTold : Option (List Pool) → Strictness → Tenant → Tenant → List ℕ → Bool → Type 0
 IsPairTold pools strictness one other text fails =
-    (found : Option Kind) × IsStrongest pools strictness.reads one.ticket.grants other.ticket.grants found × IsToldBy pools strictness found one other text fails
+    (found : Option Kind) × IsStrongest pools strictness.reads one.ticket.now.grants other.ticket.now.grants found × IsToldBy pools strictness found one other text fails
 
 -- what is told of each tenant, and of those behind it, in turn; it fails where it fails for one
 abbrev pub InTurn : (Tenant → List Tenant → List ℕ → Bool → Type 0) → List Tenant → List ℕ → Bool → Type 0
@@ -100,7 +101,7 @@ IsToldWith pools strictness one others text fails = InTurn (λ other behind. IsP
 
 -- what is printed of some entities, and whether the command fails: each pair once, in the file's order; where pools are given,
 -- of their targets alone
-abbrev pub AreTenantsTold : Option (List Pool) → Strictness → List Entity → List ℕ → Bool → Type 0
+abbrev pub AreTenantsTold : Option (List Pool) → Strictness → List ReadEntity → List ℕ → Bool → Type 0
 AreTenantsTold pools strictness entities text fails =
     (tenants : List Tenant) × AreTenants entities tenants × (told : List ℕ) × InTurn (IsToldWith pools strictness) tenants told fails
     × (text ≡ list_by (codes "pairs") strictness.format told)

@@ -1,14 +1,17 @@
 -- Statement: contracts of public calls use it.
 -- What is printed of what two capability texts share (this project's profile). Every line ends with byte 10.
-use Rattle.std.specs.Prelude.{ℕ, ◌≡◌, ◌⊎◌, ◌↔◌, ◌&&◌, ◌||◌, ◌==◌, not, List, [], ◌++◌, Bool, codes, length, if◌then◌else◌}
+use Rattle.std.specs.Prelude.{ℕ, ◌≡◌, ◌↔◌, ◌&&◌, ◌||◌, ◌==◌, not, List, [], ◌++◌, Bool, None, Result, Ok, Err, codes, length, if◌then◌else◌}
 use Rattle.std.specs.List.{All, flat_map}
 use Rattle.grant_core.specs.Flat.{Flat}
 use Rattle.grant_core.specs.Text.{printed_path}
+use Rattle.rights_core.specs.Rights.{NetworkGrant, live_grants}
 use Rattle.share_core.specs.Sharing.{Answers, pairs}
 use Rattle.share_core.specs.declared.reaching.Shared.{Shared}
-use Rattle.gate_text.specs.Compared.{ComesTo, IsSideRefused}
-use Rattle.answer_text.specs.Request.{target_words}
-use Rattle.answer_text.specs.declared.format.Format.TheVariants.{Text}
+use Rattle.verdict_text.specs.Reading.{IsReading, Reading}
+use Rattle.verdict_text.specs.declared.reading.Rules.TheVariants.{Project}
+use Rattle.compare_text.specs.Compared.{IsSideRefused}
+use Rattle.compare_text.specs.Request.{target_words}
+use Rattle.verdict_text.specs.declared.format.Format.TheVariants.{Text}
 use Rattle.share_text.specs.Kinds.{IsSharedSo, ShareSo, kind_words, one_touch, other_touch}
 use Rattle.share_text.specs.declared.kind.Kind.{Kind}
 use Rattle.share_text.specs.declared.kind.Kind.TheVariants.{WritesWrites, WritesReads, ReadsWrites, ReadsReads}
@@ -61,17 +64,21 @@ pub record AreToldApart (check : Bool) (ones others : Flat) (text : List ℕ) (f
   pub printed : text ≡ or_apart (shared_lines all)
   pub ends : fails ≡ (check && is_any_written all)
 
--- both texts come to grants
-pub record AreShared (check : Bool) (first second : List ℕ) (text : List ℕ) (fails : Bool) : Type 0 where
-  pub ones : Flat
-  pub others : Flat
-  pub first_comes : ComesTo first ones
-  pub second_comes : ComesTo second others
-  pub told : AreToldApart check ones others text fails
+-- what is printed of two lists of grants with networks: that of the grants that some address has
+abbrev pub AreRightsTold : Bool → List NetworkGrant → List NetworkGrant → List ℕ → Bool → Type 0
+AreRightsTold check ones others text fails = AreToldApart check (live_grants ones) (live_grants others) text fails
 
--- what is printed of two texts, and whether the command fails: a text that has no grants is refused, the first one first
+-- a second text that was read, beside the first one's grants
+abbrev pub IsSecondTold : Bool → List NetworkGrant → Reading → List ℕ → Bool → Type 0
+IsSecondTold check ones (Ok rights) text fails = AreRightsTold check ones rights.grants text fails
+IsSecondTold check ones (Err fault) text fails = IsSideRefused Text (codes "second") fault text fails
+
+-- two texts that were read, of which the first one's fault comes first
+abbrev pub AreShared : Bool → Reading → Reading → List ℕ → Bool → Type 0
+AreShared check (Ok rights) second text fails = IsSecondTold check rights.grants second text fails
+AreShared check (Err fault) second text fails = IsSideRefused Text (codes "first") fault text fails
+
+-- what is printed of two texts by this project's rules, and whether the command fails
 abbrev pub IsShareAnswer : Bool → List ℕ → List ℕ → List ℕ → Bool → Type 0
 IsShareAnswer check first second text fails =
-    AreShared check first second text fails
-    ⊎ (IsSideRefused Text first (codes "first") text fails
-    ⊎ (((grants : Flat) × ComesTo first grants) × IsSideRefused Text second (codes "second") text fails))
+    (ones others : Reading) × IsReading Project first None ones × IsReading Project second None others × AreShared check ones others text fails

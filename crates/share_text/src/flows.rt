@@ -2,7 +2,7 @@
 
 ghost use Rattle.std.specs.Prelude.{ℕ, ◌≡◌, ◌++◌, ◌<◌, ◌↔◌, map, length, codes, string_bytes, option_copied, IfOk, OnOk};
 ghost use Rattle.std.specs.List.{Contains};
-ghost use Rattle.answer_text.specs.Caret.{shown};
+ghost use Rattle.verdict_text.specs.Caret.{shown};
 ghost use Rattle.share_core.specs.Near.{AreNear};
 ghost use Rattle.share_text.specs.Behind.{grants_of};
 ghost use Rattle.share_text.specs.Kinds.{ShareWithin};
@@ -11,13 +11,13 @@ ghost use Rattle.share_text.specs.Flows.{AreFlowsTold, AreReaders, OfEach, grant
 ghost use Rattle.share_text.specs.FlowLines.{AreChainsTold, IsChainTold, IsWriterTold};
 
 use crate::kind::Kind;
-use crate::tenants::{Tenant, index_of, nothing, push_told, share_within, tenants_of};
+use crate::tenants::{Tenant, index_of, lives_of, nothing, push_told, share_within, tenants_of};
 use common_types::OutOfMemory;
 use flow_core::{Found, chains_from};
-use gate_text::{Entity, Printed, push_shown_text};
 use share_core::Pool;
 use std::alloc::Global;
 use verdict_core::Ticket;
+use verdict_text::{Printed, ReadEntity, push_shown_text};
 
 /// The places of the tenants that read what one writes, in some of the pools where they are given. The near ones are given: the
 /// others share nothing with it.
@@ -25,7 +25,7 @@ fn readers_of(
     alloc: Global,
     writer: &Ticket,
     near: &[usize],
-    tenants: &[Tenant],
+    tenants: &[Tenant<'_>],
     pools: Option<&[Pool]>,
 ) -> Result<Vec<usize>, OutOfMemory>
     requires { AreNear writer.now.grants (grants_of tenants.now) 0 near.now }
@@ -34,7 +34,7 @@ fn readers_of(
     let mut readers = Vec::new(alloc);
     for place in near {
         let tenant = &tenants[*place];
-        if share_within(Kind::WritesReads, writer, &tenant.ticket, pools) {
+        if share_within(Kind::WritesReads, writer, tenant.ticket, pools) {
             readers.push(*place)?;
         }
     }
@@ -44,7 +44,7 @@ fn readers_of(
 /// For each tenant the places of those that read what it writes.
 fn steps_of(
     alloc: Global,
-    tenants: &[Tenant],
+    tenants: &[Tenant<'_>],
     pools: Option<&[Pool]>,
 ) -> Result<Vec<Vec<usize>>, OutOfMemory>
     ensures { IfOk result (λ steps. AreReaders (option_copied pools.entry) tenants.now (map (λ readers. readers.items) steps.items)) }
@@ -52,25 +52,29 @@ fn steps_of(
     let index = index_of(alloc, tenants)?;
     let mut steps = Vec::new(alloc);
     for writer in tenants {
-        let near = index.near(&writer.ticket, 0)?;
-        let readers = readers_of(alloc, &writer.ticket, near.as_slice(), tenants, pools)?;
+        let near = index.near(writer.ticket, 0)?;
+        let readers = readers_of(alloc, writer.ticket, near.as_slice(), tenants, pools)?;
         steps.push(readers)?;
     }
     Ok(steps)
 }
 
 /// Adds the name at a place as it is shown.
-fn push_name(text: &mut String, tenants: &[Tenant], place: usize) -> Result<(), OutOfMemory>
+fn push_name(text: &mut String, tenants: &[Tenant<'_>], place: usize) -> Result<(), OutOfMemory>
     ensures { OnOk result (string_bytes text.new ≡ string_bytes text.old ++ shown (name_at tenants.now place)) }
 {
     match tenants.get(place) {
         None => Ok(()),
-        Some(tenant) => push_shown_text(text, tenant.name.as_str()),
+        Some(tenant) => push_shown_text(text, tenant.name),
     }
 }
 
 /// Adds the names of those between.
-fn push_between(text: &mut String, tenants: &[Tenant], between: &[usize]) -> Result<(), OutOfMemory>
+fn push_between(
+    text: &mut String,
+    tenants: &[Tenant<'_>],
+    between: &[usize],
+) -> Result<(), OutOfMemory>
     ensures { OnOk result (string_bytes text.new ≡ string_bytes text.old ++ through_words tenants.now (codes " through ") between.now) }
 {
     let mut words = " through ";
@@ -85,7 +89,7 @@ fn push_between(text: &mut String, tenants: &[Tenant], between: &[usize]) -> Res
 /// The line of a writer and a reader, with those between.
 fn flow_line(
     alloc: Global,
-    tenants: &[Tenant],
+    tenants: &[Tenant<'_>],
     writer: usize,
     reader: usize,
     between: &[usize],
@@ -104,7 +108,7 @@ fn flow_line(
 /// What is told of two tenants, of which the one reaches the other by a chain, or not where it has no places.
 fn told_chain(
     alloc: Global,
-    tenants: &[Tenant],
+    tenants: &[Tenant<'_>],
     writer: usize,
     reader: usize,
     chain: &[usize],
@@ -123,7 +127,7 @@ fn told_chain(
 /// What is told of a tenant with each to which a chain was found.
 fn told_chains(
     alloc: Global,
-    tenants: &[Tenant],
+    tenants: &[Tenant<'_>],
     writer: usize,
     chains: &[Found],
     check: bool,
@@ -142,7 +146,7 @@ fn told_chains(
 /// What is told of each tenant, by the chains that steps give.
 fn told_writers(
     alloc: Global,
-    tenants: &[Tenant],
+    tenants: &[Tenant<'_>],
     steps: &[Vec<usize>],
     check: bool,
 ) -> Result<Printed, OutOfMemory>
@@ -165,20 +169,23 @@ fn told_writers(
 /// It is what may come to be known, not what does: an entity between need not write what it reads. Where pools are given, a
 /// target counts only if it is of one of them, with exactly its tags. Without them each target counts that can be.
 ///
-/// An entity whose text has no grants is left out. A name's bytes outside 32 to 126 are shown as `\x` and two hexadecimal
+/// A grant counts at the addresses of its network, and one writes what another reads if they do from some address of each.
+///
+/// An entity whose text has no rights is left out. A name's bytes outside 32 to 126 are shown as `\x` and two hexadecimal
 /// digits. The only error is want of memory, which leaves nothing. Time goes by the pairs of entities that name a common pool,
 /// or of which one has a grant without a pool, and for each by the pairs of their grants, and then for each entity by those whom
 /// it reaches, by the pairs of these of which one writes what the other reads, and by what is printed. The lines are this
 /// project's profile.
 pub fn flow_entities(
     alloc: Global,
-    entities: &[Entity],
+    entities: &[ReadEntity],
     pools: Option<&[Pool]>,
     check: bool,
 ) -> Result<Printed, OutOfMemory>
     ensures { IfOk result (λ printed. AreFlowsTold (option_copied pools.entry) check entities.now (string_bytes printed.text) printed.fails) }
 {
-    let tenants = tenants_of(alloc, entities)?;
+    let lives = lives_of(alloc, entities)?;
+    let tenants = tenants_of(alloc, lives.as_slice())?;
     let steps = steps_of(alloc, tenants.as_slice(), pools)?;
     told_writers(alloc, tenants.as_slice(), steps.as_slice(), check)
 }

@@ -1,27 +1,28 @@
 //! What the entities of a file share.
 
-ghost use Rattle.std.specs.Prelude.{◌≡◌, ◌++◌, ◌&&◌, ◌||◌, [], false, None, Some, codes, drop, string_bytes, option_copied, IfOk, OnOk, ◌↔◌, IsTrue};
+ghost use Rattle.std.specs.Prelude.{◌≡◌, ◌++◌, ◌&&◌, ◌||◌, [], false, None, Some, codes, drop, map, string_bytes, All, option_copied, IfOk, OnOk, ◌↔◌, IsTrue};
 ghost use Rattle.serde_json.specs.View.{view};
-ghost use Rattle.answer_text.specs.Documents.{piece};
-ghost use Rattle.answer_text.specs.Request.{target_words};
+ghost use Rattle.verdict_text.specs.Documents.{piece};
+ghost use Rattle.compare_text.specs.Request.{target_words};
 ghost use Rattle.share_core.specs.Near.{AreNear};
 ghost use Rattle.share_core.specs.Sharing.{IsExampleIn, ShareIn};
 ghost use Rattle.share_text.specs.Behind.{grants_of};
+ghost use Rattle.share_text.specs.Live.{IsLiveOf};
 ghost use Rattle.share_text.specs.Kinds.{ShareSo, ShareWithin, is_written, one_touch, other_touch};
 ghost use Rattle.share_text.specs.Tenants as spec;
 ghost use Rattle.share_text.specs.Tenants.{AreTenants, AreTenantsTold, InTurn, IsPairTold, IsStrongest, IsTenantOrNone, IsToldBy, IsToldWith, pair_document};
 
 use crate::kind::Kind;
+use crate::live::{live_ticket, ticket_in};
 use crate::texts::examples_of;
 use common_types::OutOfMemory;
 use compare_core::OwnedTarget;
-use gate_text::{
-    Entity, Format, Printed, TextFault, list_by, push_shown_text, push_target, ticket_of_text,
-};
+use compare_text::push_target;
 use serde_json::{Value, json};
 use share_core::{Pool, PoolIndex, example_in, share, share_in};
-use std::alloc::{AllocError, Global};
+use std::alloc::Global;
 use verdict_core::Ticket;
+use verdict_text::{Format, Printed, ReadEntity, list_by, push_shown_text};
 
 /// How much of what entities share is told, what fails, and how it is printed.
 #[derive(Clone, Copy, Debug)]
@@ -34,39 +35,74 @@ pub struct Strictness {
     pub format: Format,
 }
 
-/// An entity whose capability text comes to grants.
-pub(crate) struct Tenant {
-    pub(crate) name: String,
-    pub(crate) ticket: Ticket,
+/// An entity whose capability text has rights, and a ticket of the grants that some address has.
+#[derive(Clone, Copy)]
+pub(crate) struct Tenant<'a> {
+    pub(crate) name: &'a str,
+    pub(crate) ticket: &'a Ticket,
 }
 
-impl Drop for Tenant {
-    fn drop(self) {
-        let Tenant { name: _, ticket: _ } = self;
-    }
+/// An entity, and the ticket that is made of its rights where they have networks.
+#[derive(Drop)]
+pub(crate) struct Live<'a> {
+    entity: &'a ReadEntity,
+    ticket: Option<Ticket>,
 }
 
-/// The tenant that an entity is, or nothing where its text has no grants.
-fn tenant_of(alloc: Global, entity: &Entity) -> Result<Option<Tenant>, OutOfMemory>
-    ensures { IfOk result (λ found. IsTenantOrNone entity.now found) }
+/// An entity with the ticket that is made of its rights.
+#[tactic(auto, using(crate::proofs::Lives::live_read, crate::proofs::Lives::live_unread))]
+fn live_of<'a>(alloc: Global, entity: &'a ReadEntity) -> Result<Live<'a>, OutOfMemory>
+    ensures entity { IfOk result (λ live. live.entity.now ≡ entity.now) }
+    ensures live { IfOk result (λ live. IsLiveOf live.entity.now live.ticket) }
 {
-    match ticket_of_text(alloc, entity.osd.as_str()) {
-        Ok(ticket) => {
-            let name = String::from_str(alloc, entity.name.as_str())?;
-            Ok(Some(Tenant { name, ticket }))
-        }
-        Err(TextFault::OutOfMemory) => Err(AllocError),
-        Err(_) => Ok(None),
+    let ticket = match entity.osd.read() {
+        Ok(rights) => live_ticket(alloc, rights)?,
+        Err(_) => None,
+    };
+    Ok(Live { entity, ticket })
+}
+
+/// The entities with the tickets that are made of their rights.
+pub(crate) fn lives_of<'a>(
+    alloc: Global,
+    entities: &'a [ReadEntity],
+) -> Result<Vec<Live<'a>>, OutOfMemory>
+    ensures entities { IfOk result (λ lives. map (λ live. live.entity.now) lives.items ≡ entities.now) }
+    ensures live { IfOk result (λ lives. All (λ live. IsLiveOf live.entity.now live.ticket) lives.items) }
+{
+    let mut lives = Vec::new(alloc);
+    for entity in entities {
+        let live = live_of(alloc, entity)?;
+        lives.push(live)?;
+    }
+    Ok(lives)
+}
+
+/// The tenant that an entity is, or nothing if its text has no rights.
+fn tenant_of<'a>(live: &'a Live<'_>) -> Option<Tenant<'a>>
+    requires { IsLiveOf live.now.entity.now live.now.ticket }
+    ensures { IsTenantOrNone live.now.entity.now result }
+{
+    match live.entity.osd.read() {
+        Ok(rights) => Some(Tenant {
+            name: live.entity.name.as_str(),
+            ticket: ticket_in(rights, &live.ticket),
+        }),
+        Err(_) => None,
     }
 }
 
-/// The entities whose texts come to grants, in order.
-pub(crate) fn tenants_of(alloc: Global, entities: &[Entity]) -> Result<Vec<Tenant>, OutOfMemory>
-    ensures { IfOk result (λ tenants. AreTenants entities.now tenants.items) }
+/// The entities whose texts have rights, in order.
+pub(crate) fn tenants_of<'a>(
+    alloc: Global,
+    lives: &'a [Live<'_>],
+) -> Result<Vec<Tenant<'a>>, OutOfMemory>
+    requires { All (λ live. IsLiveOf live.entity.now live.ticket) lives.now }
+    ensures { IfOk result (λ tenants. AreTenants (map (λ live. live.entity.now) lives.now) tenants.items) }
 {
     let mut tenants = Vec::new(alloc);
-    for entity in entities {
-        if let Some(tenant) = tenant_of(alloc, entity)? {
+    for live in lives {
+        if let Some(tenant) = tenant_of(live) {
             tenants.push(tenant)?;
         }
     }
@@ -185,7 +221,7 @@ fn pair_value(
     json!(in alloc; {"example": example, "first": first, "kind": kind.words(), "second": second})
 }
 
-/// The same as a piece of a list.
+/// The piece of two names that share a target so.
 fn pair_piece(
     alloc: Global,
     kind: Kind,
@@ -234,16 +270,14 @@ pub(crate) fn nothing(alloc: Global) -> Printed
 fn told_at(
     alloc: Global,
     kind: Kind,
-    one: &Tenant,
-    other: &Tenant,
+    one: &Tenant<'_>,
+    other: &Tenant<'_>,
     target: &OwnedTarget,
     strictness: Strictness,
 ) -> Result<Printed, OutOfMemory>
-    ensures { IfOk result (λ printed. (string_bytes printed.text ≡ spec.pair_by strictness.format kind (string_bytes one.now.name) (string_bytes other.now.name) target.now) × (printed.fails ≡ (strictness.check && is_written kind))) }
+    ensures { IfOk result (λ printed. (string_bytes printed.text ≡ spec.pair_by strictness.format kind (one.now.name.now) (other.now.name.now) target.now) × (printed.fails ≡ (strictness.check && is_written kind))) }
 {
-    let one = one.name.as_str();
-    let other = other.name.as_str();
-    let text = pair_by(alloc, strictness.format, kind, one, other, target)?;
+    let text = pair_by(alloc, strictness.format, kind, one.name, other.name, target)?;
     let is_written = kind.is_written();
     Ok(Printed {
         text,
@@ -255,14 +289,14 @@ fn told_at(
 fn told_so(
     alloc: Global,
     kind: Kind,
-    one: &Tenant,
-    other: &Tenant,
+    one: &Tenant<'_>,
+    other: &Tenant<'_>,
     strictness: Strictness,
 ) -> Result<Printed, OutOfMemory>
-    requires { ShareSo kind one.now.ticket.grants other.now.ticket.grants }
+    requires { ShareSo kind one.now.ticket.now.grants other.now.ticket.now.grants }
     ensures { IfOk result (λ printed. IsToldBy None strictness (Some kind) one.now other.now (string_bytes printed.text) printed.fails) }
 {
-    let examples = examples_of(alloc, kind, &one.ticket, &other.ticket)?;
+    let examples = examples_of(alloc, kind, one.ticket, other.ticket)?;
     match examples.first() {
         None => Ok(nothing(alloc)),
         Some(shared) => told_at(alloc, kind, one, other, &shared.target, strictness),
@@ -288,15 +322,15 @@ fn example_so(
 fn told_so_in(
     alloc: Global,
     kind: Kind,
-    one: &Tenant,
-    other: &Tenant,
+    one: &Tenant<'_>,
+    other: &Tenant<'_>,
     strictness: Strictness,
     pools: &[Pool],
 ) -> Result<Printed, OutOfMemory>
-    requires { ShareIn pools.now one.now.ticket.grants (one_touch kind) other.now.ticket.grants (other_touch kind) }
+    requires { ShareIn pools.now one.now.ticket.now.grants (one_touch kind) other.now.ticket.now.grants (other_touch kind) }
     ensures { IfOk result (λ printed. IsToldBy (Some pools.now) strictness (Some kind) one.now other.now (string_bytes printed.text) printed.fails) }
 {
-    match example_so(alloc, kind, &one.ticket, &other.ticket, pools)? {
+    match example_so(alloc, kind, one.ticket, other.ticket, pools)? {
         None => Ok(nothing(alloc)),
         Some(target) => told_at(alloc, kind, one, other, &target, strictness),
     }
@@ -306,12 +340,12 @@ fn told_so_in(
 fn told_within(
     alloc: Global,
     kind: Kind,
-    one: &Tenant,
-    other: &Tenant,
+    one: &Tenant<'_>,
+    other: &Tenant<'_>,
     strictness: Strictness,
     pools: Option<&[Pool]>,
 ) -> Result<Printed, OutOfMemory>
-    requires { ShareWithin (option_copied pools) kind one.now.ticket.grants other.now.ticket.grants }
+    requires { ShareWithin (option_copied pools) kind one.now.ticket.now.grants other.now.ticket.now.grants }
     ensures { IfOk result (λ printed. IsToldBy (option_copied pools.entry) strictness (Some kind) one.now other.now (string_bytes printed.text) printed.fails) }
 {
     match pools {
@@ -325,12 +359,12 @@ fn told_pair(
     alloc: Global,
     strictness: Strictness,
     pools: Option<&[Pool]>,
-    one: &Tenant,
-    other: &Tenant,
+    one: &Tenant<'_>,
+    other: &Tenant<'_>,
 ) -> Result<Printed, OutOfMemory>
     ensures { IfOk result (λ printed. IsPairTold (option_copied pools.entry) strictness one.now other.now (string_bytes printed.text) printed.fails) }
 {
-    match strongest(strictness.reads, &one.ticket, &other.ticket, pools) {
+    match strongest(strictness.reads, one.ticket, other.ticket, pools) {
         None => Ok(nothing(alloc)),
         Some(kind) => told_within(alloc, kind, one, other, strictness, pools),
     }
@@ -352,12 +386,12 @@ fn told_with(
     alloc: Global,
     strictness: Strictness,
     pools: Option<&[Pool]>,
-    one: &Tenant,
-    tenants: &[Tenant],
+    one: &Tenant<'_>,
+    tenants: &[Tenant<'_>],
     from: usize,
     near: &[usize],
 ) -> Result<Printed, OutOfMemory>
-    requires { AreNear one.now.ticket.grants (grants_of tenants.now) from near.now }
+    requires { AreNear one.now.ticket.now.grants (grants_of tenants.now) from near.now }
     ensures { IfOk result (λ printed. IsToldWith (option_copied pools.entry) strictness one.now (drop from tenants.now) (string_bytes printed.text) printed.fails) }
 {
     let mut printed = nothing(alloc);
@@ -369,12 +403,15 @@ fn told_with(
 }
 
 /// The tenants' tickets, found by the pools that they name.
-pub(crate) fn index_of(alloc: Global, tenants: &[Tenant]) -> Result<PoolIndex<'_>, OutOfMemory>
+pub(crate) fn index_of<'a>(
+    alloc: Global,
+    tenants: &[Tenant<'a>],
+) -> Result<PoolIndex<'a>, OutOfMemory>
     ensures { IfOk result (λ index. index ≡ grants_of tenants.now) }
 {
     let mut index = PoolIndex::new(alloc);
     for tenant in tenants {
-        index.add(&tenant.ticket)?;
+        index.add(tenant.ticket)?;
     }
     Ok(index)
 }
@@ -384,7 +421,7 @@ fn told_each(
     alloc: Global,
     strictness: Strictness,
     pools: Option<&[Pool]>,
-    tenants: &[Tenant],
+    tenants: &[Tenant<'_>],
 ) -> Result<Printed, OutOfMemory>
     ensures { IfOk result (λ printed. InTurn (IsToldWith (option_copied pools.entry) strictness) tenants.now (string_bytes printed.text) printed.fails) }
 {
@@ -393,7 +430,7 @@ fn told_each(
     for place in 0..tenants.len() {
         let one = &tenants[place];
         let from = place + 1;
-        let near = index.near(&one.ticket, from)?;
+        let near = index.near(one.ticket, from)?;
         let told = told_with(
             alloc,
             strictness,
@@ -417,7 +454,9 @@ fn told_each(
 /// Where pools are given, a target counts only if it is of one of them, with exactly its tags, and a line has one of the first
 /// pool in which the two share so. Without them each target counts that can be.
 ///
-/// An entity whose text has no grants is left out. A name's bytes outside 32 to 126 are shown as `\x` and two hexadecimal
+/// A grant counts at the addresses of its network, and two share something if they do from some address of each.
+///
+/// An entity whose text has no rights is left out. A name's bytes outside 32 to 126 are shown as `\x` and two hexadecimal
 /// digits. As a document it has the member `pairs`, of whose items each has `first`, `second`, `kind`, which is what the first
 /// one does and then the second one, and `example`, which is the target.
 ///
@@ -426,13 +465,14 @@ fn told_each(
 /// meet. The lines are this project's profile.
 pub fn share_entities(
     alloc: Global,
-    entities: &[Entity],
+    entities: &[ReadEntity],
     strictness: Strictness,
     pools: Option<&[Pool]>,
 ) -> Result<Printed, OutOfMemory>
     ensures { IfOk result (λ printed. AreTenantsTold (option_copied pools.entry) strictness entities.now (string_bytes printed.text) printed.fails) }
 {
-    let tenants = tenants_of(alloc, entities)?;
+    let lives = lives_of(alloc, entities)?;
+    let tenants = tenants_of(alloc, lives.as_slice())?;
     let told = told_each(alloc, strictness, pools, tenants.as_slice())?;
     Ok(Printed {
         text: list_by(alloc, "pairs", told.text, strictness.format)?,

@@ -2,17 +2,20 @@
 
 ghost use Rattle.std.specs.Prelude.{◌≡◌, ◌++◌, ◌&&◌, true, not, ◌==◌, length, codes, string_bytes, IfOk, OnOk};
 ghost use Rattle.std.specs.List.{flat_map};
-ghost use Rattle.gate_text.specs.Compared.{refused_side};
+ghost use Rattle.verdict_text.specs.Reading.{refused_side};
 ghost use Rattle.share_text.specs.Texts as spec;
-ghost use Rattle.share_text.specs.Texts.{AreAllExamples, AreExamples, AreToldApart, IsShareAnswer, shared_line};
+ghost use Rattle.share_text.specs.Texts.{AreAllExamples, AreExamples, AreRightsTold, AreShared, AreToldApart, IsShareAnswer, shared_line};
 
 use crate::kind::Kind;
+use crate::live::{live_ticket, ticket_in};
 use common_types::OutOfMemory;
-use gate_text::{Printed, TextFault, push_target, ticket_of_text};
+use compare_text::push_target;
+use rights_core::Rights;
 use share_core::{Shared, sharing};
-use std::alloc::{AllocError, Global};
+use std::alloc::Global;
 use std::fmt::Write;
 use verdict_core::Ticket;
+use verdict_text::{Printed, Reader, Reading, Rules, TextFault};
 
 /// The examples of each kind.
 pub(crate) struct Examples {
@@ -153,13 +156,64 @@ fn refused(alloc: Global, side: &str, fault: TextFault) -> Result<Printed, OutOf
     Ok(Printed { text, fails: true })
 }
 
-/// What the program prints of what two capability texts share: for each kind, `writes writes`, `writes reads`,
+/// What is printed of the rights of two texts.
+fn told_rights(
+    alloc: Global,
+    ones: &Rights,
+    others: &Rights,
+    check: bool,
+) -> Result<Printed, OutOfMemory>
+    ensures { IfOk result (λ printed. AreRightsTold check ones.now.grants others.now.grants (string_bytes printed.text) printed.fails) }
+{
+    let live_ones = live_ticket(alloc, ones)?;
+    let live_others = live_ticket(alloc, others)?;
+    told_apart(
+        alloc,
+        ticket_in(ones, &live_ones),
+        ticket_in(others, &live_others),
+        check,
+    )
+}
+
+/// What is printed of a second text that was read, beside the first one's rights.
+fn told_second(
+    alloc: Global,
+    ones: &Rights,
+    second: &Reading,
+    check: bool,
+) -> Result<Printed, OutOfMemory>
+    ensures { IfOk result (λ printed. spec.IsSecondTold check ones.now.grants second.now (string_bytes printed.text) printed.fails) }
+{
+    match second {
+        Ok(others) => told_rights(alloc, ones, others, check),
+        Err(fault) => refused(alloc, "second", *fault),
+    }
+}
+
+/// What the program prints of what two texts that were read share, as [`share_texts`] says.
+pub fn share_read(
+    alloc: Global,
+    first: &Reading,
+    second: &Reading,
+    check: bool,
+) -> Result<Printed, OutOfMemory>
+    ensures { IfOk result (λ printed. AreShared check first.now second.now (string_bytes printed.text) printed.fails) }
+{
+    match first {
+        Ok(ones) => told_second(alloc, ones, second, check),
+        Err(fault) => refused(alloc, "first", *fault),
+    }
+}
+
+/// What the program prints of what two capability texts share by this project's rules: for each kind, `writes writes`, `writes reads`,
 /// `reads writes` and `reads reads`, and each grant of the first text with each of the second that by themselves allow that
 /// at a common target, a line `KIND PATH PATH TARGET`, where TARGET is what `osdgate verdict` takes, quoted for a shell. Who
 /// calls a method that reads or writes counts as one who reads or writes. Where nothing is shared it is `apart`. With a check
 /// it fails where one writes what the other reads or writes.
 ///
-/// A text that has no grants is refused, the first one first, which fails: `refused first FAULT`, `refused second FAULT`. The
+/// A grant counts at the addresses of its network: they share something if they do from some address of each.
+///
+/// A text that has no rights is refused, the first one first, which fails: `refused first FAULT`, `refused second FAULT`. The
 /// only error is want of memory, which leaves nothing. The lines are this project's profile.
 pub fn share_texts(
     alloc: Global,
@@ -169,14 +223,8 @@ pub fn share_texts(
 ) -> Result<Printed, OutOfMemory>
     ensures { IfOk result (λ printed. IsShareAnswer check first.now second.now (string_bytes printed.text) printed.fails) }
 {
-    let ones = match ticket_of_text(alloc, first) {
-        Ok(ticket) => ticket,
-        Err(TextFault::OutOfMemory) => return Err(AllocError),
-        Err(fault) => return refused(alloc, "first", fault),
-    };
-    match ticket_of_text(alloc, second) {
-        Ok(ticket) => told_apart(alloc, &ones, &ticket, check),
-        Err(TextFault::OutOfMemory) => Err(AllocError),
-        Err(fault) => refused(alloc, "second", fault),
-    }
+    let reader = Reader::of(alloc, Rules::Project)?;
+    let ones = reader.read(alloc, first, None)?;
+    let others = reader.read(alloc, second, None)?;
+    share_read(alloc, &ones, &others, check)
 }

@@ -3,7 +3,7 @@ use Rattle.std.proofs.Common.{◌≡◌, ℕ, ◌+◌, ◌<◌, List, [], ◌∷
 use Rattle.std.proofs.lemmas.List.{take_more}
 use Rattle.std.specs.FinMap.{get, same_map}
 use Rattle.std.specs.Ordering.{eq_by_cmp}
-use Rattle.object_ops.specs.Content.{Content}
+use Rattle.object_core.specs.Content.{Content}
 use Rattle.store_core.specs.Request.{Sealed, Work, Vector, Listing}
 use Rattle.store_core.specs.Store.{Store, ObjectName, name_cmp, with_object}
 use Rattle.store_core.specs.Names.{name_cmp_total, same_names, is_same, is_same-ties, is_same_equiv, same_from_is_same}

@@ -13,7 +13,7 @@ use Rattle.std.specs.Str.{bytes_eq}
 use Rattle.std.specs.declared.cmp.Ordering.{Ordering}
 use Rattle.std.specs.declared.cmp.Ordering.TheVariants.{Less, Equal, Greater}
 use Rattle.std.proofs.lemmas.Map.Made.{is_some-lookup}
-use Rattle.object_ops.specs.Content.{Content}
+use Rattle.object_core.specs.Content.{Content}
 use Rattle.store_core.specs.Request.{Sealed}
 use Rattle.store_core.specs.Store.{Store, ObjectName, bytes_cmp, name_cmp}
 use Rattle.store_core.specs.Names.{is_same, is_same-ties, is_same_equiv, same_from_is_same}

@@ -9,7 +9,7 @@ use Rattle.std.specs.FinMap.{from_entries, get, insert, remove, find, get-from_e
 use Rattle.std.specs.Ordering.{eq_by_cmp}
 use Rattle.std.specs.declared.alloc.Global.{Global}
 use Rattle.std.specs.declared.sync.Arc.{Arc}
-use Rattle.object_ops.specs.Content.{Content}
+use Rattle.object_core.specs.Content.{Content}
 use Rattle.store_core.specs.Store.{Store, ObjectName, name_cmp, with_object}
 use Rattle.store_core.specs.Names.{name_cmp_total, same_names, is_same, is_same-ties, is_same_equiv, same_from_is_same}
 use Rattle.store_core.specs.Objects.{StoredObjects, objects_of}

@@ -7,9 +7,9 @@ use Rattle.std.specs.FinMap.{empty, get, keys}
 use Rattle.verdict_core.specs.Verdict.{is_allowed, report_of}
 use Rattle.place_core.specs.Placement.{group_of}
 use Rattle.object_core.specs.Effect.{effect}
-use Rattle.object_ops.specs.Operations.{Run, left_by}
-use Rattle.object_ops.specs.declared.outcome.Change.{Change}
-use Rattle.object_ops.specs.declared.outcome.Change.TheVariants.{Kept, Became}
+use Rattle.object_core.specs.Operations.{Run, left_by}
+use Rattle.object_core.specs.declared.outcome.Change.{Change}
+use Rattle.object_core.specs.declared.outcome.Change.TheVariants.{Kept, Became}
 use Rattle.store_core.specs.Request.{Sealed, Work, Vector, Listing, target_of, needs_for, object_of}
 use Rattle.store_core.specs.Store.{Store, ObjectName, with_object}
 use Rattle.store_core.specs.declared.reply.Reply.{Reply}

@@ -1,4 +1,4 @@
--- Statement: contracts of public calls use it.
+-- Refinement: only contracts inside the crate use it.
 -- What an id is hashed to. No promise hangs on it: tables find the same entries whatever the hash is.
 use Rattle.std.specs.Prelude.{ℕ, ◌+◌, ◌*◌, ◌%◌, ◌^◌, ◌==◌, List, length, if◌then◌else◌, slice_index, bit_and, bit_or}
 use Rattle.store_core.specs.declared.id_hasher.IdHasher.{IdHasher}

@@ -6,9 +6,9 @@ use Rattle.std.specs.FinMap.{from_entries, get}
 use Rattle.std.specs.Option.{option_map}
 use Rattle.std.specs.declared.alloc.Global.{Global}
 use Rattle.std.specs.declared.sync.Arc.{Arc}
-use Rattle.object_ops.specs.Content.{Content}
-use Rattle.object_ops.specs.declared.outcome.Change.{Change}
-use Rattle.object_ops.specs.declared.outcome.Change.TheVariants as change
+use Rattle.object_core.specs.Content.{Content}
+use Rattle.object_core.specs.declared.outcome.Change.{Change}
+use Rattle.object_core.specs.declared.outcome.Change.TheVariants as change
 use Rattle.store_core.specs.Request.{Sealed, Work, Vector, Listing}
 use Rattle.store_core.specs.Store.{Store, ObjectName, with_object}
 use Rattle.store_core.specs.Deciding.{Decision, name_of}

@@ -1,11 +1,11 @@
 -- Statement: contracts of public calls use it.
 -- Requests, with all that they are decided by. Source: this project's profile, after the object operations of RADOS.
 use Rattle.std.specs.Prelude.{◌≡◌, ℕ, List, [], true, false, None}
-use Rattle.verdict_types.specs.Target.{Target}
+use Rattle.request_types.specs.Target.{Target}
 use Rattle.verdict_core.specs.Ticket.{Ticket}
-use Rattle.verdict_types.specs.declared.request.Needs.{Needs}
-use Rattle.map_commands.specs.declared.pool.PoolView.{PoolView}
-use Rattle.object_ops.specs.declared.op.Op.{Op}
+use Rattle.request_types.specs.declared.request.Needs.{Needs}
+use Rattle.map_core.specs.declared.pool.PoolView.{PoolView}
+use Rattle.object_core.specs.declared.op.Op.{Op}
 use Rattle.object_core.specs.Needs.{needs_of, needs_fault}
 
 -- what is asked: operations on the object of a name, or the names of the objects that a group holds

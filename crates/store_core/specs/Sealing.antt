@@ -1,8 +1,8 @@
 -- Statement: contracts of public calls use it.
 -- What the parts of a sealed request stand for.
 use Rattle.std.specs.Prelude.{◌≡◌, ℕ, ◌≤◌, List, [], Option, Some, None}
-use Rattle.verdict_types.specs.Target.{Target}
-use Rattle.object_ops.specs.declared.op.Op.{Op}
+use Rattle.request_types.specs.Target.{Target}
+use Rattle.object_core.specs.declared.op.Op.{Op}
 use Rattle.store_core.specs.Request.{Sealed, Work, Vector, Listing, needs_for, IsSound}
 use Rattle.store_core.specs.declared.sealed_parts.Parts.{Parts}
 use Rattle.store_core.specs.declared.sealed_parts.Task.{Task}

@@ -6,7 +6,7 @@ use Rattle.std.specs.Ordering.{nat_cmp, then_cmp, on}
 use Rattle.std.specs.declared.cmp.Ordering.{Ordering}
 use Rattle.std.specs.Cmp.Lexicographic.{slice_cmp}
 use Rattle.std.specs.FinMap.{FinMap, code, insert, remove}
-use Rattle.object_ops.specs.Content.{Content}
+use Rattle.object_core.specs.Content.{Content}
 
 -- where an object is: its pool, its namespace and its name there
 pub record ObjectName : Type 0 where

@@ -5,7 +5,7 @@ ghost use Rattle.std.specs.Option.{option_map};
 ghost use Rattle.std.specs.Arc.{arc_value};
 ghost use Rattle.std.specs.FinMap.{get};
 ghost use Rattle.object_core.specs.Effect.{effect};
-ghost use Rattle.object_ops.specs.ToldEffects.{after};
+ghost use Rattle.object_core.specs.ToldEffects.{after};
 ghost use Rattle.store_core.specs.Deciding.{answered, decision_on, name_of, ran, with_answer};
 
 use crate::decided::{Decided, ObjectChange};

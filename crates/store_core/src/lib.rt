@@ -16,12 +16,11 @@ mod sealed;
 mod sealed_parts;
 mod texts;
 
-pub use common_types::{Items, OutOfMemory, TryCopy};
 pub use decided::{Decided, NamedChange, ObjectChange};
 pub use deciding::decide;
 pub use entry::Entry;
 pub use id::Id;
-pub use id_hasher::{IdHash, IdHasher};
+pub use id_hasher::IdHash;
 pub use object_name::ObjectName;
 pub use objects::Objects;
 pub use reply::{Reply, reply_number};

@@ -57,10 +57,10 @@ pub(crate) fn target_of(parts: &Parts) -> Target<'_>
     ensures { result ≡ target_in parts.now }
 {
     Target {
-        pool: parts.view.pool.as_str(),
+        pool: parts.view.pool.as_str().as_bytes(),
         tags: &parts.view.tags,
-        namespace: parts.name.namespace.as_str(),
-        object: parts.name.name.as_str(),
+        namespace: parts.name.namespace.as_str().as_bytes(),
+        object: parts.name.name.as_str().as_bytes(),
     }
 }
 

@@ -1,6 +1,6 @@
 -- Statement: contracts of public calls use it.
 -- What clauses see of a lock and of a seat.
-use Rattle.std.specs.Prelude.{◌≡◌, ℕ, ◌-◌, ◌*◌, ◌/◌, List, [], ◌∷◌, ◌++◌, Option, All}
+use Rattle.std.specs.Prelude.{◌≡◌, ℕ, ◌+◌, ◌-◌, ◌*◌, ◌/◌, List, [], ◌∷◌, ◌++◌, Option, All}
 use Rattle.atomic_table.specs.Seated.{TableId}
 use Rattle.atomic_table.specs.declared.shared.Seat.{Seat}
 use Rattle.turn_lock.specs.declared.rule.Made.{Made}
@@ -14,13 +14,15 @@ pub record Locked (S : Type 0) : Type 0 where
   pub first : S
 
 -- A seat: whose it is, its number, the beginning of the list of turns that it has seen, the entries that it made, how many
--- of the lock's numbers were given to it, those that were drawn counted, and the seats with a share that were joined to it
+-- of the lock's numbers were given to it, those that were drawn counted, how many it may still draw, and the seats with a
+-- share that were joined to it
 pub record Seated (E : Type 0) : Type 0 where
   pub lock : TableId
   pub number : ℕ
   pub seen : List (Made E)
   pub mine : List E
   pub share : ℕ
+  pub draws : ℕ
   pub joined : List (Joined E)
 
 -- their fields as functions, for lists of locks and of seats
@@ -62,6 +64,17 @@ module _ {E : Type 0} where
   abbrev pub HasSameShare : Seated E → Seated E → Type 0
   HasSameShare old new = (new.share ≡ old.share) × (new.joined ≡ old.joined)
 
+  -- the seat may draw every number that was given to it
+  abbrev pub HasDrawnNone : Seated E → Type 0
+  HasDrawnNone s = s.draws ≡ s.share
+
+  -- A new seat gets so many of the numbers that a seat may still draw, and has drawn none of them. That seat keeps all others
+  pub record GivesPart (part : ℕ) (old new given : Seated E) : Type 0 where
+    pub draws : given.draws ≡ part
+    pub share : given.share ≡ part
+    pub kept_draws : new.draws + part ≡ old.draws
+    pub kept_share : new.share + part ≡ old.share
+
   -- all numbers of the lock were given to this seat, or to those that were joined to it
   abbrev pub HasAllNumbers : Seated E → Type 0
   HasAllNumbers s = s.share ≡ last_word
@@ -83,4 +96,4 @@ module _ {E : Type 0} where
   HasItsOwn s = made_by s.number s.seen ≡ s.mine
 
   abbrev pub seated : {T : Type 0} → Seat (Option T) (View E) → Seated E
-  seated p = record { lock = p.table_id; number = p.id; seen = p.me.0.seen; mine = p.me.0.mine; share = p.me.0.share; joined = p.me.0.joined }
+  seated p = record { lock = p.table_id; number = p.id; seen = p.me.0.seen; mine = p.me.0.mine; share = p.me.0.share; draws = p.me.0.draws; joined = p.me.0.joined }

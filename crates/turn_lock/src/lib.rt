@@ -70,6 +70,16 @@
 //! An entry gets its place in the list by the one `fetch_add` that calls the next number. Between
 //! giving back and calling, the value in the slot already stands for the list and the entry of the
 //! seat whose turn it is.
+//!
+//! # What contracts see
+//!
+//! A lock is which one it is and the state that it began with. A seat is its lock, its number, the list of turns that it has
+//! seen, its own entries, its share of the lock's numbers, and the seats that were joined to it with their entries.
+//!
+//! # Costs
+//!
+//! No list exists at run time, and no share: a seat is a `u64`, how many numbers it may still draw. A turn is two `fetch_add`s,
+//! one that draws its number and one that calls the next, and a look at the number that is served, again until it is its own.
 #![tactic(auto)]
 
 mod lock;

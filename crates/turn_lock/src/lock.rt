@@ -1,7 +1,7 @@
 //! The lock and its seats.
-ghost use Rattle.std.specs.Prelude.{◌≡◌, ◌+◌, ◌<◌, ◌≤◌, [], All, IfOk, IfErr, vec_len};
-ghost use Rattle.turn_lock.specs.Seats.{IsSeatOf, IsNewSeatOf, IsSameSeat, HasSameShare, HasItsOwn, AreShared, joined_after};
-ghost use Rattle.turn_lock.specs.Turns.{StartsWith, longer};
+ghost use Rattle.std.specs.Prelude.{◌≡◌, ◌+◌, ◌/◌, ◌<◌, [], All, IfOk, IfErr, min, vec_len};
+ghost use Rattle.turn_lock.specs.Seats.{IsSeatOf, IsNewSeatOf, IsSameSeat, HasSameShare, HasDrawnNone, HasItsOwn, AreShared, GivesPart, joined_after};
+ghost use Rattle.turn_lock.specs.Turns.{StartsWith, last_word, longer};
 ghost use Rattle.turn_lock.specs.Turned.{Turned, Closes};
 
 use crate::OutOfMemory;
@@ -12,7 +12,7 @@ use std::marker::Model;
 use std::sync::Wait;
 use std::thread;
 
-// So many numbers a seat that was split off gets at most.
+// So many numbers `split` gives at most.
 const PART: u64 = 1 << 32;
 
 /// A value under a lock, which stands for the list of all turns that were taken on it.
@@ -36,9 +36,9 @@ impl<T: Recorded> Model for TurnLock<T> {
 ///
 /// Clauses see a seat as the `lock` that it is of, its `number`, the beginning of the list that it
 /// has `seen`, the entries that are its own, `mine`, its `share` of the numbers that the lock has,
-/// and the seats that were `joined` to it, each with its entries. The list itself is nowhere at run
-/// time: a seat is a `u64`, how many numbers it may still draw. A seat that is dropped takes these
-/// with it, and its entries stay.
+/// how many of them it still `draws`, and the seats that were `joined` to it, each with its
+/// entries. The list itself is nowhere at run time: a seat is a `u64`, how many numbers it may still
+/// draw. A seat that is dropped takes these with it, and its entries stay.
 #[derive(Drop)]
 pub struct Seat<T: Recorded> {
     token: Token<T>,
@@ -83,6 +83,7 @@ impl<T: Recorded> TurnLock<T> {
         ensures first { IfOk result (λ r. r.0.first ≡ T.state value) }
         ensures seats { IfOk result (λ r. (vec_len r.1 ≡ seats) × All (IsNewSeatOf r.0) r.1.items) }
         ensures shares { IfOk result (λ r. AreShared seats r.1.items) }
+        ensures draws { IfOk result (λ r. All HasDrawnNone r.1.items) }
         ensures err { IfErr result (λ e. e.0 ≡ value) }
     {
         let Ok(mut all) = Vec::with_capacity(alloc, seats) else {
@@ -110,8 +111,9 @@ impl<T: Recorded> TurnLock<T> {
     /// Runs the step once, in a turn of its own, and answers what it answered.
     ///
     /// It waits until every turn that drew its number before is over. Where the step is refused its
-    /// entry is an idle one, as the step's contract says. It returns in no bounded time, and never
-    /// where the seat has no number left to draw, or where a step takes a turn of its own lock.
+    /// entry is an idle one, as the step's contract says. The seat may then draw one number less. The
+    /// call returns in no bounded time, and never where the seat has no number left to draw, or where
+    /// a step takes a turn of its own lock.
     pub fn turn<R: Wait, St: Step<Value = T> + Drop>(
         &self,
         rt: &R,
@@ -123,6 +125,7 @@ impl<T: Recorded> TurnLock<T> {
         requires { IsSeatOf self.now seat.old }
         ensures seat { IsSameSeat seat.old seat.new }
         ensures share { HasSameShare seat.old seat.new }
+        ensures draws { seat.new.draws + 1 ≡ seat.old.draws }
         ensures turned { Turned T.after St.entry St.tells self.now.first step result seat.old seat.new }
     {
         if seat.draws == 0 {
@@ -164,10 +167,9 @@ impl<T: Recorded> Seat<T> {
     /// its next turn. It takes no memory, and waits for nobody.
     pub fn split_off(&mut self, lock: &TurnLock<T>, most: u64) -> Seat<T>
         requires { IsSeatOf lock.now self.old }
-        ensures same { self.new ≡ record self.old { share = self.new.share } }
+        ensures same { self.new ≡ record self.old { share = self.new.share; draws = self.new.draws } }
         ensures new { IsSeatOf lock.now result × (result.seen ≡ self.old.seen) × (result.mine ≡ []) × (result.joined ≡ []) }
-        ensures share { self.new.share + result.share ≡ self.old.share }
-        ensures most { result.share ≤ most }
+        ensures part { GivesPart (min self.old.draws most) self.old self.new result }
         ensures own { HasItsOwn self.new × HasItsOwn result }
     {
         let part = self.draws.min(most);
@@ -184,9 +186,9 @@ impl<T: Recorded> Seat<T> {
     /// and waits for nobody.
     pub fn split(&mut self, lock: &TurnLock<T>) -> Seat<T>
         requires { IsSeatOf lock.now self.old }
-        ensures same { self.new ≡ record self.old { share = self.new.share } }
+        ensures same { self.new ≡ record self.old { share = self.new.share; draws = self.new.draws } }
         ensures new { IsSeatOf lock.now result × (result.seen ≡ self.old.seen) × (result.mine ≡ []) × (result.joined ≡ []) }
-        ensures share { self.new.share + result.share ≡ self.old.share }
+        ensures part { GivesPart (min (self.old.draws / 2) 4294967296) self.old self.new result }
         ensures own { HasItsOwn self.new × HasItsOwn result }
     {
         let half = self.draws / 2;
@@ -205,6 +207,7 @@ impl<T: Recorded> Seat<T> {
         ensures longer { self.new.seen ≡ longer self.old.seen other.seen }
         ensures begins { StartsWith self.new.seen self.old.seen × StartsWith self.new.seen other.seen }
         ensures share { (self.new.share ≡ self.old.share + other.share) × (self.new.joined ≡ joined_after self.old other) }
+        ensures draws { self.new.draws ≡ min (self.old.draws + other.draws) last_word }
         ensures own { HasItsOwn self.new }
     {
         let Seat { token, draws } = other;

@@ -8,12 +8,12 @@ use Rattle.std.proofs.lemmas.List.Elements.{filter_map-append}
 use Rattle.std.proofs.lemmas.Map.Keys.{any_passes_from_place}
 use Rattle.cap_grants.specs.declared.grant.AllowGrant.{AllowGrant}
 use Rattle.cap_grants.specs.declared.grant.Access.{Access}
-use Rattle.verdict_types.specs.Target.{Target}
+use Rattle.request_types.specs.Target.{Target}
 use Rattle.verdict_core.specs.Ticket.{Ticket}
-use Rattle.verdict_types.specs.declared.request.Needs.{Needs}
-use Rattle.verdict_types.specs.declared.request.ClassCall.{ClassCall}
-use Rattle.verdict_types.specs.declared.request.Condition.{Condition}
-use Rattle.verdict_types.specs.declared.request.Condition.TheVariants as why
+use Rattle.request_types.specs.declared.request.Needs.{Needs}
+use Rattle.request_types.specs.declared.request.ClassCall.{ClassCall}
+use Rattle.request_types.specs.declared.request.Condition.{Condition}
+use Rattle.request_types.specs.declared.request.Condition.TheVariants as why
 use Rattle.verdict_core.specs.Verdict.{names, matches_namespace, matches_tag, matches_prefix, can_read, can_write, grant_failure, first_failure, line_of, unless, uncovered_from, covers, is_covered, is_usable, is_expired, grants_allow, is_allowed, report_of}
 
 -- the lines of the grants

@@ -15,14 +15,14 @@ use Rattle.cap_grants.specs.declared.grant.Part.{Part}
 use Rattle.cap_grants.specs.declared.grant.Part.TheVariants.{Any, Is}
 use Rattle.cap_grants.specs.declared.grant.Tag.{Tag}
 use Rattle.common_types.specs.declared.tags.AppTags.{AppTags}
-use Rattle.verdict_types.specs.declared.kinds.Kind.{Kind}
-use Rattle.verdict_types.specs.declared.kinds.Named.{Named}
-use Rattle.verdict_types.specs.declared.kinds.Named.TheVariants.{Nothing, ThePool, TheTag, TheClass}
-use Rattle.verdict_types.specs.declared.request.Needs.{Needs}
-use Rattle.verdict_types.specs.declared.request.ClassCall.{ClassCall}
-use Rattle.verdict_types.specs.Target.{Target}
-use Rattle.verdict_types.specs.Hash.{hash, folded}
-use Rattle.verdict_types.specs.Kinds.{number_of_pairs, only_number, pair_hash, parts_hash, tag_hash, class_hash, named_hash, front_hash, chain_by, chain_in, chain_of, chains_of}
+use Rattle.verdict_core.specs.declared.kinds.Kind.{Kind}
+use Rattle.verdict_core.specs.declared.kinds.Named.{Named}
+use Rattle.verdict_core.specs.declared.kinds.Named.TheVariants.{Nothing, ThePool, TheTag, TheClass}
+use Rattle.request_types.specs.declared.request.Needs.{Needs}
+use Rattle.request_types.specs.declared.request.ClassCall.{ClassCall}
+use Rattle.request_types.specs.Target.{Target}
+use Rattle.verdict_core.specs.Hash.{hash, folded}
+use Rattle.verdict_core.specs.Kinds.{number_of_pairs, only_number, pair_hash, parts_hash, tag_hash, class_hash, named_hash, front_hash, chain_by, chain_in, chain_of, chains_of}
 use Rattle.verdict_core.specs.Chains.{AreChained, NoneBefore, NoneOfKind, NoneOfPairs, NoneOfTags, gives}
 use Rattle.verdict_core.specs.Verdict.{names, matches_namespace, matches_tag, matches_application, matches_pairs, matches_prefix, matches, can_read, can_write, is_usable, covers, is_covered}
 

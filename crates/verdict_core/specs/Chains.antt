@@ -5,12 +5,12 @@ use Rattle.std.specs.Prelude.{◌≡◌, ◌≢◌, ℕ, ◌<◌, ◌≤◌, Lis
 use Rattle.std.specs.List.{slice_get}
 use Rattle.cap_grants.specs.declared.grant.AllowGrant.{AllowGrant}
 use Rattle.common_types.specs.declared.tags.AppTags.{AppTags}
-use Rattle.verdict_types.specs.declared.kinds.Kind.{Kind}
-use Rattle.verdict_types.specs.Hash.{folded}
-use Rattle.verdict_types.specs.Kinds.{pair_hash, chain_in, chain_of}
-use Rattle.verdict_types.specs.declared.request.Needs.{Needs}
-use Rattle.verdict_types.specs.declared.request.ClassCall.{ClassCall}
-use Rattle.verdict_types.specs.Target.{Target}
+use Rattle.verdict_core.specs.declared.kinds.Kind.{Kind}
+use Rattle.verdict_core.specs.Hash.{folded}
+use Rattle.verdict_core.specs.Kinds.{pair_hash, chain_in, chain_of}
+use Rattle.request_types.specs.declared.request.Needs.{Needs}
+use Rattle.request_types.specs.declared.request.ClassCall.{ClassCall}
+use Rattle.request_types.specs.Target.{Target}
 use Rattle.verdict_core.specs.Verdict.{is_usable, covers}
 
 -- The places from some place on are chained: `first` has the first one of each chain, and `next` the one behind each in

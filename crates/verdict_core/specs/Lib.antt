@@ -1,3 +1,5 @@
 pub mod Ticket
 pub mod Verdict
 pub mod Chains
+pub mod Hash
+pub mod Kinds

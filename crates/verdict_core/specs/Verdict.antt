@@ -15,11 +15,11 @@ use Rattle.cap_grants.specs.declared.grant.Part.{Part}
 use Rattle.cap_grants.specs.declared.grant.Part.TheVariants.{Any, Is}
 use Rattle.cap_grants.specs.declared.grant.Tag.{Tag}
 use Rattle.common_types.specs.declared.tags.AppTags.{AppTags}
-use Rattle.verdict_types.specs.declared.request.Needs.{Needs}
-use Rattle.verdict_types.specs.declared.request.ClassCall.{ClassCall}
-use Rattle.verdict_types.specs.declared.request.Condition.{Condition}
-use Rattle.verdict_types.specs.declared.request.Condition.TheVariants as why
-use Rattle.verdict_types.specs.Target.{Target}
+use Rattle.request_types.specs.declared.request.Needs.{Needs}
+use Rattle.request_types.specs.declared.request.ClassCall.{ClassCall}
+use Rattle.request_types.specs.declared.request.Condition.{Condition}
+use Rattle.request_types.specs.declared.request.Condition.TheVariants as why
+use Rattle.request_types.specs.Target.{Target}
 use Rattle.verdict_core.specs.Ticket.{Ticket}
 
 -- no name, or this one

@@ -4,20 +4,19 @@ ghost use Rattle.std.specs.Prelude.{◌≡◌, ◌+◌, ◌<◌, ◌≤◌, ◌�
 ghost use Rattle.std.specs.List.{list_any, list_all};
 ghost use Rattle.std.specs.Option.{ForSome};
 ghost use Rattle.verdict_core.specs.Chains.{AreChained, NoneBefore, NoneOfKind, NoneOfPairs, NoneOfTags};
-ghost use Rattle.verdict_types.specs.Kinds.{chains_of};
+ghost use Rattle.verdict_core.specs.Kinds.{chains_of};
 ghost use Rattle.verdict_core.specs.Chains as spec;
 ghost use Rattle.verdict_core.specs.Verdict.{grants_allow, is_covered, is_usable};
 
+use crate::hashing::{folded, hash};
 use crate::judging;
+use crate::kinds::{Kind, NO_KIND, Named, chain_of, front_hash, kinds_of, only_number, pair_hash};
 use crate::matching::{CHAINED, allows, is_usable_at_once, is_usable_in_turn};
 use cap_text::AllowGrant;
 use common_types::{AppTags, OutOfMemory};
 use grant_core::Path;
+use request_types::{ClassCall, Needs, Target};
 use std::alloc::Global;
-use verdict_types::{
-    ClassCall, Kind, NO_KIND, Named, Needs, Target, chain_of, folded, front_hash, hash, kinds_of,
-    only_number, pair_hash,
-};
 
 /// How many chains there are.
 const CHAINS: usize = NO_KIND + 1;
@@ -87,7 +86,7 @@ impl Chains {
         alloc: Global,
         grants: &[(Path, AllowGrant)],
     ) -> Result<Option<Chains>, OutOfMemory>
-        requires { length grants.now ≤ 256 }
+        requires { length grants.now ≤ 16384 }
         ensures { IfOk result (λ chains. ForSome chains (λ p. AreChained 0 (chains_of p.kinds.items grants.now) p.first.items p.next.items)) }
     {
         let chains = Chains::by(kinds_of(alloc, grants)?, alloc, grants)?;
@@ -103,7 +102,7 @@ impl Chains {
         alloc: Global,
         grants: &[(Path, AllowGrant)],
     ) -> Result<Chains, OutOfMemory>
-        requires { length grants.now ≤ 256 }
+        requires { length grants.now ≤ 16384 }
         ensures { IfOk result (λ p. AreChained 0 (chains_of p.kinds.items grants.now) p.first.items p.next.items) }
     {
         let count = grants.len();
@@ -237,12 +236,12 @@ impl Chains {
         ensures none { result ≡ false
             → NoneOfKind kind self.now.kinds.items grants.now target.now needs.now (option_copied call.entry) }
     {
-        let Some(front) = front_hash(target.object.as_bytes(), kind.front) else {
+        let Some(front) = front_hash(target.object, kind.front) else {
             return false;
         };
         let named = match (kind.named, call) {
             (Named::Nothing, _) => 0,
-            (Named::ThePool, _) => hash(target.pool.as_bytes()),
+            (Named::ThePool, _) => hash(target.pool),
             (Named::TheTag, _) => return self.tags_give::<ASKED>(
                 grants, front, target, needs, call,
             ),

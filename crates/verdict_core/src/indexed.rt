@@ -9,9 +9,9 @@ use crate::ticket::{Report, Ticket};
 use cap_text::AllowGrant;
 use common_types::OutOfMemory;
 use grant_core::Path;
+use request_types::{Needs, Target};
 use std::alloc::Global;
 use std::marker::Model;
-use verdict_types::{Needs, Target};
 
 /// The most grants that are looked at one by one.
 const FEW: usize = 4;
@@ -75,7 +75,7 @@ impl IndexedTicket {
     /// Its grants in the ticket's order, each with its path. It takes no memory.
     pub fn grants(&self) -> &[(Path, AllowGrant)]
         ensures grants { result.now ≡ self.now.grants }
-        ensures few { length result.now ≤ 256 }
+        ensures few { length result.now ≤ 16384 }
     {
         self.ticket.grants()
     }

@@ -4,7 +4,7 @@ ghost use Rattle.std.specs.Prelude.{◌≡◌, []};
 ghost use Rattle.std.specs.List.{list_any, list_all};
 ghost use Rattle.std.specs.Option.{ForSome};
 ghost use Rattle.verdict_core.specs.Chains.{AreChained};
-ghost use Rattle.verdict_types.specs.Kinds.{chains_of};
+ghost use Rattle.verdict_core.specs.Kinds.{chains_of};
 ghost use Rattle.verdict_core.specs.Verdict.{is_allowed};
 ghost use Rattle.verdict_core.specs.Verdict as spec;
 
@@ -13,7 +13,7 @@ use crate::matching::{FIRST, OTHERS, allows, is_usable, is_usable_at_once, is_us
 use crate::ticket::Ticket;
 use cap_text::AllowGrant;
 use grant_core::Path;
-use verdict_types::{ClassCall, Needs, Target};
+use request_types::{ClassCall, Needs, Target};
 
 /// Whether some usable grant covers a call.
 fn is_covered(

@@ -6,16 +6,14 @@ ghost use Rattle.std.specs.Option.{ForSome};
 ghost use Rattle.std.specs.Str.{bytes_eq};
 ghost use Rattle.verdict_core.specs.Verdict as spec;
 
+use crate::texts::{begins_with, begins_with_at_once, is_name_at_once, is_text, is_text_at_once};
 use cap_text::{Access, AllowGrant, NsMatch, Part, Tag};
 use common_types::{AppTags, Name, Pairs, Tags};
-use verdict_types::{
-    ClassCall, Condition, Needs, Target, begins_with, begins_with_at_once, is_name_at_once,
-    is_text, is_text_at_once,
-};
+use request_types::{ClassCall, Condition, Needs, Target};
 
 /// No name, or this one.
 #[inline(always)]
-fn names(wanted: &Option<Name>, name: &str) -> bool
+pub fn names(wanted: &Option<Name>, name: &[u8]) -> bool
     ensures { result ≡ spec.names wanted.now name.now }
 {
     match wanted {
@@ -25,15 +23,13 @@ fn names(wanted: &Option<Name>, name: &str) -> bool
 }
 
 #[inline(always)]
-fn matches_namespace(wanted: &Option<NsMatch>, namespace: &str) -> bool
+fn matches_namespace(wanted: &Option<NsMatch>, namespace: &[u8]) -> bool
     ensures { result ≡ spec.matches_namespace wanted.now namespace.now }
 {
     match wanted {
         None => true,
         Some(NsMatch::Exact(name)) => is_text(name, namespace),
-        Some(NsMatch::Prefix(prefix)) => {
-            namespace.as_bytes().starts_with(prefix.as_str().as_bytes())
-        }
+        Some(NsMatch::Prefix(prefix)) => { namespace.starts_with(prefix.as_str().as_bytes()) }
     }
 }
 
@@ -42,7 +38,7 @@ fn matches_part(part: &Part, text: &Name) -> bool
 {
     match part {
         Part::Any => true,
-        Part::Is(name) => is_text(name, text.as_str()),
+        Part::Is(name) => is_text(name, text.as_str().as_bytes()),
     }
 }
 
@@ -53,7 +49,7 @@ fn has_value(value: &Name, pairs: &Pairs) -> bool
     pairs
         .as_slice()
         .iter()
-        .any(|pair| is_text(value, pair.1.as_str()))
+        .any(|pair| is_text(value, pair.1.as_str().as_bytes()))
 }
 
 /// Whether some pair has this key, and a value that agrees. Values are looked at first, since they differ more often.
@@ -61,7 +57,7 @@ fn has_pair(key: &Name, value: &Part, pairs: &Pairs) -> bool
     ensures { result ≡ list_any (λ pair. bytes_eq key.now pair.0 && spec.matches_part value.now pair.1) pairs.now }
 {
     pairs.as_slice().iter().any(|pair| matches_part(value, &pair.1)
-        && is_text(key, pair.0.as_str()))
+        && is_text(key, pair.0.as_str().as_bytes()))
 }
 
 fn matches_pairs(key: &Part, value: &Part, pairs: &Pairs) -> bool
@@ -80,7 +76,7 @@ fn matches_application(tag: &Tag, app: &AppTags) -> bool
     ensures { result ≡ spec.matches_application tag.now app.now }
 {
     matches_pairs(&tag.key, &tag.value, &app.pairs)
-        && is_text(&tag.application, app.application.as_str())
+        && is_text(&tag.application, app.application.as_str().as_bytes())
 }
 
 /// Whether some application of the pool agrees with a tag. It is a call of its own, so that a walk over grants without
@@ -94,7 +90,8 @@ fn has_application(tag: &Tag, tags: &Tags) -> bool
         .any(|app| matches_application(tag, app))
 }
 
-fn matches_tag(wanted: &Option<Tag>, tags: &Tags) -> bool
+/// No tag, or some application of the pool agrees with it.
+pub fn matches_tag(wanted: &Option<Tag>, tags: &Tags) -> bool
     ensures { result ≡ spec.matches_tag wanted.now tags.now }
 {
     match wanted {
@@ -104,7 +101,7 @@ fn matches_tag(wanted: &Option<Tag>, tags: &Tags) -> bool
 }
 
 #[inline(always)]
-fn matches_prefix(wanted: &Option<Name>, object: &str) -> bool
+fn matches_prefix(wanted: &Option<Name>, object: &[u8]) -> bool
     ensures { result ≡ spec.matches_prefix wanted.now object.now }
 {
     match wanted {
@@ -113,7 +110,8 @@ fn matches_prefix(wanted: &Option<Name>, object: &str) -> bool
     }
 }
 
-pub(crate) fn can_read(access: &Access) -> bool
+/// Whether an access reads.
+pub fn can_read(access: &Access) -> bool
     ensures { result ≡ spec.can_read access.now }
 {
     match access {
@@ -123,7 +121,8 @@ pub(crate) fn can_read(access: &Access) -> bool
     }
 }
 
-pub(crate) fn can_write(access: &Access) -> bool
+/// Whether an access writes.
+pub fn can_write(access: &Access) -> bool
     ensures { result ≡ spec.can_write access.now }
 {
     match access {
@@ -196,7 +195,7 @@ pub(crate) const CHAINED: u8 = 2;
 
 /// `names`, if two comparisons of words tell, or before them the last byte, where it is asked for.
 #[inline(always)]
-fn names_at_once<const GRANTS: u8>(wanted: &Option<Name>, name: &str) -> Option<bool>
+fn names_at_once<const GRANTS: u8>(wanted: &Option<Name>, name: &[u8]) -> Option<bool>
     ensures { ForSome result (λ holds. holds ≡ spec.names wanted.now name.now) }
 {
     let Some(wanted) = wanted else {
@@ -211,7 +210,7 @@ fn names_at_once<const GRANTS: u8>(wanted: &Option<Name>, name: &str) -> Option<
 
 /// `matches_namespace`, if two comparisons of words tell.
 #[inline(always)]
-fn matches_namespace_at_once(wanted: &Option<NsMatch>, namespace: &str) -> Option<bool>
+fn matches_namespace_at_once(wanted: &Option<NsMatch>, namespace: &[u8]) -> Option<bool>
     ensures { ForSome result (λ holds. holds ≡ spec.matches_namespace wanted.now namespace.now) }
 {
     match wanted {
@@ -223,7 +222,7 @@ fn matches_namespace_at_once(wanted: &Option<NsMatch>, namespace: &str) -> Optio
 
 /// `matches_prefix`, if two comparisons of words tell.
 #[inline(always)]
-fn matches_prefix_at_once(wanted: &Option<Name>, object: &str) -> Option<bool>
+fn matches_prefix_at_once(wanted: &Option<Name>, object: &[u8]) -> Option<bool>
     ensures { ForSome result (λ holds. holds ≡ spec.matches_prefix wanted.now object.now) }
 {
     match wanted {
@@ -245,7 +244,7 @@ fn matches_part_at_once(part: &Part, text: &Name) -> Option<bool>
 {
     match part {
         Part::Any => Some(true),
-        Part::Is(name) => is_text_at_once(name, text.as_str()),
+        Part::Is(name) => is_text_at_once(name, text.as_str().as_bytes()),
     }
 }
 
@@ -270,7 +269,7 @@ fn matches_pair_at_once<const GRANTS: u8>(
     if !key {
         return Some(false);
     }
-    is_text_at_once(&tag.application, application.as_str())
+    is_text_at_once(&tag.application, application.as_str().as_bytes())
 }
 
 /// `matches_tag`, if comparisons of words tell: of a tag they do where the pool has one application with one pair, as
@@ -361,13 +360,14 @@ pub(crate) fn is_usable_at_once<const GRANTS: u8>(
 
 /// Whether an access covers a call.
 #[inline(always)]
-pub(crate) fn covers(access: &Access, call: &ClassCall) -> bool
+pub fn covers(access: &Access, call: &ClassCall) -> bool
     ensures { result ≡ spec.covers access.now call.now }
 {
     match access {
         Access::All => true,
         Access::Class { class, method } => {
-            is_text(class, call.class.as_str()) && names(method, call.method.as_str())
+            is_text(class, call.class.as_str().as_bytes())
+                && names(method, call.method.as_str().as_bytes())
         }
         Access::Flags(flags) => {
             call.listed
@@ -427,8 +427,9 @@ fn grant_failure(grant: &AllowGrant, target: &Target<'_>, needs: &Needs) -> Opti
     uncovered(&grant.access, needs.calls.as_slice())
 }
 
-/// The same of a grant of a ticket, which may be expired.
-pub(crate) fn first_failure(
+/// The first condition of a grant that a request fails, in the order of [`Condition`], or none. A grant of an expired ticket
+/// fails by that. It takes no memory.
+pub fn first_failure(
     expired: bool,
     grant: &AllowGrant,
     target: &Target<'_>,

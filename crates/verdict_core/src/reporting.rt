@@ -8,8 +8,8 @@ use crate::matching::first_failure;
 use crate::ticket::{Report, Ticket};
 use common_types::OutOfMemory;
 use grant_core::Path;
+use request_types::{Condition, Needs, Target};
 use std::alloc::Global;
-use verdict_types::{Condition, Needs, Target};
 
 /// Adds the line of a grant, if the request fails a condition of it.
 fn push_line(
@@ -48,5 +48,5 @@ pub fn report(
         let condition = first_failure(expired, &entry.1, target, needs);
         push_line(&mut lines, &entry.0, condition)?;
     }
-    Ok(Report::new(lines))
+    Ok(Report::from_lines(lines))
 }

@@ -1,7 +1,7 @@
 //! Tickets and reports.
 
 ghost use Rattle.std.specs.Prelude.{◌≡◌, ◌≤◌, [], length, Some, IfOk, IfErr};
-ghost use Rattle.verdict_types.specs.Text.{report_text};
+ghost use Rattle.request_types.specs.Text.{report_text};
 ghost use Rattle.verdict_core.specs.Verdict as spec;
 
 use crate::chains::Chains;
@@ -9,12 +9,15 @@ use crate::judging::allow_by;
 use cap_text::AllowGrant;
 use common_types::OutOfMemory;
 use grant_core::{GrantTree, Path};
+use request_types::{Condition, Needs, Target};
 use std::alloc::Global;
 use std::fmt;
 use std::marker::Model;
-use verdict_types::{Condition, Needs, Target};
 
-/// The grants of an entity with their paths, at most 256, and until when they hold.
+/// The most grants that a ticket may have. The grants of a text that follows this project's rules are far fewer.
+pub const MAX_GRANTS: usize = 16384;
+
+/// The grants of an entity with their paths, at most [`MAX_GRANTS`], and until when they hold.
 ///
 /// It is expired at each tick from `until` on, and never where there is none. What a tick is its user
 /// decides: this project's profile has numbers that the caller hands in.
@@ -40,14 +43,14 @@ impl Model for Ticket {
     ghost use Rattle.std.specs.Prelude.{length, ◌≤◌};
     ghost use Rattle.std.specs.Option.{ForSome};
     ghost use Rattle.verdict_core.specs.Chains.{AreChained};
-    ghost use Rattle.verdict_types.specs.Kinds.{chains_of};
+    ghost use Rattle.verdict_core.specs.Kinds.{chains_of};
     ghost use Rattle.verdict_core.specs.Ticket as seen;
 
     ghost Value = { seen.Ticket };
 
     ghost view = { λ t. record { grants = t.grants.items; until = t.until } };
 
-    ghost invariant = { λ t. (length t.grants.items ≤ 256) × ForSome t.chains (λ p. AreChained 0 (chains_of p.kinds.items t.grants.items) p.first.items p.next.items) };
+    ghost invariant = { λ t. (length t.grants.items ≤ 16384) × ForSome t.chains (λ p. AreChained 0 (chains_of p.kinds.items t.grants.items) p.first.items p.next.items) };
 }
 
 /// Why a request is denied: for each grant its path and the first condition that the request fails.
@@ -60,7 +63,7 @@ pub struct Report {
 
 impl Model for Report {
     ghost use Rattle.std.specs.Prelude.{List, ℕ};
-    ghost use Rattle.verdict_types.specs.declared.request.Condition.{Condition};
+    ghost use Rattle.request_types.specs.declared.request.Condition.{Condition};
 
     ghost Value = { List (List ℕ × Condition) };
 
@@ -69,14 +72,24 @@ impl Model for Report {
 
 impl Ticket {
     /// The ticket of an expanded list: its grants, each with its path, until a tick or for ever.
-    pub fn of(alloc: Global, tree: &GrantTree, until: Option<u64>) -> Result<Ticket, OutOfMemory>
-        ensures { IfOk result (λ ticket. ticket ≡ record { grants = tree.now; until = until }) }
+    /// They are moved into it, so that it takes no memory.
+    pub fn of(tree: GrantTree, until: Option<u64>) -> Ticket
+        ensures { result ≡ record { grants = tree; until = until } }
     {
-        Ok(Ticket {
-            grants: tree.flat(alloc)?,
+        Ticket::from_grants(tree.into_flat(), until)
+    }
+
+    /// The ticket of grants that another reader made, each with its path, until a tick or for ever. There may be
+    /// [`MAX_GRANTS`] of them. It takes no memory.
+    pub fn from_grants(grants: Vec<(Path, AllowGrant)>, until: Option<u64>) -> Ticket
+        requires { length grants.items ≤ 16384 }
+        ensures { result ≡ record { grants = grants.items; until = until } }
+    {
+        Ticket {
+            grants,
             until,
             chains: None,
-        })
+        }
     }
 
     /// The ticket without grants, which allows nothing. It takes no memory.
@@ -115,7 +128,7 @@ impl Ticket {
     /// Its grants in order, each with its path.
     pub fn grants(&self) -> &[(Path, AllowGrant)]
         ensures grants { result.now ≡ self.now.grants }
-        ensures few { length result.now ≤ 256 }
+        ensures few { length result.now ≤ 16384 }
     {
         self.grants.as_slice()
     }
@@ -171,7 +184,7 @@ impl Ticket {
 
 impl Report {
     /// The report of these lines. It takes no memory.
-    pub(crate) fn new(lines: Vec<(Path, Condition)>) -> Report
+    pub fn from_lines(lines: Vec<(Path, Condition)>) -> Report
         ensures { result ≡ lines.items }
     {
         Report { lines }

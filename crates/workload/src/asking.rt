@@ -5,7 +5,7 @@ ghost use Rattle.cluster.specs.Asks.{IsPassOf};
 use cluster::{Asked, Asking, Cluster, ClusterFault, Pass, Worked};
 use common_types::Name;
 use entry_core::GroupId;
-use group_types::GroupFault;
+use group_messages::GroupFault;
 use object_core::{Bytes, Op};
 use std::alloc::Global;
 use std::sync::Wait;

@@ -3,7 +3,7 @@
 use crate::asking::POOL;
 use common_types::Name;
 use entry_core::GroupId;
-use group_types::GroupFault;
+use group_messages::GroupFault;
 use std::alloc::Global;
 use world_core::{Event, World, WorldFault};
 

@@ -7,27 +7,27 @@ use Rattle.std.specs.Str.{bytes_eq}
 use Rattle.std.proofs.lemmas.Bool.Decides.{nat_tests}
 use Rattle.std.proofs.lemmas.List.Elements.{filter-append}
 use Rattle.place_core.specs.Placement.{IsActingSet, acting_of, numbers_of}
-use Rattle.map_commands.specs.State.{MapState, History}
-use Rattle.map_commands.specs.Map.{is_named, created, after, initial, map_of, epoch_of, pool_in}
+use Rattle.map_core.specs.State.{MapState, History}
+use Rattle.map_core.specs.Map.{is_named, created, after, initial, map_of, epoch_of, pool_in}
 use Rattle.map_core.specs.Refusal.{refusal}
-use Rattle.map_commands.specs.PoolLimits.{IsPool}
-use Rattle.map_commands.specs.Intervals.{size_in, set_of, begun, intervals_of}
-use Rattle.map_commands.specs.Replay.{pool_step}
-use Rattle.map_commands.specs.declared.pool.Pool.{Pool}
-use Rattle.map_commands.specs.declared.command.MapCommand.{MapCommand}
-use Rattle.map_commands.specs.declared.command.MapCommand.TheVariants.{PoolCreate, AppEnable, AppSet, AppRm, OsdUp, OsdDown, OsdRestart}
+use Rattle.map_core.specs.PoolLimits.{IsPool}
+use Rattle.map_core.specs.Intervals.{size_in, set_of, begun, intervals_of}
+use Rattle.map_core.specs.Replay.{pool_step}
+use Rattle.map_core.specs.declared.pool.Pool.{Pool}
+use Rattle.map_core.specs.declared.command.MapCommand.{MapCommand}
+use Rattle.map_core.specs.declared.command.MapCommand.TheVariants.{PoolCreate, AppEnable, AppSet, AppRm, OsdUp, OsdDown, OsdRestart}
 use Rattle.map_core.proofs.Current.{daemons_stay, after_push}
-use Rattle.map_commands.proofs.OnePool.{pool_after_step}
+use Rattle.map_core.proofs.OnePool.{pool_after_step}
 use Rattle.store_core.specs.Request.{Sealed}
 use Rattle.store_core.specs.declared.sealed.GroupId.{GroupId}
-use Rattle.whole_logs.specs.Each.{Each}
-use Rattle.suffix_core.specs.Group.{Group, EventFits, group_step, run, start, last_set, is_submitted}
-use Rattle.suffix_core.specs.Group as group
-use Rattle.suffix_core.specs.Reached.{IsReached}
-use Rattle.whole_logs.specs.Within.{ActsWithin}
-use Rattle.group_types.specs.declared.fault.GroupFault.{GroupFault}
-use Rattle.group_types.specs.declared.fault.GroupFault.TheVariants as group_fault
-use Rattle.suffix_core.proofs.Runs.{run-append}
+use Rattle.group_model_whole.specs.Each.{Each}
+use Rattle.group_model.specs.Group.{Group, EventFits, group_step, run, start, last_set, is_submitted}
+use Rattle.group_model.specs.Group as group
+use Rattle.group_model.specs.Reached.{IsReached}
+use Rattle.group_model_whole.specs.Within.{ActsWithin}
+use Rattle.group_messages.specs.declared.fault.GroupFault.{GroupFault}
+use Rattle.group_messages.specs.declared.fault.GroupFault.TheVariants as group_fault
+use Rattle.group_model.proofs.Runs.{run-append}
 use Rattle.world_events.specs.declared.event.Ask.{Ask}
 use Rattle.world_events.specs.declared.event.Event.{Event}
 use Rattle.world_events.specs.declared.event.Event.TheVariants.{Auth, Map, Open, Renew, Close, Submit, List as ListNames, Deliver, Lose, Repeat, Kick}

@@ -6,22 +6,22 @@ use Rattle.std.specs.Option.{option_map}
 use Rattle.std.proofs.lemmas.List.{map-append}
 use Rattle.std.proofs.lemmas.Grind.{flat_map-append}
 use Rattle.place_core.specs.Placement.{acting_of, numbers_of}
-use Rattle.map_commands.specs.State.{MapState, History}
-use Rattle.map_commands.specs.Map.{change_first, is_named, tagged, created, after, map_of, epoch_of, pool_in}
+use Rattle.map_core.specs.State.{MapState, History}
+use Rattle.map_core.specs.Map.{change_first, is_named, tagged, created, after, map_of, epoch_of, pool_in}
 use Rattle.map_core.specs.Refusal.{refusal}
-use Rattle.map_commands.specs.Intervals.{size_in, set_of}
-use Rattle.map_commands.specs.Replay.{pool_step}
-use Rattle.map_commands.specs.declared.pool.Pool.{Pool}
-use Rattle.map_commands.specs.declared.command.MapCommand.{MapCommand}
-use Rattle.map_commands.specs.declared.command.MapCommand.TheVariants.{PoolCreate, AppEnable, AppSet, AppRm, OsdUp, OsdDown, OsdRestart}
+use Rattle.map_core.specs.Intervals.{size_in, set_of}
+use Rattle.map_core.specs.Replay.{pool_step}
+use Rattle.map_core.specs.declared.pool.Pool.{Pool}
+use Rattle.map_core.specs.declared.command.MapCommand.{MapCommand}
+use Rattle.map_core.specs.declared.command.MapCommand.TheVariants.{PoolCreate, AppEnable, AppSet, AppRm, OsdUp, OsdDown, OsdRestart}
 use Rattle.map_core.proofs.Current.{after_push}
 use Rattle.map_core.proofs.Kept.{others_leave_sets}
-use Rattle.map_commands.proofs.OnePool.{pool_after_step}
+use Rattle.map_core.proofs.OnePool.{pool_after_step}
 use Rattle.entry_core.specs.Log.{is_in}
 use Rattle.store_core.specs.declared.sealed.GroupId.{GroupId}
-use Rattle.whole_logs.specs.Each.{Each}
-use Rattle.suffix_core.specs.Group.{Group, group_step, refusal_of, last_set, same_set}
-use Rattle.suffix_core.specs.Group as group
+use Rattle.group_model_whole.specs.Each.{Each}
+use Rattle.group_model.specs.Group.{Group, group_step, refusal_of, last_set, same_set}
+use Rattle.group_model.specs.Group as group
 use Rattle.world_events.specs.declared.fault.WorldFault.{WorldFault as Fault}
 use Rattle.world_events.specs.declared.event.Event.TheVariants.{Map}
 use Rattle.world_events.specs.declared.fault.WorldFault.TheVariants.{Group as OfGroup}

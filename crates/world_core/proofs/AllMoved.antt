@@ -3,8 +3,8 @@ use Rattle.std.proofs.Common.{◌≡◌, ◌∙◌, List, [], ◌∷◌, ◌++�
 use Rattle.std.specs.Prelude.{reverse}
 use Rattle.std.proofs.lemmas.List.{map-append, reverse-append}
 use Rattle.store_core.specs.declared.sealed.GroupId.{GroupId}
-use Rattle.suffix_core.specs.Group.{Group, group_step}
-use Rattle.suffix_core.specs.Group as group
+use Rattle.group_model.specs.Group.{Group, group_step}
+use Rattle.group_model.specs.Group as group
 use Rattle.group_core.specs.Moves.{Prepared}
 use Rattle.world_core.specs.Moves.{all_moved, all_prepared, prepared, given_up, committed}
 

@@ -3,11 +3,11 @@ use Prim.Native.Nat.{zero, suc}
 use Rattle.std.proofs.Common.{◌≡◌, ◌∙◌, ◌⊎◌, inl, inr, ℕ, ◌<◌, List, [], ◌∷◌, ◌++◌, Bool, true, false, if◌then◌else◌, Option, None, Some, Result, Ok, Err, IsOk, length, refl, sym, ap, arith, append-nil}
 use Rattle.std.specs.Prelude.{nat_lt, slice_get, slice_set}
 use Rattle.std.proofs.lemmas.Bool.{ltb-true}
-use Rattle.suffix_core.specs.Group.{Group, Event, Lose, Repeat, Kick, group_step, refusal_of, left_by, lose, again}
-use Rattle.group_types.specs.declared.fault.GroupFault.{GroupFault as Fault}
-use Rattle.group_types.specs.declared.fault.GroupFault.TheVariants.{NoMessage, Unreachable, Full, OutOfMemory, Doubled}
-use Rattle.suffix_core.specs.Types.{Sent}
-use Rattle.suffix_core.specs.Reached.{Steps}
+use Rattle.group_model.specs.Group.{Group, Event, Lose, Repeat, Kick, group_step, refusal_of, left_by, lose, again}
+use Rattle.group_messages.specs.declared.fault.GroupFault.{GroupFault as Fault}
+use Rattle.group_messages.specs.declared.fault.GroupFault.TheVariants.{NoMessage, Unreachable, Full, OutOfMemory, Doubled}
+use Rattle.group_model.specs.Types.{Sent}
+use Rattle.group_model.specs.Reached.{Steps}
 use Rattle.world_core.specs.declared.audit.Run.{Run}
 use Rattle.group_core.specs.Calls.{event_of}
 use Rattle.group_core.specs.declared.call.GroupCall.{GroupCall}

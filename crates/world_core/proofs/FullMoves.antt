@@ -3,18 +3,18 @@ use Rattle.std.proofs.Common.{◌≡◌, ◌∙◌, ℕ, ◌++◌, ◌||◌, Lis
 use Rattle.std.specs.Str.{bytes_eq}
 use Rattle.std.proofs.lemmas.List.{append_cancel_left}
 use Rattle.place_core.specs.Placement.{acting_of, numbers_of}
-use Rattle.map_commands.specs.State.{MapState, History}
-use Rattle.map_commands.specs.Map.{after, map_of}
-use Rattle.map_commands.specs.Intervals.{set_of, begun, intervals_of, restarts}
-use Rattle.map_commands.specs.declared.command.MapCommand.{MapCommand}
-use Rattle.map_commands.specs.declared.command.MapCommand.TheVariants.{PoolCreate, AppEnable, AppSet, AppRm, OsdUp, OsdDown, OsdRestart}
+use Rattle.map_core.specs.State.{MapState, History}
+use Rattle.map_core.specs.Map.{after, map_of}
+use Rattle.map_core.specs.Intervals.{set_of, begun, intervals_of, restarts}
+use Rattle.map_core.specs.declared.command.MapCommand.{MapCommand}
+use Rattle.map_core.specs.declared.command.MapCommand.TheVariants.{PoolCreate, AppEnable, AppSet, AppRm, OsdUp, OsdDown, OsdRestart}
 use Rattle.map_core.proofs.Daemons.{set_sized}
 use Rattle.entry_core.specs.Log.{is_in}
 use Rattle.store_core.specs.declared.sealed.GroupId.{GroupId}
-use Rattle.suffix_core.specs.Group.{Group, last_set, same_set, has_all_intervals, refusal_of}
-use Rattle.suffix_core.specs.Group as group
-use Rattle.group_types.specs.declared.fault.GroupFault.{GroupFault}
-use Rattle.group_types.specs.declared.fault.GroupFault.TheVariants as group_fault
+use Rattle.group_model.specs.Group.{Group, last_set, same_set, has_all_intervals, refusal_of}
+use Rattle.group_model.specs.Group as group
+use Rattle.group_messages.specs.declared.fault.GroupFault.{GroupFault}
+use Rattle.group_messages.specs.declared.fault.GroupFault.TheVariants as group_fault
 use Rattle.world_core.specs.World.{members_of}
 use Rattle.world_core.specs.Moves.{moves_groups, move_of}
 use Rattle.world_front.proofs.Bytes.{bytes_same}

@@ -4,21 +4,21 @@ use Rattle.std.proofs.Common.{◌≡◌, ◌∙◌, ℕ, ◌+◌, ◌<◌, ◌�
 use Rattle.std.specs.Prelude.{slice_get}
 use Rattle.std.specs.List.{filter, flat_map, find, range_with_len}
 use Rattle.place_core.specs.Placement.{numbers_of}
-use Rattle.map_commands.specs.Map.{is_named, map_of}
-use Rattle.map_commands.specs.Intervals.{set_of}
-use Rattle.map_commands.specs.declared.pool.Pool.{Pool}
+use Rattle.map_core.specs.Map.{is_named, map_of}
+use Rattle.map_core.specs.Intervals.{set_of}
+use Rattle.map_core.specs.declared.pool.Pool.{Pool}
 use Rattle.store_core.specs.declared.sealed.GroupId.{GroupId}
-use Rattle.whole_logs.specs.Each.{Each}
-use Rattle.suffix_core.specs.Group.{Group, last_set}
+use Rattle.group_model_whole.specs.Each.{Each}
+use Rattle.group_model.specs.Group.{Group, last_set}
 use Rattle.world_front.specs.Groups.{is_same_group, groups_of}
 use Rattle.world_core.specs.World.{World, group_at}
 use Rattle.world_core.specs.Moves.{AreGroupsOf, IsAt}
 use Rattle.world_core.specs.Sound.{GroupKept, IsSound, IsKept}
 use Rattle.std.proofs.lemmas.Option.{slice_get_read}
 use Rattle.std.specs.Option.{option_map}
-use Rattle.map_commands.specs.State.{History}
+use Rattle.map_core.specs.State.{History}
 use Rattle.map_core.specs.Refusal.{acting_refusal}
-use Rattle.group_types.specs.declared.fault.GroupFault.{GroupFault}
+use Rattle.group_messages.specs.declared.fault.GroupFault.{GroupFault}
 use Rattle.world_events.specs.declared.fault.WorldFault.{WorldFault as Fault}
 use Rattle.world_events.specs.declared.fault.WorldFault.TheVariants.{Map as OfMap}
 use Rattle.world_front.specs.Front.{Front, group_refusal}

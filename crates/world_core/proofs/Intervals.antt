@@ -4,18 +4,18 @@ use Rattle.std.specs.List.{list_any}
 use Rattle.std.specs.Option.{option_map}
 use Rattle.std.specs.Str.{bytes_eq}
 use Rattle.place_core.specs.Placement.{acting_of, numbers_of}
-use Rattle.map_commands.specs.State.{MapState, History}
-use Rattle.map_commands.specs.Map.{after, map_of}
-use Rattle.map_commands.specs.Intervals.{size_in, set_of, restarts, begun, intervals_of}
-use Rattle.map_commands.specs.declared.command.MapCommand.{MapCommand}
-use Rattle.map_commands.specs.declared.command.MapCommand.TheVariants.{PoolCreate, AppEnable, AppSet, AppRm, OsdUp, OsdDown, OsdRestart}
+use Rattle.map_core.specs.State.{MapState, History}
+use Rattle.map_core.specs.Map.{after, map_of}
+use Rattle.map_core.specs.Intervals.{size_in, set_of, restarts, begun, intervals_of}
+use Rattle.map_core.specs.declared.command.MapCommand.{MapCommand}
+use Rattle.map_core.specs.declared.command.MapCommand.TheVariants.{PoolCreate, AppEnable, AppSet, AppRm, OsdUp, OsdDown, OsdRestart}
 use Rattle.map_core.specs.Laws.{EndIn}
 use Rattle.map_core.proofs.Daemons.{set_sized}
-use Rattle.map_commands.proofs.IntervalLists.{size_stays}
+use Rattle.map_core.proofs.IntervalLists.{size_stays}
 use Rattle.map_core.proofs.Kept.{commands_begin_intervals, present_set_is_last}
 use Rattle.entry_core.specs.Log.{is_in}
 use Rattle.store_core.specs.declared.sealed.GroupId.{GroupId}
-use Rattle.suffix_core.specs.Group.{last_set, same_set}
+use Rattle.group_model.specs.Group.{last_set, same_set}
 use Rattle.world_core.specs.World.{members_of}
 use Rattle.world_front.proofs.Merge.{bytes_refl, number_refl}
 use Rattle.world_front.proofs.Bytes.{bytes_same, number_same, both_true}

@@ -2,10 +2,10 @@
 use Rattle.std.proofs.Common.{◌≡◌, ◌∙◌, List, ◌++◌, Result, Ok, Err, sym, ap, subst}
 use Rattle.std.specs.Prelude.{OnOk, OnErr, IfOk}
 use Rattle.std.specs.Option.{option_map, option_or}
-use Rattle.map_commands.specs.Map.{map_of}
-use Rattle.map_commands.specs.declared.command.MapCommand.{MapCommand}
-use Rattle.whole_logs.specs.Each.{Each}
-use Rattle.suffix_core.specs.Group.{Group}
+use Rattle.map_core.specs.Map.{map_of}
+use Rattle.map_core.specs.declared.command.MapCommand.{MapCommand}
+use Rattle.group_model_whole.specs.Each.{Each}
+use Rattle.group_model.specs.Group.{Group}
 use Rattle.world_events.specs.declared.event.Event.TheVariants.{Map}
 use Rattle.world_events.specs.declared.event.Told.{Told}
 use Rattle.world_events.specs.declared.fault.WorldFault.{WorldFault as Fault}

@@ -4,14 +4,14 @@ use Rattle.std.specs.Prelude.{slice_get, slice_set}
 use Rattle.std.specs.Option.{option_map, option_or}
 use Rattle.entry_core.specs.Log.{is_in}
 use Rattle.store_core.specs.declared.sealed.GroupId.{GroupId}
-use Rattle.whole_logs.specs.Each.{Each}
-use Rattle.whole_logs.specs.History.{Begins}
-use Rattle.suffix_core.specs.Types.{Party, Client, Osd, Sent}
-use Rattle.suffix_core.specs.Group.{Group, group_step, left_by, refusal_to, refusal_at, arrives, deliver, without, copy_hears}
-use Rattle.suffix_core.specs.Group as group
-use Rattle.group_types.specs.declared.fault.GroupFault.{GroupFault}
-use Rattle.group_types.specs.declared.fault.GroupFault.TheVariants as group_fault
-use Rattle.suffix_core.proofs.Additions.{audit_grows}
+use Rattle.group_model_whole.specs.Each.{Each}
+use Rattle.group_model_whole.specs.History.{Begins}
+use Rattle.group_model.specs.Types.{Party, Client, Osd, Sent}
+use Rattle.group_model.specs.Group.{Group, group_step, left_by, refusal_to, refusal_at, arrives, deliver, without, copy_hears}
+use Rattle.group_model.specs.Group as group
+use Rattle.group_messages.specs.declared.fault.GroupFault.{GroupFault}
+use Rattle.group_messages.specs.declared.fault.GroupFault.TheVariants as group_fault
+use Rattle.group_model.proofs.Additions.{audit_grows}
 use Rattle.world_events.specs.declared.event.Event.{Event}
 use Rattle.world_events.specs.declared.event.Event.TheVariants.{Auth, Map, Open, Renew, Close, Submit, List as ListNames, Deliver, Lose, Repeat, Kick}
 use Rattle.world_events.specs.declared.event.Told.{Told}
@@ -19,7 +19,7 @@ use Rattle.world_events.specs.declared.fault.WorldFault.{WorldFault as Fault}
 use Rattle.world_events.specs.declared.fault.WorldFault.TheVariants.{OutOfMemory, Map as OfMap, Group as OfGroup}
 use Rattle.world_events.specs.declared.event.Told.TheVariants.{Done}
 use Rattle.map_core.specs.Refusal.{acting_refusal}
-use Rattle.map_commands.specs.declared.fault.MapFault.{MapFault}
+use Rattle.map_core.specs.declared.fault.MapFault.{MapFault}
 use Rattle.world_front.specs.Front.{Front, front_step, front_refusal, group_refusal, told_of, requests_of, requests_in}
 use Rattle.world_core.specs.World.{World, Part, part, group_at, at_group, act, acted, counts, is_drop, accepts, is_accepted, created_by, decided_in, part_refusal, parts_refusal, parts_of, refused_in, refusal_of, world_step}
 use Rattle.world_core.specs.Moves.{IsAt}

@@ -5,15 +5,15 @@ use Rattle.std.specs.Prelude.{nat_le}
 use Rattle.std.specs.List.{range_with_len}
 use Rattle.std.proofs.lemmas.Bool.Decides.{nat_tests}
 use Rattle.std.proofs.lemmas.List.{map-append}
-use Rattle.map_commands.specs.State.{MapState, History}
-use Rattle.map_commands.specs.Map.{initial, after, map_of}
+use Rattle.map_core.specs.State.{MapState, History}
+use Rattle.map_core.specs.Map.{initial, after, map_of}
 use Rattle.map_core.specs.Refusal.{refusal, tests, in_limits, is_last}
-use Rattle.map_commands.specs.declared.command.MapCommand.{MapCommand}
-use Rattle.map_commands.specs.declared.command.MapCommand.TheVariants.{PoolCreate}
+use Rattle.map_core.specs.declared.command.MapCommand.{MapCommand}
+use Rattle.map_core.specs.declared.command.MapCommand.TheVariants.{PoolCreate}
 use Rattle.map_core.proofs.Acceptance.{all_fail, or_left, not_false}
 use Rattle.map_core.proofs.Current.{daemons_stay}
 use Rattle.store_core.specs.declared.sealed.GroupId.{GroupId}
-use Rattle.suffix_core.specs.Group.{start}
+use Rattle.group_model.specs.Group.{start}
 use Rattle.world_core.specs.World.{begun_group, members_of}
 use Rattle.place_core.specs.Placement.{numbers_of}
 use Rattle.world_front.proofs.Places.{numbered}

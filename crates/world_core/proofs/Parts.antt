@@ -5,8 +5,8 @@ use Rattle.std.proofs.lemmas.List.{append_assoc, drop_more, take_more}
 use Rattle.std.proofs.lemmas.Option.{slice_get_read}
 use Rattle.std.proofs.lemmas.Grind.{flat_map-append}
 use Rattle.store_core.specs.Request.{Sealed}
-use Rattle.whole_logs.specs.Each.{Each}
-use Rattle.suffix_core.specs.Group.{Group}
+use Rattle.group_model_whole.specs.Each.{Each}
+use Rattle.group_model.specs.Group.{Group}
 use Rattle.world_events.specs.Submitting.{AreNew}
 use Rattle.world_core.specs.Inside.{run_entries, entries_told}
 use Rattle.world_core.specs.Sound.{FitsAt}

@@ -8,13 +8,13 @@ use Rattle.std.specs.Str.{bytes_eq}
 use Rattle.std.specs.Cmp.{unsigned_Decides}
 use Rattle.std.proofs.lemmas.Bool.Decides.{nat_tests}
 use Rattle.std.proofs.lemmas.List.FromFn.{length-range_with_len}
-use Rattle.map_commands.specs.State.{History}
-use Rattle.map_commands.specs.Map.{is_named, map_of, pool_in}
+use Rattle.map_core.specs.State.{History}
+use Rattle.map_core.specs.Map.{is_named, map_of, pool_in}
 use Rattle.map_core.specs.Refusal.{first_of, acting_tests, groups_in}
-use Rattle.map_commands.specs.declared.pool.Pool.{Pool}
+use Rattle.map_core.specs.declared.pool.Pool.{Pool}
 use Rattle.map_core.proofs.Acceptance.{all_fail, not_false}
 use Rattle.store_core.specs.declared.sealed.GroupId.{GroupId}
-use Rattle.suffix_core.specs.Group.{Group}
+use Rattle.group_model.specs.Group.{Group}
 use Rattle.world_front.specs.Groups.{is_same_group, groups_of}
 use Rattle.world_core.specs.World.{group_at, at_group}
 use Rattle.world_core.specs.Moves.{AreGroupsOf, IsAt}

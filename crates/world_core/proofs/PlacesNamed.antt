@@ -4,17 +4,17 @@ use Rattle.std.specs.Prelude.{nat_le}
 use Rattle.std.specs.List.{find}
 use Rattle.std.specs.Option.{option_map_or}
 use Rattle.std.proofs.lemmas.Bool.Decides.{nat_tests}
-use Rattle.map_commands.specs.State.{MapState, History}
-use Rattle.map_commands.specs.Map.{change_first, is_named, tagged, created, after, initial, map_of, pool_in}
+use Rattle.map_core.specs.State.{MapState, History}
+use Rattle.map_core.specs.Map.{change_first, is_named, tagged, created, after, initial, map_of, pool_in}
 use Rattle.map_core.specs.Refusal.{refusal, tests, acting_refusal, acting_tests, first_of, groups_in, is_word}
 use Rattle.map_core.specs.Limits.{AcceptedFrom, IsAccepted}
-use Rattle.map_commands.specs.declared.fault.MapFault.TheVariants as fault
-use Rattle.map_commands.specs.declared.pool.Pool.{Pool}
-use Rattle.map_commands.specs.declared.command.MapCommand.{MapCommand}
-use Rattle.map_commands.specs.declared.command.MapCommand.TheVariants.{PoolCreate, AppEnable, AppSet, AppRm, OsdUp, OsdDown, OsdRestart}
+use Rattle.map_core.specs.declared.fault.MapFault.TheVariants as fault
+use Rattle.map_core.specs.declared.pool.Pool.{Pool}
+use Rattle.map_core.specs.declared.command.MapCommand.{MapCommand}
+use Rattle.map_core.specs.declared.command.MapCommand.TheVariants.{PoolCreate, AppEnable, AppSet, AppRm, OsdUp, OsdDown, OsdRestart}
 use Rattle.map_core.proofs.Acceptance.{all_fail, not_false}
 use Rattle.store_core.specs.declared.sealed.GroupId.{GroupId}
-use Rattle.whole_logs.specs.Each.{Each}
+use Rattle.group_model_whole.specs.Each.{Each}
 use Rattle.world_front.proofs.Bytes.{bytes_same}
 use Rattle.world_core.proofs.Acting.{each_join}
 

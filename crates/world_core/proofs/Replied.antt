@@ -5,11 +5,11 @@ use Rattle.entry_core.specs.Laws.{is_denied, StandsIn}
 use Rattle.store_core.specs.declared.entry.Entry.{Entry}
 use Rattle.entry_core.proofs.Lawful.{verdict_is_sealed}
 use Rattle.entry_core.proofs.FoundEntries.{find_tells}
-use Rattle.whole_logs.specs.Each.{Each}
-use Rattle.suffix_core.specs.Group.{submitted}
-use Rattle.whole_logs.specs.Asked.{IsAsked}
+use Rattle.group_model_whole.specs.Each.{Each}
+use Rattle.group_model.specs.Group.{submitted}
+use Rattle.group_model_whole.specs.Asked.{IsAsked}
 use Rattle.world_core.specs.World.{World, world_after}
-use Rattle.suffix_core.specs.Types.{EntryReply}
+use Rattle.group_model.specs.Types.{EntryReply}
 use Rattle.world_core.specs.Answers.{answer_at, IsAnswered, AnswersAreDecided}
 use Rattle.world_core.proofs.Worlds.{WorldStands, world_stands, world_legal, world_replied}
 

@@ -3,16 +3,16 @@ use Rattle.std.proofs.Common.{◌≡◌, ◌∙◌, ℕ, ◌==◌, List, [], ◌
 use Rattle.std.specs.Prelude.{slice_get}
 use Rattle.std.specs.List.{filter, flat_map}
 use Rattle.place_core.specs.Placement.{numbers_of}
-use Rattle.map_commands.specs.State.{MapState}
+use Rattle.map_core.specs.State.{MapState}
 use Rattle.entry_core.specs.Log.{is_in}
 use Rattle.store_core.specs.Request.{Sealed}
 use Rattle.store_core.specs.declared.sealed.GroupId.{GroupId}
 use Rattle.peer_core.specs.Steps.{restarted}
-use Rattle.suffix_core.specs.Types.{Daemon, Body, Interval, Query, Info, Install, Installed, Append, Appended, Request, Reply, NotHere, Party, Osd, Client, Sent}
-use Rattle.whole_logs.specs.Each.{Each}
-use Rattle.suffix_core.specs.Group.{Group, last_set, is_answered, answered, copy_hears, arrives, without, deliver, lose, again, is_submitted, has_all_requests, has_all_intervals, take_request, begin, with_up, same_set, group_step, run}
-use Rattle.suffix_core.specs.Group as group
-use Rattle.group_types.specs.declared.fault.GroupFault.TheVariants as group_fault
+use Rattle.group_model.specs.Types.{Daemon, Body, Interval, Query, Info, Install, Installed, Append, Appended, Request, Reply, NotHere, Party, Osd, Client, Sent}
+use Rattle.group_model_whole.specs.Each.{Each}
+use Rattle.group_model.specs.Group.{Group, last_set, is_answered, answered, copy_hears, arrives, without, deliver, lose, again, is_submitted, has_all_requests, has_all_intervals, take_request, begin, with_up, same_set, group_step, run}
+use Rattle.group_model.specs.Group as group
+use Rattle.group_messages.specs.declared.fault.GroupFault.TheVariants as group_fault
 use Rattle.entry_core.specs.Locality.{group_for}
 use Rattle.world_front.specs.Groups.{is_same_group, groups_of, is_for}
 use Rattle.world_core.specs.World.{Part, part, group_at, members_of, moved_parts, restarted_parts, asked_parts, refused_in, part_refusal, parts_refusal}

@@ -7,9 +7,9 @@ use Rattle.std.proofs.lemmas.List.{take-append-le, drop-append-le, drop_all, len
 use Rattle.std.proofs.lemmas.Grind.{flat_map-append}
 use Rattle.std.proofs.lemmas.Bool.{ltb-true, lt-ltb}
 use Rattle.store_core.specs.declared.entry.Entry.{Entry}
-use Rattle.whole_logs.specs.Each.{Each}
-use Rattle.whole_logs.specs.History.{Begins}
-use Rattle.suffix_core.specs.Group.{Group}
+use Rattle.group_model_whole.specs.Each.{Each}
+use Rattle.group_model_whole.specs.History.{Begins}
+use Rattle.group_model.specs.Group.{Group}
 use Rattle.world_core.specs.Standing.{audit_in}
 use Rattle.world_core.specs.declared.audit.Run.{Run}
 use Rattle.world_core.specs.Inside.{run_entries, entries_told}

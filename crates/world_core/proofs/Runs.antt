@@ -2,7 +2,7 @@
 use Rattle.std.proofs.Common.{◌≡◌, ◌∙◌, ℕ, ◌≤◌, ◌-◌, List, sym, ap, append-nil, length, take, drop, length-drop, []}
 use Rattle.std.proofs.Math.Seq.{take-length}
 use Rattle.store_core.specs.declared.entry.Entry.{Entry}
-use Rattle.whole_logs.specs.History.{Begins}
+use Rattle.group_model_whole.specs.History.{Begins}
 
 pub same_begins : (xs ys : List Entry) → xs ≡ ys → Begins xs ys
 same_begins xs ys e = record { rest = []; whole = append-nil xs ∙ e }

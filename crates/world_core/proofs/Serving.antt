@@ -7,10 +7,10 @@ use Rattle.store_core.specs.Request.{Sealed}
 use Rattle.entry_core.specs.Log.{is_in, LegalFrom, reply_in}
 use Rattle.store_core.specs.declared.reply.Reply.{Reply}
 use Rattle.store_core.specs.declared.entry.Entry.{Entry}
-use Rattle.whole_logs.specs.Each.{Each}
-use Rattle.suffix_core.specs.Group.{submitted}
-use Rattle.whole_logs.specs.Asked.{IsAsked}
-use Rattle.whole_logs.proofs.Audits.{legal_rest}
+use Rattle.group_model_whole.specs.Each.{Each}
+use Rattle.group_model.specs.Group.{submitted}
+use Rattle.group_model_whole.specs.Asked.{IsAsked}
+use Rattle.group_model_whole.proofs.Audits.{legal_rest}
 use Rattle.world_events.specs.declared.event.Event.{Event}
 use Rattle.world_events.specs.declared.event.Told.{Told}
 use Rattle.world_events.specs.declared.fault.WorldFault.{WorldFault as Fault}
@@ -26,7 +26,7 @@ use Rattle.world_core.proofs.Limits.{few_submissions}
 use Rattle.world_core.proofs.Messages.{accepted_when}
 use Rattle.world_core.proofs.Sounds.{sound_on, few_numbers}
 use Rattle.world_core.proofs.Worlds.{world_legal, world_replied, audit_grows, answers_stand, world_one_list}
-use Rattle.suffix_core.proofs.Twins.{reached_replicated}
+use Rattle.group_model.proofs.Twins.{reached_replicated}
 use Rattle.world_core.specs.Calls.{KeepsPromises}
 use Rattle.world_core.proofs.Replied.{world_answered}
 use Rattle.world_core.specs.Holds.{AcceptedFrom}

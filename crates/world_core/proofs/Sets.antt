@@ -7,20 +7,20 @@ use Rattle.std.proofs.lemmas.List.Elements.{All-head, All-tail, All-contains}
 use Rattle.place_core.specs.Placement.{IsActingSet, numbers_of}
 use Rattle.place_core.proofs.Distinct.{distinct-from_pairs}
 use Rattle.place_core.proofs.Numbers.{numbers_below}
-use Rattle.map_commands.specs.State.{MapState, History}
-use Rattle.map_commands.specs.Map.{initial, after, map_of}
+use Rattle.map_core.specs.State.{MapState, History}
+use Rattle.map_core.specs.Map.{initial, after, map_of}
 use Rattle.map_core.specs.Limits.{IsAccepted}
-use Rattle.map_commands.specs.Intervals.{set_of}
-use Rattle.map_commands.specs.declared.command.MapCommand.{MapCommand}
-use Rattle.map_commands.specs.declared.command.MapCommand.TheVariants.{PoolCreate, AppEnable, AppSet, AppRm, OsdUp, OsdDown, OsdRestart}
+use Rattle.map_core.specs.Intervals.{set_of}
+use Rattle.map_core.specs.declared.command.MapCommand.{MapCommand}
+use Rattle.map_core.specs.declared.command.MapCommand.TheVariants.{PoolCreate, AppEnable, AppSet, AppRm, OsdUp, OsdDown, OsdRestart}
 use Rattle.map_core.proofs.Current.{daemons_stay}
 use Rattle.map_core.proofs.Daemons.{sets_are_acting, up_are_there}
 use Rattle.entry_core.specs.Log.{is_in}
 use Rattle.store_core.specs.declared.sealed.GroupId.{GroupId}
-use Rattle.whole_logs.specs.ActingSets.{daemons}
-use Rattle.suffix_core.specs.Group.{IsSet}
-use Rattle.whole_logs.specs.Within.{LiesWithin}
-use Rattle.whole_logs.proofs.Sets.{set_is}
+use Rattle.group_model_whole.specs.ActingSets.{daemons}
+use Rattle.group_model.specs.Group.{IsSet}
+use Rattle.group_model_whole.specs.Within.{LiesWithin}
+use Rattle.group_model_whole.proofs.Sets.{set_is}
 use Rattle.world_core.specs.World.{members_of}
 use Rattle.world_front.proofs.Bytes.{number_same}
 

@@ -4,20 +4,20 @@ use Rattle.std.proofs.Common.{◌≡◌, ◌∙◌, ℕ, ◌==◌, List, [], ◌
 use Rattle.std.specs.List.{flat_map}
 use Rattle.std.proofs.lemmas.List.{drop_all}
 use Rattle.place_core.specs.Placement.{numbers_of}
-use Rattle.map_commands.specs.State.{MapState}
-use Rattle.map_commands.specs.Map.{after}
-use Rattle.map_commands.specs.declared.command.MapCommand.{MapCommand}
-use Rattle.map_commands.specs.declared.command.MapCommand.TheVariants.{PoolCreate, AppEnable, AppSet, AppRm, OsdUp, OsdDown, OsdRestart}
+use Rattle.map_core.specs.State.{MapState}
+use Rattle.map_core.specs.Map.{after}
+use Rattle.map_core.specs.declared.command.MapCommand.{MapCommand}
+use Rattle.map_core.specs.declared.command.MapCommand.TheVariants.{PoolCreate, AppEnable, AppSet, AppRm, OsdUp, OsdDown, OsdRestart}
 use Rattle.entry_core.specs.Log.{is_in}
 use Rattle.entry_core.specs.Locality.{group_for}
 use Rattle.store_core.specs.Request.{Sealed}
 use Rattle.store_core.specs.declared.entry.Entry.{Entry}
 use Rattle.store_core.specs.declared.sealed.GroupId.{GroupId}
 use Rattle.peer_core.specs.Steps.{restarted}
-use Rattle.whole_logs.specs.Each.{Each}
-use Rattle.whole_logs.specs.History.{Begins}
-use Rattle.suffix_core.specs.Group.{Group, begin, group_step, has_all_intervals, has_all_requests, is_submitted, last_set, take_request, same_set, with_up}
-use Rattle.suffix_core.specs.Group as group
+use Rattle.group_model_whole.specs.Each.{Each}
+use Rattle.group_model_whole.specs.History.{Begins}
+use Rattle.group_model.specs.Group.{Group, begin, group_step, has_all_intervals, has_all_requests, is_submitted, last_set, take_request, same_set, with_up}
+use Rattle.group_model.specs.Group as group
 use Rattle.world_front.specs.Groups.{is_same_group, groups_of}
 use Rattle.world_core.specs.World.{World, Part, part, act, acted, asked_parts, decided_in, group_at, map_parts, members_of}
 use Rattle.world_core.specs.Moves.{stepped, stepped_by}

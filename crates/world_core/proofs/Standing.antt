@@ -5,12 +5,12 @@ use Rattle.store_core.specs.Request.{Sealed}
 use Rattle.entry_core.specs.Log.{Legal, is_in}
 use Rattle.store_core.specs.declared.sealed.GroupId.{GroupId}
 use Rattle.peer_core.specs.Steps.{restarted}
-use Rattle.suffix_core.specs.Types.{Daemon, Body, Interval, Query, Info, Install, Installed, Append, Appended, Request, Reply, NotHere, Party, Osd, Client, Sent}
-use Rattle.whole_logs.specs.Each.{Each}
-use Rattle.whole_logs.specs.Asked.{IsAsked, HasSubmit, InLog}
-use Rattle.suffix_core.specs.Group.{Group, Event, Submit, Deliver, Lose, Repeat, NewInterval, Restart, Kick, last_set, is_answered, answered, copy_hears, arrives, without, deliver, lose, again, is_submitted, has_all_requests, has_all_intervals, take_request, begin, with_up, same_set, group_step, run, start, submitted}
-use Rattle.suffix_core.proofs.Runs.{run-append}
-use Rattle.suffix_core.proofs.Twins.{run_legal, run_asked, all_submitted}
+use Rattle.group_model.specs.Types.{Daemon, Body, Interval, Query, Info, Install, Installed, Append, Appended, Request, Reply, NotHere, Party, Osd, Client, Sent}
+use Rattle.group_model_whole.specs.Each.{Each}
+use Rattle.group_model_whole.specs.Asked.{IsAsked, HasSubmit, InLog}
+use Rattle.group_model.specs.Group.{Group, Event, Submit, Deliver, Lose, Repeat, NewInterval, Restart, Kick, last_set, is_answered, answered, copy_hears, arrives, without, deliver, lose, again, is_submitted, has_all_requests, has_all_intervals, take_request, begin, with_up, same_set, group_step, run, start, submitted}
+use Rattle.group_model.proofs.Runs.{run-append}
+use Rattle.group_model.proofs.Twins.{run_legal, run_asked, all_submitted}
 use Rattle.entry_core.specs.Locality.{group_for}
 pub use Rattle.world_core.specs.Sound.{Submits, Stands}
 

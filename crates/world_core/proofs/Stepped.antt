@@ -4,17 +4,17 @@ use Rattle.std.proofs.Common.{◌≡◌, ◌∙◌, ℕ, ◌+◌, ◌<◌, ◌==
 use Rattle.std.specs.List.{flat_map, range_with_len, find}
 use Rattle.std.specs.Option.{option_or}
 use Rattle.std.specs.Str.{bytes_eq}
-use Rattle.map_commands.specs.State.{MapState, History}
-use Rattle.map_commands.specs.Map.{is_named, map_of}
+use Rattle.map_core.specs.State.{MapState, History}
+use Rattle.map_core.specs.Map.{is_named, map_of}
 use Rattle.map_core.specs.Limits.{IsAccepted}
-use Rattle.map_commands.specs.declared.pool.Pool.{Pool}
-use Rattle.map_commands.specs.declared.command.MapCommand.{MapCommand}
-use Rattle.map_commands.specs.declared.command.MapCommand.TheVariants.{PoolCreate, AppEnable, AppSet, AppRm, OsdUp, OsdDown, OsdRestart}
+use Rattle.map_core.specs.declared.pool.Pool.{Pool}
+use Rattle.map_core.specs.declared.command.MapCommand.{MapCommand}
+use Rattle.map_core.specs.declared.command.MapCommand.TheVariants.{PoolCreate, AppEnable, AppSet, AppRm, OsdUp, OsdDown, OsdRestart}
 use Rattle.map_core.proofs.Kept.{pools_differ}
 use Rattle.store_core.specs.declared.sealed.GroupId.{GroupId}
-use Rattle.whole_logs.specs.Each.{Each}
-use Rattle.suffix_core.specs.Group.{Group, group_step, refusal_of}
-use Rattle.suffix_core.specs.Group as group
+use Rattle.group_model_whole.specs.Each.{Each}
+use Rattle.group_model.specs.Group.{Group, group_step, refusal_of}
+use Rattle.group_model.specs.Group as group
 use Rattle.world_front.specs.Groups.{is_same_group, groups_of}
 use Rattle.world_core.specs.World.{Part, part, group_at, at_group, map_parts, parts_of, created_by, refused_in, part_refusal, parts_refusal}
 use Rattle.world_events.specs.declared.event.Event.TheVariants.{Map}

@@ -9,9 +9,9 @@ use Rattle.std.proofs.Math.Seq.{take-length}
 use Rattle.std.specs.Bool.{◌==◌}
 use Rattle.std.proofs.lemmas.Option.{slice_get_read}
 use Rattle.store_core.specs.Request.{Sealed}
-use Rattle.whole_logs.specs.Each.{Each}
-use Rattle.suffix_core.specs.Group.{Group, Submit, group_step, has_all_requests}
-use Rattle.suffix_core.specs.Reached.{HasJustTaken}
+use Rattle.group_model_whole.specs.Each.{Each}
+use Rattle.group_model.specs.Group.{Group, Submit, group_step, has_all_requests}
+use Rattle.group_model.specs.Reached.{HasJustTaken}
 use Rattle.world_front.proofs.Bytes.{number_same}
 use Rattle.world_core.specs.Taking.{Takes, TakesAll, is_full_at}
 use Rattle.world_core.proofs.RunPlaces.{set_there}

@@ -5,23 +5,23 @@ use Rattle.std.specs.List.{flat_map}
 use Rattle.std.specs.Option.{option_map}
 use Rattle.place_core.specs.Placement.{numbers_of}
 use Rattle.grant_core.specs.Flat.{Table}
-use Rattle.map_commands.specs.State.{MapState}
-use Rattle.map_commands.specs.Map.{map_of, after}
-use Rattle.map_commands.specs.declared.command.MapCommand.{MapCommand}
-use Rattle.map_commands.specs.declared.command.MapCommand.TheVariants.{PoolCreate, AppEnable, AppSet, AppRm, OsdUp, OsdDown, OsdRestart}
+use Rattle.map_core.specs.State.{MapState}
+use Rattle.map_core.specs.Map.{map_of, after}
+use Rattle.map_core.specs.declared.command.MapCommand.{MapCommand}
+use Rattle.map_core.specs.declared.command.MapCommand.TheVariants.{PoolCreate, AppEnable, AppSet, AppRm, OsdUp, OsdDown, OsdRestart}
 use Rattle.store_core.specs.Request.{Sealed}
 use Rattle.entry_core.specs.Log.{Legal, find}
 use Rattle.store_core.specs.declared.entry.Entry.{Entry}
 use Rattle.store_core.specs.declared.sealed.GroupId.{GroupId}
-use Rattle.suffix_core.specs.Types.{EntryReply}
-use Rattle.whole_logs.specs.Each.{Each}
-use Rattle.whole_logs.specs.Asked.{IsAsked, IsReplied}
-use Rattle.whole_logs.specs.History.{Begins}
-use Rattle.suffix_core.specs.Group.{Group, group_step, run, start, submitted, answer_of}
-use Rattle.suffix_core.specs.Group as group
-use Rattle.whole_logs.proofs.Kept.{answer_replied}
-use Rattle.suffix_core.proofs.Additions.{answer_stands}
-use Rattle.suffix_core.proofs.Twins.{run_replied}
+use Rattle.group_model.specs.Types.{EntryReply}
+use Rattle.group_model_whole.specs.Each.{Each}
+use Rattle.group_model_whole.specs.Asked.{IsAsked, IsReplied}
+use Rattle.group_model_whole.specs.History.{Begins}
+use Rattle.group_model.specs.Group.{Group, group_step, run, start, submitted, answer_of}
+use Rattle.group_model.specs.Group as group
+use Rattle.group_model_whole.proofs.Kept.{answer_replied}
+use Rattle.group_model.proofs.Additions.{answer_stands}
+use Rattle.group_model.proofs.Twins.{run_replied}
 use Rattle.world_events.specs.declared.event.Event.{Event}
 use Rattle.world_events.specs.declared.event.Event.TheVariants.{Auth, Map, Open, Renew, Close, Submit, List as ListNames, Deliver, Lose, Repeat, Kick}
 use Rattle.entry_core.specs.Locality.{group_for, IsPlaced}

@@ -3,12 +3,12 @@
 use Rattle.std.specs.Prelude.{◌≡◌, ℕ, List, Some}
 use Rattle.std.specs.List.{filter}
 use Rattle.place_core.specs.Placement.{IsActingSet, numbers_of}
-use Rattle.object_ops.specs.declared.op.Op.{Op}
-use Rattle.map_commands.specs.Map.{map_of}
-use Rattle.map_commands.specs.Intervals.{set_of}
+use Rattle.object_core.specs.declared.op.Op.{Op}
+use Rattle.map_core.specs.Map.{map_of}
+use Rattle.map_core.specs.Intervals.{set_of}
 use Rattle.store_core.specs.declared.sealed.GroupId.{GroupId}
-use Rattle.suffix_core.specs.Within.{IsReachedWithin}
-use Rattle.suffix_core.specs.Group.{Group, last_set}
+use Rattle.group_model.specs.Within.{IsReachedWithin}
+use Rattle.group_model.specs.Group.{Group, last_set}
 use Rattle.world_events.specs.declared.event.Ask.{Ask}
 use Rattle.world_events.specs.declared.event.Event.TheVariants.{Submit, List as ListNames}
 use Rattle.world_front.specs.Front.{front_refusal}

@@ -7,10 +7,10 @@ use Rattle.entry_core.specs.Laws.{is_denied}
 use Rattle.store_core.specs.Deciding.{is_allowed_sealed}
 use Rattle.store_core.specs.declared.entry.Entry.{Entry}
 use Rattle.store_core.specs.Request.{Sealed}
-use Rattle.suffix_core.specs.Types.{EntryReply}
-use Rattle.suffix_core.specs.Group.{Group, answer_of, submitted}
-use Rattle.whole_logs.specs.Asked.{IsReplied}
-use Rattle.whole_logs.specs.History.{Begins}
+use Rattle.group_model.specs.Types.{EntryReply}
+use Rattle.group_model.specs.Group.{Group, answer_of, submitted}
+use Rattle.group_model_whole.specs.Asked.{IsReplied}
+use Rattle.group_model_whole.specs.History.{Begins}
 use Rattle.world_events.specs.declared.event.Event.{Event}
 use Rattle.entry_core.specs.Locality.{group_for}
 use Rattle.world_core.specs.World.{World, world_after, world_step, group_at}

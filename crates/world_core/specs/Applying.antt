@@ -2,10 +2,10 @@
 -- What one event does to a world, and one call to a group and its runs.
 use Rattle.std.specs.Prelude.{◌≡◌, ◌⊎◌, ℕ, List, [], ◌∷◌, ◌++◌, true, false, if◌then◌else◌, None, Some, Result, Ok, Err, IfOk, length, nat_lt, slice_get, slice_set}
 use Rattle.store_core.specs.declared.sealed.GroupId.{GroupId}
-use Rattle.suffix_core.specs.Group.{Group, group_step, left_by}
-use Rattle.suffix_core.specs.Group as group
-use Rattle.group_types.specs.declared.fault.GroupFault.{GroupFault}
-use Rattle.group_types.specs.declared.fault.GroupFault.TheVariants as group_fault
+use Rattle.group_model.specs.Group.{Group, group_step, left_by}
+use Rattle.group_model.specs.Group as group
+use Rattle.group_messages.specs.declared.fault.GroupFault.{GroupFault}
+use Rattle.group_messages.specs.declared.fault.GroupFault.TheVariants as group_fault
 use Rattle.world_events.specs.declared.event.Event.{Event}
 use Rattle.world_events.specs.declared.event.Event.TheVariants.{Deliver, Lose, Repeat, Kick}
 use Rattle.world_events.specs.declared.event.Told.{Told}

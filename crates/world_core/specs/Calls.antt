@@ -4,9 +4,9 @@ use Rattle.std.specs.Prelude.{◌≡◌, ◌⊎◌, ℕ, List, [], ◌∷◌, Op
 use Rattle.grant_core.specs.Flat.{Table}
 use Rattle.store_core.specs.Request.{Sealed}
 use Rattle.store_core.specs.declared.sealed.GroupId.{GroupId}
-use Rattle.suffix_core.specs.Group.{Group, is_submitted}
-use Rattle.suffix_core.specs.Replicated.{IsReplicated}
-use Rattle.suffix_core.specs.Types.{EntryReply}
+use Rattle.group_model.specs.Group.{Group, is_submitted}
+use Rattle.group_model.specs.Replicated.{IsReplicated}
+use Rattle.group_model.specs.Types.{EntryReply}
 use Rattle.world_events.specs.declared.event.Event.{Event}
 use Rattle.world_events.specs.declared.fault.WorldFault.{WorldFault as Fault}
 use Rattle.world_events.specs.declared.fault.WorldFault.TheVariants.{NoRequest, OutOfMemory}

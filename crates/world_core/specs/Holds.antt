@@ -3,10 +3,10 @@
 use Rattle.std.specs.Prelude.{◌≡◌, ℕ, List, [], ◌∷◌, ◌++◌, true, Option, None, Some, map}
 use Rattle.std.specs.List.{filter}
 use Rattle.grant_core.specs.Flat.{Table}
-use Rattle.map_commands.specs.Intervals.{intervals_of}
+use Rattle.map_core.specs.Intervals.{intervals_of}
 use Rattle.store_core.specs.declared.sealed.GroupId.{GroupId}
-use Rattle.suffix_core.specs.Group.{Group, run}
-use Rattle.suffix_core.specs.Group as group
+use Rattle.group_model.specs.Group.{Group, run}
+use Rattle.group_model.specs.Group as group
 use Rattle.world_events.specs.declared.event.Event.{Event}
 use Rattle.world_front.specs.Groups.{is_same_group}
 use Rattle.world_front.specs.Front.{Front, first_front, front_step, front_after}

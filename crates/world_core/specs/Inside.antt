@@ -3,7 +3,7 @@
 use Rattle.std.specs.Prelude.{◌-◌, List, take, drop, slice_get}
 use Rattle.std.specs.List.{flat_map}
 use Rattle.store_core.specs.declared.entry.Entry.{Entry}
-use Rattle.suffix_core.specs.Group.{Group}
+use Rattle.group_model.specs.Group.{Group}
 use Rattle.world_front.specs.Front.{Front}
 use Rattle.world_core.specs.World.{World}
 use Rattle.world_core.specs.Standing.{audit_in}

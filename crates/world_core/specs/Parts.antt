@@ -4,7 +4,7 @@ use Rattle.std.specs.Prelude.{◌≤◌, List, length, []}
 use Rattle.std.specs.List.{flat_map}
 use Rattle.store_core.specs.Request.{Sealed}
 use Rattle.store_core.specs.declared.entry.Entry.{Entry}
-use Rattle.suffix_core.specs.Group.{Group}
+use Rattle.group_model.specs.Group.{Group}
 use Rattle.world_front.specs.Front.{Front}
 use Rattle.world_core.specs.World.{World}
 use Rattle.world_core.specs.Sound.{IsSound}

@@ -3,7 +3,7 @@
 -- message or group stands here. A world is held against it (Serving), as an implementation against its specification in IronFleet.
 use Rattle.std.specs.Prelude.{◌≡◌, ℕ, ◌≤◌, ◌==◌, true, false, List, [], ◌∷◌, ◌++◌, Option, None, Some, Contains, length, filter, map}
 use Rattle.verdict_core.specs.Verdict.{report_of}
-use Rattle.verdict_types.specs.declared.request.Condition.{Condition}
+use Rattle.request_types.specs.declared.request.Condition.{Condition}
 use Rattle.store_core.specs.Request.{Sealed, target_of, needs_for}
 use Rattle.store_core.specs.Deciding.{is_allowed_sealed, performed, store_of}
 use Rattle.entry_core.specs.Log.{decide, ids, is_in, reply_in}

@@ -3,17 +3,17 @@
 use Rattle.std.specs.Prelude.{◌≡◌, ℕ, ◌<◌, ◌≤◌, List, [], Some, length, map, slice_get}
 use Rattle.std.specs.List.{filter, flat_map}
 use Rattle.place_core.specs.Placement.{numbers_of}
-use Rattle.map_commands.specs.State.{History}
-use Rattle.map_commands.specs.Map.{map_of}
+use Rattle.map_core.specs.State.{History}
+use Rattle.map_core.specs.Map.{map_of}
 use Rattle.map_core.specs.Limits.{IsAccepted}
-use Rattle.map_commands.specs.Intervals.{set_of, intervals_of}
+use Rattle.map_core.specs.Intervals.{set_of, intervals_of}
 use Rattle.entry_core.specs.Locality.{group_for}
 use Rattle.store_core.specs.Request.{Sealed}
 use Rattle.store_core.specs.declared.sealed.GroupId.{GroupId}
-use Rattle.whole_logs.specs.Each.{Each}
-use Rattle.whole_logs.specs.Asked.{IsAsked}
-use Rattle.suffix_core.specs.Group.{Group, Event, Submit, Deliver, Lose, Repeat, NewInterval, Restart, Kick, last_set, run, start}
-use Rattle.suffix_core.specs.Within.{IsReachedWithin}
+use Rattle.group_model_whole.specs.Each.{Each}
+use Rattle.group_model_whole.specs.Asked.{IsAsked}
+use Rattle.group_model.specs.Group.{Group, Event, Submit, Deliver, Lose, Repeat, NewInterval, Restart, Kick, last_set, run, start}
+use Rattle.group_model.specs.Within.{IsReachedWithin}
 use Rattle.world_front.specs.Groups.{is_for, groups_of}
 use Rattle.world_front.specs.Front.{Front}
 use Rattle.world_core.specs.World.{World, group_at}

@@ -3,9 +3,9 @@
 use Rattle.std.specs.Prelude.{◌≡◌, ◌<◌, ◌^◌, List, [], Some, None, Option, length}
 use Rattle.store_core.specs.declared.entry.Entry.{Entry}
 use Rattle.store_core.specs.declared.sealed.GroupId.{GroupId}
-use Rattle.whole_logs.specs.Each.{Each}
-use Rattle.whole_logs.specs.Asked.{IsAsked}
-use Rattle.suffix_core.specs.Group.{Group}
+use Rattle.group_model_whole.specs.Each.{Each}
+use Rattle.group_model_whole.specs.Asked.{IsAsked}
+use Rattle.group_model.specs.Group.{Group}
 use Rattle.entry_core.specs.Locality.{IsPlaced}
 use Rattle.world_front.specs.Groups.{group_count}
 use Rattle.world_front.specs.Merging.{part_of}

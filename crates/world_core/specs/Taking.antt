@@ -2,11 +2,11 @@
 -- Requests that groups take together.
 use Rattle.std.specs.Prelude.{◌≡◌, ℕ, List, [], ◌∷◌, Bool, false, None, Some, slice_get, slice_set, map}
 use Rattle.std.specs.Option.{option_map_or}
-use Rattle.map_commands.specs.declared.pool.Pool.{Pool}
+use Rattle.map_core.specs.declared.pool.Pool.{Pool}
 use Rattle.entry_core.specs.Locality.{group_for}
 use Rattle.store_core.specs.Request.{Sealed}
-use Rattle.suffix_core.specs.Group.{Group, Submit, group_step, has_all_requests, refusal_of}
-use Rattle.suffix_core.specs.Reached.{IsReached}
+use Rattle.group_model.specs.Group.{Group, Submit, group_step, has_all_requests, refusal_of}
+use Rattle.group_model.specs.Reached.{IsReached}
 use Rattle.world_front.specs.Groups.{place_in}
 
 -- the group at a place took a request

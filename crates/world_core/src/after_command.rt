@@ -1,7 +1,7 @@
 //! What the map says of a group after a command.
 
 ghost use Rattle.std.specs.Prelude.{◌≡◌, None};
-ghost use Rattle.map_commands.specs.Map.{map_of, epoch_of, after};
+ghost use Rattle.map_core.specs.Map.{map_of, epoch_of, after};
 ghost use Rattle.map_core.specs.Refusal.{refusal};
 ghost use Rattle.world_core.specs.World.{members_of};
 

@@ -1,12 +1,13 @@
 //! Where the decided entries stand in the groups' own lists.
 
 ghost use Rattle.std.specs.Prelude.{◌≡◌, ◌<◌, ◌++◌, vec_len, vec_capacity, IfOk, OnOk};
-ghost use Rattle.whole_logs.specs.Each.{Each};
+ghost use Rattle.group_model_whole.specs.Each.{Each};
 ghost use Rattle.world_core.specs.Applying.{runs_from};
 ghost use Rattle.world_core.specs.Inside.{entries_told};
 ghost use Rattle.world_core.specs.Sound.{FitsAt};
 
-use entry_core::{Entry, Items, OutOfMemory, TryCopy};
+use common_types::{Items, OutOfMemory, TryCopy};
+use entry_core::Entry;
 use group_core::Group;
 use std::alloc::Global;
 

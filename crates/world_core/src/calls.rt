@@ -1,13 +1,13 @@
 //! Calls on one group, each of which is an event of the world.
 
 ghost use Rattle.std.specs.Prelude.{◌≡◌, ◌<◌, ◌++◌, length};
-ghost use Rattle.suffix_core.specs.Group.{Deliver};
+ghost use Rattle.group_model.specs.Group.{Deliver};
 ghost use Rattle.group_core.specs.Calls.{event_of};
 ghost use Rattle.world_core.specs.Applying.{CalledAt, LosesFreely, StepsOrMemory, runs_from, told_call};
 
 use crate::audit::{Run, keep};
 use group_core::{Group, GroupCall};
-use group_types::GroupFault;
+use group_messages::GroupFault;
 use world_front::{Told, WorldFault};
 
 /// Delivers a message of a group, and keeps where the entries stand that this decided. Room for that is taken first.

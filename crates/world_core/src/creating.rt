@@ -1,7 +1,7 @@
 //! The groups of a new pool.
 
 ghost use Rattle.std.specs.Prelude.{◌≡◌, ◌≤◌, ◌++◌, None, IfOk, IfErr, OnOk, OnErr};
-ghost use Rattle.map_commands.specs.Map.{map_of, epoch_of, after};
+ghost use Rattle.map_core.specs.Map.{map_of, epoch_of, after};
 ghost use Rattle.map_core.specs.Refusal.{refusal};
 ghost use Rattle.world_events.specs.declared.event.Event.TheVariants.{Map};
 ghost use Rattle.world_events.specs.declared.fault.WorldFault.TheVariants.{OutOfMemory};
@@ -10,7 +10,8 @@ ghost use Rattle.world_core.specs.Moves.{made_by};
 ghost use Rattle.world_core.specs.World.{begun_group};
 
 use crate::after_command::members_after;
-use entry_core::{GroupId, OutOfMemory};
+use common_types::OutOfMemory;
+use entry_core::GroupId;
 use group_core::Group;
 use map_core::{ClusterMap, MapCommand};
 use std::alloc::Global;

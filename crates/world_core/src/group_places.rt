@@ -3,7 +3,7 @@
 ghost use Rattle.std.specs.Prelude.{◌≡◌, List, IfOk};
 ghost use Rattle.std.specs.Option.{option_map};
 ghost use Rattle.entry_core.specs.Locality.{group_for};
-ghost use Rattle.suffix_core.specs.Group.{Group};
+ghost use Rattle.group_model.specs.Group.{Group};
 ghost use Rattle.map_core.specs.Refusal.{acting_refusal};
 ghost use Rattle.world_events.specs.declared.fault.WorldFault.TheVariants.{Map as OfMap};
 ghost use Rattle.world_front.specs.Front.{error_of};

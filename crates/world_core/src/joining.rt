@@ -6,7 +6,8 @@ ghost use Rattle.world_core.specs.Answers.{answer_at};
 ghost use Rattle.world_core.specs.Listing.{listing_of};
 
 use crate::world::World;
-use entry_core::{Id, OutOfMemory, Reply};
+use common_types::OutOfMemory;
+use entry_core::{Id, Reply};
 use std::alloc::Global;
 use world_front::Joined;
 

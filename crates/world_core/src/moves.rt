@@ -5,13 +5,13 @@
 
 ghost use Rattle.std.specs.Prelude.{◌≡◌, ◌≤◌, ◌<◌, ◌+◌, ◌++◌, [], ◌∷◌, Bool, true, length, map, reverse, OnOk, OnErr, IfOk, IfErr, None, Some, if◌then◌else◌, vec_len, vec_capacity};
 ghost use Rattle.std.specs.Option.{option_map, option_or};
-ghost use Rattle.map_commands.specs.Intervals.{set_of};
-ghost use Rattle.map_commands.specs.Map.{map_of, epoch_of};
+ghost use Rattle.map_core.specs.Intervals.{set_of};
+ghost use Rattle.map_core.specs.Map.{map_of, epoch_of};
 ghost use Rattle.map_core.specs.Refusal as map_tests;
-ghost use Rattle.whole_logs.specs.Each.{Each};
-ghost use Rattle.suffix_core.specs.Group.{last_set, refusal_of};
+ghost use Rattle.group_model_whole.specs.Each.{Each};
+ghost use Rattle.group_model.specs.Group.{last_set, refusal_of};
 ghost use Rattle.group_core.specs.Moves.{event_of};
-ghost use Rattle.group_types.specs.declared.fault.GroupFault.TheVariants as group_fault;
+ghost use Rattle.group_messages.specs.declared.fault.GroupFault.TheVariants as group_fault;
 ghost use Rattle.world_events.specs.declared.event.Event.TheVariants.{Map};
 ghost use Rattle.world_events.specs.declared.fault.WorldFault.TheVariants.{Group as OfGroup, OutOfMemory};
 ghost use Rattle.world_front.specs.Front.{front_step, front_refusal, told_of};
@@ -22,9 +22,10 @@ ghost use Rattle.world_core.specs.World.{parts_of, parts_refusal, created_by};
 
 use crate::after_command::members_after;
 use crate::creating::change_pools;
-use entry_core::{GroupId, OutOfMemory};
+use common_types::OutOfMemory;
+use entry_core::GroupId;
 use group_core::{Group, PreparedGroup};
-use group_types::{GroupFault, GroupMove};
+use group_messages::{GroupFault, GroupMove};
 use map_core::{ClusterMap, MapCommand};
 use std::alloc::AllocError;
 use world_front::{Front, Told, WorldFault};

@@ -3,16 +3,17 @@
 ghost use Rattle.std.specs.Prelude.{◌≡◌, ◌⊎◌, ◌<◌, List, true, false, length, IfOk, IfErr, OnOk, OnErr};
 ghost use Rattle.std.specs.List.{list_any};
 ghost use Rattle.store_core.specs.Request as request;
-ghost use Rattle.whole_logs.specs.Each.{Each};
-ghost use Rattle.suffix_core.specs.Group as group;
-ghost use Rattle.group_types.specs.declared.fault.GroupFault.TheVariants as group_fault;
-ghost use Rattle.map_commands.specs.Map.{map_of};
+ghost use Rattle.group_model_whole.specs.Each.{Each};
+ghost use Rattle.group_model.specs.Group as group;
+ghost use Rattle.group_messages.specs.declared.fault.GroupFault.TheVariants as group_fault;
+ghost use Rattle.map_core.specs.Map.{map_of};
 ghost use Rattle.world_events.specs.declared.fault.WorldFault.TheVariants as faults;
 ghost use Rattle.world_core.specs.Taking.{Takes, TakesAll, is_full_at, places_for};
 
-use entry_core::{Items, OutOfMemory, Sealed, TryCopy};
+use common_types::{Items, OutOfMemory, TryCopy};
+use entry_core::Sealed;
 use group_core::Group;
-use group_types::GroupFault;
+use group_messages::GroupFault;
 use map_core::ClusterMap;
 use std::alloc::{AllocError, Global};
 use world_front::{WorldFault, place_for};

@@ -3,7 +3,7 @@
 ghost use Rattle.std.specs.Prelude.{◌≡◌, ◌≤◌, ◌++◌, [], ◌∷◌, ℕ, List, true, false, Ok, Some, IfOk, IsOkAnd, IsSomeAnd};
 ghost use Rattle.grant_core.specs.Flat.{Table};
 ghost use Rattle.store_core.specs.declared.sealed.GroupId.{GroupId};
-ghost use Rattle.suffix_core.specs.Recovery.{is_ready};
+ghost use Rattle.group_model.specs.Recovery.{is_ready};
 ghost use Rattle.world_events.specs.declared.event.Event as events;
 ghost use Rattle.world_events.specs.declared.event.Event.TheVariants as happens;
 ghost use Rattle.world_front.specs.Front.{told_of, group_refusal};
@@ -24,8 +24,8 @@ use crate::group_places::place_of;
 use crate::moves::apply_map;
 use crate::taking::{take_back_all, take_requests};
 use auth_db::AuthDb;
-use common_types::Name;
-use entry_core::{Entry, GroupId, OutOfMemory};
+use common_types::{Name, OutOfMemory};
+use entry_core::{Entry, GroupId};
 use grant_core::ProfileTable;
 use group_core::{Group, GroupCall};
 use map_core::{ClusterMap, MapCommand};
@@ -86,10 +86,10 @@ impl World {
 
     /// Carries out an event, and says what it tells.
     ///
-    /// It is refused for the first reason that `WorldFault` has for it, in the order of the definition `refusal_of`, or, where
-    /// there is none, for want of memory (W7). A refused event leaves the world as it was, but for a delivery to a daemon that
-    /// is down (P2): that has dropped its message, and counts as an event that happened. A loss is never refused for want of
-    /// memory.
+    /// It is refused for the first reason that `WorldFault` has for it, in the order of the definition `refusal_of`. An event
+    /// that takes memory may be refused as out of memory (W7) instead, also where another refusal holds. A refused event leaves
+    /// the world as it was. The exception is a delivery to a daemon that is down (P2): it drops its message, and counts as an
+    /// event that happened. A loss is never refused as out of memory.
     pub fn apply(&mut self, event: Event) -> Result<Told, WorldFault>
         ensures holds { (table : Table) (daemons : ℕ) (before : List events.Event) → Holds table daemons before self.old → counts event result ≡ true
             → Holds table daemons (before ++ event ∷ []) self.new }

@@ -3,8 +3,8 @@ use Rattle.std.proofs.Common.{◌≡◌, ◌∙◌, ℕ, ◌==◌, Bool, cond, L
 use Rattle.std.specs.Map.{lookup}
 use Rattle.std.proofs.lemmas.List.{map-append}
 use Rattle.store_core.specs.Request.{Sealed}
-use Rattle.whole_logs.specs.Group.{submitted}
-use Rattle.whole_logs.proofs.ById.{same_turned}
+use Rattle.group_model_whole.specs.Group.{submitted}
+use Rattle.group_model_whole.proofs.ById.{same_turned}
 use Rattle.world_events.specs.Submitting.{requests_in, AreKeyed}
 
 pub request_found : (es : List (ℕ × Sealed)) (id : ℕ) → AreKeyed es → lookup (λ k. id == k) es ≡ submitted (requests_in es) id

@@ -2,9 +2,9 @@
 -- The printed text of a fault: this project's profile.
 use Rattle.std.specs.Prelude.{ℕ, List, codes}
 use Rattle.auth_db.specs.Printed as auth_text
-use Rattle.map_commands.specs.Printed as map_text
+use Rattle.map_core.specs.Printed as map_text
 use Rattle.object_core.specs.Faults as needs_text
-use Rattle.group_types.specs.Printed as group_text
+use Rattle.group_messages.specs.Printed as group_text
 use Rattle.world_events.specs.declared.fault.WorldFault.{WorldFault as Fault}
 use Rattle.world_events.specs.declared.fault.WorldFault.TheVariants.{NoSession, NoPool, BadObjectName, StaleEpoch, NoRequest, Limit, OutOfMemory, StaleTick, Auth as OfUsers, Map as OfMap, Needs as OfNeeds, Group as OfGroup}
 

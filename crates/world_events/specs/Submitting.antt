@@ -2,8 +2,8 @@
 -- Requests by their ids.
 use Rattle.std.specs.Prelude.{◌≡◌, ℕ, List, [], ◌∷◌, ◌++◌, None, map}
 use Rattle.store_core.specs.Request.{Sealed}
-use Rattle.whole_logs.specs.Each.{Each}
-use Rattle.whole_logs.specs.Group.{submitted}
+use Rattle.group_model_whole.specs.Each.{Each}
+use Rattle.group_model_whole.specs.Group.{submitted}
 
 -- the requests of entries
 abbrev pub requests_in : List (ℕ × Sealed) → List Sealed

@@ -4,8 +4,8 @@ ghost use Rattle.std.specs.Prelude.{◌≡◌, IfOk};
 
 use crate::ops::Ops;
 use auth_db::Caps;
-use common_types::{Name, OutOfMemory};
-use entry_core::{GroupId, Id, TryCopy};
+use common_types::{Name, OutOfMemory, TryCopy};
+use entry_core::{GroupId, Id};
 use map_core::{Epoch, MapCommand};
 
 /// A command on the users: those of the Ceph manual's User Management chapter.

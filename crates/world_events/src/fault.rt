@@ -5,7 +5,7 @@ ghost use Rattle.world_events.specs.declared.fault.WorldFault.TheVariants.{OutOf
 ghost use Rattle.world_events.specs.Faults.{fault_of_map, fault_of_needs, users_fault};
 
 use auth_db::AuthFault;
-use group_types::GroupFault;
+use group_messages::GroupFault;
 use map_core::MapFault;
 use object_core::NeedsFault;
 use std::alloc::{AllocError, AllocFailed};

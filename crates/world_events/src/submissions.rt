@@ -1,10 +1,11 @@
 //! The requests that were submitted.
 
 ghost use Rattle.std.specs.Prelude.{◌≡◌, ◌++◌, [], ◌∷◌, None, OnOk, OnErr, length, take, option_copied};
-ghost use Rattle.whole_logs.specs.Group.{submitted};
+ghost use Rattle.group_model_whole.specs.Group.{submitted};
 ghost use Rattle.world_events.specs.Submitting.{AreNew};
 
-use entry_core::{Id, IdHash, OutOfMemory, Sealed, TryCopy};
+use common_types::{OutOfMemory, TryCopy};
+use entry_core::{Id, IdHash, Sealed};
 use indexmap::IndexMap;
 use std::alloc::Global;
 use std::marker::Model;

@@ -2,11 +2,11 @@
 use Rattle.std.proofs.Common.{◌≡◌, ◌∙◌, ℕ, ◌-◌, ◌≤◌, ◌<◌, true, List, [], ◌∷◌, ◌++◌, Option, is_some, length, refl, sym, ap, subst, arith, append-nil}
 use Rattle.std.specs.Prelude.{Ok, slice_set}
 use Rattle.auth_db.specs.Users.{Database, after}
-use Rattle.map_commands.specs.State.{History}
-use Rattle.map_commands.specs.declared.command.MapCommand.{MapCommand}
+use Rattle.map_core.specs.State.{History}
+use Rattle.map_core.specs.declared.command.MapCommand.{MapCommand}
 use Rattle.store_core.specs.Request.{Sealed}
-use Rattle.whole_logs.specs.Each.{Each}
-use Rattle.whole_logs.specs.Group.{submitted}
+use Rattle.group_model_whole.specs.Each.{Each}
+use Rattle.group_model_whole.specs.Group.{submitted}
 use Rattle.world_front.specs.Event.{AuthCommand, Event, Auth, Map, Open, Renew, Close}
 use Rattle.world_front.specs.Front.{Front, Session, Pieced, command_of, front_step, lists_step, sealed_by, opened, ticket_for, session_at, session_of, if_ok, requests_of, requests_in}
 use Rattle.world_front.specs.Stands.{IsKept}

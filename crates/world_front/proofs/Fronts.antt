@@ -7,15 +7,15 @@ use Rattle.place_core.specs.Placement.{fnv}
 use Rattle.store_core.specs.declared.sealed.GroupId.{GroupId}
 use Rattle.world_front.specs.Groups.{is_for, group_count}
 use Rattle.world_front.proofs.Places.{AtMostOne, filter_map_is, one_mapped, one_number}
-use Rattle.map_commands.specs.State.{History}
-use Rattle.map_commands.specs.Map.{view_at, epoch_of}
-use Rattle.map_commands.specs.declared.pool.PoolView.{PoolView}
-use Rattle.map_commands.specs.declared.command.MapCommand.{MapCommand}
+use Rattle.map_core.specs.State.{History}
+use Rattle.map_core.specs.Map.{view_at, epoch_of}
+use Rattle.map_core.specs.declared.pool.PoolView.{PoolView}
+use Rattle.map_core.specs.declared.command.MapCommand.{MapCommand}
 use Rattle.object_core.specs.Needs.{needs_fault}
-use Rattle.object_ops.specs.declared.op.Op.{Op}
+use Rattle.object_core.specs.declared.op.Op.{Op}
 use Rattle.store_core.specs.Request.{Sealed, Listing}
-use Rattle.whole_logs.specs.Each.{Each}
-use Rattle.whole_logs.specs.Asked.{IsAsked}
+use Rattle.group_model_whole.specs.Each.{Each}
+use Rattle.group_model_whole.specs.Asked.{IsAsked}
 use Rattle.world_front.specs.Event.{Ask, Event, Auth, Map, Open, Renew, Close, Submit, ListNames, Deliver, Lose, Repeat, Kick, Fault, NoPool, StaleEpoch, StaleTick, BadObjectName, OfNeeds}
 use Rattle.entry_core.specs.Locality.{IsPlaced}
 pub use Rattle.world_front.specs.Stands.{IsSealedWell, FrontStands}

@@ -4,7 +4,7 @@ use Rattle.std.specs.Option.{option_map}
 use Rattle.std.specs.List.{find}
 use Rattle.std.specs.Map.{lookup}
 use Rattle.std.proofs.lemmas.List.{map-append}
-use Rattle.whole_logs.proofs.ById.{same_turned}
+use Rattle.group_model_whole.proofs.ById.{same_turned}
 use Rattle.world_front.specs.Front.{Pieced}
 use Rattle.world_front.specs.Lists.{lists_in}
 

@@ -7,8 +7,8 @@ use Rattle.std.specs.Cmp.{unsigned_Decides}
 use Rattle.std.proofs.lemmas.List.Elements.{filter-append}
 use Rattle.std.proofs.lemmas.Slice.Eq.{bytes_eq-Decides}
 use Rattle.place_core.specs.Placement.{group_of}
-use Rattle.object_ops.specs.declared.outcome.Change.{Change}
-use Rattle.object_ops.specs.declared.outcome.Change.TheVariants.{Kept, Became}
+use Rattle.object_core.specs.declared.outcome.Change.{Change}
+use Rattle.object_core.specs.declared.outcome.Change.TheVariants.{Kept, Became}
 use Rattle.store_core.specs.Request.{Sealed, Work, Vector, Listing, object_of}
 use Rattle.store_core.specs.Store.{Store, ObjectName, name_cmp}
 use Rattle.store_core.specs.Names.{name_cmp_total}
@@ -17,9 +17,9 @@ use Rattle.store_core.specs.Objects.{changed}
 use Rattle.entry_core.specs.Log.{LegalFrom, decide, ids, is_in}
 use Rattle.store_core.specs.declared.entry.Entry.{Entry}
 use Rattle.store_core.specs.declared.sealed.GroupId.{GroupId}
-use Rattle.whole_logs.specs.Each.{Each}
-use Rattle.whole_logs.specs.Group.{submitted}
-use Rattle.whole_logs.specs.Asked.{IsAsked}
+use Rattle.group_model_whole.specs.Each.{Each}
+use Rattle.group_model_whole.specs.Group.{submitted}
+use Rattle.group_model_whole.specs.Asked.{IsAsked}
 use Rattle.entry_core.proofs.Lawful.{store_push, others_are_left, decision_tells_the_store}
 use Rattle.entry_core.specs.Locality.{group_for, IsIn, AgreeIn, Hashes, IsPlaced}
 use Rattle.world_front.specs.Groups.{is_same_group, is_of}

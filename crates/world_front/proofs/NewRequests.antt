@@ -1,6 +1,6 @@
 -- Each id is new where its request is submitted.
 use Rattle.std.proofs.Common.{◌≡◌, ℕ, ◌≤◌, List, ◌∷◌, ◌++◌, Result, Ok, Err, length, refl, sym, subst, arith, append-nil, append_assoc, []}
-use Rattle.object_ops.specs.declared.op.Op.{Op}
+use Rattle.object_core.specs.declared.op.Op.{Op}
 use Rattle.store_core.specs.Request.{Sealed}
 use Rattle.world_front.specs.Event.{Ask, Event, Auth, Map, Open, Renew, Close, Submit, ListNames, Deliver, Lose, Repeat, Kick, Fault}
 use Rattle.world_front.specs.Front.{Front, if_ok, sealed_by, requests_of, requests_in}

@@ -4,9 +4,9 @@ use Rattle.std.proofs.Common.{◌≡◌, ◌∙◌, ℕ, ◌+◌, ◌-◌, ◌*�
 use Rattle.std.specs.Prelude.{slice_get, slice_set}
 use Rattle.std.specs.Cmp.{unsigned_Decides}
 use Rattle.store_core.specs.Request.{Sealed}
-use Rattle.whole_logs.specs.Each.{Each}
-use Rattle.whole_logs.specs.Group.{submitted}
-use Rattle.whole_logs.specs.Asked.{IsAsked}
+use Rattle.group_model_whole.specs.Each.{Each}
+use Rattle.group_model_whole.specs.Group.{submitted}
+use Rattle.group_model_whole.specs.Asked.{IsAsked}
 use Rattle.world_front.specs.Front.{Session, session_of, if_open, session_at, if_ok}
 use Rattle.world_front.specs.Event.{Fault, NoSession}
 pub use Rattle.world_front.specs.Stands.{next_in, next_at, IsGiven}

@@ -6,10 +6,10 @@ use Rattle.std.specs.Str.{bytes_eq}
 use Rattle.std.specs.Cmp.{unsigned_Decides}
 use Rattle.std.proofs.lemmas.Bool.Decides.{nat_tests}
 use Rattle.std.proofs.lemmas.List.Elements.{filter-append}
-use Rattle.map_commands.specs.Map.{is_named}
-use Rattle.map_commands.specs.declared.pool.Pool.{Pool}
+use Rattle.map_core.specs.Map.{is_named}
+use Rattle.map_core.specs.declared.pool.Pool.{Pool}
 use Rattle.store_core.specs.declared.sealed.GroupId.{GroupId}
-use Rattle.whole_logs.specs.Each.{Each}
+use Rattle.group_model_whole.specs.Each.{Each}
 use Rattle.world_front.specs.Groups.{is_same_group, groups_of}
 use Rattle.world_front.proofs.Merge.{same_group, group_refl, bytes_refl}
 use Rattle.world_front.proofs.Bytes.{bytes_same, number_same}

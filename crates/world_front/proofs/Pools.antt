@@ -2,12 +2,12 @@
 use Rattle.std.proofs.Common.{◌≡◌, ◌∙◌, ℕ, List, ◌++◌, Some, sym, ap, subst}
 use Rattle.std.specs.List.{find}
 use Rattle.std.specs.Option.{option_map_or}
-use Rattle.map_commands.specs.State.{History}
-use Rattle.map_commands.specs.Map.{is_named, map_of, pool_in, view_at}
+use Rattle.map_core.specs.State.{History}
+use Rattle.map_core.specs.Map.{is_named, map_of, pool_in, view_at}
 use Rattle.map_core.specs.Refusal.{groups_in}
-use Rattle.map_commands.specs.declared.pool.Pool.{Pool}
-use Rattle.map_commands.specs.declared.pool.PoolView.{PoolView}
-use Rattle.map_commands.specs.declared.command.MapCommand.{MapCommand}
+use Rattle.map_core.specs.declared.pool.Pool.{Pool}
+use Rattle.map_core.specs.declared.pool.PoolView.{PoolView}
+use Rattle.map_core.specs.declared.command.MapCommand.{MapCommand}
 use Rattle.map_core.proofs.Kept.{pools_stay, views_are_of_pools}
 use Rattle.world_front.specs.Groups.{group_count}
 pub use Rattle.world_front.specs.Stands.{InMap}

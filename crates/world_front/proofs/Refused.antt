@@ -13,8 +13,8 @@ use Rattle.auth_db.specs.Names.{is_user_name}
 use Rattle.auth_db.specs.Texts.{has_no_text, are_same_caps}
 use Rattle.auth_db.specs.Users.{Database, HasTicket}
 use Rattle.auth_db.specs.Refusals.{again}
-use Rattle.map_commands.specs.declared.fault.MapFault.{MapFault}
-use Rattle.map_commands.specs.declared.fault.MapFault.TheVariants as map_fault
+use Rattle.map_core.specs.declared.fault.MapFault.{MapFault}
+use Rattle.map_core.specs.declared.fault.MapFault.TheVariants as map_fault
 use Rattle.world_front.specs.Event.{Made, There, Fault, OutOfMemory, OfUsers, OfMap}
 use Rattle.world_events.specs.Faults.{users_fault, fault_of_map}
 use Rattle.world_front.specs.Front.{told_creation, ticket_with, ticket_for}

@@ -3,20 +3,20 @@ use Rattle.std.proofs.Common.{◌≡◌, ◌∙◌, ◌⊎◌, inl, inr, ℕ, �
 use Rattle.std.specs.Prelude.{nat_lt}
 use Rattle.std.proofs.lemmas.Bool.{eqb-true}
 use Rattle.std.proofs.lemmas.Bool.Decides.{nat_tests}
-use Rattle.map_commands.specs.State.{MapState, History}
-use Rattle.map_commands.specs.Map.{change_first, is_named, tagged, created, pools_after, after, initial, map_of, epoch_of, pool_in, view_at}
+use Rattle.map_core.specs.State.{MapState, History}
+use Rattle.map_core.specs.Map.{change_first, is_named, tagged, created, pools_after, after, initial, map_of, epoch_of, pool_in, view_at}
 use Rattle.map_core.specs.Refusal.{refusal, tests, first_of, view_refusal, is_word}
 use Rattle.map_core.specs.Limits.{AcceptedFrom, IsAccepted}
 use Rattle.map_core.specs.Laws.{HasPool}
-use Rattle.map_commands.specs.declared.pool.Pool.{Pool}
-use Rattle.map_commands.specs.declared.pool.PoolView.{PoolView}
-use Rattle.map_commands.specs.declared.command.MapCommand.{MapCommand}
-use Rattle.map_commands.specs.declared.command.MapCommand.TheVariants.{PoolCreate, AppEnable, AppSet, AppRm, OsdUp, OsdDown, OsdRestart}
-use Rattle.map_commands.specs.declared.fault.MapFault.{MapFault}
-use Rattle.map_commands.specs.declared.fault.MapFault.TheVariants as map_fault
+use Rattle.map_core.specs.declared.pool.Pool.{Pool}
+use Rattle.map_core.specs.declared.pool.PoolView.{PoolView}
+use Rattle.map_core.specs.declared.command.MapCommand.{MapCommand}
+use Rattle.map_core.specs.declared.command.MapCommand.TheVariants.{PoolCreate, AppEnable, AppSet, AppRm, OsdUp, OsdDown, OsdRestart}
+use Rattle.map_core.specs.declared.fault.MapFault.{MapFault}
+use Rattle.map_core.specs.declared.fault.MapFault.TheVariants as map_fault
 use Rattle.map_core.proofs.Acceptance.{all_fail, not_false}
 use Rattle.map_core.proofs.Kept.{views_are_of_pools}
-use Rattle.whole_logs.specs.Each.{Each}
+use Rattle.group_model_whole.specs.Each.{Each}
 use Rattle.world_front.specs.Event.{NoPool, OutOfMemory}
 use Rattle.world_front.specs.Front.{need, error_of}
 use Rattle.world_front.specs.Refusing.{fault_of_view}

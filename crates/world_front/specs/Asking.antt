@@ -1,7 +1,7 @@
 -- Statement: contracts of public calls use it.
 -- Requests that an event asks for.
 use Rattle.std.specs.Prelude.{◌≡◌, ℕ, ◌≤◌, List, [], ◌∷◌, Ok, length}
-use Rattle.object_ops.specs.declared.op.Op.{Op}
+use Rattle.object_core.specs.declared.op.Op.{Op}
 use Rattle.store_core.specs.Request.{Sealed}
 use Rattle.world_front.specs.Event.{Ask, Submit, ListNames}
 use Rattle.world_front.specs.Front.{Front, requests_of}

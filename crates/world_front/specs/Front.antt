@@ -9,12 +9,12 @@ use Rattle.auth_db.specs.Users.{Database, Users, user_at, after}
 use Rattle.auth_db.specs.Users as users
 use Rattle.auth_db.specs.Refusals.{known_refusal, auth_refusal}
 use Rattle.auth_db.specs.declared.caps.Caps.{Caps}
-use Rattle.map_commands.specs.State.{History}
-use Rattle.map_commands.specs.Map.{map_of, epoch_of}
+use Rattle.map_core.specs.State.{History}
+use Rattle.map_core.specs.Map.{map_of, epoch_of}
 use Rattle.map_core.specs.Refusal as map_tests
 use Rattle.store_core.specs.Request.{Sealed}
 use Rattle.store_core.specs.declared.sealed.GroupId.{GroupId}
-use Rattle.group_types.specs.declared.fault.GroupFault.TheVariants as group_fault
+use Rattle.group_messages.specs.declared.fault.GroupFault.TheVariants as group_fault
 use Rattle.entry_core.specs.Locality.{group_for}
 use Rattle.world_front.specs.Event.{Ask, AuthCommand, Add, GetOrCreate, SetCaps, Delete, Event, Auth, Map, Open, Renew, Close, Submit, ListNames, Deliver, Lose, Repeat, Kick, Told, Done, Made, There, Epoch, OfSession, Request, Pieces, Fault, Limit, OfUsers, OfMap, OfGroup}
 use Rattle.world_front.specs.Tickets.{ticket_of}

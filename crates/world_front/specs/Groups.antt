@@ -3,10 +3,10 @@
 use Rattle.std.specs.Prelude.{ℕ, ◌+◌, List, [], ◌∷◌, Bool, if◌then◌else◌, ◌&&◌, ◌==◌, map}
 use Rattle.std.specs.List.{range_with_len}
 use Rattle.std.specs.Str.{bytes_eq}
-use Rattle.map_commands.specs.State.{History}
-use Rattle.map_commands.specs.Map.{is_named, map_of}
+use Rattle.map_core.specs.State.{History}
+use Rattle.map_core.specs.Map.{is_named, map_of}
 use Rattle.map_core.specs.Refusal.{groups_in}
-use Rattle.map_commands.specs.declared.pool.Pool.{Pool}
+use Rattle.map_core.specs.declared.pool.Pool.{Pool}
 use Rattle.entry_core.specs.Locality.{group_for}
 use Rattle.store_core.specs.Request.{Sealed}
 use Rattle.store_core.specs.declared.entry.Entry.{Entry}

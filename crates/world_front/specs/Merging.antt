@@ -6,8 +6,8 @@ use Rattle.entry_core.specs.Log.{Legal}
 use Rattle.store_core.specs.Request.{Sealed}
 use Rattle.store_core.specs.declared.entry.Entry.{Entry}
 use Rattle.store_core.specs.declared.sealed.GroupId.{GroupId}
-use Rattle.whole_logs.specs.Each.{Each}
-use Rattle.whole_logs.specs.Asked.{IsAsked}
+use Rattle.group_model_whole.specs.Each.{Each}
+use Rattle.group_model_whole.specs.Asked.{IsAsked}
 use Rattle.entry_core.specs.Locality.{IsPlaced}
 use Rattle.world_front.specs.Groups.{is_of}
 

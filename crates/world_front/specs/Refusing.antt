@@ -1,8 +1,8 @@
 -- Statement: contracts of public calls use it.
 -- When a call on the world is refused.
 use Rattle.std.specs.Prelude.{◌≡◌, ◌⊎◌, Option, None, Some, Result, Ok, Err}
-use Rattle.map_commands.specs.declared.fault.MapFault.{MapFault}
-use Rattle.map_commands.specs.declared.fault.MapFault.TheVariants as map_fault
+use Rattle.map_core.specs.declared.fault.MapFault.{MapFault}
+use Rattle.map_core.specs.declared.fault.MapFault.TheVariants as map_fault
 use Rattle.world_front.specs.Event.{Fault, NoPool, OutOfMemory}
 
 -- accepted only where nothing refuses it, and refused by what does, or for want of memory

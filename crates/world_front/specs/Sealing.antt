@@ -3,12 +3,12 @@
 -- user, group, copy or message stands here.
 use Rattle.std.specs.Prelude.{ℕ, ◌+◌, ◌-◌, ◌*◌, List, [], ◌∷◌, Bool, true, false, ◌||◌, ◌&&◌, not, if◌then◌else◌, ◌==◌, Option, None, Some, Result, Ok, Err, length, slice_get, slice_set, nat_lt, nat_le, map}
 use Rattle.std.specs.List.{list_all, range_with_len}
-use Rattle.map_commands.specs.State.{History}
-use Rattle.map_commands.specs.Map.{epoch_of, view_at}
-use Rattle.map_commands.specs.declared.pool.PoolView.{PoolView}
+use Rattle.map_core.specs.State.{History}
+use Rattle.map_core.specs.Map.{epoch_of, view_at}
+use Rattle.map_core.specs.declared.pool.PoolView.{PoolView}
 use Rattle.place_core.specs.Placement.{group_of}
 use Rattle.object_core.specs.Needs.{needs_fault}
-use Rattle.object_ops.specs.declared.op.Op.{Op}
+use Rattle.object_core.specs.declared.op.Op.{Op}
 use Rattle.store_core.specs.Request.{Sealed, Work, Vector, Listing, numbers}
 use Rattle.world_front.specs.Event.{Ask, Event, Submit, ListNames, Fault, NoSession, NoPool, BadObjectName, StaleEpoch, StaleTick, OfNeeds}
 pub use Rattle.world_front.specs.declared.session.Session.{Session}

@@ -1,13 +1,13 @@
 -- Statement: contracts of public calls use it.
 -- What every front keeps: each request was sealed well, under a number of a session that was given once.
 use Rattle.std.specs.Prelude.{◌≡◌, ℕ, ◌+◌, ◌-◌, ◌<◌, ◌≤◌, List, Option, Some, None, true, length, slice_get, is_some}
-use Rattle.map_commands.specs.State.{History}
+use Rattle.map_core.specs.State.{History}
 use Rattle.map_core.specs.Laws.{HasPool}
 use Rattle.store_core.specs.Request.{Sealed}
 use Rattle.entry_core.specs.Locality.{Hashes}
-use Rattle.whole_logs.specs.Each.{Each}
-use Rattle.whole_logs.specs.Group.{submitted}
-use Rattle.whole_logs.specs.Asked.{IsAsked}
+use Rattle.group_model_whole.specs.Each.{Each}
+use Rattle.group_model_whole.specs.Group.{submitted}
+use Rattle.group_model_whole.specs.Asked.{IsAsked}
 use Rattle.world_front.specs.Front.{Session, Front, id_of}
 
 -- ---- numbers

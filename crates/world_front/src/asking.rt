@@ -2,9 +2,9 @@
 
 ghost use Rattle.std.specs.Prelude.{◌≡◌, ◌≤◌, ◌&&◌, Some, IfOk, nat_le};
 ghost use Rattle.std.specs.List.{list_all};
-ghost use Rattle.map_commands.specs.PoolLimits.{HasLimits};
+ghost use Rattle.map_core.specs.PoolLimits.{HasLimits};
 ghost use Rattle.map_core.specs.Limits.{IsAccepted};
-ghost use Rattle.map_commands.specs.Map.{epoch_of, view_at};
+ghost use Rattle.map_core.specs.Map.{epoch_of, view_at};
 ghost use Rattle.world_front.specs.Event.{NoPool};
 ghost use Rattle.world_front.specs.Front.{error_of, need};
 ghost use Rattle.world_front.specs.Front as spec;

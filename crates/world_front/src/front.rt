@@ -1,11 +1,11 @@
 //! Users, map, sessions, submissions and lists: what no group, message or copy has a part in.
 
 ghost use Rattle.std.specs.Prelude.{◌≡◌, ◌≤◌, ◌<◌, ℕ, List, [], ◌∷◌, None, Ok, OnOk, OnErr, IfOk, length, option_copied};
-ghost use Rattle.object_ops.specs.declared.op.Op as op;
-ghost use Rattle.whole_logs.specs.Each.{Each};
-ghost use Rattle.whole_logs.specs.Group.{submitted};
+ghost use Rattle.object_core.specs.declared.op.Op as op;
+ghost use Rattle.group_model_whole.specs.Each.{Each};
+ghost use Rattle.group_model_whole.specs.Group.{submitted};
 ghost use Rattle.world_front.specs.Event.{Auth, Map, Open, Renew, Close, Submit, ListNames};
-ghost use Rattle.map_commands.specs.PoolLimits.{HasLimits};
+ghost use Rattle.map_core.specs.PoolLimits.{HasLimits};
 ghost use Rattle.world_front.specs.Front.{asker_of, error_of, first_front, front_refusal, front_step, requests_of, told_of, list_at};
 ghost use Rattle.world_front.specs.Asking.{IsOfList, IsOfVector};
 ghost use Rattle.world_front.specs.Refusing.{RefusedOrMemory};
@@ -17,8 +17,8 @@ use crate::sealing::{seal_pieces, seal_vector};
 use crate::session::{Pieced, Session, Sessions};
 use crate::users::{change_users, check_user, ticket_for};
 use auth_db::AuthDb;
-use common_types::{Name, OutOfMemory};
-use entry_core::{Id, Items, Sealed};
+use common_types::{Items, Name, OutOfMemory};
+use entry_core::{Id, Sealed};
 use grant_core::ProfileTable;
 use map_core::{ClusterMap, MapCommand};
 use std::alloc::Global;

@@ -4,7 +4,8 @@ ghost use Rattle.std.specs.Prelude.{◌≡◌, [], None, IfOk, OnOk};
 ghost use Rattle.world_front.specs.Joining.{reply_of, with_reply};
 
 use crate::name_set::NameSet;
-use entry_core::{OutOfMemory, Reply, TryCopy};
+use common_types::{OutOfMemory, TryCopy};
+use entry_core::Reply;
 use std::alloc::Global;
 
 /// What the answers of some pieces come to: the first denial, and all names.

@@ -4,7 +4,8 @@ ghost use Rattle.std.specs.Prelude.{◌≡◌, ◌++◌, ◌-◌, ◌==◌, [], 
 ghost use Rattle.std.specs.List.{find};
 
 use crate::session::Pieced;
-use entry_core::{Id, IdHash, OutOfMemory};
+use common_types::OutOfMemory;
+use entry_core::{Id, IdHash};
 use indexmap::IndexMap;
 use std::alloc::Global;
 use std::marker::Model;

@@ -5,8 +5,7 @@ ghost use Rattle.std.specs.BTreeSet.{insert_key};
 ghost use Rattle.world_front.specs.Joining.{with_names};
 ghost use Rattle.store_core.specs.Store.{bytes_cmp};
 
-use common_types::Name;
-use entry_core::{Items, OutOfMemory};
+use common_types::{Items, Name, OutOfMemory};
 use std::alloc::Global;
 use std::collections::BTreeSet;
 use std::marker::Model;

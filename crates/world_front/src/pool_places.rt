@@ -2,7 +2,7 @@
 
 ghost use Rattle.std.specs.Prelude.{◌≡◌, ◌≤◌, ◌+◌, ℕ, All, length};
 ghost use Rattle.entry_core.specs.Locality.{group_for};
-ghost use Rattle.map_commands.specs.PoolLimits.{IsPool};
+ghost use Rattle.map_core.specs.PoolLimits.{IsPool};
 ghost use Rattle.map_core.specs.Refusal.{groups_in};
 ghost use Rattle.world_front.specs.Groups as spec;
 
@@ -11,7 +11,7 @@ use entry_core::Sealed;
 use map_core::Pool;
 
 /// How many groups the pools before the one of a name have, and how many it has itself: none where there is no such pool.
-#[tactic(auto, unfolding(map_core::specs::Refusal::groups_in, map_commands::specs::Map::pool_in))]
+#[tactic(auto, unfolding(map_core::specs::Refusal::groups_in, map_core::specs::Map::pool_in))]
 pub fn groups_before(pools: &[Pool], name: &Name) -> (usize, u32)
     requires limits { All IsPool pools.now }
     requires few { length pools.now ≤ 32 }

@@ -10,8 +10,8 @@ ghost use Rattle.world_front.specs.Front.{pieces_of, sealed_of, vector_of};
 
 use crate::asking::Asker;
 use crate::session::Session;
-use common_types::Name;
-use entry_core::{Id, Items, OutOfMemory, Sealed};
+use common_types::{Items, Name, OutOfMemory};
+use entry_core::{Id, Sealed};
 use map_core::PoolView;
 use place_core::group_of;
 use std::alloc::Global;

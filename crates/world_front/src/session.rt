@@ -6,8 +6,8 @@ ghost use Rattle.world_front.specs.Front.{asks_more, error_of, opened, session_a
 ghost use Rattle.world_front.specs.Front as spec;
 ghost use Rattle.common_types.specs.Refused.{RefusedExactly};
 
-use common_types::Name;
-use entry_core::{Id, OutOfMemory};
+use common_types::{Name, OutOfMemory};
+use entry_core::Id;
 use map_core::Epoch;
 use std::alloc::Global;
 use std::marker::Model;

@@ -9,18 +9,18 @@ use Rattle.entry_core.specs.Locality.{group_for}
 use Rattle.entry_core.specs.Log.{is_in}
 use Rattle.store_core.specs.Request.{Sealed}
 use Rattle.store_core.specs.declared.sealed.GroupId.{GroupId}
-use Rattle.suffix_core.specs.Types.{Sent, Party, Client, Osd}
-use Rattle.whole_logs.specs.Each.{Each}
-use Rattle.group_types.specs.Answers.{Answer}
-use Rattle.suffix_core.specs.Group.{Group, group_step, run, settle, kick, deliver, lose, refusal_to, refusal_at, missing_at, submitted, is_answered, answer_of}
-use Rattle.suffix_core.specs.Group as group
-use Rattle.group_types.specs.declared.fault.GroupFault.TheVariants as group_fault
-use Rattle.suffix_core.specs.Budget.{budget, settled_group}
-use Rattle.group_laws.specs.Recovery.{lost_all, Recovers}
-use Rattle.whole_laws.specs.Recovery.{IsLoss}
-use Rattle.group_laws.proofs.Losses.{all_lost, can_lose}
-use Rattle.group_laws.proofs.Recovery.{ready_from, recovers}
-use Rattle.group_laws.proofs.SameGroups.{same_settle}
+use Rattle.group_model.specs.Types.{Sent, Party, Client, Osd}
+use Rattle.group_model_whole.specs.Each.{Each}
+use Rattle.group_messages.specs.Answers.{Answer}
+use Rattle.group_model.specs.Group.{Group, group_step, run, settle, kick, deliver, lose, refusal_to, refusal_at, missing_at, submitted, is_answered, answer_of}
+use Rattle.group_model.specs.Group as group
+use Rattle.group_messages.specs.declared.fault.GroupFault.TheVariants as group_fault
+use Rattle.group_model.specs.Budget.{budget, settled_group}
+use Rattle.group_model.specs.Recovering.{lost_all, Recovers}
+use Rattle.group_model_whole.specs.Recovering.{IsLoss}
+use Rattle.group_model.proofs.Losses.{all_lost, can_lose}
+use Rattle.group_model.proofs.Recovery.{ready_from, recovers}
+use Rattle.group_model.proofs.SameGroups.{same_settle}
 use Rattle.world_events.specs.declared.event.Event.{Event}
 use Rattle.world_events.specs.declared.event.Event.TheVariants.{Deliver, Lose, Repeat, Kick}
 use Rattle.world_events.specs.declared.fault.WorldFault.TheVariants.{Group as OfGroup}

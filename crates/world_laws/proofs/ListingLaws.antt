@@ -6,8 +6,8 @@ use Rattle.std.specs.Option.{option_map}
 use Rattle.std.specs.Cmp.{unsigned_Decides}
 use Rattle.std.proofs.lemmas.List.FromFn.{length-map-range_with_len}
 use Rattle.grant_core.specs.Flat.{Table}
-use Rattle.map_commands.specs.State.{History}
-use Rattle.map_commands.specs.declared.command.MapCommand.{MapCommand}
+use Rattle.map_core.specs.State.{History}
+use Rattle.map_core.specs.declared.command.MapCommand.{MapCommand}
 use Rattle.store_core.specs.Request.{Sealed, Listing}
 use Rattle.store_core.specs.Deciding.{store_of, is_allowed_sealed, answer_on, answered as replied, performed}
 use Rattle.entry_core.specs.Log.{Legal, LegalFrom, decide, is_in, ids}
@@ -15,10 +15,10 @@ use Rattle.entry_core.specs.Laws.{is_denied}
 use Rattle.store_core.specs.declared.entry.Entry.{Entry}
 use Rattle.store_core.specs.declared.reply.Reply.{Reply}
 use Rattle.store_core.specs.declared.reply.Reply.TheVariants.{Names}
-use Rattle.whole_logs.specs.Each.{Each}
-use Rattle.suffix_core.specs.Group.{submitted}
-use Rattle.whole_logs.specs.Asked.{IsAsked}
-use Rattle.whole_logs.proofs.Audits.{legal_rest}
+use Rattle.group_model_whole.specs.Each.{Each}
+use Rattle.group_model.specs.Group.{submitted}
+use Rattle.group_model_whole.specs.Asked.{IsAsked}
+use Rattle.group_model_whole.proofs.Audits.{legal_rest}
 use Rattle.world_events.specs.declared.event.Ask.{Ask}
 use Rattle.world_events.specs.declared.event.Event.{Event}
 use Rattle.world_events.specs.declared.event.Event.TheVariants.{Auth, Map, Open, Renew, Close, Submit, List as ListNames, Deliver, Lose, Repeat, Kick}

@@ -12,7 +12,7 @@ use Rattle.std.specs.BTreeSet.{insert_key}
 use Rattle.std.specs.FinMap.{keys, entries, entries_sorted, slice_cmp-IsAntisymmetric, nat_cmp-IsAntisymmetric}
 use Rattle.std.specs.FinMap.Entries.{find, put, by_order, below_all, is_sorted, where_key, is_sorted-put, is_sorted-where_key, find-put, same_entries}
 use Rattle.place_core.specs.Placement.{fnv, group_of}
-use Rattle.object_ops.specs.Content.{Content}
+use Rattle.object_core.specs.Content.{Content}
 use Rattle.store_core.specs.Request.{Sealed, Listing, target_of, needs_for}
 use Rattle.store_core.specs.Store.{Store, ObjectName, name_cmp, bytes_cmp}
 use Rattle.store_core.specs.Deciding.{names_in, answered, performed, answer_on, is_allowed_sealed, store_of}
@@ -22,7 +22,7 @@ use Rattle.store_core.specs.declared.entry.Entry.{Entry}
 use Rattle.store_core.specs.declared.reply.Reply.{Reply}
 use Rattle.store_core.specs.declared.reply.Reply.TheVariants.{Denied, Names}
 use Rattle.verdict_core.specs.Verdict.{report_of}
-use Rattle.whole_logs.specs.Each.{Each}
+use Rattle.group_model_whole.specs.Each.{Each}
 use Rattle.world_core.specs.Listing.{sorted, joined}
 use Rattle.world_front.specs.Joining.{names_in as names_shown}
 use Rattle.world_laws.specs.Pieces.{is_there, objects_of, IsPiece, PiecesAreTheNamespace, PiecesAnswerTheNamespace}

@@ -4,17 +4,17 @@ use Rattle.std.specs.Prelude.{nat_le}
 use Rattle.std.specs.List.{filter, find, flat_map}
 use Rattle.std.specs.Option.{option_map, option_map_or}
 use Rattle.std.proofs.lemmas.Bool.Decides.{nat_tests}
-use Rattle.map_commands.specs.State.{MapState}
-use Rattle.map_commands.specs.Map.{change_first, is_named, tagged, created, after, map_of, pool_in}
+use Rattle.map_core.specs.State.{MapState}
+use Rattle.map_core.specs.Map.{change_first, is_named, tagged, created, after, map_of, pool_in}
 use Rattle.map_core.specs.Refusal.{acting_tests, first_of, groups_in}
 use Rattle.map_core.specs.Limits.{IsAccepted}
-use Rattle.map_commands.specs.declared.pool.Pool.{Pool}
-use Rattle.map_commands.specs.declared.command.MapCommand.{MapCommand}
-use Rattle.map_commands.specs.declared.command.MapCommand.TheVariants.{PoolCreate, AppEnable, AppSet, AppRm, OsdUp, OsdDown, OsdRestart}
+use Rattle.map_core.specs.declared.pool.Pool.{Pool}
+use Rattle.map_core.specs.declared.command.MapCommand.{MapCommand}
+use Rattle.map_core.specs.declared.command.MapCommand.TheVariants.{PoolCreate, AppEnable, AppSet, AppRm, OsdUp, OsdDown, OsdRestart}
 use Rattle.map_core.proofs.Current.{after_push}
 use Rattle.map_core.proofs.Acceptance.{all_fail, not_false}
 use Rattle.store_core.specs.declared.sealed.GroupId.{GroupId}
-use Rattle.suffix_core.specs.Group.{Group, group_step}
+use Rattle.group_model.specs.Group.{Group, group_step}
 use Rattle.world_events.specs.declared.event.Event.{Event}
 use Rattle.world_events.specs.declared.event.Event.TheVariants.{Auth, Map, Open, Renew, Close, Submit, List as ListNames, Deliver, Lose, Repeat, Kick}
 use Rattle.world_events.specs.declared.fault.WorldFault.TheVariants.{Map as OfMap}

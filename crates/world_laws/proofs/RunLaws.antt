@@ -7,10 +7,10 @@ use Rattle.std.proofs.lemmas.Grind.{flat_map-append}
 use Rattle.std.proofs.lemmas.Bool.{ltb-true, lt-ltb}
 use Rattle.store_core.specs.declared.entry.Entry.{Entry}
 use Rattle.store_core.specs.declared.sealed.GroupId.{GroupId}
-use Rattle.whole_logs.specs.Each.{Each}
-use Rattle.whole_logs.specs.History.{Begins}
-use Rattle.suffix_core.specs.Group.{Group, Event, group_step}
-use Rattle.suffix_core.proofs.Additions.{audit_grows}
+use Rattle.group_model_whole.specs.Each.{Each}
+use Rattle.group_model_whole.specs.History.{Begins}
+use Rattle.group_model.specs.Group.{Group, Event, group_step}
+use Rattle.group_model.proofs.Additions.{audit_grows}
 use Rattle.world_front.specs.Groups.{is_same_group}
 use Rattle.world_core.specs.World.{World, Part, group_at, act, decided_in, created_by}
 use Rattle.world_core.specs.Standing.{audit_in, audit_at}

@@ -4,19 +4,19 @@ use Rattle.std.proofs.Common.{◌≡◌, ◌∙◌, ℕ, ◌+◌, ◌*◌, ◌<�
 use Rattle.std.specs.Prelude.{slice_get}
 use Rattle.std.specs.List.{filter, flat_map}
 use Rattle.std.proofs.lemmas.List.Elements.{filter-append}
-use Rattle.map_commands.specs.State.{History}
-use Rattle.map_commands.specs.Map.{map_of}
+use Rattle.map_core.specs.State.{History}
+use Rattle.map_core.specs.Map.{map_of}
 use Rattle.map_core.specs.Limits.{IsAccepted}
-use Rattle.map_commands.specs.declared.pool.Pool.{Pool}
-use Rattle.map_commands.specs.declared.command.MapCommand.{MapCommand}
+use Rattle.map_core.specs.declared.pool.Pool.{Pool}
+use Rattle.map_core.specs.declared.command.MapCommand.{MapCommand}
 use Rattle.map_core.proofs.Kept.{pools_differ}
 use Rattle.entry_core.specs.Locality.{group_for}
 use Rattle.store_core.specs.Request.{Sealed}
 use Rattle.store_core.specs.declared.entry.Entry.{Entry}
 use Rattle.store_core.specs.declared.sealed.GroupId.{GroupId}
-use Rattle.whole_logs.specs.Each.{Each}
-use Rattle.whole_logs.specs.Asked.{IsAsked}
-use Rattle.suffix_core.specs.Group.{Group, submitted, is_submitted}
+use Rattle.group_model_whole.specs.Each.{Each}
+use Rattle.group_model_whole.specs.Asked.{IsAsked}
+use Rattle.group_model.specs.Group.{Group, submitted, is_submitted}
 use Rattle.world_front.specs.Groups.{is_same_group, is_for, groups_of}
 use Rattle.world_front.specs.declared.session.Session.{Session}
 use Rattle.world_front.specs.Stands.{next_at, IsGiven, IsSealedWell, FrontStands}

@@ -3,8 +3,8 @@
 use Rattle.std.specs.Prelude.{◌≡◌, ℕ, List, Some}
 use Rattle.grant_core.specs.Flat.{Table}
 use Rattle.store_core.specs.declared.sealed.GroupId.{GroupId}
-use Rattle.suffix_core.specs.Types.{EntryReply}
-use Rattle.suffix_core.specs.Group.{Group}
+use Rattle.group_model.specs.Types.{EntryReply}
+use Rattle.group_model.specs.Group.{Group}
 use Rattle.world_events.specs.declared.event.Event.{Event}
 use Rattle.world_core.specs.World.{group_at, world_after}
 use Rattle.world_core.specs.Standing.{HasNumbers}

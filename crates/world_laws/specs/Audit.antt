@@ -4,9 +4,9 @@ use Rattle.std.specs.Prelude.{◌≡◌, ℕ, ◌≤◌, ◌-◌, List, [], ◌�
 use Rattle.std.specs.List.{flat_map}
 use Rattle.store_core.specs.declared.entry.Entry.{Entry}
 use Rattle.store_core.specs.declared.sealed.GroupId.{GroupId}
-use Rattle.whole_logs.specs.Each.{Each}
-use Rattle.suffix_core.specs.Group.{Group, group_step}
-use Rattle.suffix_core.specs.Group as group
+use Rattle.group_model_whole.specs.Each.{Each}
+use Rattle.group_model.specs.Group.{Group, group_step}
+use Rattle.group_model.specs.Group as group
 use Rattle.world_events.specs.declared.event.Event.{Event}
 use Rattle.world_core.specs.World.{World, Part, group_at, act, created_by}
 use Rattle.world_core.specs.Standing.{audit_at}

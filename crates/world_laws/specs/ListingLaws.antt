@@ -10,8 +10,8 @@ use Rattle.entry_core.specs.Log.{is_in, ids}
 use Rattle.store_core.specs.declared.entry.Entry.{Entry}
 use Rattle.store_core.specs.declared.reply.Reply.{Reply}
 use Rattle.store_core.specs.declared.reply.Reply.TheVariants.{Denied, Names}
-use Rattle.whole_logs.specs.Each.{Each}
-use Rattle.suffix_core.specs.Group.{submitted}
+use Rattle.group_model_whole.specs.Each.{Each}
+use Rattle.group_model.specs.Group.{submitted}
 use Rattle.world_events.specs.declared.event.Event.{Event}
 use Rattle.world_front.specs.Front.{Front, list_at}
 use Rattle.world_front.specs.declared.session.Pieced.{Pieced}

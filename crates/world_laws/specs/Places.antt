@@ -3,11 +3,11 @@
 use Rattle.std.specs.Prelude.{◌≡◌, ℕ, ◌<◌, List, None, Some, map}
 use Rattle.std.specs.List.{find, flat_map}
 use Rattle.grant_core.specs.Flat.{Table}
-use Rattle.map_commands.specs.State.{History}
-use Rattle.map_commands.specs.Map.{is_named, map_of}
-use Rattle.map_commands.specs.declared.pool.Pool.{Pool}
+use Rattle.map_core.specs.State.{History}
+use Rattle.map_core.specs.Map.{is_named, map_of}
+use Rattle.map_core.specs.declared.pool.Pool.{Pool}
 use Rattle.store_core.specs.declared.sealed.GroupId.{GroupId}
-use Rattle.suffix_core.specs.Group.{Group}
+use Rattle.group_model.specs.Group.{Group}
 use Rattle.world_events.specs.declared.event.Event.{Event}
 use Rattle.world_front.specs.Front.{group_refusal}
 use Rattle.world_core.specs.World.{World, group_at, world_step, world_after}

@@ -6,12 +6,12 @@ use Rattle.grant_core.specs.Flat.{Table}
 use Rattle.entry_core.specs.Locality.{group_for}
 use Rattle.store_core.specs.Request.{Sealed}
 use Rattle.store_core.specs.declared.sealed.GroupId.{GroupId}
-use Rattle.suffix_core.specs.Types.{Sent}
-use Rattle.suffix_core.specs.Group.{Group, group_step, kick, submitted}
-use Rattle.suffix_core.specs.Group as group
-use Rattle.suffix_core.specs.Budget.{budget}
-use Rattle.suffix_core.specs.Recovery.{is_ready}
-use Rattle.group_laws.specs.Recovery.{lost_all}
+use Rattle.group_model.specs.Types.{Sent}
+use Rattle.group_model.specs.Group.{Group, group_step, kick, submitted}
+use Rattle.group_model.specs.Group as group
+use Rattle.group_model.specs.Budget.{budget}
+use Rattle.group_model.specs.Recovery.{is_ready}
+use Rattle.group_model.specs.Recovering.{lost_all}
 use Rattle.world_events.specs.declared.event.Event.{Event}
 use Rattle.world_events.specs.declared.event.Event.TheVariants.{Deliver, Lose, Kick}
 use Rattle.world_front.specs.Groups.{is_same_group}

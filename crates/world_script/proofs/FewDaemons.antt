@@ -5,11 +5,11 @@ use Rattle.std.specs.Option.{option_and_then}
 use Rattle.std.specs.Str.{bytes_eq}
 use Rattle.std.proofs.lemmas.Bool.Decides.{nat_tests}
 use Rattle.script_text.specs.Words.{words_of}
-use Rattle.map_commands.specs.declared.command.MapCommand.{MapCommand}
+use Rattle.map_core.specs.declared.command.MapCommand.{MapCommand}
 use Rattle.world_events.specs.declared.event.AuthCommand.{AuthCommand}
-use Rattle.script_commands.specs.declared.command.Command.{Command}
-use Rattle.script_commands.specs.declared.command.Command.TheVariants.{Osds}
-use Rattle.script_commands.specs.Command.{Word, Reads, and_then, a_word, a_number, an_id, a_group, an_end, ops, pool, up, down, restart, locate, osd_named, change, add_user, set_caps, get_or_create, delete_user, auth_named, change_users, open_session, renew_session, submit, list_names, a_message, daemons, command_named, command, whole, command_of, read_line}
+use Rattle.world_script.specs.declared.command.Command.{Command}
+use Rattle.world_script.specs.declared.command.Command.TheVariants.{Osds}
+use Rattle.world_script.specs.Command.{Word, Reads, and_then, a_word, a_number, an_id, a_group, an_end, ops, pool, up, down, restart, locate, osd_named, change, add_user, set_caps, get_or_create, delete_user, auth_named, change_users, open_session, renew_session, submit, list_names, a_message, daemons, command_named, command, whole, command_of, read_line}
 use Rattle.world_script.specs.Steps.{HasFewDaemons}
 
 abbrev Few : Option (Command × List Word) → Type 0

@@ -1,3 +1,4 @@
+pub mod ScriptWords
 pub mod FewDaemons
 pub mod PlacesThere
 pub mod Sweeps

@@ -1,14 +1,14 @@
 -- What questions to a world print.
 use Rattle.std.proofs.Common.{◌≡◌, ◌∙◌, ◌&&◌, ℕ, List, Bool, true, if◌then◌else◌, Option, Some, None, Ok, Err, refl, sym, ap, is_some, unwrap_or, []}
 use Rattle.std.specs.Option.{option_map, option_or}
-use Rattle.map_commands.specs.State.{History}
-use Rattle.map_commands.specs.Map.{map_of, epoch_of, view_at}
-use Rattle.map_commands.specs.Intervals.{set_of}
+use Rattle.map_core.specs.State.{History}
+use Rattle.map_core.specs.Map.{map_of, epoch_of, view_at}
+use Rattle.map_core.specs.Intervals.{set_of}
 use Rattle.map_core.specs.Refusal.{view_refusal}
-use Rattle.map_commands.specs.declared.pool.PoolView.{PoolView}
+use Rattle.map_core.specs.declared.pool.PoolView.{PoolView}
 use Rattle.place_core.specs.Placement.{group_of}
 use Rattle.store_core.specs.Request.{Sealed}
-use Rattle.suffix_core.specs.Group.{submitted}
+use Rattle.group_model.specs.Group.{submitted}
 use Rattle.world_events.specs.declared.fault.WorldFault.{WorldFault as Fault}
 use Rattle.world_events.specs.declared.fault.WorldFault.TheVariants.{NoRequest, BadObjectName, Map as OfMap}
 use Rattle.world_front.specs.Front.{Front, is_object_name, is_namespace}

@@ -9,15 +9,15 @@ use Rattle.script_text.specs.declared.fault.ScriptFault.TheVariants as ends
 use Rattle.script_text.specs.declared.fault.LineFault.{LineFault}
 use Rattle.script_text.specs.declared.fault.LineFault.TheVariants as line_fault
 use Rattle.script_text.proofs.Known.{appends_kept, appends_more}
-use Rattle.object_ops.specs.declared.op.Op.{Op}
+use Rattle.object_core.specs.declared.op.Op.{Op}
 use Rattle.store_core.specs.declared.sealed.GroupId.{GroupId}
 use Rattle.world_events.specs.declared.event.Ask.{Ask}
 use Rattle.world_events.specs.declared.event.Event.{Event}
 use Rattle.world_events.specs.declared.fault.WorldFault.{WorldFault as Fault}
 use Rattle.world_events.specs.declared.event.Event.TheVariants as happens
 use Rattle.world_core.specs.World.{World, world_step, refusal_of, is_drop}
-use Rattle.script_commands.specs.declared.command.Command.{Command}
-use Rattle.script_commands.specs.declared.command.Command.TheVariants.{Submit, List as ListNames, Ready}
+use Rattle.world_script.specs.declared.command.Command.{Command}
+use Rattle.world_script.specs.declared.command.Command.TheVariants.{Submit, List as ListNames, Ready}
 use Rattle.script_printing.specs.Text.{refused_text}
 use Rattle.world_script.specs.Script.{Step, Goes, IsBad, IsOther, BadAt, Output, Machine, event_told, event_line, line_step, script_step, onward, behind, outputs, script_output, WroteOf, ask_now, ready_line_text, unrefused, settle_events, settle_line}
 use Rattle.world_script.specs.Steps.{Does, at, GoesTo, IsFaultOf, LineWrote}

@@ -5,14 +5,14 @@ use Rattle.std.specs.Prelude.{nat_lt}
 use Rattle.std.specs.Option.{option_map, option_or}
 use Rattle.std.proofs.lemmas.List.Sums.{fold-append}
 use Rattle.store_core.specs.declared.sealed.GroupId.{GroupId}
-use Rattle.suffix_core.specs.Types.{Sent, Party, Osd, Client}
-use Rattle.suffix_core.specs.Group.{Group, group_step, refusal_to, refusal_at}
-use Rattle.suffix_core.specs.Group as group
+use Rattle.group_model.specs.Types.{Sent, Party, Osd, Client}
+use Rattle.group_model.specs.Group.{Group, group_step, refusal_to, refusal_at}
+use Rattle.group_model.specs.Group as group
 use Rattle.entry_core.specs.Log.{is_in}
-use Rattle.suffix_core.specs.Budget.{budget}
-use Rattle.group_types.specs.declared.fault.GroupFault.TheVariants.{Unreachable}
-use Rattle.suffix_core.specs.Reached.{IsReached}
-use Rattle.suffix_core.proofs.Lowering.{deliver_lowers, lose_lowers}
+use Rattle.group_model.specs.Budget.{budget}
+use Rattle.group_messages.specs.declared.fault.GroupFault.TheVariants.{Unreachable}
+use Rattle.group_model.specs.Reached.{IsReached}
+use Rattle.group_model.proofs.Lowering.{deliver_lowers, lose_lowers}
 use Rattle.world_events.specs.declared.event.Event.{Event}
 use Rattle.world_events.specs.declared.fault.WorldFault.{WorldFault as Fault}
 use Rattle.world_events.specs.declared.fault.WorldFault.TheVariants.{OutOfMemory, Group as OfGroup}

@@ -1,3 +1,5 @@
+pub mod Command
+pub mod TakenWords
 pub mod Script
 pub mod Sweeping
 pub mod Steps

@@ -13,16 +13,16 @@ use Rattle.script_text.specs.declared.fault.ScriptFault.TheVariants as ends
 use Rattle.grant_core.specs.BuiltIn.{built_in}
 use Rattle.auth_db.specs.Users.{user_at}
 use Rattle.auth_db.specs.Refusals.{known_refusal}
-use Rattle.map_commands.specs.Map.{map_of, epoch_of, view_at}
+use Rattle.map_core.specs.Map.{map_of, epoch_of, view_at}
 use Rattle.map_core.specs.Refusal as map_tests
-use Rattle.map_commands.specs.declared.pool.PoolView.{PoolView}
+use Rattle.map_core.specs.declared.pool.PoolView.{PoolView}
 use Rattle.place_core.specs.Placement.{group_of}
 use Rattle.store_core.specs.Request.{Sealed}
 use Rattle.store_core.specs.declared.reply.Reply.{Reply}
 use Rattle.store_core.specs.declared.sealed.GroupId.{GroupId}
-use Rattle.suffix_core.specs.Group.{Group, submitted}
-use Rattle.suffix_core.specs.Budget.{budget}
-use Rattle.suffix_core.specs.Recovery.{is_ready}
+use Rattle.group_model.specs.Group.{Group, submitted}
+use Rattle.group_model.specs.Budget.{budget}
+use Rattle.group_model.specs.Recovery.{is_ready}
 use Rattle.world_events.specs.declared.event.Ask.{Ask}
 use Rattle.world_events.specs.declared.event.Event.{Event}
 use Rattle.world_events.specs.declared.fault.WorldFault.{WorldFault as Fault}
@@ -34,9 +34,9 @@ use Rattle.world_front.specs.Groups.{groups_of}
 use Rattle.world_core.specs.Answers.{answer_at}
 use Rattle.world_front.specs.Front.{list_at}
 use Rattle.world_core.specs.Listing.{listing_of}
-use Rattle.script_commands.specs.declared.command.Command.{Command}
-use Rattle.script_commands.specs.declared.command.Command.TheVariants.{Osds, Happens, Submit, List as ListNames, Locate, ShowUser, ListUsers, Tick, Settle, KickAll, LoseAll, Answer, Listing, Ready}
-use Rattle.script_commands.specs.Command.{read_line}
+use Rattle.world_script.specs.declared.command.Command.{Command}
+use Rattle.world_script.specs.declared.command.Command.TheVariants.{Osds, Happens, Submit, List as ListNames, Locate, ShowUser, ListUsers, Tick, Settle, KickAll, LoseAll, Answer, Listing, Ready}
+use Rattle.world_script.specs.Command.{read_line}
 use Rattle.script_printing.specs.Text.{id_text, told_text, refused_text, or_refused, asked_text, user_shown, users_text, located_text, ready_text}
 
 -- ---- lines, one after another

@@ -6,8 +6,8 @@ use Rattle.script_text.specs.Streams.{AppendsPart}
 use Rattle.script_text.specs.declared.fault.ScriptFault.{ScriptFault}
 use Rattle.script_text.specs.declared.fault.ScriptFault.TheVariants as ends
 use Rattle.world_core.specs.World.{World}
-use Rattle.script_commands.specs.declared.command.Command.{Command}
-use Rattle.script_commands.specs.declared.command.Command.TheVariants.{Osds}
+use Rattle.world_script.specs.declared.command.Command.{Command}
+use Rattle.world_script.specs.declared.command.Command.TheVariants.{Osds}
 use Rattle.world_script.specs.Script.{Step, Goes, IsBad, IsOther, Machine, Line, after_line, line_step, script_step}
 use Rattle.script_text.specs.declared.fault.LineFault.{LineFault}
 use Rattle.script_text.specs.declared.fault.LineFault.TheVariants.{BadLine, OutOfMemory}

@@ -1,7 +1,7 @@
 -- Refinement: only contracts inside the crate use it.
 -- Events on the messages of groups, as the program does them.
 use Rattle.std.specs.Prelude.{◌≡◌, ℕ, List, None}
-use Rattle.map_commands.specs.State.{History}
+use Rattle.map_core.specs.State.{History}
 use Rattle.map_core.specs.Refusal.{acting_refusal}
 use Rattle.store_core.specs.declared.sealed.GroupId.{GroupId}
 use Rattle.world_events.specs.declared.event.Event.{Event}

@@ -2,7 +2,7 @@
 
 ghost use Rattle.std.specs.Prelude.{◌≡◌, ◌+◌, ◌++◌, ◌<◌, All, IfOk, OnOk, None, true, fold, map, if◌then◌else◌};
 ghost use Rattle.std.specs.List.{flat_map};
-ghost use Rattle.map_commands.specs.Map.{map_of};
+ghost use Rattle.map_core.specs.Map.{map_of};
 ghost use Rattle.world_events.specs.declared.event.Event.TheVariants.{Kick};
 ghost use Rattle.world_front.specs.Front.{group_refusal};
 ghost use Rattle.world_core.specs.World.{group_at, world_step, refusal_of};
@@ -11,8 +11,8 @@ ghost use Rattle.world_script.specs.Script as spec;
 ghost use Rattle.world_script.specs.Script.{emptied, has_messages, budget_in, kick_events, unrefused, one_if_none};
 ghost use Rattle.world_script.specs.Sweeping.{event_at, sweep_events, IsThere};
 
-use common_types::OutOfMemory;
-use entry_core::{GroupId, TryCopy};
+use common_types::{OutOfMemory, TryCopy};
+use entry_core::GroupId;
 use map_core::{ClusterMap, Pool};
 use script_text::Count;
 use std::alloc::{AllocError, Global};

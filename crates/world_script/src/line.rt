@@ -1,12 +1,13 @@
 //! Lines of a script, one after another.
 
 ghost use Rattle.std.specs.Prelude.{◌≡◌, ◌≤◌, OnOk, IfErr, None, string_bytes};
-ghost use Rattle.script_commands.specs.declared.command.Command.TheVariants.{Osds};
+ghost use Rattle.world_script.specs.declared.command.Command.TheVariants.{Osds};
 ghost use Rattle.world_script.specs.Script.{line_step, script_step};
 ghost use Rattle.world_script.specs.Steps.{GoesTo, IsFaultOf, LineWrote, HasFewDaemons};
 
+use crate::command::Command;
 use crate::machine::Machine;
-use script_commands::{Command, read_line};
+use crate::reading::read_line;
 use script_text::{Line, LineFault, ScriptFault, end_line};
 use std::alloc::Global;
 use std::io::Write;

@@ -2,15 +2,16 @@
 
 ghost use Rattle.std.specs.Prelude.{◌≡◌, ◌≤◌, ◌++◌, ℕ, codes, Ok, OnOk, IfOk, IfErr, Some, string_bytes};
 ghost use Rattle.script_text.specs.Text.{line};
-ghost use Rattle.script_commands.specs.declared.command.Command.TheVariants.{LoseAll, KickAll, Tick};
+ghost use Rattle.world_script.specs.declared.command.Command.TheVariants.{LoseAll, KickAll, Tick};
 ghost use Rattle.world_script.specs.Script.{first_machine, script_step, ask_now, event_line, settle_line, line_of};
 ghost use Rattle.world_script.specs.Steps.{GoesTo, IsFaultOf, Does, at};
 
+use crate::command::Command;
 use crate::groups::{Sweep, kick_groups, sweep_groups};
 use crate::questions::{answer, list_users, listing, locate, ready, show_user};
 use common_types::{Name, OutOfMemory};
 use grant_core::ProfileTable;
-use script_commands::{Command, push_counted, push_refused, push_settled, push_told};
+use script_printing::{push_counted, push_refused, push_settled, push_told};
 use script_text::LineFault;
 use std::alloc::{AllocError, Global};
 use std::marker::Model;

@@ -10,7 +10,7 @@ use common_types::{Name, OutOfMemory};
 use entry_core::{GroupId, Id};
 use map_core::MapFault;
 use place_core::group_of;
-use script_commands::{push_answer, push_located, push_ready, push_refused, push_user, push_users};
+use script_printing::{push_answer, push_located, push_ready, push_refused, push_user, push_users};
 use std::alloc::AllocError;
 use world_core::{World, WorldFault, are_names};
 

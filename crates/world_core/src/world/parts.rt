@@ -1,7 +1,7 @@
 //! Worlds that are put together of parts.
 
 ghost use Rattle.std.specs.Prelude.{◌≡◌, [], IfOk, IfErr};
-ghost use Rattle.whole_logs.specs.Each.{Each};
+ghost use Rattle.group_model_whole.specs.Each.{Each};
 ghost use Rattle.world_core.specs.Inside.{entries_told};
 ghost use Rattle.world_core.specs.Parts.{FitTogether, decided_of, put_together, requests_of};
 ghost use Rattle.world_core.specs.Sound.{FitsAt, IsSound};
@@ -10,7 +10,7 @@ ghost use Rattle.world_events.specs.Submitting.{AreNew};
 use crate::audit::{Run, keep};
 use crate::world::World;
 use auth_db::AuthDb;
-use entry_core::OutOfMemory;
+use common_types::OutOfMemory;
 use group_core::Group;
 use map_core::ClusterMap;
 use std::alloc::Global;

@@ -1,9 +1,9 @@
 use Rattle.std.proofs.Common.{◌≡◌, ◌≢◌, ◌++◌, ◌∷◌, [], ℕ, ◌+◌, ◌-◌, List, length, sym, ◌∙◌, arith, IsUtf8, inr, subst}
 use Rattle.cap_grants.specs.declared.grant.Grant.{Grant}
-use Rattle.cap_grants.specs.Reads.{IsUnreadable}
+use Rattle.cap_text.specs.Reads.{IsUnreadable}
 use Rattle.cap_text.specs.Grammar.{Spells}
 use Rattle.cap_text.specs.Machine.{advance, finish}
-use Rattle.cap_grants.proofs.Reading.{one_utf8, one_shorter, skips_all, skips_some}
+use Rattle.cap_text.proofs.Reading.{one_utf8, one_shorter, skips_all, skips_some}
 use Rattle.cap_text.proofs.Stars.{nil_of, not_nil_of}
 use Rattle.cap_text.proofs.Loop.{goes_on, no_list_at, first_at, no_list_unread, first_unread, no_list_past, past_found, no_list_end, first_end, spelled, told_none, told_first}
 use Rattle.cap_text.proofs.SpelledGrants.{text_is_spellable}

@@ -1,7 +1,7 @@
 use Rattle.std.proofs.Common.{List, length, ◌≤◌}
 use denote.Text.{Utf8}
 use denote.Shadow.{shadow}
-use Rattle.cap_grants.specs.declared.token.Token.{Token}
+use Rattle.cap_text.specs.declared.token.Token.{Token}
 use Rattle.cap_text.proofs.Loop.{HasRead}
 use Rattle.cap_text.proofs.parser.parse.Given as goal
 

@@ -1,7 +1,7 @@
 use Rattle.std.proofs.Common.{◌≡◌, ◌∙◌, sym, subst, Some, arith}
 use Rattle.std.specs.Prelude.{Option, slice_get}
-use Rattle.map_commands.specs.Map.{map_of}
-use Rattle.suffix_core.specs.Group.{Event}
+use Rattle.map_core.specs.Map.{map_of}
+use Rattle.group_model.specs.Group.{Event}
 use Rattle.cluster.specs.MapCommands.{move_in}
 use Rattle.cluster.specs.GroupMoves.{OneMoved, event_at}
 use Rattle.cluster_locks.proofs.Places.{get_at}

@@ -1,4 +1,4 @@
-use Rattle.map_commands.specs.Map.{map_of}
+use Rattle.map_core.specs.Map.{map_of}
 use Rattle.cluster.specs.Passes.{AreMonitorOf}
 use Rattle.cluster.specs.MapCommands.{move_in}
 use Rattle.cluster.specs.GroupMoves.{HaveMoved, event_at}

@@ -2,7 +2,7 @@ use Rattle.std.proofs.Common.{ap, sym}
 use Rattle.std.specs.Prelude.{Option}
 use Rattle.std.specs.Option.{option_map}
 use Rattle.group_core.specs.Moves.{event_of}
-use Rattle.group_types.specs.declared.group_move.GroupMove.{GroupMove}
+use Rattle.group_messages.specs.declared.group_move.GroupMove.{GroupMove}
 use Rattle.cluster_locks.specs.Moves.{move_entry, MoveTells}
 use Rattle.cluster.proofs.Moved.{inside_of, moved, refused, still_monitor}
 use Rattle.cluster.proofs.group_moves.move_one.Goals as goal

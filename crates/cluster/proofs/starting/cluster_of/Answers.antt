@@ -1,7 +1,7 @@
 use Rattle.std.proofs.Common.{◌≡◌, ◌∙◌, List, map, sym, ap, subst}
 use Rattle.std.specs.Prelude.{All}
 use Rattle.std.proofs.lemmas.Result.{MatchResult-weaker}
-use Rattle.suffix_core.specs.Group.{Group}
+use Rattle.group_model.specs.Group.{Group}
 use Rattle.world_core.specs.declared.world.parts.WorldParts.{WorldParts}
 use Rattle.cluster_locks.specs.declared.users.UserTable.{UserTable}
 use Rattle.cluster_locks.specs.Groups.{group_in}

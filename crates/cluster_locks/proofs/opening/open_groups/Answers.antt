@@ -1,6 +1,6 @@
 use Rattle.std.proofs.Common.{[], ◌∷◌, ◌++◌, map, sym, ap, ◌∙◌, subst}
 use Rattle.std.proofs.lemmas.List.{map-append}
-use Rattle.suffix_core.specs.Group.{Group}
+use Rattle.group_model.specs.Group.{Group}
 use Rattle.turn_lock.specs.Seats.{first_of}
 use Rattle.cluster_locks.specs.Places.{Beside, IsFreshRow}
 use Rattle.cluster_locks.specs.Groups.{group_in}

@@ -1,16 +1,23 @@
-use Rattle.std.proofs.Common.{◌≡◌, ◌+◌, ◌*◌, take, drop, map, reverse}
-use Rattle.grant_core.specs.Flat.{filled, numbered, parts_of}
-use Rattle.grant_core.specs.Table.{table_of}
-use Rattle.grant_core.specs.Tree.{flat_branches}
+use Rattle.std.proofs.Common.{◌≡◌, ◌+◌, ◌*◌, ◌++◌, drop, map}
+use Rattle.grant_core.specs.Flat.{filled, numbered}
+use Rattle.grant_core.specs.Found.{parts_before}
+use Rattle.grant_core.specs.Tree.{below}
 use Rattle.grant_core.proofs.expansion.+grow.Given as goal
 
+-- what the grants so far come to, with what those behind them come to, is all
 abbrev pub invariant-grow-loop-i : goal.invariant-grow-loop-i
-invariant-grow-loop-i l =
-    flat_branches l.branches ≡ numbered (parts_of (reverse (take l.before (table_of l.profiles.entries)))) (1 + l.i) (map (filled l.used) (drop l.i l.grants))
+invariant-grow-loop-i l = record {
+  above : l.above.items ≡ l.fn.above.items;
+  grants : l.grants.items ++ map (below l.fn.above.items) (numbered (parts_before l.profiles.entries l.before) (1 + l.i) (map (filled l.used) (drop l.i l.body)))
+      ≡ l.fn.grants.items ++ map (below l.fn.above.items) (numbered (parts_before l.profiles.entries l.before) 1 (map (filled l.used) l.body));
+}
 
 -- a use is expanded with the profiles before it alone
 abbrev pub decreases-grow : goal.decreases-grow
-decreases-grow l = 2 * l.before + 1
+decreases-grow l = 3 * l.before + 2
+
+abbrev pub decreases-grow_one : goal.decreases-grow_one
+decreases-grow_one l = 3 * l.before + 1
 
 abbrev pub decreases-grow_use : goal.decreases-grow_use
-decreases-grow_use l = 2 * l.before
+decreases-grow_use l = 3 * l.before

@@ -8,7 +8,7 @@ returns-in_err-check_list-clause-refused c =
     let p = err_from_is_err_and c.from_residual.result c.from_residual.ensures.1 in
     rw p.1 (p.2 ∙ sym (ap (λ o. unwrap_or o OutOfMemory) (rw (← c.profiles-profiles.ensures.value, c.grants.ensures.value) at c.in_err-check_list.ensures.refused)))
 
-pub returns-in_err-branches-clause-refused : goal.returns-in_err-branches-clause-refused
-returns-in_err-branches-clause-refused c =
-    let p = err_from_is_err_and c.from_residual-in_err-branches.result c.from_residual-in_err-branches.ensures.1 in
+pub returns-in_err-grants-clause-refused : goal.returns-in_err-grants-clause-refused
+returns-in_err-grants-clause-refused c =
+    let p = err_from_is_err_and c.from_residual-in_err-grants.result c.from_residual-in_err-grants.ensures.1 in
     rw p.1 (p.2 ∙ sym (ap (λ o. unwrap_or o OutOfMemory) (rw (← c.profiles-profiles.ensures.value, c.grants.ensures.value) at c.in_ok-check_list.ensures.accepted)))

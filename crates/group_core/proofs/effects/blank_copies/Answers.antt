@@ -1,7 +1,7 @@
 use Rattle.std.proofs.Common.{◌≡◌, ◌+◌, ◌∷◌, [], ◌++◌, sym, ◌∙◌, ap, arith, map, take}
 use Rattle.peer_core.specs.Steps.{blank}
-use Rattle.whole_logs.specs.ActingSets.{daemons}
-use Rattle.whole_logs.proofs.Daemons.{map-push, next_daemon}
+use Rattle.group_model_whole.specs.ActingSets.{daemons}
+use Rattle.group_model_whole.proofs.Daemons.{map-push, next_daemon}
 use Rattle.std.proofs.lemmas.Grind.{common_steps}
 use Rattle.group_core.proofs.effects.blank_copies.Goals as goal
 

@@ -1,6 +1,6 @@
 use Rattle.std.proofs.Common.{◌≡◌, take, map}
 use Rattle.peer_core.specs.Steps.{blank}
-use Rattle.whole_logs.specs.ActingSets.{daemons}
+use Rattle.group_model_whole.specs.ActingSets.{daemons}
 use Rattle.group_core.proofs.effects.blank_copies.Given as goal
 
 abbrev pub invariant-loop-number : goal.invariant-loop-number

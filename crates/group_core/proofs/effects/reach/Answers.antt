@@ -3,8 +3,8 @@ use Rattle.std.specs.Prelude.{Some, slice_get}
 use Rattle.std.specs.List.{remove}
 use Rattle.peer_core.specs.Steps.{Stepped}
 use Rattle.peer_core.specs.Copy.{copy_step}
-use Rattle.suffix_core.specs.Types.{Sent, Message}
-use Rattle.whole_logs.proofs.Removed.{remove_before}
+use Rattle.group_model.specs.Types.{Sent, Message}
+use Rattle.group_model_whole.proofs.Removed.{remove_before}
 use Rattle.std.proofs.lemmas.Grind.{common_steps, elements}
 use Rattle.group_core.proofs.effects.reach.Goals as goal
 

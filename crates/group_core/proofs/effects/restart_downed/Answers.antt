@@ -3,8 +3,8 @@ use Rattle.std.specs.Prelude.{slice_set}
 use Rattle.entry_core.specs.Log.{is_in}
 use Rattle.place_core.specs.Placement.{numbers_of}
 use Rattle.peer_core.specs.Steps.{restarted}
-use Rattle.suffix_core.specs.Types.{Daemon}
-use Rattle.whole_logs.proofs.Daemons.{swept}
+use Rattle.group_model.specs.Types.{Daemon}
+use Rattle.group_model_whole.proofs.Daemons.{swept}
 use Rattle.group_core.proofs.effects.restart_downed.Goals as goal
 
 pub loop-copy-preserved : goal.loop-copy-preserved

@@ -1,8 +1,8 @@
 use Rattle.std.proofs.Common.{◌==◌, ◌∙◌, ap, get_or, if◌then◌else◌}
 use Rattle.std.specs.Prelude.{slice_set}
 use Rattle.peer_core.specs.Steps.{restarted}
-use Rattle.suffix_core.specs.Types.{Daemon}
-use Rattle.whole_logs.proofs.Daemons.{swept}
+use Rattle.group_model.specs.Types.{Daemon}
+use Rattle.group_model_whole.proofs.Daemons.{swept}
 use Rattle.group_core.proofs.effects.restart_in.Goals as goal
 
 pub loop-copy-preserved : goal.loop-copy-preserved

@@ -1,4 +1,4 @@
-use Rattle.whole_logs.proofs.Sets.{set_is}
+use Rattle.group_model_whole.proofs.Sets.{set_is}
 use Rattle.group_core.proofs.moves.other_set.Goals as goal
 
 pub returns-then-same_set-clause-fits : goal.returns-then-same_set-clause-fits

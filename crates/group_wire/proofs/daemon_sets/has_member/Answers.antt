@@ -1,5 +1,5 @@
 use Rattle.std.proofs.Common.{◌∙◌}
-use Rattle.whole_logs.proofs.Counted.{has_is_in}
+use Rattle.group_model_whole.proofs.Counted.{has_is_in}
 use Rattle.group_wire.proofs.daemon_sets.has_member.Goals as goal
 
 pub returns : goal.returns

@@ -1,5 +1,5 @@
 use Rattle.std.proofs.Common.{◌≡◌, drop, map}
-use Rattle.whole_logs.specs.Choice.{best}
+use Rattle.group_model_whole.specs.Choice.{best}
 use Rattle.group_wire.specs.Furthest.{whole_offer}
 use Rattle.group_wire.proofs.furthest.furthest.Given as goal
 

@@ -1,6 +1,6 @@
 use Rattle.std.proofs.Common.{◌≡◌, take, map}
-use Rattle.suffix_core.specs.Types.{Interval}
-use Rattle.suffix_core.specs.Group.{to_daemon}
+use Rattle.group_model.specs.Types.{Interval}
+use Rattle.group_model.specs.Group.{to_daemon}
 use Rattle.group_wire.proofs.sending.announced.Given as goal
 
 abbrev pub invariant-loop-member : goal.invariant-loop-member

@@ -1,6 +1,6 @@
 use Rattle.std.proofs.Common.{◌≡◌, ◌∙◌, ◌∷◌, ◌++◌, [], ℕ, List, Some, slice_get, get_or, map, filter_map, sym, ap, take_all}
-use Rattle.suffix_core.specs.Types.{Request}
-use Rattle.suffix_core.specs.Group.{to_daemon, last_set}
+use Rattle.group_model.specs.Types.{Request}
+use Rattle.group_model.specs.Group.{to_daemon, last_set}
 use Rattle.group_wire.proofs.Places.{found_more, open_found, to_first}
 use Rattle.group_wire.proofs.sending.resent.Goals as goal
 

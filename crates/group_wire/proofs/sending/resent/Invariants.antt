@@ -1,6 +1,6 @@
 use Rattle.std.proofs.Common.{◌≡◌, take, map, filter_map, slice_get}
-use Rattle.suffix_core.specs.Types.{Request}
-use Rattle.suffix_core.specs.Group.{to_daemon}
+use Rattle.group_model.specs.Types.{Request}
+use Rattle.group_model.specs.Group.{to_daemon}
 use Rattle.group_wire.proofs.sending.resent.Given as goal
 
 abbrev pub invariant-loop-place : goal.invariant-loop-place

@@ -1,5 +1,5 @@
 use Rattle.std.proofs.Common.{◌≡◌, ◌++◌, ◌||◌, option_copied, string_bytes, sym, ap, ◌∙◌, arith}
-use Rattle.gate_text.proofs.EachTold.{next_told, told_whole}
+use Rattle.verdict_text.proofs.EachTold.{next_told, told_whole}
 use Rattle.lint_text.specs.Linted.{IsEntityTold}
 use Rattle.lint_text.proofs.entities.lint_entities.Goals as goal
 use Rattle.lint_text.proofs.entities.lint_entities.Goals.{then-fails, else-fails}

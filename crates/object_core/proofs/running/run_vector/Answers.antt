@@ -1,6 +1,6 @@
 use Rattle.std.proofs.Common.{sym, ap, ◌∙◌, option_copied, arith}
 use Rattle.object_core.specs.ToldSteps.{told_step}
-use Rattle.object_ops.specs.ToldEffects.{after}
+use Rattle.object_core.specs.ToldEffects.{after}
 use Rattle.object_core.proofs.Runs.{run_fails, run_goes_on, run_ends, looks_at, next_is}
 use Rattle.object_core.proofs.running.run_vector.Goals as goal
 

@@ -2,8 +2,8 @@ use Rattle.std.proofs.Common.{◌≡◌, ◌+◌, true, drop, option_copied}
 use Rattle.std.specs.List.{list_all}
 use Rattle.object_core.specs.Effect.{run_from}
 use Rattle.object_core.specs.Needs.{only_looks}
-use Rattle.object_ops.specs.ToldEffects.{after}
-use Rattle.object_ops.specs.declared.outcome.Change.TheVariants.{Kept}
+use Rattle.object_core.specs.ToldEffects.{after}
+use Rattle.object_core.specs.declared.outcome.Change.TheVariants.{Kept}
 use Rattle.object_core.proofs.Runs.{with_outputs}
 use Rattle.object_core.proofs.running.run_vector.Given as goal
 

@@ -1,6 +1,6 @@
 use Rattle.std.proofs.Common.{subst}
 use Rattle.std.specs.Prelude.{Option}
-use Rattle.map_commands.specs.State.{History}
+use Rattle.map_core.specs.State.{History}
 use Rattle.published_map.specs.Published.{GoesOnFrom}
 use Rattle.published_map.proofs.laws.what_is_seen_was_published.Goals as goal
 

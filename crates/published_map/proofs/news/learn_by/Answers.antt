@@ -1,6 +1,6 @@
 use Rattle.std.proofs.Common.{ap, ◌∙◌, subst, arith}
 use Rattle.left_right.specs.Sides.{view as known}
-use Rattle.map_commands.specs.State.{GoesOn}
+use Rattle.map_core.specs.State.{GoesOn}
 use Rattle.published_map.specs.declared.published.PublishedMap.{PublishedMap}
 use Rattle.published_map.specs.declared.published.Knowledge.{Knowledge}
 use Rattle.published_map.specs.Published.{Sees}

@@ -1,5 +1,5 @@
 use Rattle.std.proofs.Common.{◌≡◌, ℕ, Some, sym, ◌∙◌, subst}
-use Rattle.map_commands.specs.Map.{view_at}
+use Rattle.map_core.specs.Map.{view_at}
 use Rattle.published_map.proofs.ActingSets.{has_set}
 use Rattle.published_map.proofs.places.locate_in.Goals as goal
 

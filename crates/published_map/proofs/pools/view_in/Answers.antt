@@ -1,11 +1,11 @@
 use Rattle.std.proofs.Common.{◌≡◌, ℕ, Some, subst}
 use Rattle.std.specs.Prelude.{Result, Ok, Err, IfOk}
 use Rattle.common_types.specs.Refused.{RefusedFirst}
-use Rattle.map_commands.specs.PoolLimits.{HasLimits}
-use Rattle.map_commands.specs.Map.{view_at}
+use Rattle.map_core.specs.PoolLimits.{HasLimits}
+use Rattle.map_core.specs.Map.{view_at}
 use Rattle.map_core.specs.Refusal.{view_refusal}
-use Rattle.map_commands.specs.declared.fault.MapFault.TheVariants as faults
-use Rattle.map_commands.specs.declared.pool.PoolView.{PoolView}
+use Rattle.map_core.specs.declared.fault.MapFault.TheVariants as faults
+use Rattle.map_core.specs.declared.pool.PoolView.{PoolView}
 use Rattle.published_map.proofs.pools.view_in.Goals as goal
 
 both_ok : {T F : Type 0} → (P Q : T → Type 0) (r : Result T F) → IfOk r P → IfOk r Q → IfOk r (λ x. P x × Q x)

@@ -1,5 +1,5 @@
 use Rattle.std.proofs.Common.{◌≡◌, [], drop, sym, subst}
-use Rattle.map_commands.specs.State.{GoesOn}
+use Rattle.map_core.specs.State.{GoesOn}
 use Rattle.published_map.proofs.Grows.{grows, fold_goes_on, ok_adds}
 use Rattle.published_map.proofs.published.publish_by.Goals as goal
 

@@ -1,6 +1,6 @@
 use Rattle.std.proofs.Common.{◌≡◌, [], ◌↔◌, sym, subst, All}
 use Rattle.compare_core.proofs.Results.{ok_also}
-use Rattle.share_core.specs.Sharing.{Answers, IsShared, Share, pairs}
+use Rattle.share_core.specs.Sharing.{Answers, IsSharedObject, Share, pairs}
 use Rattle.share_core.specs.declared.reaching.Shared.{Shared}
 use Rattle.share_core.proofs.Shares.{answers_of, all_shared, no_example, here_too}
 use Rattle.share_core.proofs.reaching.sharing.Goals as goal
@@ -16,7 +16,7 @@ returns-clause-answers c =
 pub returns-clause-shared : goal.returns-clause-shared
 returns-clause-shared c =
     ok_also c.examples.result
-    (λ examples is. subst (All (λ (example : Shared). IsShared c.args.ones.now.grants c.args.one.now c.args.others.now.grants c.args.other.now example.target))
+    (λ examples is. subst (All (λ (example : Shared). IsSharedObject c.args.ones.now.grants c.args.one.now c.args.others.now.grants c.args.other.now example.target))
     (sym (here_too c.args.one.now c.args.other.now _ _ _ _ examples.items is c.grants.ensures.grants c.grants-2.ensures.grants))
     (all_shared c.args.ones.now.grants c.args.others.now.grants c.args.one.now c.args.other.now))
     c.examples.ensures

@@ -21,7 +21,7 @@ loop-writer-preserved c =
     c.in_ok-readers.readers.items
     (ap (map (λ readers. readers.items)) c.in_ok-push.ensures.items ∙ map-append (λ readers. readers.items) c.loop-writer.steps.items (c.in_ok-readers.readers ∷ []))
     (subst (λ grants. ListsBelow (λ reader. ShareWithin (option_copied c.args.pools) WritesReads grants (grants_at tenants reader)) c.in_ok-readers.readers.items (length tenants))
-    (sym (seen_at (λ (tenant : Tenant). tenant.ticket.grants) tenants writer c.writer-item.result [] c.loop-writer-test.true c.writer-item.is)) c.in_ok-readers.ensures)
+    (sym (seen_at (λ (tenant : Tenant). tenant.ticket.now.grants) tenants writer c.writer-item.result [] c.loop-writer-test.true c.writer-item.is)) c.in_ok-readers.ensures)
     c.loop-writer.invariant
 
 pub returns : goal.returns

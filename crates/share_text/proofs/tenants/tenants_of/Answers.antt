@@ -1,21 +1,27 @@
-use Rattle.std.proofs.Common.{◌+◌, ap, arith, subst, sym, ◌∙◌}
+use Rattle.std.proofs.Common.{◌+◌, ap, arith, map, subst, sym, ◌∙◌}
 use Rattle.share_text.specs.Tenants.{IsTenantOrNone}
-use Rattle.share_text.proofs.Telling.{SoFar, all_tenants, one_left_out, one_tenant}
+use Rattle.share_text.specs.declared.tenants.Live.{Live}
+use Rattle.share_text.proofs.Telling.{SoFar, seen_all, seen_left_out, seen_tenant}
+use Rattle.share_text.proofs.Lives.{live_at}
 use Rattle.share_text.proofs.tenants.tenants_of.Goals as goal
 use Rattle.share_text.proofs.tenants.tenants_of.Goals.{in-Some+in_ok-push, in_default}
 
-pub loop-entity-preserved : goal.loop-entity-preserved
-loop-entity-preserved c =
-    let entity = c.entity-item.result in
-    elim c.match-branch-2.branch [
+pub tenant_of-requires : goal.tenant_of-requires
+tenant_of-requires c = live_at c.args.lives.now c.loop-live.live-index c.live-item.result (omega arith) c.live-item.is c.requires
+
+pub loop-live-preserved : goal.loop-live-preserved
+loop-live-preserved c =
+    let live = c.live-item.result in
+    let entity_of = λ (live : Live). live.entity.now in
+    elim c.match-tenant_of.branch [
       | in-Some+in_ok-push w ↦
-          one_tenant c.args.entities.now c.loop-entity.entity-index entity c.loop-entity.tenants.items c.match-branch-2.tenants.items w.in-Some.tenant (omega arith) c.entity-item.is
-          (subst (IsTenantOrNone entity) w.in-Some.is c.in_ok-tenant.ensures) (ap (λ v. v.items) w.tenants-is ∙ w.in_ok-push.ensures.items) c.loop-entity.invariant
+          seen_tenant entity_of c.args.lives.now c.loop-live.live-index live c.loop-live.tenants.items c.match-tenant_of.tenants.items w.in-Some.tenant (omega arith) c.live-item.is
+          (subst (IsTenantOrNone live.entity.now) w.in-Some.is c.tenant_of.ensures) (ap (λ v. v.items) w.tenants-is ∙ w.in_ok-push.ensures.items) c.loop-live.invariant
       | in_default w ↦
-          subst (SoFar c.args.entities.now (c.loop-entity.entity-index + 1)) (sym (ap (λ v. v.items) w.tenants-is))
-          (one_left_out c.args.entities.now c.loop-entity.entity-index entity c.loop-entity.tenants.items (omega arith) c.entity-item.is
-          (subst (IsTenantOrNone entity) w.in_default.is c.in_ok-tenant.ensures) c.loop-entity.invariant)
+          subst (SoFar (map entity_of c.args.lives.now) (c.loop-live.live-index + 1)) (sym (ap (λ v. v.items) w.tenants-is))
+          (seen_left_out entity_of c.args.lives.now c.loop-live.live-index live c.loop-live.tenants.items (omega arith) c.live-item.is
+          (subst (IsTenantOrNone live.entity.now) w.in_default.is c.tenant_of.ensures) c.loop-live.invariant)
     ]
 
 pub returns : goal.returns
-returns c = all_tenants c.args.entities.now c.loop-entity.entity-index c.loop-entity.tenants.items c.loop-entity-test.false c.loop-entity.invariant
+returns c = seen_all (λ (live : Live). live.entity.now) c.args.lives.now c.loop-live.live-index c.loop-live.tenants.items c.loop-live-test.false c.loop-live.invariant

@@ -6,7 +6,7 @@ use Rattle.share_text.proofs.tenants.told_so_in.Goals as goal
 
 pub returns-in-None : goal.returns-in-None
 returns-in-None c =
-    let ones = c.args.one.now.ticket.grants in
-    let others = c.args.other.now.ticket.grants in
+    let ones = c.args.one.now.ticket.now.grants in
+    let others = c.args.other.now.ticket.now.grants in
     absurd (nothing_in c.args.pools.now ones others (one_touch c.args.kind) (other_touch c.args.kind)
     (subst (IsExampleIn c.args.pools.now ones (one_touch c.args.kind) others (other_touch c.args.kind)) c.in-None.is c.in_ok-example_so.ensures) c.requires)

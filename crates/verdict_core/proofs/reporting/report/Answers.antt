@@ -11,7 +11,7 @@ loop-entry-preserved c =
 
 pub returns-clause-paths : goal.returns-clause-paths
 returns-clause-paths c =
-    let all : c.new.result ≡ report_of c.args.ticket.now c.args.target.now c.args.needs.now c.args.tick = grind (arith, common_steps) in
+    let all : c.from_lines.result ≡ report_of c.args.ticket.now c.args.target.now c.args.needs.now c.args.tick = grind (arith, common_steps) in
     ap (map (λ line. line.0)) all ∙ paths-report_of c.args.ticket.now c.args.target.now c.args.needs.now c.args.tick c.requires
 
 pub returns-clause-report : goal.returns-clause-report

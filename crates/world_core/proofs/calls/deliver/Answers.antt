@@ -1,5 +1,5 @@
 use Rattle.std.proofs.Common.{◌∙◌, ◌++◌, inl, length, refl, ap}
-use Rattle.suffix_core.specs.Group.{Deliver}
+use Rattle.group_model.specs.Group.{Deliver}
 use Rattle.world_core.specs.Applying.{runs_from}
 use Rattle.world_core.proofs.Calling.{kept_nothing, steps_or_memory}
 use Rattle.world_core.proofs.calls.deliver.Goals as goal

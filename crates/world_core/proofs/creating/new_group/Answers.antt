@@ -1,6 +1,6 @@
 use Rattle.std.proofs.Common.{◌≡◌, IfOk, ap, subst}
 use Rattle.place_core.specs.Placement.{numbers_of}
-use Rattle.suffix_core.specs.Group.{Group}
+use Rattle.group_model.specs.Group.{Group}
 use Rattle.world_core.proofs.NewGroups.{begun_is}
 use Rattle.world_core.proofs.creating.new_group.Goals as goal
 

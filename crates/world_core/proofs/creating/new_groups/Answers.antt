@@ -1,5 +1,5 @@
 use Rattle.std.proofs.Common.{◌∙◌, ◌∷◌, ◌++◌, [], sym, ap}
-use Rattle.map_commands.specs.Map.{map_of, epoch_of, after}
+use Rattle.map_core.specs.Map.{map_of, epoch_of, after}
 use Rattle.map_core.specs.Refusal.{refusal}
 use Rattle.world_core.specs.World.{begun_group}
 use Rattle.world_front.proofs.Places.{numbered}

@@ -1,6 +1,6 @@
 use Rattle.std.proofs.Common.{◌≡◌, map}
 use Rattle.std.specs.List.{range_with_len}
-use Rattle.map_commands.specs.Map.{map_of, after}
+use Rattle.map_core.specs.Map.{map_of, after}
 use Rattle.world_core.specs.World.{begun_group}
 use Rattle.world_front.proofs.Places.{numbered}
 use Rattle.world_core.proofs.creating.new_groups.Given as goal

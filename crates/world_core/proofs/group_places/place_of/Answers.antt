@@ -1,6 +1,6 @@
 use Rattle.std.proofs.Common.{◌≡◌, ◌∙◌, ◌+◌, ◌<◌, ◌≤◌, length, ap, sym, subst}
 use Rattle.std.specs.Option.{option_map}
-use Rattle.map_commands.specs.Map.{map_of}
+use Rattle.map_core.specs.Map.{map_of}
 use Rattle.map_core.specs.Refusal.{groups_in}
 use Rattle.map_core.proofs.Kept.{pools_are_few}
 use Rattle.world_events.specs.declared.fault.WorldFault.TheVariants.{Map as OfMap}

@@ -1,5 +1,5 @@
 use Rattle.std.proofs.Common.{◌≡◌, ◌∙◌, ◌≤◌, length, ap, sym, subst}
-use Rattle.map_commands.specs.Map.{map_of}
+use Rattle.map_core.specs.Map.{map_of}
 use Rattle.map_core.proofs.Kept.{pools_are_few}
 use Rattle.entry_core.specs.Locality.{group_for}
 use Rattle.world_core.specs.Moves.{IsAt}

@@ -1,5 +1,5 @@
 use Rattle.std.proofs.Common.{◌≡◌, drop}
-use Rattle.map_commands.specs.Map.{map_of}
+use Rattle.map_core.specs.Map.{map_of}
 use Rattle.world_core.specs.Moves.{move_of, first_refusal}
 use Rattle.world_core.proofs.moves.any_full.Given as goal
 

@@ -1,10 +1,10 @@
 use Rattle.std.proofs.Common.{◌≡◌, ◌∙◌, ◌++◌, Option, None, Some, List, inr, refl, append-nil, sym, ap, subst}
 use Rattle.std.specs.Prelude.{OnOk, true, false}
 use Rattle.std.specs.Option.{option_map, option_or}
-use Rattle.map_commands.specs.Map.{map_of, epoch_of}
+use Rattle.map_core.specs.Map.{map_of, epoch_of}
 use Rattle.map_core.specs.Limits.{IsAccepted}
 use Rattle.map_core.specs.Refusal.{refusal}
-use Rattle.suffix_core.specs.Group.{Group}
+use Rattle.group_model.specs.Group.{Group}
 use Rattle.world_events.specs.declared.fault.WorldFault.{WorldFault as Fault}
 use Rattle.world_events.specs.declared.event.Event.TheVariants.{Map}
 use Rattle.world_events.specs.declared.fault.WorldFault.TheVariants.{Map as OfMap, Group as OfGroup}

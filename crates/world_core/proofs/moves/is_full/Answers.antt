@@ -1,6 +1,6 @@
 use Rattle.std.proofs.Common.{◌≡◌, ◌∙◌, ◌++◌, Some, None, if◌then◌else◌, option_to_list, sym, ap, subst}
-use Rattle.map_commands.specs.Intervals.{intervals_of}
-use Rattle.group_types.specs.declared.fault.GroupFault.TheVariants as group_fault
+use Rattle.map_core.specs.Intervals.{intervals_of}
+use Rattle.group_messages.specs.declared.fault.GroupFault.TheVariants as group_fault
 use Rattle.store_core.specs.declared.sealed.GroupId.{GroupId}
 use Rattle.world_core.proofs.Intervals.{later}
 use Rattle.world_core.proofs.FullMoves.{refused_as}

@@ -1,6 +1,6 @@
 use Rattle.std.proofs.Common.{◌∙◌, inr, reverse, sym, ap}
 use Rattle.std.specs.Option.{option_map}
-use Rattle.map_commands.specs.Map.{map_of}
+use Rattle.map_core.specs.Map.{map_of}
 use Rattle.world_events.specs.declared.fault.WorldFault.TheVariants.{Group as OfGroup}
 use Rattle.world_core.specs.Moves.{move_of, all_moved, first_refusal}
 use Rattle.world_core.proofs.AllMoved.{all_committed, all_given_up}

@@ -1,7 +1,7 @@
 use Rattle.std.proofs.Common.{[], ◌∷◌, ◌++◌, ◌∙◌, length, length-append, arith, ap, sym}
 use Rattle.std.specs.Prelude.{reverse}
 use Rattle.std.proofs.lemmas.List.{append-nil}
-use Rattle.map_commands.specs.Map.{map_of}
+use Rattle.map_core.specs.Map.{map_of}
 use Rattle.world_core.specs.Moves.{move_of, all_prepared}
 use Rattle.world_core.proofs.AllMoved.{all_ready, one_ready, one_refused}
 use Rattle.world_core.proofs.moves.prepare_all.Goals as goal

@@ -1,5 +1,5 @@
 use Rattle.std.proofs.Common.{◌≡◌, take}
-use Rattle.map_commands.specs.Map.{map_of}
+use Rattle.map_core.specs.Map.{map_of}
 use Rattle.world_core.specs.Taking.{places_for}
 use Rattle.world_core.proofs.taking.places.Given as goal
 

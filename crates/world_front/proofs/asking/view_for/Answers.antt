@@ -1,5 +1,5 @@
 use Rattle.std.proofs.Common.{◌≡◌, ◌⊎◌, Some, sym, subst}
-use Rattle.map_commands.specs.Map.{view_at}
+use Rattle.map_core.specs.Map.{view_at}
 use Rattle.world_front.specs.Event.{NoPool, OutOfMemory}
 use Rattle.world_front.specs.Front.{error_of, need}
 use Rattle.world_front.proofs.Views.{view_refused}

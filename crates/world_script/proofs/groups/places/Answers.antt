@@ -1,7 +1,7 @@
 use Rattle.std.proofs.Common.{arith, ◌≡◌, ◌∙◌, All, take, ap, sym, subst}
 use Rattle.std.specs.List.{flat_map}
 use Rattle.std.proofs.lemmas.List.{take_all}
-use Rattle.map_commands.specs.Map.{map_of}
+use Rattle.map_core.specs.Map.{map_of}
 use Rattle.world_front.specs.Groups.{groups_of}
 use Rattle.world_script.specs.Sweeping.{IsThere}
 use Rattle.world_script.proofs.PlacesThere.{places_there}

@@ -1,6 +1,6 @@
 use Rattle.std.proofs.Common.{◌≡◌, ℕ, List, refl, sym, ap, ◌∙◌, subst, arith}
-use Rattle.map_commands.specs.Map.{epoch_of}
-use Rattle.map_commands.specs.declared.command.MapCommand.{MapCommand}
+use Rattle.map_core.specs.Map.{epoch_of}
+use Rattle.map_core.specs.declared.command.MapCommand.{MapCommand}
 use Rattle.store_core.specs.declared.sealed.GroupId.{GroupId}
 use Rattle.cluster.specs.declared.cluster.Cluster.{Cluster}
 use Rattle.cluster.specs.declared.cluster.Seats.{Seats}

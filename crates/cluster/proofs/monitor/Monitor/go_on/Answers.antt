@@ -1,5 +1,5 @@
 use Rattle.std.proofs.Common.{arith, ◌≡◌, ◌≤◌, List, refl, sym, subst}
-use Rattle.map_commands.specs.Map.{map_of}
+use Rattle.map_core.specs.Map.{map_of}
 use Rattle.store_core.specs.declared.sealed.GroupId.{GroupId}
 use Rattle.cluster.specs.Passes.{group_count}
 use Rattle.cluster.specs.MapCommands.{move_in}

@@ -1,5 +1,5 @@
 use Rattle.std.proofs.Common.{subst, arith}
-use Rattle.suffix_core.specs.Reached.{IsReached}
+use Rattle.group_model.specs.Reached.{IsReached}
 use Rattle.group_core.proofs.Reached.{decided_few}
 use Rattle.std.proofs.lemmas.Grind.{common_steps}
 use Rattle.group_core.proofs.group.Group.audit.Goals as goal

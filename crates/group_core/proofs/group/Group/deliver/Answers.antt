@@ -2,7 +2,7 @@ use Rattle.std.proofs.Common.{◌≡◌, ◌<◌, ap, sym, ◌∙◌, subst, len
 use Rattle.std.specs.Prelude.{Some, slice_get}
 use Rattle.entry_core.specs.Log.{is_in}
 use Rattle.place_core.specs.Placement.{numbers_of}
-use Rattle.suffix_core.specs.Reached.{IsReached}
+use Rattle.group_model.specs.Reached.{IsReached}
 use Rattle.group_core.proofs.Calls.{get_in, next_answered, whole_dropped, stepped}
 use Rattle.group_core.proofs.Lowering.{delivery_lowers, drop_lowers, found_lowers}
 use Rattle.std.proofs.lemmas.Grind.{elements}

@@ -1,8 +1,8 @@
 use Rattle.std.proofs.Common.{subst}
-use Rattle.suffix_core.specs.Reached.{IsReached}
+use Rattle.group_model.specs.Reached.{IsReached}
 use Rattle.group_core.proofs.Reached.{reached_legal}
 use Rattle.group_core.proofs.Asked.{reached_asked}
-use Rattle.suffix_core.proofs.Twins.{reached_replicated}
+use Rattle.group_model.proofs.Twins.{reached_replicated}
 use Rattle.group_core.proofs.Promises.{reached_answers, reached_sane, reached_fitting, reached_room, reached_intervals, reached_once}
 use Rattle.group_core.proofs.group.Group.keeps_promises.Goals as goal
 

@@ -1,5 +1,5 @@
 use Rattle.std.proofs.Common.{◌++◌, ap, ◌∙◌, arith}
-use Rattle.suffix_core.specs.Group.{announced, retransmit_primary, last_set}
+use Rattle.group_model.specs.Group.{announced, retransmit_primary, last_set}
 use Rattle.group_core.proofs.Calls.{next_kicked}
 use Rattle.std.proofs.lemmas.Grind.{common_steps}
 use Rattle.group_core.proofs.group.Group.kick.Goals as goal

@@ -1,5 +1,5 @@
 use Rattle.std.proofs.Common.{◌<◌, length, subst}
-use Rattle.suffix_core.specs.Reached.{IsReached}
+use Rattle.group_model.specs.Reached.{IsReached}
 use Rattle.group_core.proofs.Calls.{next_lost, stepped}
 use Rattle.group_core.proofs.Lowering.{loss_lowers}
 use Rattle.group_core.proofs.group.Group.lose.Goals as goal

@@ -1,5 +1,5 @@
 use Rattle.place_core.specs.Placement.{numbers_of}
-use Rattle.whole_logs.proofs.Sets.{set_is}
+use Rattle.group_model_whole.proofs.Sets.{set_is}
 use Rattle.group_core.proofs.Calls.{begun_is, whole_start}
 use Rattle.group_core.proofs.group.Group.new.Goals as goal
 

@@ -1,7 +1,7 @@
 use Rattle.std.proofs.Common.{◌≡◌, ◌<◌, ◌∙◌, sym, ap, subst, refl, length, true, false}
 use Rattle.place_core.specs.Placement.{numbers_of}
-use Rattle.suffix_core.specs.Group.{same_set, last_set}
-use Rattle.whole_logs.proofs.Sets.{set_is}
+use Rattle.group_model.specs.Group.{same_set, last_set}
+use Rattle.group_model_whole.proofs.Sets.{set_is}
 use Rattle.group_core.proofs.Calls.{next_same, next_begun, whole_up, stepped_up}
 use Rattle.group_core.proofs.group.Group.new_interval.Goals as goal
 

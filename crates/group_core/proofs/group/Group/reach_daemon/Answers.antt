@@ -1,7 +1,7 @@
 use Rattle.std.proofs.Common.{◌≡◌, ◌<◌, ◌≤◌, ap, sym, ◌∙◌, subst, length, max, true, refl, arith}
 use Rattle.std.specs.Prelude.{Some, slice_get, slice_set}
 use Rattle.entry_core.specs.Log.{is_in}
-use Rattle.suffix_core.specs.Types.{Osd}
+use Rattle.group_model.specs.Types.{Osd}
 use Rattle.group_core.proofs.Calls.{get_below, get_or_some, next_swallowed, next_heard, stepped}
 use Rattle.group_core.proofs.Sends.{sent_few}
 use Rattle.std.proofs.lemmas.Grind.{common_steps}

@@ -1,6 +1,6 @@
 use Rattle.std.proofs.Common.{◌≡◌, ◌<◌, ◌∙◌, ◌++◌, ◌∷◌, [], sym, ap, subst, refl, length, true, false}
 use Rattle.entry_core.specs.Log.{is_in}
-use Rattle.suffix_core.specs.Group.{last_set, announced, resent}
+use Rattle.group_model.specs.Group.{last_set, announced, resent}
 use Rattle.group_core.proofs.Calls.{next_restarted, next_rejoined, stepped}
 use Rattle.group_core.proofs.group.Group.restart.Goals as goal
 

@@ -1,12 +1,12 @@
 use Rattle.std.proofs.lemmas.Bool.{eqb-true}
 use Rattle.std.proofs.lemmas.List.{nil_from_length}
 use Rattle.std.proofs.Common.{◌≡◌, ◌==◌, ap, sym, ◌∙◌, subst, length, false}
-use Rattle.suffix_core.specs.Group.{Group, Deliver, Unreachable}
+use Rattle.group_model.specs.Group.{Group, Deliver, Unreachable}
 use Rattle.std.specs.Prelude.{Ok, Err}
-use Rattle.suffix_core.specs.Budget.{budget}
-use Rattle.suffix_core.specs.Reached.{IsReached, Refuses, Settles}
+use Rattle.group_model.specs.Budget.{budget}
+use Rattle.group_model.specs.Reached.{IsReached, Refuses, Settles}
 use Rattle.group_core.proofs.Settles.{settle_grows, settle_stands}
-use Rattle.whole_logs.proofs.Settling.{dropped, not_dropped}
+use Rattle.group_model_whole.proofs.Settling.{dropped, not_dropped}
 use Rattle.group_core.proofs.Settling.{so_far_more, so_far_less, so_far_ended, so_far_done}
 use Rattle.group_core.proofs.group.Group.settle.Goals as goal
 

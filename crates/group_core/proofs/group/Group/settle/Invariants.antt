@@ -1,4 +1,4 @@
-use Rattle.suffix_core.specs.Budget.{budget}
+use Rattle.group_model.specs.Budget.{budget}
 use Rattle.group_core.proofs.Settling.{SoFar}
 use Rattle.group_core.proofs.group.Group.settle.Given as goal
 

@@ -1,6 +1,6 @@
 use Rattle.std.proofs.Common.{◌≡◌, ◌<◌, ◌∷◌, [], ◌++◌, ap, sym, ◌∙◌, subst, length, false, rules}
-use Rattle.suffix_core.specs.Types.{Request}
-use Rattle.suffix_core.specs.Group.{is_submitted, to_primary}
+use Rattle.group_model.specs.Types.{Request}
+use Rattle.group_model.specs.Group.{is_submitted, to_primary}
 use Rattle.group_core.proofs.Calls.{next_taken}
 use Rattle.group_core.proofs.group.Group.submit.Goals as goal
 

@@ -1,6 +1,6 @@
 use Rattle.std.proofs.Common.{arith, ◌≡◌, ap, sym, ◌∙◌, subst}
-use Rattle.suffix_core.specs.Group.{last_set}
-use Rattle.suffix_core.specs.Reached.{HasJustTaken, unsent}
+use Rattle.group_model.specs.Group.{last_set}
+use Rattle.group_model.specs.Reached.{HasJustTaken, unsent}
 use Rattle.group_core.proofs.Calls.{whole_back}
 use Rattle.std.proofs.lemmas.Grind.{common_steps}
 use Rattle.group_core.proofs.group.Group.take_back.Goals as goal

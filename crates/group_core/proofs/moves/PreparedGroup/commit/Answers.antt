@@ -1,6 +1,6 @@
 use Rattle.std.proofs.Common.{◌∙◌, ap, sym, subst, refl}
 use Rattle.place_core.specs.Placement.{numbers_of}
-use Rattle.suffix_core.specs.Group.{NewInterval, Restart, group_step}
+use Rattle.group_model.specs.Group.{NewInterval, Restart, group_step}
 use Rattle.group_core.specs.Inside.{group_of}
 use Rattle.group_core.specs.Moves.{Prepared, IsReady, event_of}
 use Rattle.group_core.specs.Sound.{IsSound}

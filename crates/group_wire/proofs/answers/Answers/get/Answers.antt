@@ -1,8 +1,8 @@
 use Rattle.std.proofs.Common.{◌≡◌, ◌∙◌, sym, ap}
 use Rattle.std.specs.Prelude.{None, Some, slice_get}
 use Rattle.std.specs.Option.{option_map, option_copied}
-use Rattle.suffix_core.specs.Group.{Answer, answer_of}
-use Rattle.whole_logs.proofs.ById.{answer_found, none_found}
+use Rattle.group_model.specs.Group.{Answer, answer_of}
+use Rattle.group_model_whole.proofs.ById.{answer_found, none_found}
 use Rattle.group_wire.proofs.answers.Answers.get.Goals as goal
 
 pub returns-in-Some-at : goal.returns-in-Some-at

@@ -1,7 +1,7 @@
 use Rattle.std.proofs.Common.{◌∙◌, ◌==◌, ap}
 use Rattle.std.specs.List.{list_any}
-use Rattle.suffix_core.specs.Group.{Answer, is_answered}
-use Rattle.whole_logs.proofs.ById.{some_has}
+use Rattle.group_model.specs.Group.{Answer, is_answered}
+use Rattle.group_model_whole.proofs.ById.{some_has}
 use Rattle.group_wire.proofs.answers.Answers.has.Goals as goal
 
 pub returns : goal.returns

@@ -1,6 +1,6 @@
 use Rattle.std.proofs.Common.{◌≡◌, ◌∙◌, ◌∷◌, ◌++◌, [], false, map, sym, ap}
-use Rattle.suffix_core.specs.Group.{Answer, is_answered}
-use Rattle.whole_logs.proofs.ById.{one_more}
+use Rattle.group_model.specs.Group.{Answer, is_answered}
+use Rattle.group_model_whole.proofs.ById.{one_more}
 use Rattle.group_wire.proofs.answers.Answers.push.Goals as goal
 
 pub invariant_of-self-2 : goal.invariant_of-self-2

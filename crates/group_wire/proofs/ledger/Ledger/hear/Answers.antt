@@ -1,5 +1,5 @@
 use Rattle.std.proofs.Common.{◌≡◌, ◌∙◌, ◌==◌, not, false, filter, sym, ap, subst}
-use Rattle.suffix_core.specs.Group.{Answer, is_submitted, is_answered}
+use Rattle.group_model.specs.Group.{Answer, is_submitted, is_answered}
 use Rattle.group_wire.specs.Places.{IsRising, IsPlaceOf, open_places}
 use Rattle.group_wire.proofs.Places.{places_rise, answer_closes, answer_of_none}
 use Rattle.group_wire.proofs.ledger.Ledger.hear.Goals as goal

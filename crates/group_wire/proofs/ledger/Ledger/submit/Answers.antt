@@ -1,5 +1,5 @@
 use Rattle.std.proofs.Common.{◌≡◌, ◌∙◌, ◌∷◌, ◌++◌, [], false, true, length, sym, ap}
-use Rattle.suffix_core.specs.Group.{is_answered}
+use Rattle.group_model.specs.Group.{is_answered}
 use Rattle.group_wire.specs.Places.{open_places}
 use Rattle.group_wire.proofs.Places.{submit_opens, submit_answered}
 use Rattle.group_wire.proofs.ledger.Ledger.submit.Goals as goal

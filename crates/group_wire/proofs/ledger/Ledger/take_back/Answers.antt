@@ -1,5 +1,5 @@
 use Rattle.std.proofs.Common.{◌≡◌, ◌∙◌, ◌-◌, Some, slice_get, false, true, length, take, sym, ap, arith}
-use Rattle.suffix_core.specs.Group.{is_answered}
+use Rattle.group_model.specs.Group.{is_answered}
 use Rattle.group_wire.specs.Places.{open_places}
 use Rattle.group_wire.proofs.Places.{back_opens, back_answered}
 use Rattle.std.proofs.lemmas.Grind.{common_steps}

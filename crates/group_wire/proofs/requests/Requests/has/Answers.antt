@@ -1,8 +1,8 @@
 use Rattle.std.proofs.Common.{◌∙◌, ◌==◌, ap}
 use Rattle.std.specs.List.{list_any}
 use Rattle.store_core.specs.Request.{Sealed}
-use Rattle.suffix_core.specs.Group.{is_submitted}
-use Rattle.whole_logs.proofs.ById.{some_has}
+use Rattle.group_model.specs.Group.{is_submitted}
+use Rattle.group_model_whole.proofs.ById.{some_has}
 use Rattle.group_wire.proofs.requests.Requests.has.Goals as goal
 
 pub returns : goal.returns

@@ -1,5 +1,5 @@
 use Rattle.std.proofs.Common.{◌≡◌, ◌∙◌, false, sym, subst}
-use Rattle.suffix_core.specs.Group.{is_submitted}
+use Rattle.group_model.specs.Group.{is_submitted}
 use Rattle.group_wire.specs.Places.{IsPlaceOf}
 use Rattle.group_wire.proofs.Places.{placed, unplaced}
 use Rattle.group_wire.proofs.requests.Requests.place_of.Goals as goal

@@ -1,8 +1,8 @@
 use Rattle.std.proofs.Common.{◌≡◌, ◌∙◌, ◌∷◌, ◌++◌, [], false, map, nat_eq, sym, ap}
 use Rattle.indexmap.specs.IndexSet.{insert_key}
 use Rattle.store_core.specs.Request.{Sealed}
-use Rattle.suffix_core.specs.Group.{is_submitted}
-use Rattle.whole_logs.proofs.ById.{one_more}
+use Rattle.group_model.specs.Group.{is_submitted}
+use Rattle.group_model_whole.proofs.ById.{one_more}
 use Rattle.group_wire.proofs.requests.Requests.push.Goals as goal
 
 pub invariant_of-self-2 : goal.invariant_of-self-2

@@ -1,5 +1,5 @@
 use Rattle.std.proofs.Common.{arith, ◌≡◌, ◌-◌, ap, ◌∙◌, subst, length, take, drop}
-use Rattle.whole_logs.proofs.Removed.{drop_take_last}
+use Rattle.group_model_whole.proofs.Removed.{drop_take_last}
 use Rattle.std.proofs.lemmas.Grind.{common_steps}
 use Rattle.group_wire.proofs.wire.Wire.pop.Goals as goal
 

@@ -1,6 +1,6 @@
 use Rattle.std.proofs.Common.{◌≡◌, ◌+◌, sym, ◌∙◌, ap, subst, drop, arith}
 use Rattle.std.specs.List.{remove}
-use Rattle.whole_logs.proofs.Removed.{drop_remove, drop_first}
+use Rattle.group_model_whole.proofs.Removed.{drop_remove, drop_first}
 use Rattle.std.proofs.lemmas.Grind.{common_steps}
 use Rattle.group_wire.proofs.wire.Wire.remove.Goals as goal
 

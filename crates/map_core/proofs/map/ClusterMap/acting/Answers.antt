@@ -1,7 +1,7 @@
 use Rattle.std.proofs.Common.{sym, ◌∙◌, ap}
 use Rattle.place_core.specs.Placement.{acting_of, numbers_of}
 use Rattle.map_core.proofs.Current.{limits_now, set_is, group_has_size}
-use Rattle.map_commands.specs.Intervals.{size_in}
+use Rattle.map_core.specs.Intervals.{size_in}
 use Rattle.map_core.specs.Inside.{history_of}
 use Rattle.map_core.proofs.Daemons.{set_shown}
 use Rattle.map_core.proofs.map.ClusterMap.acting.Goals as goal

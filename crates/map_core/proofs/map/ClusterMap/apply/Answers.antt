@@ -1,5 +1,5 @@
 use Rattle.std.proofs.Common.{◌≡◌, ◌++◌, [], ◌∷◌, ap, sym, ◌∙◌, arith, length, length-append, ◌+◌, ◌<◌, None, refl}
-use Rattle.map_commands.specs.Map.{after, initial, map_after, pools_after, up_after}
+use Rattle.map_core.specs.Map.{after, initial, map_after, pools_after, up_after}
 use Rattle.map_core.specs.Refusal.{refusal}
 use Rattle.map_core.proofs.Acceptance.{room, accepted_push}
 use Rattle.map_core.proofs.Current.{refusal_is, memory_alone, fault_alone, after_push, current}

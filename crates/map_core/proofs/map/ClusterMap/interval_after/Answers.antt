@@ -1,8 +1,8 @@
 use Rattle.std.proofs.Common.{sym, ◌∙◌, ap, ◌++◌, Option, List, ℕ}
 use Rattle.std.specs.Option.{option_to_list}
-use Rattle.map_commands.specs.Map.{initial, after, map_of}
-use Rattle.map_commands.specs.Intervals.{intervals_of, intervals_from, begun, set_of}
-use Rattle.map_commands.proofs.IntervalLists.{intervals_push}
+use Rattle.map_core.specs.Map.{initial, after, map_of}
+use Rattle.map_core.specs.Intervals.{intervals_of, intervals_from, begun, set_of}
+use Rattle.map_core.proofs.IntervalLists.{intervals_push}
 use Rattle.std.specs.Option.{IfSome}
 use Rattle.std.proofs.Common.{subst}
 use Rattle.map_core.specs.ActingSets.{IsSetOf}

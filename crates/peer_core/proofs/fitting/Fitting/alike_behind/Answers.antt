@@ -1,7 +1,7 @@
 use Rattle.std.proofs.Common.{◌+◌, ◌-◌, ◌∙◌, List, map, drop, ap, sym}
 use Rattle.std.proofs.lemmas.List.{drop-map, take_rest}
 use Rattle.peer_core.specs.Types.{Sealed}
-use Rattle.peer_messages.specs.Beginnings.{common}
+use Rattle.group_messages.specs.Beginnings.{common}
 use Rattle.peer_core.specs.Fittings.{becomes}
 use Rattle.peer_core.proofs.Fittings.{alike_short, alike_long}
 use Rattle.peer_core.proofs.fitting.Fitting.alike_behind.Goals as goal

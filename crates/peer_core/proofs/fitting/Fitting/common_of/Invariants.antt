@@ -1,5 +1,5 @@
 use Rattle.std.proofs.Common.{◌≡◌, drop}
-use Rattle.peer_messages.specs.Beginnings.{common_of}
+use Rattle.group_messages.specs.Beginnings.{common_of}
 use Rattle.peer_core.specs.Fittings.{becomes}
 use Rattle.peer_core.proofs.fitting.Fitting.common_of.Given as goal
 

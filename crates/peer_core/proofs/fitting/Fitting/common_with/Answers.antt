@@ -1,7 +1,7 @@
 use Rattle.std.proofs.Common.{◌≡◌, ◌+◌, ◌-◌, ◌∙◌, List, length, map, take, drop, min, ap}
 use Rattle.entry_core.specs.Log.{ids}
 use Rattle.peer_core.specs.Types.{Sealed, Entry}
-use Rattle.peer_messages.specs.Beginnings.{common}
+use Rattle.group_messages.specs.Beginnings.{common}
 use Rattle.peer_core.specs.Fittings.{becomes}
 use Rattle.peer_core.proofs.Fittings.{told_short, told_long}
 use Rattle.peer_core.proofs.fitting.Fitting.common_with.Goals as goal

@@ -3,7 +3,7 @@ use Rattle.std.proofs.lemmas.List.{take_rest}
 use Rattle.entry_core.specs.Log.{ids}
 use Rattle.entry_core.specs.Fitting.{decided_behind}
 use Rattle.peer_core.specs.Types.{Sealed, Entry}
-use Rattle.peer_messages.specs.Beginnings.{common}
+use Rattle.group_messages.specs.Beginnings.{common}
 use Rattle.peer_core.specs.Fittings.{becomes}
 use Rattle.peer_core.proofs.Fittings.{fitted_becomes}
 use Rattle.peer_core.proofs.fitting.Fitting.of.Goals as goal

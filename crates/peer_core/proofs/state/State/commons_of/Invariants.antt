@@ -1,6 +1,6 @@
 use Rattle.std.proofs.Common.{◌≡◌, ◌==◌, not, map, take}
 use Rattle.std.specs.List.{filter}
-use Rattle.peer_messages.specs.Beginnings.{common_of}
+use Rattle.group_messages.specs.Beginnings.{common_of}
 use Rattle.peer_core.specs.Fittings.{becomes}
 use Rattle.peer_core.proofs.state.State.commons_of.Given as goal
 

@@ -1,5 +1,5 @@
 use Rattle.std.proofs.Common.{rules}
-use Rattle.group_types.specs.Decided.{last}
+use Rattle.group_messages.specs.Decided.{last}
 use Rattle.peer_core.proofs.Counting.{completes}
 use Rattle.peer_core.proofs.state.State.complete.Goals as goal
 

@@ -1,5 +1,5 @@
 use Rattle.std.proofs.Common.{◌≡◌, ◌+◌, drop}
-use Rattle.group_types.specs.ActingSets.{covers}
+use Rattle.group_messages.specs.ActingSets.{covers}
 use Rattle.peer_core.specs.Choice.{is_informed}
 use Rattle.peer_core.proofs.state.State.covers.Given as goal
 

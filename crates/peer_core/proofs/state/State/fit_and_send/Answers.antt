@@ -4,7 +4,7 @@ use Rattle.std.proofs.Math.Seq.{take-append_seam}
 use Rattle.entry_core.specs.Fitting.{fitted}
 use Rattle.peer_core.specs.Types.{Copy, Entry, Sent}
 use Rattle.peer_core.specs.ActingSets.{others}
-use Rattle.peer_messages.specs.Beginnings.{common_of}
+use Rattle.group_messages.specs.Beginnings.{common_of}
 use Rattle.peer_core.specs.Copy.{install_from}
 use Rattle.peer_core.specs.Fittings.{becomes}
 use Rattle.peer_core.specs.Steps.{Stepped}

@@ -1,7 +1,7 @@
 use Rattle.std.proofs.Common.{◌∙◌, ◌++◌, List, map, ap, sym}
 use Rattle.peer_core.specs.Types.{Entry}
 use Rattle.peer_core.specs.ActingSets.{others}
-use Rattle.peer_messages.specs.Beginnings.{common_of}
+use Rattle.group_messages.specs.Beginnings.{common_of}
 use Rattle.peer_core.specs.Copy.{install_from}
 use Rattle.peer_core.proofs.Installs.{counts, install_copy, install_sent}
 use Rattle.peer_core.proofs.state.State.install_own.Goals as goal

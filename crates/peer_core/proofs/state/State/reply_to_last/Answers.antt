@@ -1,6 +1,6 @@
 use Rattle.std.proofs.Common.{◌≡◌, ◌∙◌, refl, sym, append-nil}
 use Rattle.std.specs.Prelude.{None}
-use Rattle.group_types.specs.Decided.{last}
+use Rattle.group_messages.specs.Decided.{last}
 use Rattle.peer_core.proofs.Counting.{last_get}
 use Rattle.peer_core.proofs.state.State.reply_to_last.Goals as goal
 

@@ -3,7 +3,7 @@ use Rattle.std.proofs.Common.{ap, ◌∙◌, sym}
 use Rattle.peer_core.proofs.Passing.{sends, passes, is_other, is_itself, counts}
 use Rattle.entry_core.specs.Log.{is_in}
 use Rattle.peer_core.specs.Types as types
-use Rattle.peer_messages.specs.Beginnings.{count_at}
+use Rattle.group_messages.specs.Beginnings.{count_at}
 use Rattle.peer_core.specs.Copy.{install_from}
 use Rattle.peer_core.specs.Fittings.{becomes}
 use Rattle.peer_core.proofs.state.State.send_install.Goals as goal

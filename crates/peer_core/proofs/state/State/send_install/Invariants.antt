@@ -1,7 +1,7 @@
 use Rattle.std.proofs.Common.{◌≡◌, ◌==◌, ◌++◌, not, map, take}
 use Rattle.std.specs.List.{filter}
 use Rattle.entry_core.specs.Log.{is_in}
-use Rattle.peer_messages.specs.Beginnings.{count_at}
+use Rattle.group_messages.specs.Beginnings.{count_at}
 use Rattle.peer_core.specs.Copy.{install_from}
 use Rattle.peer_core.specs.Fittings.{becomes}
 use Rattle.peer_core.proofs.state.State.send_install.Given as goal

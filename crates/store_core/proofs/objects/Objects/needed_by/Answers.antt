@@ -3,7 +3,7 @@ use Rattle.std.proofs.lemmas.Result.{IfOk-weaker}
 use Rattle.std.specs.Arc.{arc_value}
 use Rattle.std.specs.Borrow.{Bor}
 use Rattle.std.specs.Option.{option_copied, option_map}
-use Rattle.object_ops.specs.declared.op.Op.{Op}
+use Rattle.object_core.specs.declared.op.Op.{Op}
 use Rattle.std.specs.FinMap.{get}
 use Rattle.store_core.specs.Store.{with_object}
 use Rattle.store_core.proofs.AlikeStores.{bring_more, same_alike}

@@ -3,7 +3,7 @@ use Rattle.std.proofs.Common.{ℕ, List, ap, ◌≡◌, sym, subst, ◌∙◌, �
 use Rattle.std.specs.List.{slice_get}
 use Rattle.std.proofs.lemmas.List.{get_or_read}
 use Rattle.verdict_core.specs.Chains.{AreChained}
-use Rattle.verdict_types.specs.Kinds.{chain_of, chains_of}
+use Rattle.verdict_core.specs.Kinds.{chain_of, chains_of}
 use Rattle.verdict_core.proofs.ChainSteps.{chained_more}
 use Rattle.verdict_core.proofs.Walks.{got, chain_at, length-chains_of}
 use Rattle.std.proofs.lemmas.Grind.{common_steps}

@@ -2,7 +2,7 @@ use Rattle.cap_grants.specs.declared.grant.AllowGrant.{AllowGrant}
 use Rattle.std.proofs.Common.{ℕ, List, ◌≡◌, ap, sym, ◌∙◌, get_or, Some, option_copied, arith}
 use Rattle.std.specs.List.{slice_get}
 use Rattle.std.proofs.lemmas.List.{get_or_read}
-use Rattle.verdict_types.specs.Kinds.{chains_of}
+use Rattle.verdict_core.specs.Kinds.{chains_of}
 use Rattle.verdict_core.specs.Chains.{gives}
 use Rattle.verdict_core.proofs.Walks.{none_first, none_next, got, length-chains_of}
 use Rattle.std.proofs.lemmas.Grind.{common_steps}

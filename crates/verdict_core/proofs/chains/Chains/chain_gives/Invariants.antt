@@ -1,5 +1,5 @@
 use Rattle.std.proofs.Common.{◌≡◌, ◌<◌, ◌-◌, length, option_copied, get_or}
-use Rattle.verdict_types.specs.Kinds.{chains_of}
+use Rattle.verdict_core.specs.Kinds.{chains_of}
 use Rattle.verdict_core.specs.Chains.{NoneBefore}
 use Rattle.verdict_core.proofs.chains.Chains.chain_gives.Given as goal
 

@@ -1,6 +1,6 @@
 use Rattle.std.proofs.Common.{◌≡◌, ℕ, ◌<◌, Some, option_copied}
 use Rattle.std.specs.List.{slice_get}
-use Rattle.verdict_types.specs.declared.kinds.Kind.{Kind}
+use Rattle.verdict_core.specs.declared.kinds.Kind.{Kind}
 use Rattle.verdict_core.specs.Chains.{NoneOfKind}
 use Rattle.verdict_core.proofs.chains.Chains.some_gives.Given as goal
 

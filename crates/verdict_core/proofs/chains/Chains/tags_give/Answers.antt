@@ -1,6 +1,6 @@
 use Rattle.std.proofs.Common.{◌≡◌, ap, sym, subst, ◌∙◌, length, Some, option_copied}
-use Rattle.verdict_types.specs.Target.{Target}
-use Rattle.verdict_types.specs.Kinds.{only_number}
+use Rattle.request_types.specs.Target.{Target}
+use Rattle.verdict_core.specs.Kinds.{only_number}
 use Rattle.verdict_core.specs.Chains.{NoneBefore}
 use Rattle.verdict_core.proofs.Walks.{none_of_only_tag}
 use Rattle.verdict_core.proofs.chains.Chains.tags_give.Goals as goal

@@ -1,7 +1,7 @@
 use Rattle.std.proofs.Common.{take}
 use Rattle.std.specs.Prelude.{flat_map}
 use Rattle.std.specs.Fmt.{HasWritten, IsPlainFormatter}
-use Rattle.verdict_types.specs.Text.{report_line}
+use Rattle.request_types.specs.Text.{report_line}
 use Rattle.verdict_core.proofs.ticket.ReportDisplay.fmt.Given as goal
 
 abbrev pub invariant-loop-line : goal.invariant-loop-line

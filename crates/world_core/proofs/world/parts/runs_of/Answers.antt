@@ -1,5 +1,5 @@
 use Rattle.std.proofs.Common.{arith, ◌≡◌, ◌∙◌, ◌++◌, sym, ap, subst}
-use Rattle.whole_logs.specs.Each.{Each}
+use Rattle.group_model_whole.specs.Each.{Each}
 use Rattle.world_core.specs.Applying.{runs_from}
 use Rattle.world_core.specs.Inside.{entries_told}
 use Rattle.world_core.specs.Sound.{FitsAt}

@@ -1,5 +1,5 @@
 use Rattle.std.proofs.Common.{◌≡◌, take}
-use Rattle.whole_logs.specs.Each.{Each}
+use Rattle.group_model_whole.specs.Each.{Each}
 use Rattle.world_core.specs.Inside.{entries_told}
 use Rattle.world_core.specs.Parts.{decided_of}
 use Rattle.world_core.specs.Sound.{FitsAt}

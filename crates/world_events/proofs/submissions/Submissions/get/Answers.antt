@@ -1,5 +1,5 @@
 use Rattle.std.proofs.Common.{◌∙◌, ap}
-use Rattle.whole_logs.specs.Group.{submitted}
+use Rattle.group_model_whole.specs.Group.{submitted}
 use Rattle.world_events.proofs.Submitted.{request_found}
 use Rattle.world_events.proofs.submissions.Submissions.get.Goals as goal
 

@@ -1,6 +1,6 @@
 use Rattle.std.proofs.Common.{◌∙◌, ◌++◌, ◌∷◌, [], ℕ, ap, sym, subst, nat_eq}
 use Rattle.indexmap.proofs.CallerLemmas.{insert_entry-new}
-use Rattle.whole_logs.specs.Group.{submitted}
+use Rattle.group_model_whole.specs.Group.{submitted}
 use Rattle.world_events.specs.Submitting.{requests_in, AreKeyed}
 use Rattle.world_events.proofs.Submitted.{request_found, keyed_push, requests_push}
 use Rattle.world_events.proofs.submissions.Submissions.push.Goals as goal

@@ -3,9 +3,9 @@ use Rattle.world_front.specs.Event.{Map, OfMap}
 use Rattle.world_front.specs.Front.{Front, front_step}
 use Rattle.world_front.proofs.FrontSteps.{map_step, map_kept}
 use Rattle.std.specs.Option.{option_map}
-use Rattle.map_commands.specs.Map.{map_of, epoch_of}
+use Rattle.map_core.specs.Map.{map_of, epoch_of}
 use Rattle.map_core.specs.Refusal.{refusal}
-use Rattle.map_commands.specs.declared.fault.MapFault.TheVariants.{OutOfMemory}
+use Rattle.map_core.specs.declared.fault.MapFault.TheVariants.{OutOfMemory}
 use Rattle.world_front.specs.Refusing.{RefusedOrMemory}
 use Rattle.world_front.proofs.Refused.{map_exit, first_or_memory}
 use Rattle.std.proofs.lemmas.Grind.{common_steps}

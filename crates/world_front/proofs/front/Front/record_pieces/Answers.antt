@@ -1,7 +1,7 @@
 use Rattle.std.proofs.Common.{◌≡◌, ◌∙◌, ◌++◌, ◌<◌, Ok, length, get_or, sym, ap, subst}
 use Rattle.store_core.specs.Request.{Sealed}
-use Rattle.whole_logs.specs.Each.{Each}
-use Rattle.whole_logs.specs.Group.{submitted}
+use Rattle.group_model_whole.specs.Each.{Each}
+use Rattle.group_model_whole.specs.Group.{submitted}
 use Rattle.std.specs.Prelude.{None}
 use Rattle.world_front.specs.Event.{ListNames}
 use Rattle.world_front.specs.Front.{Front, requests_of, session_at, asks_more, listed}

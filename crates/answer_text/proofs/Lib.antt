@@ -1,4 +1,0 @@
-pub mod FirstPlaces
-pub mod NoFloats
-pub mod Pieces
-pub mod Quotes

@@ -1,5 +1,0 @@
-use Rattle.std.proofs.Common.{rules}
-use Rattle.answer_text.proofs.asked.needs_asked.Goals as goal
-
-pub returns-clause-needs : goal.returns-clause-needs
-returns-clause-needs c = search rules

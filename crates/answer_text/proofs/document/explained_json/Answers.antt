@@ -1,7 +1,0 @@
-use Rattle.std.proofs.Common.{ap, ◌∙◌}
-use Rattle.serde_json.specs.Written.{has_float}
-use Rattle.answer_text.proofs.NoFloats.{of_explained}
-use Rattle.answer_text.proofs.document.explained_json.Goals as goal
-
-pub json_line-requires : goal.json_line-requires
-json_line-requires c = ap has_float c.in_ok-document.ensures ∙ of_explained c.args.list.now c.args.grants.now

@@ -1,6 +1,0 @@
-use Rattle.std.proofs.Common.{ap}
-use Rattle.serde_json.specs.Written.{has_float}
-use Rattle.answer_text.proofs.document.spelling_json.Goals as goal
-
-pub json_line-requires : goal.json_line-requires
-json_line-requires c = ap has_float c.in_ok-document.ensures

@@ -1,9 +1,0 @@
-use Rattle.std.proofs.Common.{◌≡◌, ◌++◌, string_bytes, drop}
-use Rattle.std.specs.List.{flat_map}
-use Rattle.answer_text.specs.Explain.{grant_line}
-use Rattle.answer_text.proofs.explain.push_grants.Given as goal
-
--- what is written, and what the rest gives, is the whole
-abbrev pub invariant-loop-entry : goal.invariant-loop-entry
-invariant-loop-entry l =
-    string_bytes l.text ++ flat_map grant_line (drop l.entry-index l.grants) ≡ string_bytes l.initial.text ++ flat_map grant_line l.grants

@@ -1,8 +1,0 @@
-use Rattle.std.proofs.Common.{rules}
-use Rattle.answer_text.proofs.relation.fails_check.Goals as goal
-
-pub returns-then-check : goal.returns-then-check
-returns-then-check c = search rules
-
-pub returns-else-check : goal.returns-else-check
-returns-else-check c = search rules

@@ -1,0 +1,9 @@
+use Rattle.std.proofs.Common.{◌≡◌, ◌++◌, string_bytes, drop, codes}
+use Rattle.std.specs.List.{flat_map}
+use Rattle.share_core.specs.declared.pools.Pool.{Pool}
+use Rattle.audit_text.proofs.csv.push_unread_fields.Given as goal
+
+-- what is written, and what the rest gives, is the whole
+abbrev pub invariant-loop-pool : goal.invariant-loop-pool
+invariant-loop-pool l =
+    string_bytes l.text ++ flat_map (λ (pool : Pool). codes ",?") (drop l._pool-index l.pools) ≡ string_bytes l.initial.text ++ flat_map (λ (pool : Pool). codes ",?") l.pools

@@ -1,0 +1,9 @@
+pub mod Expanded
+pub mod FaultText
+pub mod Grammar
+pub mod Pieces
+pub mod Printed
+pub mod Profiles
+pub mod Readers
+pub mod Rows
+pub mod Texts

@@ -1,0 +1,2 @@
+pub mod SoundPlaces
+pub mod SoundRecovery

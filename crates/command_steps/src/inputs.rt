@@ -1,0 +1,160 @@
+//! The files that options name, read into values.
+
+use crate::known::{KnownNames, choice_knowing};
+use crate::no_answer::NoAnswer;
+use crate::options::{choice_of, reader_of, value_of};
+use clap::ArgMatches;
+use gate_files::{
+    AuthFile, Choice, Chosen, FileFault, InputFiles, Purpose, ServiceText, auth_of, keep_chosen,
+    keep_chosen_services, pools_of, read_text, unmatched_line,
+};
+use share_core::Pool;
+use std::alloc::Global;
+use std::io::Read;
+use verdict_text::Entity;
+
+/// What is read of a file, or why it cannot be used.
+pub fn or_bad_file<T: Drop>(
+    alloc: Global,
+    purpose: Purpose,
+    path: &str,
+    read: Result<T, FileFault>,
+) -> Result<T, NoAnswer> {
+    match read {
+        Ok(value) => Ok(value),
+        Err(fault) => Err(NoAnswer::of_file(alloc, purpose, path, fault)),
+    }
+}
+
+/// The text of a file, or of standard input if the path is `-`.
+pub fn text_in<F: InputFiles, R: Read>(
+    alloc: Global,
+    files: &F,
+    reader: &mut R,
+    purpose: Purpose,
+    path: &str,
+) -> Result<String, NoAnswer> {
+    or_bad_file(alloc, purpose, path, read_text(alloc, files, reader, path))
+}
+
+/// The entities of a file, and their texts for other services.
+pub fn auth_in<F: InputFiles, R: Read>(
+    alloc: Global,
+    files: &F,
+    reader: &mut R,
+    purpose: Purpose,
+    path: &str,
+) -> Result<AuthFile, NoAnswer> {
+    let text = text_in(alloc, files, reader, purpose, path)?;
+    or_bad_file(alloc, purpose, path, auth_of(alloc, text.as_str()))
+}
+
+/// The pools of the file of `--pools`, if it is given.
+pub fn pools_given<F: InputFiles, R: Read>(
+    alloc: Global,
+    files: &F,
+    reader: &mut R,
+    matches: &ArgMatches<'_>,
+) -> Result<Option<Vec<Pool>>, NoAnswer> {
+    let Some(path) = matches.get_str("pools") else {
+        return Ok(None);
+    };
+    let text = text_in(alloc, files, reader, Purpose::Pools, path)?;
+    let pools = pools_of(alloc, text.as_str());
+    Ok(Some(or_bad_file(alloc, Purpose::Pools, path, pools)?))
+}
+
+/// Refuses a pattern of `--only` or `--without` that matches no entity of these files.
+pub fn refuse_unmatched(
+    alloc: Global,
+    matches: &ArgMatches<'_>,
+    files: &[&[Entity]],
+) -> Result<(), NoAnswer> {
+    match unmatched_line(alloc, choice_of(matches), files)? {
+        Some(line) => Err(NoAnswer::Told(line)),
+        None => Ok(()),
+    }
+}
+
+/// The entities that are chosen of a file, and their texts for other services.
+pub struct ChosenFile {
+    pub chosen: Chosen,
+    pub services: Vec<ServiceText>,
+}
+
+impl Drop for ChosenFile {
+    fn drop(self) {
+        let ChosenFile {
+            chosen: _,
+            services: _,
+        } = self;
+    }
+}
+
+impl ChosenFile {
+    /// The entities alone.
+    fn into_chosen(self) -> Chosen {
+        let ChosenFile {
+            chosen,
+            services: _,
+        } = self;
+        chosen
+    }
+}
+
+/// The entities of the file of `--auth` that the arguments choose, each read once.
+pub fn chosen_in<F: InputFiles, R: Read>(
+    alloc: Global,
+    files: &F,
+    reader: &mut R,
+    matches: &ArgMatches<'_>,
+) -> Result<Chosen, NoAnswer> {
+    let file = chosen_file_in(alloc, files, reader, matches)?;
+    Ok(file.into_chosen())
+}
+
+/// The same with their texts for other services.
+pub fn chosen_file_in<F: InputFiles, R: Read>(
+    alloc: Global,
+    files: &F,
+    reader: &mut R,
+    matches: &ArgMatches<'_>,
+) -> Result<ChosenFile, NoAnswer> {
+    let known = KnownNames::of(alloc, files, reader, matches)?;
+    let patterns = known.patterns(alloc)?;
+    let choice = choice_knowing(matches, patterns.as_slice());
+    chosen_file_by(alloc, files, reader, matches, choice)
+}
+
+/// The entities of the file of `--auth` that a choice has, each read once.
+pub fn chosen_by<F: InputFiles, R: Read>(
+    alloc: Global,
+    files: &F,
+    reader: &mut R,
+    matches: &ArgMatches<'_>,
+    choice: Choice<'_>,
+) -> Result<Chosen, NoAnswer> {
+    let file = chosen_file_by(alloc, files, reader, matches, choice)?;
+    Ok(file.into_chosen())
+}
+
+/// The same with their texts for other services.
+fn chosen_file_by<F: InputFiles, R: Read>(
+    alloc: Global,
+    files: &F,
+    reader: &mut R,
+    matches: &ArgMatches<'_>,
+    choice: Choice<'_>,
+) -> Result<ChosenFile, NoAnswer> {
+    let path = value_of(matches, "auth");
+    let mut file = auth_in(alloc, files, reader, Purpose::Entities, path)?;
+    refuse_unmatched(alloc, matches, &[file.entities.as_slice()])?;
+    keep_chosen(choice, &mut file.entities);
+    keep_chosen_services(choice, &mut file.services);
+    let rules = reader_of(alloc, matches)?;
+    let (entities, services) = file.into_parts();
+    Ok(ChosenFile {
+        chosen: Chosen::of(alloc, &rules, choice, entities)?,
+        services,
+    })
+}

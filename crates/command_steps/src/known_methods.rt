@@ -1,0 +1,203 @@
+//! The methods of Ceph's class table as calls, and what grants give where requests call no others.
+
+ghost use Rattle.std.specs.Prelude.{◌≡◌, ◌&&◌, true, false};
+ghost use Rattle.std.specs.List.{list_any};
+ghost use Rattle.request_types.specs.declared.request.ClassCall.{ClassCall};
+ghost use Rattle.verdict_core.specs.Verdict as spec;
+
+use crate::tag_words::{StatedWords, call_by};
+use cap_text::{Access, AllowGrant, Flags};
+use ceph_text::{CephEntry, CephFault, expand_ceph, push_ceph_grant};
+use class_table::{ClassMethod, default_list, is_listed, methods};
+use common_types::{OutOfMemory, TryCopy};
+use grant_core::Path;
+use network_core::Network;
+use rights_core::{MAX_GRANTS, Rights};
+use std::alloc::{AllocError, Global};
+use verdict_core::{ClassCall, can_read, can_write, covers};
+
+/// The call of a method of the table.
+fn known_call(alloc: Global, method: &ClassMethod) -> Result<ClassCall, OutOfMemory> {
+    let flags = method.flags();
+    let words = StatedWords {
+        class: method.class(),
+        method: method.method(),
+        reads: flags.reads,
+        writes: flags.writes,
+        listed: is_listed(method.class().as_bytes(), default_list()),
+    };
+    call_by(alloc, words)
+}
+
+/// A call of each method of Ceph's class table, on the default list as its class is.
+pub fn known_calls(alloc: Global) -> Result<Vec<ClassCall>, OutOfMemory> {
+    let mut calls = Vec::new(alloc);
+    for method in methods(alloc)?.as_slice() {
+        calls.push(known_call(alloc, method)?)?;
+    }
+    Ok(calls)
+}
+
+/// Whether an access covers one of these calls whose method reads.
+fn covers_reading(access: &Access, calls: &[ClassCall]) -> bool
+    ensures { result ≡ list_any (λ call. call.class_reads && spec.covers access.now call) calls.now }
+{
+    calls
+        .iter()
+        .any(|call| call.class_reads && covers(access, call))
+}
+
+/// Whether an access covers one of these calls whose method writes.
+fn covers_writing(access: &Access, calls: &[ClassCall]) -> bool
+    ensures { result ≡ list_any (λ call. call.class_writes && spec.covers access.now call) calls.now }
+{
+    calls
+        .iter()
+        .any(|call| call.class_writes && covers(access, call))
+}
+
+/// Flags by which methods are called for reading, or for writing, just where an access covers one of these calls that does so. Who
+/// shares what, over every registry, is by these flags what it is by the access over these calls.
+fn limited(access: &Access, calls: &[ClassCall]) -> Access
+    ensures reads { spec.can_read result ≡ spec.can_read access.now }
+    ensures writes { spec.can_write result ≡ spec.can_write access.now }
+    ensures calls_reading { (x : ClassCall) → x.listed ≡ true → x.class_reads ≡ true → x.class_writes ≡ false → spec.covers result x ≡ list_any (λ call. call.class_reads && spec.covers access.now call) calls.now }
+    ensures calls_writing { (x : ClassCall) → x.listed ≡ true → x.class_reads ≡ false → x.class_writes ≡ true → spec.covers result x ≡ list_any (λ call. call.class_writes && spec.covers access.now call) calls.now }
+{
+    Access::Flags(Flags {
+        read: can_read(access),
+        write: can_write(access),
+        class_read: covers_reading(access, calls),
+        class_write: covers_writing(access, calls),
+    })
+}
+
+/// A grant with another access.
+pub(crate) fn with_access(grant: &AllowGrant, access: Access) -> Result<AllowGrant, OutOfMemory> {
+    let mut changed = grant.copy()?;
+    changed.access = access;
+    Ok(changed)
+}
+
+/// The rights of these grants, of which there are no more than rights have.
+pub(crate) fn rights_of(
+    grants: Vec<(Path, AllowGrant)>,
+    networks: Vec<Option<Network>>,
+) -> Result<Rights, OutOfMemory> {
+    if grants.len() > MAX_GRANTS {
+        return Err(AllocError);
+    }
+    Ok(Rights::from_grants(grants, networks, None))
+}
+
+/// The rights whose grants give what these do where requests call these methods alone. They serve the question of what two share,
+/// and no other.
+pub fn limited_rights(
+    alloc: Global,
+    rights: &Rights,
+    calls: &[ClassCall],
+) -> Result<Rights, OutOfMemory> {
+    let mut grants = Vec::new(alloc);
+    let mut networks = Vec::new(alloc);
+    for index in 0..rights.len() {
+        if let Some((path, network, grant)) = rights.entry(index) {
+            let grant = with_access(grant, limited(&grant.access, calls))?;
+            grants.push((path.copy()?, grant))?;
+            networks.push(network)?;
+        }
+    }
+    rights_of(grants, networks)
+}
+
+/// Whether an access gives nothing.
+fn gives_nothing(access: &Access) -> bool {
+    match access {
+        Access::Flags(flags) => {
+            !flags.read && !flags.write && !flags.class_read && !flags.class_write
+        }
+        Access::All | Access::Class { .. } => false,
+    }
+}
+
+/// Whether an access covers some call whose method reads, of any class registry.
+fn covers_some_reading(access: &Access) -> bool {
+    match access {
+        Access::Flags(flags) => flags.class_read,
+        Access::All | Access::Class { .. } => true,
+    }
+}
+
+/// Whether an access covers some call whose method writes, of any class registry.
+fn covers_some_writing(access: &Access) -> bool {
+    match access {
+        Access::Flags(flags) => flags.class_write,
+        Access::All | Access::Class { .. } => true,
+    }
+}
+
+/// Whether an access gives less where requests call these methods alone.
+fn gives_less(access: &Access, calls: &[ClassCall]) -> bool {
+    covers_some_reading(access) != covers_reading(access, calls)
+        || covers_some_writing(access) != covers_writing(access, calls)
+}
+
+/// A text that is limited to the methods of a list.
+#[derive(Drop)]
+pub struct LimitedText {
+    pub text: String,
+    /// Over every class registry its grants give more.
+    pub gives_less: bool,
+}
+
+impl LimitedText {
+    /// Adds a grant with its network, limited to these calls. One that gives nothing is left out.
+    fn push(&mut self, entry: &CephEntry, calls: &[ClassCall]) -> Result<(), OutOfMemory> {
+        self.gives_less = self.gives_less || gives_less(&entry.grant.access, calls);
+        let access = limited(&entry.grant.access, calls);
+        if gives_nothing(&access) {
+            return Ok(());
+        }
+        let separator = if self.text.is_empty() { "" } else { ", " };
+        self.text.push_str(separator)?;
+        push_ceph_grant(&mut self.text, &with_access(&entry.grant, access)?)?;
+        if let Some(network) = &entry.network {
+            self.text.push_str(" network ")?;
+            self.text.push_str(network.as_str())?;
+        }
+        Ok(())
+    }
+}
+
+/// The grants of a text by Ceph's rules, or nothing where Ceph refuses it.
+fn entries_of(alloc: Global, text: &str) -> Result<Option<Vec<CephEntry>>, OutOfMemory> {
+    let list = match ceph_text::read(alloc, text) {
+        Ok(list) => list,
+        Err(CephFault::OutOfMemory) => return Err(AllocError),
+        Err(_) => return Ok(None),
+    };
+    match expand_ceph(alloc, &list) {
+        Ok(entries) => Ok(Some(entries)),
+        Err(CephFault::OutOfMemory) => Err(AllocError),
+        Err(_) => Ok(None),
+    }
+}
+
+/// A capability text that by Ceph's rules gives what another one gives where requests call these methods alone, or nothing where
+/// Ceph refuses that one. It serves the question of what two share, and no other.
+pub fn limited_text(
+    alloc: Global,
+    text: &str,
+    calls: &[ClassCall],
+) -> Result<Option<LimitedText>, OutOfMemory> {
+    let Some(entries) = entries_of(alloc, text)? else {
+        return Ok(None);
+    };
+    let mut limited = LimitedText {
+        text: String::new(alloc),
+        gives_less: false,
+    };
+    for entry in entries.as_slice() {
+        limited.push(entry, calls)?;
+    }
+    Ok(Some(limited))
+}

@@ -1,0 +1,47 @@
+//! The steps that all commands share: arguments become values, files become values, and an answer is written.
+//!
+//! A command takes the matches of its arguments, makes values of them and of its files, and returns an [`Answered`], or a
+//! [`NoAnswer`] that says why there is none. [`finish_answer`] and [`finish_unanswered`] write them, and return the status.
+#![tactic(auto)]
+
+mod answered;
+mod bad_words;
+mod by_rules;
+mod calls;
+mod documents;
+mod finishing;
+mod inputs;
+mod known;
+mod known_compare;
+mod known_methods;
+mod no_answer;
+mod options;
+mod refusal;
+mod request_lines;
+mod request_words;
+mod tag_words;
+
+pub use answered::{Answered, with_line};
+pub use bad_words::{BadWords, NoRequest};
+pub use by_rules::{rules_note, with_rules_of};
+pub use calls::CallRules;
+pub use documents::notes_value;
+pub use finishing::{
+    DONE, FOUND, TROUBLE, finish_answer, finish_unanswered, refuse_command, refuse_words, write_out,
+};
+pub use inputs::{
+    ChosenFile, auth_in, chosen_by, chosen_file_in, chosen_in, or_bad_file, pools_given,
+    refuse_unmatched, text_in,
+};
+pub use known::{KnownNames, choice_knowing};
+pub use known_compare::{known_widening, rights_part};
+pub use known_methods::{LimitedText, known_calls, limited_rights, limited_text};
+pub use no_answer::{BadFile, NoAnswer};
+pub use options::{
+    Methods, Times, choice_of, format_of, methods_line, methods_of, number_of, reader_of,
+    registry_of, rules_of, times_of, value_of,
+};
+pub use refusal::{fault_note, first_fault_note};
+pub use request_lines::{LineRequest, RequestLine, lines_of, requests_of};
+pub use request_words::RequestWords;
+pub use tag_words::call_of;

@@ -1,0 +1,5 @@
+pub mod Addressed
+pub mod Quotes
+pub mod Comparisons
+pub mod Items
+pub mod NoFloats

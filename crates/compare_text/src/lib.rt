@@ -1,0 +1,20 @@
+//! What is printed of two capability texts or of two lists of entities: what one allows and the other denies, with examples.
+//!
+//! Each text is a value, made of capability texts and entities. Each call borrows what it is given, and its only error is out of
+//! memory: what is wrong with a capability text is part of what is printed. The forms of the lines are this project's profile.
+#![tactic(auto)]
+
+mod call_words;
+mod compare;
+mod compare_auth;
+mod compare_json;
+mod comparison;
+mod relation;
+mod request;
+mod widening;
+
+pub use compare::{compare_read, compare_text};
+pub use compare_auth::compare_entities;
+pub use comparison::Comparison;
+pub use request::{push_request, push_target};
+pub use widening::{AddressedExample, widening_from};

@@ -1,0 +1,10 @@
+pub mod Held
+pub mod Caps
+pub mod Grants
+pub mod Codes
+pub mod Faults
+pub mod Buffers
+pub mod Border
+pub mod Answers
+pub mod Widening
+pub mod Lent

@@ -1,6 +1,0 @@
-pub mod Answers
-pub mod Comparisons
-pub mod EachTold
-pub mod Items
-pub mod NoFloats
-pub mod Told

@@ -1,7 +1,0 @@
-use Rattle.std.proofs.Common.{string_bytes, take}
-use Rattle.gate_text.specs.Entities.{AreAllTold, IsOldTold}
-use Rattle.gate_text.proofs.compare_auth.old_told.Given as goal
-
--- what is told of the entities so far
-abbrev pub invariant-loop-entity : goal.invariant-loop-entity
-invariant-loop-entity l = AreAllTold (IsOldTold l.how l.new) (take l.entity-index l.old) (string_bytes l.printed.text) l.printed.fails

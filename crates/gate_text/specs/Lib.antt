@@ -1,4 +1,0 @@
-pub mod Compared
-pub mod Who
-pub mod Table
-pub mod Entities

@@ -1,5 +1,0 @@
-use Rattle.group_laws.proofs.Statements.{only_adds}
-use Rattle.group_laws.proofs.laws.calls_only_add.Goals as goal
-
-pub returns : goal.returns
-returns c = only_adds

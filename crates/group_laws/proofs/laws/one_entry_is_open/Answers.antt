@@ -1,5 +1,0 @@
-use Rattle.group_laws.proofs.Opens.{one_open}
-use Rattle.group_laws.proofs.laws.one_entry_is_open.Goals as goal
-
-pub returns : goal.returns
-returns c = one_open

@@ -1,5 +1,0 @@
-use Rattle.group_laws.proofs.Settling.{settling}
-use Rattle.group_laws.proofs.laws.settling_ends.Goals as goal
-
-pub returns : goal.returns
-returns c = settling

@@ -1,4 +1,0 @@
-pub mod ActingSets
-pub mod Decided
-pub mod Answers
-pub mod Printed

@@ -1,0 +1,5 @@
+pub mod Counting
+pub mod Agreeing
+pub mod NoFloats
+pub mod Suggesting
+pub mod Joining

@@ -1,0 +1,8 @@
+pub mod Object
+pub mod Decision
+pub mod Reading
+pub mod Tally
+pub mod Agreement
+pub mod Names
+pub mod Sides
+pub mod Suggested

@@ -1,3 +1,0 @@
-pub mod FirstPlaces
-pub mod IntervalLists
-pub mod OnePool

@@ -1,0 +1,5 @@
+pub mod Blocks
+pub mod Digits
+pub mod Splits
+pub mod Standing
+pub mod Widths

@@ -1,0 +1,4 @@
+pub mod Address
+pub mod Network
+pub mod Samples
+pub mod Edges

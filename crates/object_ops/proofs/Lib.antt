@@ -1,4 +1,0 @@
-pub mod AttributeNames
-pub mod Lengths
-pub mod Numbers
-pub mod Overwrites

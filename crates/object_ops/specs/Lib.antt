@@ -1,6 +1,0 @@
-pub mod Bytes
-pub mod Content
-pub mod Digits
-pub mod Number
-pub mod Operations
-pub mod ToldEffects

@@ -1,8 +1,0 @@
-use Rattle.std.proofs.Common.{◌≡◌, ◌+◌, drop, map}
-use Rattle.entry_core.specs.Log.{ids}
-use Rattle.peer_messages.specs.Types.{Sealed}
-use Rattle.peer_messages.specs.Beginnings.{common}
-use Rattle.peer_messages.proofs.beginnings.alike_part.Given as goal
-
-abbrev pub invariant-loop-place : goal.invariant-loop-place
-invariant-loop-place l = common (map (λ (s : Sealed). s.id) l.part) (ids l.entries) ≡ l.place + common (drop l.place (map (λ (s : Sealed). s.id) l.part)) (drop l.place (ids l.entries))

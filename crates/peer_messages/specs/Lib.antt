@@ -1,4 +1,0 @@
-pub mod Types
-pub mod Beginnings
-pub mod Starts
-pub mod Waiting

@@ -1,0 +1,6 @@
+use Rattle.std.proofs.Common.{◌≡◌, not, take, All}
+use Rattle.rights_core.specs.Verdicts.{allowed_at}
+use Rattle.rights_core.proofs.judging.first_at.Given as goal
+
+abbrev pub invariant-loop-sample : goal.invariant-loop-sample
+invariant-loop-sample l = All (λ a. allowed_at l.rights l.target l.needs l.tick a ≡ not l.verdict) (take l.sample-index l.samples)

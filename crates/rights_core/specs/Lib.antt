@@ -1,0 +1,5 @@
+pub mod Rights
+pub mod Given
+pub mod Samples
+pub mod Verdicts
+pub mod Reports

@@ -1,0 +1,9 @@
+pub mod SoFar
+pub mod Touching
+pub mod Commons
+pub mod NeverSteps
+pub mod NarrowSteps
+pub mod RequestSteps
+pub mod Addressing
+pub mod CrossingSteps
+pub mod CheckSteps

@@ -1,0 +1,9 @@
+pub mod Demands
+pub mod Broken
+pub mod Subject
+pub mod Rules
+pub mod Touches
+pub mod Requests
+pub mod Narrowed
+pub mod Breaking
+pub mod Checking

@@ -1,9 +1,0 @@
-use Rattle.std.proofs.Common.{length}
-use Rattle.script_commands.proofs.ScriptWords.{IsReadTo}
-use Rattle.script_commands.proofs.operations.ops.Given as goal
-
-abbrev pub invariant-loop-alloc : goal.invariant-loop-alloc
-invariant-loop-alloc l = IsReadTo l.initial.words l.words l.ops.items
-
-abbrev pub decreases-loop-alloc : goal.decreases-loop-alloc
-decreases-loop-alloc l = length l.words

@@ -1,9 +1,0 @@
-use Rattle.std.proofs.Common.{sym, ap, ◌∙◌}
-use Rattle.std.specs.Option.{option_and_then}
-use Rattle.script_commands.specs.Command.{command, command_of}
-use Rattle.script_commands.proofs.ScriptWords.{whole_is}
-use Rattle.script_commands.proofs.reading.read_line.Goals as goal
-
-pub returns : goal.returns
-returns c =
-    c.whole.ensures ∙ whole_is command c.in-Some.words c.command.new.words c.in_ok-found.found c.in_ok-found.ensures ∙ ap (option_and_then command_of) (sym c.in-Some.is ∙ c.of.ensures)

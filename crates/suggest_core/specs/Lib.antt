@@ -1,0 +1,4 @@
+pub mod Grain
+pub mod Suggestion
+pub mod Parts
+pub mod Outcome

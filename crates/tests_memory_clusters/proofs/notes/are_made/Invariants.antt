@@ -1,0 +1,6 @@
+use Rattle.cluster.specs.Asks.{IsPassOf}
+use Rattle.cluster.specs.Passes.{AreSeatsOf}
+use Rattle.tests_memory_clusters.proofs.notes.are_made.Given as goal
+
+abbrev pub invariant-loop-row : goal.invariant-loop-row
+invariant-loop-row g l = IsPassOf l.cluster l.pass × AreSeatsOf l.cluster l.seats

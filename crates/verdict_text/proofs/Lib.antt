@@ -1,0 +1,6 @@
+pub mod FirstPlaces
+pub mod NoFloats
+pub mod Pieces
+pub mod EachTold
+pub mod Results
+pub mod CephGrants

@@ -1,0 +1,54 @@
+-- No document of an answer or an explanation has a float.
+use Rattle.std.proofs.Common.{◌≡◌, ℕ, List, [], ◌∷◌, ◌||◌, false, Option, None, Some, Result, Ok, Err, codes, map, refl, ap, ◌∙◌}
+use Rattle.serde_json.specs.Data.{Data, object, string, member, no_members}
+use Rattle.serde_json.specs.View.{items_of}
+use Rattle.serde_json.specs.Written.{has_float, items_have_float}
+use Rattle.cap_grants.specs.declared.grant.Grant.{Grant}
+use Rattle.ceph_text.specs.Profiles.{ceph_flat, unknown_from}
+use Rattle.ceph_text.specs.declared.grant.CephGrant.{CephGrant}
+use Rattle.grant_core.specs.Flat.{Flat}
+use Rattle.verdict_text.specs.CephExplained.{ceph_document, entry_document, fault_document, number_document}
+use Rattle.verdict_text.specs.Documents.{answer_document, byte_member, verdict_members, condition_document, entity_document, explained_document, grant_document, row_document}
+use Rattle.verdict_text.specs.declared.verdict.Verdict.{Verdict}
+use Rattle.verdict_text.specs.declared.verdict.Verdict.TheVariants.{Allowed, Denied, Depends}
+use Rattle.verdict_text.specs.declared.verdict.VerdictFault.{VerdictFault}
+use Rattle.verdict_text.specs.declared.verdict.VerdictFault.TheVariants.{Text, Calls}
+use Rattle.verdict_text.specs.Reading.{fault_byte, fault_text}
+use Rattle.verdict_text.specs.declared.reading.TextFault.{TextFault}
+
+-- a list of documents without floats
+pub each : {X : Type 0} (document : X → Data) → ((x : X) → has_float (document x) ≡ false) → (xs : List X) → items_have_float (items_of (map document xs)) ≡ false
+each document none [] = refl
+each document none (x ∷ xs) = ap (λ b. b || items_have_float (items_of (map document xs))) (none x) ∙ each document none xs
+
+with_byte : (byte : Option ℕ) (fault : List ℕ) → has_float (object (byte_member byte (member (codes "fault") (string fault) (verdict_members (codes "refused"))))) ≡ false
+with_byte (Some at) fault = refl
+with_byte None fault = refl
+
+pub of_answer : (answer : Result Verdict VerdictFault) → has_float (answer_document answer) ≡ false
+of_answer (Ok Allowed) = refl
+of_answer (Ok (Denied report)) = ap (λ b. b || false) (each condition_document (λ _. refl) report)
+of_answer (Ok (Depends allowed denied)) = refl
+of_answer (Err (Text fault)) = with_byte (fault_byte fault) (fault_text fault)
+of_answer (Err (Calls fault)) = refl
+
+pub of_explained : (grants : List Grant) (ticket : Flat) → has_float (explained_document grants ticket) ≡ false
+of_explained grants ticket = ap (λ b. b || false) (each grant_document (λ _. refl) ticket)
+
+pub of_entity : (name : List ℕ) (answer : Result Verdict VerdictFault) → has_float (entity_document name answer) ≡ false
+of_entity name answer = ap (λ b. b || false) (of_answer answer)
+
+pub of_row : (name : List ℕ) (answers : List (Result Verdict VerdictFault)) → has_float (row_document name answers) ≡ false
+of_row name answers = ap (λ b. b || false) (each answer_document of_answer answers)
+
+pub of_ceph : (list : List CephGrant) → has_float (ceph_document list) ≡ false
+of_ceph list =
+    ap (λ b. b || (items_have_float (items_of (map number_document (unknown_from 1 list))) || false)) (each entry_document (λ _. refl) (ceph_flat list))
+    ∙ ap (λ b. b || false) (each number_document (λ _. refl) (unknown_from 1 list))
+
+of_byte : (byte : Option ℕ) (fault : List ℕ) → has_float (object (byte_member byte (member (codes "fault") (string fault) no_members))) ≡ false
+of_byte (Some at) fault = refl
+of_byte None fault = refl
+
+pub of_fault : (fault : TextFault) → has_float (fault_document fault) ≡ false
+of_fault fault = of_byte (fault_byte fault) (fault_text fault)

@@ -1,0 +1,7 @@
+use Rattle.std.proofs.Common.{ap, ◌∙◌}
+use Rattle.serde_json.specs.Written.{has_float}
+use Rattle.verdict_text.proofs.NoFloats.{of_answer}
+use Rattle.verdict_text.proofs.document.answer_json.Goals as goal
+
+pub json_line-requires : goal.json_line-requires
+json_line-requires c = ap has_float c.in_ok-document.ensures ∙ of_answer c.args.answer.now

@@ -1,0 +1,11 @@
+-- Statement: contracts of public calls use it.
+-- What is told of each of some entities, one after another.
+use Rattle.std.specs.Prelude.{ℕ, ◌≡◌, ◌||◌, List, [], ◌∷◌, ◌++◌, Bool, false}
+use Rattle.verdict_text.specs.declared.entity.Entity.{Entity}
+
+-- what is told of each entity, in order; it fails where it fails for one
+abbrev pub AreAllTold : (Entity → List ℕ → Bool → Type 0) → List Entity → List ℕ → Bool → Type 0
+AreAllTold IsTold [] text fails = (text ≡ []) × (fails ≡ false)
+AreAllTold IsTold (entity ∷ entities) text fails =
+    (front rest : List ℕ) × (first later : Bool) × IsTold entity front first × AreAllTold IsTold entities rest later
+    × (text ≡ front ++ rest) × (fails ≡ (first || later))

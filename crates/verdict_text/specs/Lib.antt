@@ -1,0 +1,12 @@
+pub mod Text
+pub mod Asked
+pub mod Answer
+pub mod Explain
+pub mod Caret
+pub mod Named
+pub mod Documents
+pub mod FirstPlaces
+pub mod Reading
+pub mod EachTold
+pub mod CephExplained
+pub mod RulesMember

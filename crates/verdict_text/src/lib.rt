@@ -1,0 +1,60 @@
+//! What is printed of one capability text: verdicts, explanations, and where a fault is; and its ticket, or why it has none.
+//!
+//! Each text is a value, made of a capability text, entities and a request. Each call borrows what it is given, and what is
+//! wrong with a capability text or with calls is part of what is printed. The forms of the lines are this project's
+//! profile.
+//!
+//! # What contracts see
+//!
+//! An `Answer` is a `Verdict` or a `VerdictFault`, and stays a value until it is written: `answer` makes it, `text_of` gives its
+//! bytes. What any other command prints is a `Printed`: a text, and whether the command fails.
+//!
+//! # Costs
+//!
+//! What is told of entities is linear in them: names are found by their hash (`NamedEntities`), and the built-in profiles are
+//! made once for all texts. `pointed_text` reads a refused text a second time, so that no answer has to carry a fault.
+//!
+//! # Documents
+//!
+//! A document is a `Value` of `serde_json`, made by `json!`, and its bytes are those of `Value::to_string`; both have contracts
+//! there, so that a definition of the value's members says every byte. A list of entities is printed entity by entity, as the
+//! text is: each adds a piece with a comma in front, and the first comma is left out at the end.
+//!
+//! # Design
+//!
+//! Its contracts need no command line and no world. So it is proved, and its mutants are tried, beside the crates of the world
+//! and not behind them.
+#![tactic(auto)]
+
+mod asked;
+mod caret;
+mod ceph_lines;
+mod document;
+mod document_ceph;
+mod entity;
+mod expanded;
+mod explain;
+mod format;
+mod named;
+mod printed;
+mod reading;
+mod rules_member;
+mod verdict;
+
+pub use asked::{Asked, needs_asked};
+pub use caret::{point_at_fault, push_shown_text};
+pub use ceph_lines::explain_ceph;
+pub use document::{
+    calls_json, entities_by, entity_piece, json_line, list_by, piece_of, row_piece,
+};
+pub use entity::{Entity, ReadEntity};
+pub use explain::explain_text;
+pub use format::Format;
+pub use named::NamedEntities;
+pub use printed::Printed;
+pub use reading::{
+    CephRights, ReadText, Reader, Reading, Rules, TextFault, first_word, push_fault_number,
+    read_ceph_rights,
+};
+pub use rules_member::{rules_word, with_rules};
+pub use verdict::{Answer, Verdict, VerdictFault, answer, answer_of, text_of, verdict_text};

@@ -1,4 +1,0 @@
-pub mod Target
-pub mod Text
-pub mod Hash
-pub mod Kinds

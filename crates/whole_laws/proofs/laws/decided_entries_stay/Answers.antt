@@ -1,5 +1,0 @@
-use Rattle.whole_logs.proofs.Histories.{decided_begins_chosen}
-use Rattle.whole_laws.proofs.laws.decided_entries_stay.Goals as goal
-
-pub returns : goal.returns
-returns c = record { stay = λ promise min_size sets h j n k log sound d before is. decided_begins_chosen promise min_size sets h sound j n k log d before is }

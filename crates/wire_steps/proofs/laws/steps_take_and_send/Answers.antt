@@ -1,5 +1,0 @@
-use Rattle.wire_steps.proofs.Steps.{takes_and_sends}
-use Rattle.wire_steps.proofs.laws.steps_take_and_send.Goals as goal
-
-pub returns : goal.returns
-returns c = takes_and_sends

@@ -1,5 +1,0 @@
-use Rattle.cluster.specs.Asks.{IsPassOf}
-use Rattle.worked_clusters.proofs.held.view.Given as goal
-
-abbrev pub invariant-loop-try : goal.invariant-loop-try
-invariant-loop-try l = IsPassOf l.cluster l.pass

@@ -1,5 +1,0 @@
-use Rattle.cluster.specs.Asks.{IsPassOf}
-use Rattle.worked_clusters.proofs.listings.are_answered.Given as goal
-
-abbrev pub invariant-loop-piece : goal.invariant-loop-piece
-invariant-loop-piece g l = IsPassOf l.cluster l.pass
