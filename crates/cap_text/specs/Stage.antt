@@ -1,5 +1,5 @@
 -- Statement: contracts of public calls use it.
--- Where in the grammar a text has come to.
+-- The position in the grammar that a text has reached.
 use Rattle.std.specs.Prelude.{ℕ, List}
 use Rattle.cap_grants.specs.declared.grant.Flags.{Flags}
 use Rattle.cap_grants.specs.declared.grant.Grant.{Grant}

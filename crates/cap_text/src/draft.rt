@@ -120,7 +120,8 @@ impl Sheet {
         }
     }
 
-    /// Makes it an `allow` with nothing behind it. Mostly it is one: what is there is looked at before it is let go.
+    /// Makes it an `allow` with nothing behind it. Usually it already is one, so each part is tested before it is
+    /// dropped.
     pub fn clear(&mut self)
         ensures { self.new ≡ record self.old { draft = fresh (heads.Allow None) } }
     {

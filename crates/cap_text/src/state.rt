@@ -32,7 +32,7 @@ impl Model for Reading {
 }
 
 impl Reading {
-    /// Nothing was read, and there is room for so many grants.
+    /// A reading that has read nothing, with room for `count` grants.
     pub fn new(alloc: Global, count: usize) -> Result<Reading, OutOfMemory>
         ensures { IfOk result (λ reading. reading ≡ nothing_read) }
     {

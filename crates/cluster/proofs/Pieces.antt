@@ -63,7 +63,7 @@ module _ (c : Cluster) (ask : Ask) (view : PoolView) where
     fails = subst (λ (k : ℕ). IsNoPiece c ask view k fault at new) (sym count) fails;
   }
 
--- ---- what they are told as
+-- ---- what a list answers for its pieces
 
 abbrev told_at : (session first : ℕ) → List ℕ → ℕ → Asked
 told_at session first pool n = record { id = id_of session (first + n); group = record { pool = pool; number = n } }

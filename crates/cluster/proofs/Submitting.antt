@@ -69,7 +69,7 @@ module _ (own : List OwnSession) (a : Asking) where
 
 -- ---- a group of the start
 
--- a request that was sealed by a pool of the start is for a group that there is
+-- a request that was sealed by a pool of the start is for an existing group
 pub group_there : (start : History) (s : Sealed) → IsSealedFor start s → is_word s.view.pool ≡ true → acting_refusal start s.view.pool s.group ≡ None
 unfolding groups_in
 group_there start s sealed word = three (is_word s.view.pool) (has_pool (map_of start).pools s.view.pool) (nat_le (groups_in (map_of start).pools s.view.pool) s.group) word (ap is_some found) low

@@ -54,7 +54,7 @@ fn places_of(alloc: Global, groups: &[LockedGroup]) -> Result<Vec<GroupId>, Allo
     Ok(places)
 }
 
-// A monitor of a cluster by its map, which is published for at most so many readers at once.
+// A monitor of a cluster by its map, which is published for at most `readers` readers at once.
 fn watch<R: Wait>(
     rt: &R,
     alloc: Global,
@@ -82,7 +82,7 @@ fn watch<R: Wait>(
     })
 }
 
-// A pass of these seats, with a reader who is told of the monitor's map.
+// A pass of these seats, with a reader that knows the monitor's map.
 fn pass_with(
     alloc: Global,
     cluster: &Cluster,
@@ -129,7 +129,7 @@ fn all_passes(
     Ok(passes)
 }
 
-// The cluster of a world that was taken apart.
+// The cluster of a world's parts.
 fn cluster_of<R: Wait>(
     rt: &R,
     alloc: Global,
@@ -184,11 +184,13 @@ fn with_passes<R: Wait>(
     }
 }
 
-/// A cluster of 1 to 16 daemons, all up, with these pools and users, its monitor, and so many passes, one for each thread and at least one.
+/// Starts a cluster of 1 to 16 daemons, all up, with these pools and users. It returns the cluster, its monitor, and
+/// `passes` passes: one for each thread, and at least one.
 ///
-/// It is refused as the first of the creations of the pools, in order, and then the additions of the users is refused by a world; for
-/// want of memory (K3); or where the published map gives no reader (K4), of which there may be one for each of 65,536 passes. No pool
-/// comes later. Each pass may take about 2^64 / (passes + 1) turns on each group and on the users.
+/// No pool can be created later. Each pass may take about 2^64 / (passes + 1) turns on each group and on the users.
+///
+/// A world creates the pools in order, then adds the users: the first of these events that it refuses is the fault.
+/// K3: out of memory. K4: the published map gives no reader; it can give one for each of 65,536 passes.
 pub fn start<R: Wait>(
     rt: &R,
     alloc: Global,

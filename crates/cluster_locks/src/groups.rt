@@ -52,7 +52,7 @@ impl Recorded for LockedGroup {
     ghost fits = { entry_fits };
 }
 
-/// Submits a request, which the step hands over.
+/// Submits a request, which the step passes to the group.
 #[derive(Drop)]
 pub struct Submission(pub Option<Sealed>);
 

@@ -44,7 +44,7 @@ pub fn count_request(session: &mut Session, ask: &Ask)
 
 /// The piece of a list for one group, under the session's next number.
 ///
-/// `OutOfMemory`: memory was wanting, or the session's numbers are used up: no group has room for so many requests.
+/// `OutOfMemory`: an allocation failed, or the session's numbers are used up. No group has room for that many requests.
 pub fn next_piece(
     alloc: Global,
     ask: &Ask,

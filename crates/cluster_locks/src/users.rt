@@ -138,7 +138,7 @@ impl Step for Renew {
     }
 }
 
-/// Carries out a command, which the step hands over.
+/// Carries out a command, which the step passes to the users.
 #[derive(Drop)]
 pub struct Change(pub Option<AuthCommand>);
 

@@ -1,5 +1,5 @@
-//! What is wrong with a line of a script that is no command, in words. What is proved of scripts says only that it is none:
-//! what is told here comes from a table of the commands, and is tested.
+//! Describes what is wrong with a line of a script that is not a command. The proofs about scripts state only that
+//! the line is not a command. The descriptions here come from a table of the commands, and are tested.
 
 use command_arguments::nearest;
 use common_types::OutOfMemory;
@@ -129,7 +129,7 @@ fn known_words(
     Ok(known)
 }
 
-/// That a word is none of those that are known, and which was meant.
+/// Reports that a word is not one of the known ones, and which of these was meant.
 fn unknown(
     alloc: Global,
     what: &str,

@@ -19,9 +19,9 @@ const MOST_BYTES: u64 = 1_048_576;
 pub(crate) enum RunFault {
     /// The file cannot be read: nothing was run.
     Unread(io::Error),
-    /// The script ended early, and this is told beside the fault.
+    /// The script ended early. `told` is printed with the fault.
     Script { fault: ScriptFault, told: String },
-    /// Lines of a script that is only looked at are no commands, as this tells.
+    /// Lines of a script that is only checked are not commands. This is the report on them.
     Wrong(String),
     /// A growth was refused before the script began.
     OutOfMemory,
@@ -42,7 +42,7 @@ impl From<OutOfMemory> for RunFault {
     }
 }
 
-/// What ended a script, with what is told of a bad line.
+/// What ended a script, with the report on a bad line.
 fn ended_by(
     alloc: Global,
     looked: Looked<'_>,

@@ -160,7 +160,8 @@ fn number_of(path: &Path) -> usize {
     }
 }
 
-/// What the grant of a number comes to, or all others of the text, with their paths and networks.
+/// What the grant with a number expands to, with paths and networks. Where `is_own` is false, it is what all other
+/// grants of the text expand to.
 pub fn rights_part(
     alloc: Global,
     rights: &Rights,

@@ -8,7 +8,7 @@ use std::marker::Model;
 
 /// Values that can be copied where there is memory.
 pub trait TryCopy {
-    /// An equal value. It is refused for want of memory alone.
+    /// An equal value. The only error is out of memory.
     fn copy(&self) -> Result<Self, AllocError>
     where
         Self: Sized,
@@ -96,7 +96,7 @@ impl<T> Items<T> {
         self.items.as_slice()
     }
 
-    /// Adds an item at the end. Where memory is wanting, the items stay as they were.
+    /// Adds an item at the end. Out of memory leaves the items unchanged.
     pub fn push(&mut self, x: T) -> Result<(), AllocError>
     where
         T: Drop,

@@ -1,4 +1,5 @@
-//! The small types that the crates above share: names, lists, a pool's tags, bytes shown by their numbers, and want of memory.
+//! The small types that the crates above share: names, lists, a pool's tags, bytes shown by their numbers, and the
+//! error of a failed allocation.
 //!
 //! # What contracts see
 //!

@@ -70,7 +70,7 @@ fn known_standing(
     }
 }
 
-/// Adds the lines of a grant that comes to something at some address.
+/// Adds the lines of a grant that expands to something at some address.
 fn push_live(
     text: &mut String,
     before: &str,
@@ -130,8 +130,8 @@ fn known_lints(
     Ok(all)
 }
 
-/// The lines on the grants of a text that comes to these rights, each behind some words; or nothing where every class registry is asked
-/// about, and it does not matter which methods there are.
+/// The lines on the grants of a text that expands to these rights, each behind the text `before`. It is `None` if every
+/// class registry counts and the methods make no difference.
 pub(crate) fn known_lines(
     alloc: Global,
     how: KnownLint<'_, '_>,

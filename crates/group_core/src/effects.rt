@@ -18,7 +18,7 @@ use peer_core::{Body, Daemon, Message, Sent};
 use place_core::{ActingSet, DaemonSet};
 use std::alloc::Global;
 
-/// The copies of so many daemons, or of all 16, as they begin.
+/// The copies of `count` daemons, capped at 16, as they begin.
 pub(crate) fn blank_copies(
     alloc: Global,
     count: u8,

@@ -68,7 +68,7 @@ impl IntervalSets {
 }
 
 impl TryCopy for IntervalSets {
-    /// The same sets, shared.
+    /// A copy that shares the sets.
     fn copy(&self) -> Result<IntervalSets, OutOfMemory> {
         match &self.shared {
             Some(sets) => Ok(IntervalSets {

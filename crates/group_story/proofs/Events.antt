@@ -131,7 +131,7 @@ world_sends w e id = go (group_refusal w.front id) refl
     go (Some fault) is = all_new (wire_in (world_step w e) id) (place_in id e)
     go None is = subst (λ wire. Sends wire (kept (wire_where None (group_at id w.groups)) (place_in id e))) (there is) (alone_sends w.front e id (group_at id w.groups))
 
--- what is told of a step is told of this one
+-- the report of a step is the report of this event
 pub tells_event : (id : GroupId) (old : World) (e : Event) (new : World) (told_taken : Option Sent) (told_sent : List Sent) → new ≡ world_step old e
     → ((sent : List Sent) → wire_in new id ≡ kept (wire_in old id) (place_in id e) ++ sent → TellsStep (wire_in old id) (place_in id e) sent told_taken told_sent)
     → TellsEvent id old e new told_taken told_sent

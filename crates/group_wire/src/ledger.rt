@@ -103,7 +103,7 @@ impl Ledger {
         self.answers.get(id)
     }
 
-    /// Adds a request of a new id. An `Err` is want of memory alone, and then nothing changes.
+    /// Adds a request of a new id. The only error is out of memory, and then nothing changes.
     pub fn submit(&mut self, request: Sealed) -> Result<(), OutOfMemory>
         requires { is_submitted self.old.requests request.id ≡ false }
         ensures requests { OnOk result (self.new.requests ≡ self.old.requests ++ request ∷ []) }
@@ -136,7 +136,7 @@ impl Ledger {
         }
     }
 
-    /// Adds the answer to a request that has none. An `Err` is want of memory alone, and then nothing changes.
+    /// Adds the answer to a request that has none. The only error is out of memory, and then nothing changes.
     pub fn hear(&mut self, answer: Answer) -> Result<(), OutOfMemory>
         requires { is_answered self.old.answers answer.id ≡ false }
         ensures requests { OnOk result (self.new.requests ≡ self.old.requests) }

@@ -33,7 +33,7 @@ reach_line before number EveryPool = line_of before number (codes " every pool\n
 abbrev pub live_lines : List ℕ → ℕ → GrantLint → List ℕ
 live_lines before number found = standing_line before number found.standing ++ (reach_line before number found.reach ++ pool_line before number found.poolless)
 
--- a grant that comes to nothing, or whose network matches no address, has that line alone
+-- a grant that expands to nothing, or whose network matches no address, has that line alone
 abbrev pub found_lines : List ℕ → ℕ → GrantLint → List ℕ
 found_lines before number found =
     if found.nothing then line_of before number (codes " unknown profile, grants nothing\n")

@@ -42,8 +42,8 @@ impl Drop for Kept {
     }
 }
 
-/// Whether each grant of a list that can be expanded matches no pool, by the built-in profiles. Where no pools are given
-/// none is told so.
+/// For each grant of a list that can be expanded, whether it matches no pool, by the built-in profiles. If no pools are
+/// given, each answer is `false`.
 fn without_pools(
     alloc: Global,
     profiles: &ProfileTable,

@@ -196,7 +196,7 @@ fn daemon_refusal(daemons: u8, up: &DaemonSet, epoch: u32, daemon: u8, so: bool)
     None
 }
 
-// Why a command is refused, want of memory aside.
+// Why a command is refused, except for out of memory.
 #[tactic(auto, unfolding(crate::specs::Refusal::refusal))]
 pub(crate) fn refusal(
     daemons: u8,
@@ -228,7 +228,7 @@ pub(crate) fn refusal(
     }
 }
 
-// Why a group's acting set is refused, want of memory aside.
+// Why a group's acting set is refused, except for out of memory.
 pub(crate) fn acting_refusal(pools: &[Pool], name: &Name, group: u32) -> Option<MapFault>
     ensures { result ≡ first_of (acting_tests pools.now name.now group) }
 {

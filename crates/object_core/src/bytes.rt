@@ -69,7 +69,7 @@ impl Bytes {
         self.as_slice().len()
     }
 
-    /// A copy of the bytes from a place on, at most so many; of all of them where the number is 0.
+    /// A copy of the bytes from `offset` on, at most `count`; of all of them where `count` is 0.
     pub(crate) fn part(
         &self,
         alloc: Global,
@@ -95,7 +95,7 @@ impl Bytes {
         self.bytes.extend_from_slice(more.as_slice())
     }
 
-    /// Cuts the bytes to so many, or extends them by zeros.
+    /// Cuts the bytes to `size`, or extends them to it by zeros.
     pub(crate) fn resize(&mut self, size: usize) -> Result<(), OutOfMemory>
         ensures { OnOk result (self.new ≡ resized size self.old) }
     {

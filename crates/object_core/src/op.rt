@@ -6,7 +6,7 @@ use common_types::{Name, OutOfMemory, TryCopy};
 /// An operation on an object. Places, lengths and sizes are in bytes.
 #[derive(Debug)]
 pub enum Op {
-    /// Gives the bytes from a place on, at most so many, or all of them where the length is 0.
+    /// Gives the bytes from `offset` on, at most `length`, or all of them where `length` is 0.
     Read {
         offset: u32,
         length: u32,

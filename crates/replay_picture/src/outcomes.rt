@@ -11,9 +11,10 @@ use std::alloc::Global;
 use std::fmt::Write;
 use verdict_core::Condition;
 
-/// So many lines of a report, of outputs or of names stand in a picture, and so many bytes of each output or name.
+/// The largest number of lines of a report, of outputs or of names in a picture.
 const MOST_LINES: usize = 12;
 
+/// The largest number of bytes of each output or name in a picture.
 const MOST_BYTES: usize = 32;
 
 /// An id and what follows it.

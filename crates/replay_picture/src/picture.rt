@@ -6,7 +6,7 @@ use entry_core::GroupId;
 use picture_text::{Story, mermaid_of, svg_of};
 use std::alloc::Global;
 
-/// A picture has at most so many rows, the last ones. Those of messages that are on their way at the end are among them.
+/// The largest number of rows of a picture, the last ones. They include those of messages on their way at the end.
 const MOST_ROWS: usize = 2_000;
 
 /// What a picture is written as.
@@ -69,8 +69,9 @@ fn drawn(
     }
 }
 
-/// Draws what a script does to a group: to the one that is named, or else to the one with most messages. The lines up to the first
-/// that is no command are drawn. Nothing is drawn where the group that is named is none of the script's.
+/// Draws what a script does to a group: to the named one, or else to the one with most messages.
+///
+/// The lines up to the first that is no command are drawn. Nothing is drawn where the script has no group of that name.
 ///
 /// The script is replayed in worlds of its own, line by line.
 pub fn draw_script(

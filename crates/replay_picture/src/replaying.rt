@@ -12,10 +12,10 @@ use std::mem;
 use world_core::{Ask, Event, World};
 use world_script::{Command, read_line};
 
-/// No settling takes so many deliveries.
+/// A bound of the deliveries of a settling. No settling reaches it.
 const MOST_DELIVERIES: u32 = u32::MAX;
 
-/// So many messages that are on their way at the end have a row.
+/// The largest number of messages on their way at the end that have a row.
 const MOST_WAITING: usize = 200;
 
 /// The rows of a picture as they are made, and the world that they are made of.

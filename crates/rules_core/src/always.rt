@@ -66,7 +66,7 @@ fn copy_needs(needs: &Needs) -> Result<Needs, OutOfMemory>
     })
 }
 
-/// The same request of a pool, with exactly its tags.
+/// An example's request as one of a pool, with exactly its tags.
 fn placed(example: &Example, pool: &Pool) -> Result<Example, OutOfMemory>
     ensures { IfOk result (λ placed. placed ≡ spec.placed pool.now example.now) }
 {

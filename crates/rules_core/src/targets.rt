@@ -64,8 +64,8 @@ fn common_in(
     Ok(found)
 }
 
-/// An object at which the one ticket allows a touch and the other another one, in some of the pools where they are given. Without
-/// one they share no listing either. Where there is none it takes no memory.
+/// An object at which `ones` allows `one` and `others` allows `other`, in one of `pools` if they are given. Without
+/// such an object they share no listing either, and no memory is allocated.
 pub(crate) fn common_target(
     alloc: Global,
     pools: Option<&[Pool]>,

@@ -221,6 +221,6 @@ PlainScriptsPrint = (bytes : List ℕ) → IsPlain (plain_output bytes).ending �
 abbrev pub PlainBeginnings : Type 0
 PlainBeginnings = (bytes : List ℕ) → (rest : List ℕ) × ((plain_output bytes).text ++ rest ≡ (script_output bytes).text)
 
--- so what was written by a plain script, however it ended, is told by plain_output
+-- so plain_output gives what a plain script has written, however it ended
 abbrev pub PlainScriptsWrite : Type 0
 PlainScriptsWrite = (bytes : List ℕ) (old new : Option (List ℕ)) (result : Result (Unit {0}) ScriptFault) → IsPlain (plain_output bytes).ending → WroteOf bytes old new result → Wrote (plain_output bytes) old new result

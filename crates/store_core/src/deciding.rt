@@ -57,7 +57,7 @@ fn answer(sealed: &Sealed, reply: Reply) -> Result<Decided, OutOfMemory>
     Ok(Decided::new(entry, ObjectChange::Kept))
 }
 
-/// What operations come to on the object that a request names.
+/// What operations result in on the object that a request names.
 fn run(
     alloc: Global,
     objects: &Objects,

@@ -61,8 +61,8 @@ impl Model for Sealed {
 impl Sealed {
     /// A vector of operations on the object of a name in a namespace of the view's pool.
     ///
-    /// It is refused as `needs_of` refuses the operations: N1 for none, N2 for more than 16, N3 for a call of an
-    /// unknown method; want of memory, N4, comes last.
+    /// The faults are those of `needs_of`: N1 for no operations, N2 for more than 16, N3 for a call of an unknown
+    /// method. Out of memory, N4, is checked last.
     pub fn vector(
         alloc: Global,
         id: Id,

@@ -48,7 +48,7 @@ fn user<R: Abort>(rt: &R, alloc: Global, name: &str, osd: &str) -> UserSpec {
     }
 }
 
-// A cluster of three daemons, with a pool `data` of so many groups, size 3, min_size 2, one user, and so many passes.
+// A cluster of three daemons, one user and `passes` passes. Its pool `data` has `groups` groups, size 3, min_size 2.
 pub(crate) fn begun<R: Wait + Abort>(
     rt: &R,
     alloc: Global,

@@ -20,7 +20,7 @@ struct Meeting {
 }
 
 impl Meeting {
-    // Waits until worker 1 has come, for so many turns.
+    // Waits until worker 1 has come, for at most `MOST_TURNS` turns.
     fn wait(&self) {
         for _turn in 0..MOST_TURNS {
             if self.came.load(Ordering::SeqCst) == 1 {

@@ -27,7 +27,7 @@ struct Progress {
 }
 
 impl Progress {
-    // Waits until this stage has come, for so many turns: whether it has.
+    // Waits until this stage has come, for at most `MOST_TURNS` turns. Returns whether it has.
     fn has_come(&self, stage: u64) -> bool {
         for _turn in 0..MOST_TURNS {
             if self.stage.load(Ordering::SeqCst) >= stage {
@@ -126,7 +126,7 @@ fn look<R: Wait + Abort>(rt: &R, alloc: Global, cluster: &Cluster, pass: &mut Pa
     expect_so(rt, worked == Worked::Delivered, "a delivery");
 }
 
-// The same once the lock is held, and tells that it is answered.
+// Does what `look` does once the lock is held, and then reports that all was answered.
 fn look_meanwhile<R: Wait + Abort>(
     rt: &R,
     alloc: Global,

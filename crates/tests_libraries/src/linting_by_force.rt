@@ -44,8 +44,8 @@ fn denies_some<R: Abort>(
     gains(&old, new.grants(), targets, needs)
 }
 
-/// Whether each grant of a list is told needed where looking finds that it is, and else covered: one of the built-in profiles
-/// has a grant that gives all that the profile does.
+/// Whether each grant of a list is reported as needed if the search over all requests finds so, and else as covered. A
+/// built-in profile has a grant that gives all that the profile does.
 fn are_right<R: Abort>(
     rt: &R,
     alloc: Global,
@@ -70,7 +70,7 @@ fn are_right<R: Abort>(
     true
 }
 
-/// Whether looking finds what is told of a text, and that the tidied one allows the same and needs each of its grants.
+/// Whether the search confirms the report on a text, and the tidied text allows the same and needs each of its grants.
 fn is_right<R: Abort>(
     rt: &R,
     alloc: Global,
@@ -123,7 +123,7 @@ fn table_of_both<R: Abort>(rt: &R, alloc: Global) -> ProfileTable {
     table
 }
 
-/// Whether the first grant is needless, and covers the two others.
+/// Whether the first grant is redundant, and covers the two others.
 fn are_covered(told: &[Standing]) -> bool {
     matches!(
         told,

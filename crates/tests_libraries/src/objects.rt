@@ -216,7 +216,7 @@ fn gives(outputs: &Outputs) -> bool {
     }
 }
 
-/// What a vector comes to that makes an object and its attribute.
+/// The outcome of a vector that makes an object and its attribute.
 fn makes<R: Abort>(rt: &R, alloc: Global) -> Outcome {
     let ops = vector(rt, alloc, "append setxattr getxattr");
     let outcome = run_vector(alloc, None, ops.as_slice()).expect(rt, "memory");

@@ -11,8 +11,8 @@ use place_core::{ActingSet, DaemonSet};
 use std::alloc::Global;
 use std::test::Fail;
 
-/// What happens to a group: a request of a number, a message at a place of the wire, or a new interval with these members, all
-/// of whom are up, and daemons of which no other is.
+/// What happens to a group: a request of a number, a message at an index of the wire, or a new interval with these
+/// members. Then exactly the daemons of the second list are up, and the members are among them.
 #[derive(Clone, Copy)]
 enum Step {
     Append(u32, &'static str),

@@ -10,7 +10,7 @@ use std::process::Abort;
 use world_core::{Event, World, WorldFault};
 use world_script::Command;
 
-/// No group here settles by so many deliveries.
+/// Each group here settles with fewer deliveries.
 const MOST_DELIVERIES: u64 = 10_000;
 
 // Carries out an event, and prints what it tells or why it is refused.

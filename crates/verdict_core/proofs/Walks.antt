@@ -341,7 +341,7 @@ found_by (kind ∷ kinds) g = first (chain_in kind g) refl (found_by kinds g)
     first None e rest = later None e refl rest
     first (Some chain) e rest = inr (record { place = 0; kind = kind; at = refl; in_it = e ∙ ap Some (sym (ap (λ x. unwrap_or x (chain_of kinds g)) e)) })
 
--- where no grant is found by a kind that gives what is asked, nor among the others, there is none
+-- if no grant that is found by a kind gives what is asked, and none of the others does, no grant does
 pub none_gives : (kinds : List Kind) (grants : List (List ℕ × AllowGrant)) (target : Target) (needs : Needs) (call : Option ClassCall)
     → NoneBefore kinds (length grants) grants 256 target needs call → ((j : ℕ) (kind : Kind) → j < length kinds → slice_get kinds j ≡ Some kind → NoneOfKind kind kinds grants target needs call)
     → false ≡ list_any (λ entry. gives entry.1 target needs call) grants

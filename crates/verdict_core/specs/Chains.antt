@@ -13,8 +13,8 @@ use Rattle.request_types.specs.declared.request.ClassCall.{ClassCall}
 use Rattle.request_types.specs.Target.{Target}
 use Rattle.verdict_core.specs.Verdict.{is_usable, covers}
 
--- The places from some place on are chained: `first` has the first one of each chain, and `next` the one behind each in
--- its chain, or the number of all where there is none.
+-- The places from some place on are chained. `first` has the first place of each chain. `next` has the one behind
+-- each place in its chain. Where a chain has no such place, the value is the number of all places.
 pub record AreChained (from : ℕ) (chains first next : List ℕ) : Type 0 where
   pub heads : length first ≡ 257
   pub places : length next ≡ length chains
@@ -38,7 +38,7 @@ NoneBefore kinds place grants chain at needs call = (i : ℕ) (entry : List ℕ 
 abbrev pub NoneOfKind : Kind → List Kind → List (List ℕ × AllowGrant) → Target → Needs → Option ClassCall → Type 0
 NoneOfKind kind kinds grants at needs call = (i : ℕ) (entry : List ℕ × AllowGrant) → slice_get grants i ≡ Some entry → chain_in kind entry.1 ≡ Some (chain_of kinds entry.1) → gives entry.1 at needs call ≡ false
 
--- no grant gives it that is in the chain of an application with a pair, by so many first bytes
+-- no grant gives it that is in the chain of an application with one of its first `count` pairs, by the hash `front`
 abbrev pub NoneOfPairs : ℕ → List (List ℕ × List ℕ) → List ℕ → ℕ → List Kind → List (List ℕ × AllowGrant) → Target → Needs → Option ClassCall → Type 0
 NoneOfPairs count pairs application front kinds grants at needs call = (j : ℕ) (pair : List ℕ × List ℕ) → j < count → slice_get pairs j ≡ Some pair → NoneBefore kinds (length grants) grants (folded (pair_hash application pair.0 pair.1) front) at needs call
 

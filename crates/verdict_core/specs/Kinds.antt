@@ -51,7 +51,7 @@ named_hash ThePool g = option_map hash g.pool
 named_hash TheTag g = tag_hash g.tag
 named_hash TheClass g = class_hash g.access
 
--- the number of the first bytes of a text, if it has so many
+-- the hash of the first `n` bytes of a text, or `None` if the text is shorter
 abbrev pub front_hash : List ℕ → ℕ → Option ℕ
 front_hash text n = if nat_le n (length text) then Some (hash (take n text)) else None
 

@@ -39,8 +39,8 @@ fn has_usable_at_length(grants: &[(Path, AllowGrant)], target: &Target<'_>, need
         .any(|entry| is_usable(&entry.1, target, needs))
 }
 
-/// The same, by a walk that looks at names and tags by a few comparisons of words. Where they do not tell of a grant, another
-/// walk goes on from it, so that nothing of the grants behind is kept.
+/// Whether some grant is usable, by a walk that looks at names and tags by a few comparisons of words. If these do
+/// not decide a grant, another walk goes on from it, so that nothing of the grants behind is kept.
 #[inline(never)]
 fn has_usable_at_once(grants: &[(Path, AllowGrant)], target: &Target<'_>, needs: &Needs) -> bool
     ensures { result ≡ list_any (λ entry. spec.is_usable entry.1 target.now needs.now) grants.now }

@@ -27,7 +27,7 @@ pub enum Named {
     TheClass,
 }
 
-/// Grants that are found alike: by what they name, and by so many of the first bytes of their prefixes.
+/// Grants that are found alike: by what they name, and by the first `front` bytes of their prefixes.
 #[derive(Clone, Copy, Debug, PartialEq, Eq)]
 pub struct Kind {
     pub named: Named,
@@ -108,7 +108,7 @@ fn named_hash(named: Named, grant: &AllowGrant) -> Option<u64>
     }
 }
 
-/// The number of the first bytes of a text, if it has so many.
+/// The hash of the first `front` bytes of a text, or `None` if the text is shorter.
 #[inline(always)]
 pub fn front_hash(text: &[u8], front: usize) -> Option<u64>
     ensures { result ≡ spec.front_hash text.now front }
@@ -120,7 +120,7 @@ pub fn front_hash(text: &[u8], front: usize) -> Option<u64>
     }
 }
 
-/// The bytes of a prefix, none where there is none.
+/// The bytes of a prefix, empty if there is no prefix.
 fn bytes_of(prefix: &Option<Name>) -> &[u8]
     ensures { result.now ≡ unwrap_or prefix.now [] }
 {

@@ -165,7 +165,8 @@ pub(crate) fn is_usable(grant: &AllowGrant, target: &Target<'_>, needs: &Needs) 
     matches(grant, target) && serves(&grant.access, needs)
 }
 
-/// The same in a call of its own, for walks on which few grants come so far. Most grants of a class are for all targets.
+/// Whether a grant is usable, in a call of its own, for walks on which few grants get this far. Most grants of a
+/// class are for all targets.
 #[inline(never)]
 pub(crate) fn is_usable_in_turn(grant: &AllowGrant, target: &Target<'_>, needs: &Needs) -> bool
     ensures { result ≡ spec.is_usable grant.now target.now needs.now }

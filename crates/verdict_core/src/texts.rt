@@ -85,7 +85,7 @@ pub fn is_text(name: &Name, text: &[u8]) -> bool
     are_same(name.as_str().as_bytes(), text)
 }
 
-/// The same, if two comparisons of words tell.
+/// Whether a name is this text, if two comparisons of words decide it.
 #[inline(always)]
 pub fn is_text_at_once(name: &Name, text: &[u8]) -> Option<bool>
     ensures { ForSome result (λ same. same ≡ bytes_eq name.now text.now) }
@@ -102,7 +102,7 @@ fn end_differently(left: &[u8], right: &[u8]) -> bool
     length != right.len() || (length > 0 && left[length - 1] != right[length - 1])
 }
 
-/// Whether a name is this text, if its end or two comparisons of words tell.
+/// Whether a name is this text, if its end or two comparisons of words decide it.
 #[inline(always)]
 pub fn is_name_at_once(name: &Name, text: &[u8]) -> Option<bool>
     ensures { ForSome result (λ same. same ≡ bytes_eq name.now text.now) }
@@ -123,7 +123,7 @@ pub fn begins_with(text: &[u8], prefix: &Name) -> bool
     prefix.len() <= text.len() && are_same(prefix, &text[..prefix.len()])
 }
 
-/// The same, if two comparisons of words tell.
+/// Whether a text begins with a prefix, if two comparisons of words decide it.
 #[inline(always)]
 pub fn begins_with_at_once(text: &[u8], prefix: &Name) -> Option<bool>
     ensures { ForSome result (λ begins. begins ≡ starts_with nat_eq text.now prefix.now) }

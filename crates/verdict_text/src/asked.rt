@@ -28,7 +28,7 @@ pub struct Asked<'a> {
     pub stated: &'a [ClassCall],
     /// At this tick a ticket is expired that ends at it or before.
     pub tick: u64,
-    /// The client's address. If it is none, the answer is over all addresses.
+    /// The client's address. Without one, the answer is over all addresses.
     pub from: Option<Address>,
 }
 

@@ -23,15 +23,15 @@ const OBJECTS: [&str; 4] = ["c0", "c1", "c2", "c3"];
 /// What each worker does.
 #[derive(Clone, Copy, Debug)]
 pub enum Load {
-    /// It asks for 50 additions of 1 to one counter as a user who may, and then for 10 appends as one who may not, and works once on the
-    /// group after each.
+    /// It asks for 50 additions of 1 to one counter as a user who is allowed to, and then for 10 appends as one who is
+    /// not. After each it works once on the group.
     Counting,
-    /// It asks for so many additions of 1 to a counter of its own. It works on the group after each until no message is left there, and
-    /// looks for the answer.
+    /// It asks for this many additions of 1 to a counter of its own. After each it works on the group until no message
+    /// is left there, and looks for the answer.
     Requests(u32),
-    /// It judges so many requests by one view.
+    /// It judges this many requests by one view.
     Verdicts(u32),
-    /// It views the pool so often.
+    /// It views the pool this many times.
     Views(u32),
 }
 

@@ -33,7 +33,7 @@ fn change<R: Wait>(
     }
 }
 
-// Takes the daemon down and up, so many times, and tells how many changes there were.
+// Takes the daemon down and up `TIMES` times. Returns how many changes there were.
 pub(crate) fn move_often<R: Wait>(
     rt: &R,
     cluster: &Cluster,
@@ -49,7 +49,7 @@ pub(crate) fn move_often<R: Wait>(
     Ok(TIMES * 2)
 }
 
-// Takes the daemon down and up, until something ends, which is told by a number above 0, or 500 times.
+// Takes the daemon down and up until `ended` is above 0, at most `MOST_TIMES` times.
 pub(crate) fn move_until<R: Wait>(
     rt: &R,
     cluster: &Cluster,

@@ -54,7 +54,7 @@ use Rattle.world_core.proofs.Requests.{facts, told_one, asked_facts, moved_facts
 use Rattle.world_core.proofs.Intervals.{sized_set, members_are, intervals_after, intervals_none, HasSets, later, sets_after, sets_kept}
 pub use Rattle.world_core.specs.Sound.{IsWithin, GroupKept, WorldKept}
 
--- ---- what no group refuses
+-- ---- events that all groups accept
 
 abbrev Passes : World → Event → Type 0
 Passes w (Map command) = parts_refusal w.groups (parts_of w.front (Map command)) ≡ None

@@ -287,7 +287,7 @@ called_none w id c fault some =
     of_map (calls.Repeat place) (Some m) h = refl
     of_map calls.Kick (Some m) h = refl
 
--- ---- a loss is never refused for want of memory
+-- ---- a loss never runs out of memory
 
 other_than_memory : (fault : GroupFault) (o : Option Fault) → (OfGroup fault ≡ OutOfMemory) ⊎ (o ≡ Some (OfGroup fault)) → o ≡ Some (OfGroup fault)
 other_than_memory fault o (inl memory) = absurd (cc)

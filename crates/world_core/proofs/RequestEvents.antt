@@ -173,7 +173,7 @@ refused_asking f gs runs e fault refuses stays refused = record {
     go (inl k) = inl k
     go (inr k) = inr (ap (λ o. option_or o (option_map OfGroup (parts_refusal gs (parts_of f e)))) (refuses ∙ asking (requests_of f e) k))
 
--- it is refused for a full group, or for want of memory
+-- it is refused because a group is full, or because memory ran out
 pub refused_taking : (f : Front) (gs : List Group) (runs : List Run) (e : Event) (ask : Ask) (rs : List Sealed) (history : History) (fault : Fault) → IsKept f gs runs → AsksFor f e ask rs → history ≡ f.history
     → (fault ≡ OutOfMemory) ⊎ ((fault ≡ OfGroup group_fault.Full) × (list_any (is_full_at gs) (places_for (map_of history).pools rs) ≡ true)) → Applies (world_of f gs runs) e (Err fault) (world_of f gs runs)
 refused_taking f gs runs e ask rs history fault h a same refused = record {

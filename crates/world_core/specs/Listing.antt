@@ -1,5 +1,5 @@
 -- Statement: contracts of public calls use it.
--- What a list of names comes to: the answers of its pieces.
+-- The result of a list of names, from the answers of its pieces.
 use Rattle.std.specs.Prelude.{ℕ, List, ◌∷◌, Option, None, Some, Result, Ok, Err, fold, map, unwrap_or, []}
 use Rattle.std.specs.List.{flat_map, find, range_with_len}
 use Rattle.std.specs.Option.{option_map}

@@ -62,7 +62,7 @@ pub record HasSets (h : History) (id : GroupId) (sets : List (List ℕ)) : Type 
   pub are : sets ≡ intervals_of h id.pool id.number
   pub present : set_of (map_of h) id.pool id.number ≡ Some (last_set sets)
 
--- a group of so many daemons, each of whose acting sets lay within those that were up
+-- a group of `count` daemons, each of whose acting sets was within the daemons that were up
 pub record IsWithin (count : ℕ) (g : Group) : Type 0 where
   pub is : IsReachedWithin g
   pub all : is.reached.daemons ≡ count

@@ -81,7 +81,7 @@ fn take_back_at(groups: &mut Vec<Group>, place: usize)
 
 /// The group at each place takes a copy of its request, or all are left as they were.
 ///
-/// Each has room, and the request is new to it, so it is refused for want of memory alone.
+/// Each group has room, and its request is new to it, so the only fault is out of memory.
 pub(crate) fn take_all(
     groups: &mut Vec<Group>,
     places: &[usize],

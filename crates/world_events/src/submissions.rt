@@ -62,7 +62,7 @@ impl Submissions {
         Ok(())
     }
 
-    /// Keeps the first so many.
+    /// Keeps the first `count` requests.
     fn truncate(&mut self, count: usize)
         ensures { self.new ≡ take count self.old }
     {

@@ -219,7 +219,7 @@ list_step f ask requests ss rs ls is sessions submissions lists =
     let l : ls ≡ f.lists ++ listed (sealed_by f (ListNames ask)) = lists ∙ sym (ap (λ q. f.lists ++ listed (if_ok q [] (λ l. l))) is) in
     λ i. record f { sessions = s i; submissions = r i; lists = l i }
 
--- the first of requests that there are
+-- where a nonempty list has new requests only, its first request is new
 pub first_fresh : (old rs : List Sealed) (x : Sealed) → Each (λ r. submitted old r.id ≡ None) rs → 1 ≤ length rs → x ≡ get_or rs 0 x → submitted old x.id ≡ None
 first_fresh old [] x h some is = absurd (omega arith)
 first_fresh old (r ∷ rs) x h some is = subst (λ (s : Sealed). submitted old s.id ≡ None) (sym is) h.0

@@ -79,7 +79,7 @@ pub same_exit : {T : Type 0} (r : Result T Fault) (refusal : Option Fault) (faul
 same_exit (Ok x) refusal fault is why = absurd is
 same_exit (Err seen) refusal fault is why = subst (λ f. (f ≡ OutOfMemory) ⊎ (refusal ≡ Some f)) (sym is) why
 
--- an earlier refusal, or want of memory
+-- the fault is the refusal that comes first, or out of memory
 pub first_or_memory : {X : Type 0} (refusal : Option X) (memory fault : X) → fault ≡ unwrap_or refusal memory → (fault ≡ memory) ⊎ (refusal ≡ Some fault)
 first_or_memory None memory fault is = inl is
 first_or_memory (Some x) memory fault is = inr (ap (λ v. Some v) (sym is))

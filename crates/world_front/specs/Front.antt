@@ -1,5 +1,5 @@
 -- Statement: contracts of public calls use it.
--- Users, map, sessions and submissions: what no group, message or copy has a part in.
+-- Users, map, sessions and submissions: the part of a world without groups, messages and copies.
 use Rattle.std.specs.Prelude.{ℕ, ◌+◌, ◌-◌, List, [], ◌∷◌, ◌++◌, Bool, true, false, ◌==◌, if◌then◌else◌, Option, None, Some, Result, Ok, Err, length, fold, nat_le}
 use Rattle.std.specs.Option.{option_map, option_or}
 use Rattle.std.specs.List.{list_any, count_by, find}
@@ -66,7 +66,7 @@ abbrev pub ticket_with : Table → Option Caps → Option ℕ → Ticket
 ticket_with table None until = record { grants = []; until = until }
 ticket_with table (Some caps) until = ticket_of table caps.osd until
 
--- what a user's osd text comes to, until the end that was asked for
+-- the ticket that a user's osd text expands to, until the requested end
 abbrev pub ticket_for : Database → List ℕ → Option ℕ → Ticket
 ticket_for d entity until = ticket_with d.table (user_at d.users entity) until
 
@@ -80,7 +80,7 @@ opened entity ticket = record { entity = entity; ticket = ticket; epoch = 0; tic
 abbrev pub asker_of : Front → Ask → Result Asker Fault
 asker_of front = asker_in front.sessions front.history
 
--- the requests of an event, or why there are none
+-- the requests of an event, or the fault that refuses it
 unfoldable pub requests_of : Front → Event → Result (List Sealed) Fault
 requests_of front = requests_in front.sessions front.history
 
@@ -89,7 +89,7 @@ sealed_by front e = if_ok (requests_of front e) [] (λ requests. requests)
 
 -- ---- what an event leaves
 
--- the session after so many requests
+-- the session after `count` more requests
 abbrev pub asks_more : Ask → ℕ → Session → Session
 asks_more ask count s = record s { epoch = ask.epoch; tick = ask.tick; next = s.next + count }
 
@@ -164,7 +164,7 @@ abbrev pub asking_refusal : Front → Result (List Sealed) Fault → Option Faul
 asking_refusal front (Ok requests) = full_refusal front requests
 asking_refusal front (Err fault) = Some fault
 
--- so many sessions there may be, closed ones counted
+-- the largest number of sessions, closed ones counted
 abbrev pub most_sessions : ℕ
 most_sessions = 1024
 

@@ -29,7 +29,7 @@ pub record IsGiven (sessions : List Session) (id : ℕ) : Type 0 where
 
 -- ---- pools
 
--- the map of a history has the pool, with so many groups
+-- the map of a history has the pool, with this number of groups
 pub record InMap (history : History) (name : List ℕ) (groups : ℕ) : Type 0 where
   pub size : ℕ
   pub min_size : ℕ

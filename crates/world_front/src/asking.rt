@@ -73,7 +73,7 @@ pub(crate) fn view_for(map: &ClusterMap, pool: &Name, epoch: Epoch) -> Result<Po
     }
 }
 
-// Why there is no view: W2, but for want of memory.
+// Why there is no view: out of memory, or W2 for every other fault.
 fn fault_of_view(fault: MapFault) -> WorldFault
     ensures { result ≡ refusing.fault_of_view fault }
 {

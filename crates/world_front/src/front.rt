@@ -1,4 +1,4 @@
-//! Users, map, sessions, submissions and lists: what no group, message or copy has a part in.
+//! Users, map, sessions, submissions and lists: the part of a world without groups, messages and copies.
 
 ghost use Rattle.std.specs.Prelude.{◌≡◌, ◌≤◌, ◌<◌, ℕ, List, [], ◌∷◌, None, Ok, OnOk, OnErr, IfOk, length, option_copied};
 ghost use Rattle.object_core.specs.declared.op.Op as op;
@@ -213,9 +213,9 @@ impl Front {
         Ok(Asker { session, view })
     }
 
-    /// A vector on an object, sealed with the session's ticket and the pool as the asker saw it. Nothing is submitted yet.
+    /// Seals a vector on an object with the session's ticket and the pool as the asker saw it. It submits nothing.
     ///
-    /// It is refused by the first of these that holds: W1, W4, W9, W2, W3, N1 to N3; want of memory may come before any.
+    /// It is refused by the first of these that holds: W1, W4, W9, W2, W3, N1 to N3. Out of memory may come before any.
     #[tactic(auto, unfolding(crate::specs::Front::requests_of, crate::specs::Sealing::requests_in))]
     pub fn vector(&self, ask: &Ask, object: Name, ops: Ops) -> Result<Sealed, WorldFault>
         ensures sealed { IfOk result (λ request. requests_of self.now (Submit ask.now object ops) ≡ Ok (request ∷ [])) }
@@ -231,9 +231,9 @@ impl Front {
         Ok(request)
     }
 
-    /// The pieces of a list of names, one for each group of the pool, sealed as a vector is. Nothing is submitted yet.
+    /// Seals the pieces of a list of names, one for each group of the pool, as a vector is sealed. It submits nothing.
     ///
-    /// It is refused by the first of these that holds: W1, W4, W9, W2, W3; want of memory may come before any.
+    /// It is refused by the first of these that holds: W1, W4, W9, W2, W3. Out of memory may come before any.
     #[tactic(auto, unfolding(crate::specs::Front::requests_of, crate::specs::Sealing::requests_in))]
     pub fn pieces(&self, ask: &Ask) -> Result<Items<Sealed>, WorldFault>
         ensures asked { IfOk result (IsOfList self.now ask.now) }
@@ -249,7 +249,9 @@ impl Front {
         Ok(requests)
     }
 
-    /// Submits the request of a vector, where there are fewer than 2^26. Where memory is wanting, nothing changes.
+    /// Submits the request of a vector. It requires fewer than 2^26 submitted requests.
+    ///
+    /// Where an allocation fails, nothing changes.
     #[tactic(auto, unfolding(crate::specs::Front::requests_of, crate::specs::Sealing::requests_in))]
     pub fn record_vector(&mut self, ask: &Ask, request: Sealed) -> Result<Told, OutOfMemory>
         requires asked { IsOfVector self.old ask.now request }
@@ -266,7 +268,9 @@ impl Front {
         Ok(Told::Request(id))
     }
 
-    /// Submits the pieces of a list, all or none, where there are fewer than 2^26 requests. Where memory is wanting, nothing changes.
+    /// Submits the pieces of a list, all or none. It requires fewer than 2^26 submitted requests.
+    ///
+    /// Where an allocation fails, nothing changes.
     #[tactic(auto, unfolding(crate::specs::Front::requests_of, crate::specs::Sealing::requests_in))]
     pub fn record_pieces(&mut self, ask: &Ask, requests: Items<Sealed>) -> Result<Told, OutOfMemory>
         requires asked { IsOfList self.old ask.now requests }

@@ -8,7 +8,7 @@ use common_types::{OutOfMemory, TryCopy};
 use entry_core::Reply;
 use std::alloc::Global;
 
-/// What the answers of some pieces come to: the first denial, and all names.
+/// The joined answers of some pieces: the first denial, and all names.
 pub struct Joined {
     denial: Option<Reply>,
     names: NameSet,
@@ -24,7 +24,7 @@ impl Drop for Joined {
 }
 
 impl Joined {
-    /// What no answers come to. It takes no memory.
+    /// The join of no answers. It allocates nothing.
     pub fn new(alloc: Global) -> Joined
         ensures { result ≡ record { denial = None; names = [] } }
     {

@@ -164,7 +164,7 @@ impl Sessions {
         Ok(())
     }
 
-    /// The open session of the asker has asked for so many requests more. Without one, nothing changes.
+    /// Records `count` more requests of the asker in its open session. Without one, nothing changes.
     pub fn ask(&mut self, ask: &Ask, count: u32)
         requires room { (s : spec.Session) → session_of self.old ask.now.session ≡ Ok s → s.next + count < numbers }
         ensures { self.new ≡ session_at self.old ask.now.session (asks_more ask.now count) }

@@ -295,7 +295,7 @@ all_together f r base k (suc n) most few h =
     ∙ ap (λ b. consed (Some (r k)) (all_of (map f (range_with_len b n)))) e
     ∙ ap (consed (Some (r k))) (all_together f r base (k + 1) n most (omega arith) h)
 
--- the replies, and any where there is none
+-- the reply, or an arbitrary one where no reply is given
 abbrev reply_of : Option Reply → Reply
 reply_of o = unwrap_or o (Names [])
 

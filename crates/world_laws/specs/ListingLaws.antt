@@ -54,7 +54,7 @@ before_of id (e ∷ es) = if e.sealed.id == id then [] else e ∷ before_of id e
 abbrev pub names_at : List Entry → Sealed → ℕ → List (List ℕ)
 names_at audit s id = names_decided (store_of (before_of id audit)) s
 
--- what a request is told that its ticket does not allow
+-- the reply to a request that its ticket does not allow
 abbrev pub denial : Sealed → Reply
 denial s = Denied (report_of s.ticket (target_of s) (needs_for s.work) s.tick)
 
@@ -75,8 +75,9 @@ pub record IsUnchanged (audit : List Entry) (p : Pieced) (pool namespace : List 
   pub within : (i : ℕ) → i < p.count → is_in (ids stretch) (p.first + i) ≡ true
   pub keeps : KeepsObjects pool namespace before stretch
 
--- What a list is told. A piece is answered the names at its place in the audit, or its denial. The list is nothing until each piece was answered; then
--- it is the denial, or the sorted names of all pieces; and where nothing between them changes which objects there are, exactly these objects
+-- How a list is answered. A piece is answered with the names at its place in the audit, or with its denial. The list is
+-- nothing until each piece was answered. Then it is the denial, or the sorted names of all pieces. Where nothing
+-- between the pieces changes which objects exist, these are exactly the names of these objects
 pub record IsListing (w : World) (p : Pieced) : Type 0 where
   pub has : HasPieces w.front p
   pub named : (i : ℕ) (reply : Reply) → i < p.count → answer_at w (p.first + i) ≡ Some reply → is_allowed_sealed (has.pieces i) ≡ true → reply ≡ Names (names_at w.audit (has.pieces i) (p.first + i))

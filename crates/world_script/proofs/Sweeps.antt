@@ -162,7 +162,7 @@ swept_on sweep id before now next count one h some steps low told = go h.most h.
           omega (arith, now_told, parts, h.counted);
     }
 
--- what refused it, where it was not want of memory
+-- what refused it, where that was not out of memory
 pub not_memory : (fault : Fault) (refusal : Option Fault) → (fault ≡ OutOfMemory → ⊥) → (fault ≡ OutOfMemory) ⊎ (refusal ≡ Some fault) → refusal ≡ Some fault
 not_memory fault refusal other (inl memory) = absurd (other memory)
 not_memory fault refusal other (inr is) = is

@@ -53,7 +53,7 @@ abbrev pub an_id : Reads ℕ
 an_id [] = None
 an_id (w ∷ ws) = said_if (option_map (λ p. id_of p.0 p.1) (pair_of w)) ws
 
--- a daemon's number; there is none from 16 on, so all from 255 on are one
+-- a daemon's number; numbers from 16 on name no daemon, so all from 255 on are read as 255
 abbrev pub a_daemon : Reads ℕ
 a_daemon ws = and_then (a_number ws) (λ daemon. said (min daemon 255))
 
@@ -172,7 +172,7 @@ abbrev pub ops_next : Option (Op × List Word) → (List Word → Option (List O
 ops_next None next = None
 ops_next (Some first) next = ops_behind first.0 first.1 next
 
--- so many operations at most, with a plus between them, up to the end
+-- at most this many operations, with a plus between them, up to the end
 abbrev pub ops_within : ℕ → List Word → Option (List Op)
 ops_within zero ws = None
 ops_within (suc most) ws = ops_next (an_op ws) (ops_within most)

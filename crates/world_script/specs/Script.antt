@@ -41,13 +41,13 @@ use Rattle.script_printing.specs.Text.{id_text, told_text, refused_text, or_refu
 
 -- ---- lines, one after another
 
--- what a command does: it prints and goes on, its line is bad, or it is none of those that are told here
+-- what a command does: it prints and goes on, its line is bad, or it is a command that is not described here
 pub data Step (S : Type 0) : Type 0 where
   Goes : List ℕ → S → Step S
   IsBad : Step S
   IsOther : Step S
 
--- how a script ends: at its end, at a bad line, or at a line that is none of those that are told here
+-- how a script ends: at its end, at a bad line, or at a line with a command that is not described here
 pub data Ending : Type 0 where
   Whole : Ending
   BadAt : ℕ → Ending
@@ -73,7 +73,7 @@ onward (Goes text s) number rest = behind text (rest s)
 onward IsBad number rest = record { text = []; ending = BadAt number }
 onward IsOther number rest = record { text = []; ending = OtherAt number }
 
--- what lines write, behind so many lines
+-- what lines write, after `taken` earlier lines
 abbrev pub outputs : {S : Type 0} → (S → Command → Step S) → List (List ℕ) → ℕ → S → Output
 outputs step [] taken s = record { text = []; ending = Whole }
 outputs step (l ∷ ls) taken s = onward (line_step step s l) (taken + 1) (outputs step ls (taken + 1))

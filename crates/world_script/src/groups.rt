@@ -126,7 +126,7 @@ pub(crate) fn sweep_groups(
     Ok(count)
 }
 
-/// Kicks a group of the map, which nothing but want of memory refuses.
+/// Kicks a group of the map. The only error is out of memory.
 fn kick_group(world: &mut World, group: &GroupId) -> Result<(), OutOfMemory>
     requires { group_refusal world.old.front group.now ≡ None }
     ensures { OnOk result (world.new ≡ world_step world.old (Kick group.now)) }
