@@ -29,7 +29,7 @@ use std::marker::Model;
 use verdict_core::Ticket;
 
 /// The most users that there may be.
-const MOST_USERS: usize = 1024;
+const MAX_USERS: usize = 1024;
 
 /// What a call of `get_or_create` found.
 #[derive(Clone, Copy, Debug, PartialEq, Eq)]
@@ -240,7 +240,7 @@ fn add_refusal(users: &Users, name: &str, caps: &Caps) -> Option<AuthFault>
     if has_user(users, name) {
         return Some(AuthFault::Exists);
     }
-    if count(users) >= MOST_USERS {
+    if count(users) >= MAX_USERS {
         return Some(AuthFault::Limit);
     }
     long_text(caps)

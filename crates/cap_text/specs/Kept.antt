@@ -7,7 +7,7 @@ use Rattle.cap_text.specs.Stage.{Stage, State}
 use Rattle.cap_text.specs.Stage as stages
 use Rattle.cap_text.specs.declared.stage.Next.{Next}
 use Rattle.cap_text.specs.declared.stage.Next.TheVariants as nexts
-use Rattle.cap_text.specs.Sheet.{Page}
+use Rattle.cap_text.specs.GrantBuilder.{Page}
 use Rattle.cap_grants.specs.Gives.{Gives}
 
 -- the stage with what was read

@@ -13,7 +13,7 @@ pub struct ClauseSet {
 
 /// What a value is for.
 #[derive(Clone, Copy)]
-pub enum Slot {
+pub enum ValueFor {
     Profile,
     Class,
     Pool,

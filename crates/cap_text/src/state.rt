@@ -5,7 +5,7 @@ ghost use Rattle.cap_grants.specs.Gives.{Gives, GivesIn};
 ghost use Rattle.cap_text.specs.Machine.{advance, finish};
 ghost use Rattle.cap_text.specs.Kept.{nothing_read};
 
-use crate::draft::Sheet;
+use crate::draft::GrantBuilder;
 use crate::machine::{close, step};
 use crate::stage::Next;
 use crate::token::Token;
@@ -18,7 +18,7 @@ use std::marker::Model;
 #[derive(Drop)]
 pub struct Reading {
     done: Grants,
-    sheet: Sheet,
+    sheet: GrantBuilder,
     next: Next,
 }
 
@@ -38,7 +38,7 @@ impl Reading {
     {
         Ok(Reading {
             done: Grants::with_room(alloc, count)?,
-            sheet: Sheet::new(alloc),
+            sheet: GrantBuilder::new(alloc),
             next: Next::Start,
         })
     }

@@ -18,7 +18,7 @@ use Rattle.store_core.specs.declared.sealed.GroupId.{GroupId}
 use Rattle.group_model_whole.specs.Each.{Each}
 use Rattle.group_model.specs.Group.{Group, Submit}
 use Rattle.group_messages.specs.declared.fault.GroupFault.{GroupFault}
-use Rattle.world_front.specs.Front.{◌>>=◌, need, refuse_if, id_of, asks_more}
+use Rattle.world_front.specs.ControlPlane.{◌>>=◌, need, refuse_if, id_of, asks_more}
 use Rattle.world_core.specs.Moves.{IsAt}
 use Rattle.world_core.specs.Sound.{IsSealedFor}
 use Rattle.world_events.specs.declared.event.Ask.{Ask}

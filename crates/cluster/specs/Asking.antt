@@ -12,7 +12,7 @@ use Rattle.group_messages.specs.declared.fault.GroupFault.{GroupFault}
 use Rattle.world_events.specs.declared.event.Ask.{Ask}
 use Rattle.world_events.specs.declared.fault.WorldFault.{WorldFault as Fault}
 use Rattle.world_events.specs.declared.fault.WorldFault.TheVariants.{NoSession, NoPool, BadObjectName, StaleTick, Needs as OfNeeds}
-use Rattle.world_front.specs.Front.{◌>>=◌, need, refuse_if, lower, Asker, is_object_name, is_namespace, sealed_of, vector_of, id_of, asks_more}
+use Rattle.world_front.specs.ControlPlane.{◌>>=◌, need, refuse_if, lower, Asker, is_object_name, is_namespace, sealed_of, vector_of, id_of, asks_more}
 use Rattle.world_core.specs.Moves.{IsAt}
 use Rattle.world_front.specs.declared.session.Session.{Session}
 use Rattle.cluster.specs.declared.asking.Asking.{Asking}

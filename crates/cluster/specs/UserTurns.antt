@@ -5,7 +5,7 @@ use Rattle.verdict_core.specs.Ticket.{Ticket}
 use Rattle.auth_db.specs.declared.fault.AuthFault.{AuthFault}
 use Rattle.auth_db.specs.declared.fault.AuthFault.TheVariants as auth_fault
 use Rattle.world_events.specs.declared.fault.WorldFault.TheVariants.{Limit, Auth as OfUsers}
-use Rattle.world_front.specs.Front.{opened}
+use Rattle.world_front.specs.ControlPlane.{opened}
 use Rattle.world_front.specs.declared.session.Session.{Session}
 use Rattle.world_events.specs.declared.event.AuthCommand.{AuthCommand}
 use Rattle.world_events.specs.declared.event.Told.{Told}

@@ -5,7 +5,7 @@ ghost use Rattle.std.specs.Option.{option_map};
 ghost use Rattle.object_core.specs.Needs.{needs_fault};
 ghost use Rattle.world_events.specs.declared.fault.WorldFault.{WorldFault as Fault};
 ghost use Rattle.world_events.specs.declared.fault.WorldFault.TheVariants.{Needs as OfNeeds};
-ghost use Rattle.world_front.specs.Front.{error_of, vector_of, asks_more};
+ghost use Rattle.world_front.specs.ControlPlane.{error_of, vector_of, asks_more};
 ghost use Rattle.common_types.specs.Refused.{RefusedExactly};
 ghost use Rattle.cluster.specs.declared.fault.ClusterFault.TheVariants as faults;
 ghost use Rattle.cluster.specs.Sessions.{own_session_at, next_of};

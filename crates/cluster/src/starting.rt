@@ -16,7 +16,7 @@ use crate::locks::open_cluster;
 use crate::monitor::Monitor;
 use crate::pass::Pass;
 use cluster_locks::{LockedGroup, PoolSpec, UserSpec, UserTable, events_of};
-use common_types::{OutOfMemory, TryCopy};
+use common_types::{OutOfMemory, TryClone};
 use entry_core::GroupId;
 use grant_core::ProfileTable;
 use group_core::Group;
@@ -27,10 +27,10 @@ use std::sync::Wait;
 use world_core::{WorldFault, WorldParts, run};
 
 /// How many news there may be at once, beside a reader for each pass.
-const MOST_NEWS: usize = 64;
+const MAX_NEWS: usize = 64;
 
 /// The most passes: each has a reader of the published map.
-const MOST_PASSES: usize = 65536;
+const MAX_PASSES: usize = 65536;
 
 // Each group, to be put under a lock.
 fn to_lock(alloc: Global, groups: Vec<Group>) -> Result<Vec<LockedGroup>, AllocError>
@@ -145,7 +145,7 @@ fn cluster_of<R: Wait>(
         sessions: _,
         groups,
     } = parts;
-    if passes > MOST_PASSES {
+    if passes > MAX_PASSES {
         return Err(ClusterFault::NoReader);
     }
     let groups = to_lock(alloc, groups)?;
@@ -156,7 +156,7 @@ fn cluster_of<R: Wait>(
         sessions: 0,
     };
     let (cluster, seats, all) = open_cluster(alloc, start, groups, users, passes)?;
-    match watch(rt, alloc, &cluster, seats, map, places, passes + MOST_NEWS) {
+    match watch(rt, alloc, &cluster, seats, map, places, passes + MAX_NEWS) {
         Err(_) => Err(ClusterFault::OutOfMemory),
         Ok(monitor) => with_passes(rt, alloc, cluster, monitor, all),
     }

@@ -3,7 +3,7 @@
 ghost use Rattle.std.specs.Prelude.{◌≡◌, ◌&&◌, Ok, Err, MatchOption};
 ghost use Rattle.verdict_core.specs.Verdict.{is_allowed};
 ghost use Rattle.world_events.specs.declared.fault.WorldFault.TheVariants.{NoSession};
-ghost use Rattle.world_front.specs.Front as front;
+ghost use Rattle.world_front.specs.ControlPlane as front;
 ghost use Rattle.cluster.specs.declared.fault.ClusterFault.TheVariants as faults;
 ghost use Rattle.cluster.specs.Asks.{IsPassOf, known_by, sessions_of};
 ghost use Rattle.published_map.specs.Answers.{IsLocated};

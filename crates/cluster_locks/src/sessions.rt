@@ -3,7 +3,7 @@
 ghost use Rattle.std.specs.Prelude.{◌≡◌, ◌+◌, ◌<◌, ◌≤◌, IfOk};
 ghost use Rattle.verdict_core.specs.Verdict.{is_allowed};
 ghost use Rattle.store_core.specs.Request.{Listing, numbers};
-ghost use Rattle.world_front.specs.Front.{asks_more, sealed_of};
+ghost use Rattle.world_front.specs.ControlPlane.{asks_more, sealed_of};
 
 use common_types::OutOfMemory;
 use entry_core::Sealed;

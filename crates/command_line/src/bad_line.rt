@@ -59,7 +59,7 @@ const OPERATIONS: &[&str; 13] = &[
 ];
 
 /// The longest line, in bytes.
-const LONGEST: usize = 8192;
+const MAX_LENGTH: usize = 8192;
 
 /// What is wrong with a line, and at which column, counted from 1.
 #[derive(Drop)]
@@ -217,10 +217,10 @@ fn bad_byte(line: &[u8]) -> Option<usize> {
 
 /// What is wrong with a line that is no command.
 pub(crate) fn slip_of(alloc: Global, line: &[u8]) -> Result<Slip, OutOfMemory> {
-    if line.len() > LONGEST {
+    if line.len() > MAX_LENGTH {
         let text = String::from_str(alloc, "a line has at most 8192 bytes")?;
         return Ok(Slip {
-            column: LONGEST,
+            column: MAX_LENGTH,
             text,
         });
     }

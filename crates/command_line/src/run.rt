@@ -12,7 +12,7 @@ use std::io::{ErrorKind, Read, Write};
 use world_script::run_script;
 
 /// The most bytes that a script may have; one that has more is S2.
-const MOST_BYTES: u64 = 1_048_576;
+const MAX_BYTES: u64 = 1_048_576;
 
 /// Why a script did not run to its end.
 #[derive(Drop)]
@@ -84,7 +84,7 @@ fn script_at<F: InputFiles, R: Read>(
     reader: &mut R,
 ) -> Result<Vec<u8>, RunFault> {
     if path != "-" {
-        return Ok(files.read_bytes(path, MOST_BYTES)?);
+        return Ok(files.read_bytes(path, MAX_BYTES)?);
     }
     match read_script(alloc, reader) {
         Ok(script) => Ok(script),

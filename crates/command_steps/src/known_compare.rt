@@ -11,7 +11,7 @@ ghost use Rattle.verdict_core.specs.Verdict as spec;
 
 use crate::known_methods::{rights_of, with_access};
 use cap_text::{Access, Flags};
-use common_types::{OutOfMemory, TryCopy};
+use common_types::{OutOfMemory, TryClone};
 use compare_core::Registry;
 use compare_text::{AddressedExample, widening_from};
 use grant_core::Path;

@@ -7,7 +7,7 @@ use std::alloc::{AllocError, Global};
 use std::marker::Model;
 
 /// Values that can be copied where there is memory.
-pub trait TryCopy {
+pub trait TryClone {
     /// An equal value. The only error is out of memory.
     fn copy(&self) -> Result<Self, AllocError>
     where
@@ -15,25 +15,25 @@ pub trait TryCopy {
         ensures { IfOk result (λ it. it ≡ self.now) };
 }
 
-impl TryCopy for u8 {
+impl TryClone for u8 {
     fn copy(&self) -> Result<u8, AllocError> {
         Ok(*self)
     }
 }
 
-impl TryCopy for u64 {
+impl TryClone for u64 {
     fn copy(&self) -> Result<u64, AllocError> {
         Ok(*self)
     }
 }
 
-impl TryCopy for Name {
+impl TryClone for Name {
     fn copy(&self) -> Result<Name, AllocError> {
         Name::copy(self)
     }
 }
 
-impl TryCopy for (Name, Name) {
+impl TryClone for (Name, Name) {
     fn copy(&self) -> Result<(Name, Name), AllocError> {
         Ok((self.0.copy()?, self.1.copy()?))
     }
@@ -117,7 +117,7 @@ impl<T: Drop> Items<T> {
     }
 }
 
-impl<T: TryCopy + Drop> TryCopy for Items<T> {
+impl<T: TryClone + Drop> TryClone for Items<T> {
     fn copy(&self) -> Result<Items<T>, AllocError> {
         let mut all = Vec::with_capacity(*self.items.allocator(), self.items.len())?;
         for x in self.items.as_slice() {

@@ -20,7 +20,7 @@ mod tags;
 mod word_bytes;
 
 pub use escapes::push_escape;
-pub use items::{Items, TryCopy};
+pub use items::{Items, TryClone};
 pub use memory::OutOfMemory;
 pub use name::{Name, copy_name};
 pub use tags::{AppTags, Pairs, Tags};

@@ -12,7 +12,7 @@ ghost use Rattle.entry_core.specs.Stored.{LeadsBack, Places, place_in};
 ghost use Rattle.store_core.specs.Objects.{change_of};
 
 use crate::draft::Draft;
-use common_types::{Items, TryCopy};
+use common_types::{Items, TryClone};
 use std::alloc::{AllocError, Global};
 use std::collections::{HashMap, HashSet};
 use std::marker::Model;
@@ -419,7 +419,7 @@ fn append_all(entries: &mut Vec<Entry>, index: &mut HashMap<Id, usize, IdHash>, 
     }
 }
 
-impl TryCopy for Log {
+impl TryClone for Log {
     fn copy(&self) -> Result<Log, AllocError> {
         Ok(Log {
             entries: copy_entries(*self.entries.allocator(), self.entries.as_slice())?,

@@ -3,7 +3,7 @@
 ghost use Rattle.std.specs.Prelude.{◌≡◌, ◌+◌, ◌<◌, ◌==◌, ◌++◌, [], ◌∷◌, length, drop, OnOk, OnErr, slice_index_or};
 ghost use Rattle.std.specs.List.{list_any};
 
-use common_types::{OutOfMemory, TryCopy};
+use common_types::{OutOfMemory, TryClone};
 use entry_core::{Id, IdHash, Sealed};
 use std::alloc::Global;
 use std::collections::{HashSet, VecDeque};
@@ -111,7 +111,7 @@ impl Queue {
     }
 }
 
-impl TryCopy for Queue {
+impl TryClone for Queue {
     fn copy(&self) -> Result<Queue, OutOfMemory> {
         let mut queue = Queue::new(*self.requests.allocator());
         for request in &self.requests {

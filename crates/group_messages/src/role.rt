@@ -1,6 +1,6 @@
 //! What a daemon does for its group.
 
-use common_types::{Items, OutOfMemory, TryCopy};
+use common_types::{Items, OutOfMemory, TryClone};
 use entry_core::Sealed;
 use place_core::ActingSet;
 
@@ -48,7 +48,7 @@ impl Drop for Role {
     }
 }
 
-impl TryCopy for PeerInfo {
+impl TryClone for PeerInfo {
     fn copy(&self) -> Result<PeerInfo, OutOfMemory> {
         Ok(PeerInfo {
             number: self.number,
@@ -59,13 +59,13 @@ impl TryCopy for PeerInfo {
     }
 }
 
-impl TryCopy for Common {
+impl TryClone for Common {
     fn copy(&self) -> Result<Common, OutOfMemory> {
         Ok(*self)
     }
 }
 
-impl TryCopy for Role {
+impl TryClone for Role {
     fn copy(&self) -> Result<Role, OutOfMemory> {
         match self {
             Role::Idle => Ok(Role::Idle),

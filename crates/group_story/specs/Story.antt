@@ -8,7 +8,7 @@ use Rattle.world_events.specs.declared.event.Event.{Event}
 use Rattle.world_events.specs.declared.event.Event.TheVariants.{Auth, Map, Open, Renew, Close, Submit, List as ListNames, Deliver, Lose, Repeat, Kick}
 use Rattle.world_events.specs.declared.fault.WorldFault.{WorldFault as Fault}
 use Rattle.world_front.specs.Groups.{is_same_group}
-use Rattle.world_front.specs.Front.{group_refusal}
+use Rattle.world_front.specs.ControlPlane.{group_refusal}
 use Rattle.world_core.specs.World.{World, group_at}
 use Rattle.group_story.specs.Wire.{kept, TellsStep}
 

@@ -2,7 +2,7 @@
 
 ghost use Rattle.std.specs.Prelude.{◌≡◌, ℕ, true, false, IfOk};
 ghost use Rattle.world_front.specs.Groups.{is_same_group};
-ghost use Rattle.world_front.specs.Front.{told_of};
+ghost use Rattle.world_front.specs.ControlPlane.{told_of};
 ghost use Rattle.world_front.specs.Refusing.{RefusedOrMemory};
 ghost use Rattle.common_types.specs.Refused.{RefusedExactly};
 ghost use Rattle.world_events.specs.declared.event.Event.TheVariants as happens;

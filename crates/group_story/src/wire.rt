@@ -4,7 +4,7 @@ ghost use Rattle.std.specs.Prelude.{◌≡◌, ◌++◌, ℕ, List, Option, leng
 ghost use Rattle.group_model.specs.Types.{Sent};
 ghost use Rattle.group_story.specs.Wire.{taken_from, kept, TellsStep};
 
-use common_types::{Items, OutOfMemory, TryCopy};
+use common_types::{Items, OutOfMemory, TryClone};
 use peer_core::Sent;
 use std::alloc::Global;
 

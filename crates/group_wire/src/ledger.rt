@@ -7,7 +7,7 @@ ghost use Rattle.group_wire.specs.Places.{IsRising, open_places};
 
 use crate::answers::{Answer, Answers};
 use crate::requests::Requests;
-use common_types::{OutOfMemory, TryCopy};
+use common_types::{OutOfMemory, TryClone};
 use entry_core::{Id, Reply, Sealed};
 use std::alloc::Global;
 use std::marker::Model;
@@ -121,7 +121,7 @@ impl Ledger {
     }
 
     /// Takes the last request away, if there is one. It takes no memory.
-    pub fn take_back(&mut self)
+    pub fn undo_submit(&mut self)
         ensures requests { self.new.requests ≡ take (length self.old.requests - 1) self.old.requests }
         ensures answers { self.new.answers ≡ self.old.answers }
     {
@@ -153,7 +153,7 @@ impl Ledger {
     }
 }
 
-impl TryCopy for Ledger {
+impl TryClone for Ledger {
     fn copy(&self) -> Result<Ledger, OutOfMemory> {
         Ok(Ledger {
             requests: self.requests.copy()?,

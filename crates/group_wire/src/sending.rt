@@ -8,7 +8,7 @@ ghost use Rattle.group_model.specs.Group.{to_daemon, to_primary, last_set, annou
 use crate::daemon_sets::last_set;
 use crate::element_at::at;
 use crate::ledger::Ledger;
-use common_types::{OutOfMemory, TryCopy};
+use common_types::{OutOfMemory, TryClone};
 use entry_core::Sealed;
 use group_messages::{IntervalSets, Party};
 use peer_core::{Body, Daemon, Sent};

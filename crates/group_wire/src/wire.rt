@@ -2,13 +2,13 @@
 
 ghost use Rattle.std.specs.Prelude.{◌≡◌, ◌+◌, ◌-◌, ◌<◌, ◌≤◌, ◌++◌, [], length, take, remove, IfOk, OnOk, OnErr, vec_len};
 
-use common_types::{Items, OutOfMemory, TryCopy};
+use common_types::{Items, OutOfMemory, TryClone};
 use peer_core::Sent;
 use std::alloc::Global;
 use std::marker::Model;
 
 /// How many messages that were taken away may stand in front of a short wire.
-const MOST_PASSED: usize = 32;
+const MAX_PASSED: usize = 32;
 
 /// Messages in order of sending. The first is taken away at once: it stays in front, and is dropped later with others.
 pub struct Wire {
@@ -104,7 +104,7 @@ impl Wire {
     fn drop_passed(&mut self)
         ensures { self.new.sent ≡ self.old.sent }
     {
-        if self.passed < MOST_PASSED || self.passed <= self.sent.len() / 2 {
+        if self.passed < MAX_PASSED || self.passed <= self.sent.len() / 2 {
             return;
         }
         let left = self.sent.len() - self.passed;

@@ -93,7 +93,7 @@ pub record IsLintIn (pools : Option (List Pool)) (rights : Rights) (count number
   pub nothing : found.nothing ≡ is_nothing rights number
   pub dead : found.dead ≡ is_dead rights number
   pub reach : found.reach ≡ reach_of rights number
-  pub poolless : found.poolless ≡ is_without_pool pools rights number
+  pub without_pool : found.without_pool ≡ is_without_pool pools rights number
 
 -- what is found of each of `count` grants, in order
 pub record AreLintsIn (pools : Option (List Pool)) (rights : Rights) (count : ℕ) (all : List GrantLint) : Type 0 where

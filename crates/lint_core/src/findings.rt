@@ -95,7 +95,7 @@ fn standings(
 /// The error is the first fault of a list that cannot be expanded, or out of memory. Both leave table and list as they
 /// are. The time is that of one comparison of the whole list, and for a redundant grant a comparison with each other
 /// grant alone.
-pub fn needless(
+pub fn redundancy(
     alloc: Global,
     table: &ProfileTable,
     list: &CapList,

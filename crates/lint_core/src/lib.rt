@@ -36,9 +36,9 @@ mod rights_lint;
 mod tickets;
 mod tidying;
 
-pub use findings::{Standing, needless};
+pub use findings::{Standing, redundancy};
 pub use laws::no_grant_is_idle;
-pub use pools::poolless;
+pub use pools::without_pool;
 pub use rights_lint::{GrantLint, Reach, lint_rights};
 pub use share_core::Pool;
 pub use tidying::tidied;

@@ -69,7 +69,7 @@ fn all_without(
 /// ignored, since a pool can have any (this project's profile).
 ///
 /// The error is the first fault of a list that cannot be expanded, or out of memory. Both leave all as it is.
-pub fn poolless(
+pub fn without_pool(
     alloc: Global,
     table: &ProfileTable,
     list: &CapList,

@@ -36,7 +36,7 @@ pub struct GrantLint {
     pub dead: bool,
     pub reach: Reach,
     /// It matches none of the pools that are given.
-    pub poolless: bool,
+    pub without_pool: bool,
 }
 
 /// The tickets at addresses that decide for all addresses.
@@ -173,7 +173,7 @@ fn lint_of(
         nothing: !has_sought(rights, number, Sought::Any),
         dead: has_sought(rights, number, Sought::Dead),
         reach: reach_of(rights, number),
-        poolless: is_without_pool(rights, number, pools),
+        without_pool: is_without_pool(rights, number, pools),
     })
 }
 

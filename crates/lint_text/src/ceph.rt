@@ -48,7 +48,7 @@ fn push_live(
 {
     push_standing(text, before, number, found.standing)?;
     push_reach(text, before, number, found.reach)?;
-    push_without(text, before, number, found.poolless)
+    push_without(text, before, number, found.without_pool)
 }
 
 /// Adds the lines of a grant.
@@ -88,7 +88,7 @@ fn is_needless(standing: Standing) -> bool
 fn is_mistake(found: &GrantLint) -> bool
     ensures { result ≡ is_mistake found.now }
 {
-    found.nothing || found.dead || is_needless(found.standing) || found.poolless
+    found.nothing || found.dead || is_needless(found.standing) || found.without_pool
 }
 
 fn has_mistake(all: &[GrantLint]) -> bool

@@ -3,7 +3,7 @@
 ghost use Rattle.std.specs.Prelude.{◌≡◌, ◌+◌, ◌≤◌, ◌++◌, [], IfOk, OnOk, length, take, drop};
 ghost use Rattle.object_core.specs.Bytes.{part_of, resized, overwritten};
 
-use common_types::{OutOfMemory, TryCopy};
+use common_types::{OutOfMemory, TryClone};
 use std::alloc::Global;
 use std::marker::Model;
 
@@ -123,7 +123,7 @@ fn lay(bytes: &mut [u8], offset: usize, more: &[u8])
     bytes[offset..end].copy_from_slice(more);
 }
 
-impl TryCopy for Bytes {
+impl TryClone for Bytes {
     fn copy(&self) -> Result<Bytes, OutOfMemory> {
         Bytes::from_slice(*self.bytes.allocator(), self.as_slice())
     }

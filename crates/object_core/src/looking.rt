@@ -11,7 +11,7 @@ use crate::bytes::Bytes;
 use crate::errors::{EINVAL, ENODATA, ENOENT};
 use crate::number::number_of;
 use crate::object::Object;
-use common_types::{Name, OutOfMemory, TryCopy};
+use common_types::{Name, OutOfMemory, TryClone};
 use std::alloc::Global;
 
 /// An output, or the number of an error; or a growth was refused.

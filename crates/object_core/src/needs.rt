@@ -18,7 +18,7 @@ use std::fmt;
 use verdict_core::{Calls, ClassCall, Needs};
 
 /// How many operations a vector has at most.
-const OP_LIMIT: usize = 16;
+const MAX_OPERATIONS: usize = 16;
 
 /// Why a vector of operations is refused before it runs.
 #[derive(Clone, Copy, Debug, PartialEq, Eq)]
@@ -120,7 +120,7 @@ fn needs_fault(ops: &[Op]) -> Option<NeedsFault>
 {
     if ops.is_empty() {
         Some(NeedsFault::EmptyVector)
-    } else if ops.len() > OP_LIMIT {
+    } else if ops.len() > MAX_OPERATIONS {
         Some(NeedsFault::TooManyOps)
     } else if calls_unknown(ops) {
         Some(NeedsFault::NoMethod)

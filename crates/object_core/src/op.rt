@@ -1,7 +1,7 @@
 //! Operations on an object.
 
 use crate::bytes::Bytes;
-use common_types::{Name, OutOfMemory, TryCopy};
+use common_types::{Name, OutOfMemory, TryClone};
 
 /// An operation on an object. Places, lengths and sizes are in bytes.
 #[derive(Debug)]
@@ -76,7 +76,7 @@ impl Drop for Op {
     }
 }
 
-impl TryCopy for Op {
+impl TryClone for Op {
     fn copy(&self) -> Result<Op, OutOfMemory> {
         match self {
             Op::Read { offset, length } => Ok(Op::Read {

@@ -8,7 +8,7 @@ ghost use Rattle.object_core.specs.ToldEffects.{after, told};
 use crate::attributes::Attributes;
 use crate::bytes::Bytes;
 use crate::object::Object;
-use common_types::{Items, OutOfMemory, TryCopy};
+use common_types::{Items, OutOfMemory, TryClone};
 use std::alloc::Global;
 use std::marker::Model;
 

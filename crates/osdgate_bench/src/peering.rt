@@ -2,7 +2,7 @@
 
 use crate::fault::Fault;
 use crate::group::{all, request, three_daemons};
-use common_types::{Name, OutOfMemory, TryCopy};
+use common_types::{Name, OutOfMemory, TryClone};
 use entry_core::Sealed;
 use group_core::Group;
 use place_core::{ActingSet, DaemonSet};

@@ -4,7 +4,7 @@ ghost use Rattle.std.specs.Prelude.{◌≡◌, ◌≢◌, [], IfOk, MatchOption,
 ghost use Rattle.request_types.specs.Target.{Target as TargetSeen};
 ghost use Rattle.rules_core.specs.Touches.{Meets};
 
-use common_types::{OutOfMemory, TryCopy};
+use common_types::{OutOfMemory, TryClone};
 use compare_core::OwnedTarget;
 use share_core::{Pool, Touch, example_in, share, share_in, sharing};
 use std::alloc::Global;

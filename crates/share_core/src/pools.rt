@@ -11,7 +11,7 @@ use crate::meetings::{namespaces_meet, pools_meet, prefixes_meet};
 use crate::targets::{common_namespace, common_object};
 use crate::touches::Touch;
 use cap_text::AllowGrant;
-use common_types::{Name, OutOfMemory, Tags, TryCopy};
+use common_types::{Name, OutOfMemory, Tags, TryClone};
 use compare_core::OwnedTarget;
 use grant_core::Path;
 use std::alloc::Global;

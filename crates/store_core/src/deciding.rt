@@ -13,7 +13,7 @@ use crate::entry::Entry;
 use crate::objects::Objects;
 use crate::reply::Reply;
 use crate::sealed::Sealed;
-use common_types::{OutOfMemory, TryCopy};
+use common_types::{OutOfMemory, TryClone};
 use object_core::{Change, Object, Op, Outcome, run_vector};
 use std::alloc::Global;
 use std::sync::Arc;

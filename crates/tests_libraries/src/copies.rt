@@ -4,7 +4,7 @@ use crate::looks::are;
 use crate::operations::{name, view};
 use crate::pieces::{expect_row, expect_so};
 use crate::sets::set;
-use common_types::{Items, TryCopy};
+use common_types::{Items, TryClone};
 use entry_core::{Id, Sealed};
 use group_messages::{IntervalSets, Party};
 use peer_core::{Body, Daemon, Message, Role, Sent};

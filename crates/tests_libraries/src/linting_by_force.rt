@@ -9,7 +9,7 @@ use crate::pieces::{
 use cap_text::{CapList, parse, print};
 use compare_core::Registry;
 use grant_core::ProfileTable;
-use lint_core::{Standing, needless, tidied};
+use lint_core::{Standing, redundancy, tidied};
 use lint_text::{lint_caps, lint_entities, tidy_caps};
 use std::alloc::Global;
 use std::process::Abort;
@@ -80,9 +80,9 @@ fn is_right<R: Abort>(
 ) -> bool {
     let list = parse(alloc, text).expect(rt, "a list");
     let table = ProfileTable::builtin(alloc).expect(rt, "profiles");
-    let told = needless(alloc, &table, &list).expect(rt, "memory");
+    let told = redundancy(alloc, &table, &list).expect(rt, "memory");
     let kept = tidied(alloc, &table, &list).expect(rt, "memory");
-    let left = needless(alloc, &table, &kept).expect(rt, "memory");
+    let left = redundancy(alloc, &table, &kept).expect(rt, "memory");
     let printed = print(alloc, &kept).expect(rt, "memory");
     left.iter().all(|one| matches!(one, Standing::Needed))
         && !denies_some(rt, alloc, printed.as_str(), text, targets, needs)
@@ -140,7 +140,7 @@ fn two_grants_cover_one(rt: HostRuntime) {
     let alloc = rt.alloc();
     let table = table_of_both(&rt, alloc);
     let list = parse(alloc, "profile both, allow r pool=a, allow w pool=b").expect(&rt, "a list");
-    let told = needless(alloc, &table, &list).expect(&rt, "memory");
+    let told = redundancy(alloc, &table, &list).expect(&rt, "memory");
     expect_so(&rt, are_covered(&told), "two grants that one covers");
     let kept = tidied(alloc, &table, &list).expect(&rt, "memory");
     let printed = print(alloc, &kept).expect(&rt, "memory");

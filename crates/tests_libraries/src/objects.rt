@@ -3,7 +3,7 @@
 ghost use Rattle.std.specs.Prelude.{◌≤◌, length};
 
 use crate::pieces::{expect_so, expect_text, name};
-use common_types::{Name, TryCopy};
+use common_types::{Name, TryClone};
 use object_core::{
     Attributes, Bytes, Change, NeedsFault, Object, Op, Outcome, Outputs, needs_of, removed_is_gone,
     run_vector,

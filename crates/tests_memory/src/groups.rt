@@ -3,7 +3,7 @@
 use crate::looks::{NOTHING, mix, with_id, with_reply, with_wire};
 use crate::requests::request;
 use Step::{Append, Deliver, Kick, Lose, Move, Read, Settle};
-use common_types::{Name, OutOfMemory, TryCopy};
+use common_types::{Name, OutOfMemory, TryClone};
 use entry_core::{GroupId, Id, Reply};
 use group_core::Group;
 use object_core::NeedsFault;

@@ -12,7 +12,7 @@ use Rattle.world_events.specs.declared.event.Told.{Told}
 use Rattle.world_events.specs.declared.event.Told.TheVariants.{Done}
 use Rattle.world_events.specs.declared.fault.WorldFault.{WorldFault as Fault}
 use Rattle.world_events.specs.declared.fault.WorldFault.TheVariants.{OutOfMemory, Group as OfGroup}
-use Rattle.world_front.specs.Front.{told_of}
+use Rattle.world_front.specs.ControlPlane.{told_of}
 use Rattle.world_core.specs.World.{World, counts, refusal_of, world_step}
 use Rattle.common_types.specs.Refused.{RefusedExactly}
 use Rattle.world_front.specs.Refusing.{RefusedOrMemory}

@@ -6,7 +6,7 @@ ghost use Rattle.entry_core.specs.Locality.{group_for};
 ghost use Rattle.group_model.specs.Group.{Group};
 ghost use Rattle.map_core.specs.Refusal.{acting_refusal};
 ghost use Rattle.world_events.specs.declared.fault.WorldFault.TheVariants.{Map as OfMap};
-ghost use Rattle.world_front.specs.Front.{error_of};
+ghost use Rattle.world_front.specs.ControlPlane.{error_of};
 ghost use Rattle.world_core.specs.Moves.{AreGroupsOf, IsAt};
 ghost use Rattle.world_core.specs.Sound.{IsSealedFor};
 

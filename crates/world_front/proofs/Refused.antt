@@ -17,7 +17,7 @@ use Rattle.map_core.specs.declared.fault.MapFault.{MapFault}
 use Rattle.map_core.specs.declared.fault.MapFault.TheVariants as map_fault
 use Rattle.world_front.specs.Event.{Made, There, Fault, OutOfMemory, OfUsers, OfMap}
 use Rattle.world_events.specs.Faults.{users_fault, fault_of_map}
-use Rattle.world_front.specs.Front.{told_creation, ticket_with, ticket_for}
+use Rattle.world_front.specs.ControlPlane.{told_creation, ticket_with, ticket_for}
 use Rattle.world_front.specs.Refusing.{RefusedOrMemory}
 use Rattle.world_front.proofs.Tickets.{tickets_are_read}
 

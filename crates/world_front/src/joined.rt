@@ -4,7 +4,7 @@ ghost use Rattle.std.specs.Prelude.{◌≡◌, [], None, IfOk, OnOk};
 ghost use Rattle.world_front.specs.Joining.{reply_of, with_reply};
 
 use crate::name_set::NameSet;
-use common_types::{OutOfMemory, TryCopy};
+use common_types::{OutOfMemory, TryClone};
 use entry_core::Reply;
 use std::alloc::Global;
 

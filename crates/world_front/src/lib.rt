@@ -18,11 +18,11 @@ mod stopping;
 mod users;
 
 pub use asking::{are_names, is_namespace};
-pub use front::{Front, MOST_SESSIONS};
+pub use front::{ControlPlane, MAX_SESSIONS};
 pub use joined::Joined;
 pub use pool_places::{groups_before, place_for};
 pub use sealing::{seal_piece, seal_vector};
-pub use session::{Pieced, Session};
+pub use session::{ListRange, Session};
 pub use stopping::at_place;
 pub use users::change_users;
 pub use world_events::{Ask, AuthCommand, Event, Ops, Submissions, Told, WorldFault};

@@ -6,7 +6,7 @@ ghost use Rattle.object_core.specs.Needs.{needs_fault};
 ghost use Rattle.store_core.specs.Request.{Listing, numbers};
 ghost use Rattle.world_front.specs.Event.{OfNeeds};
 ghost use Rattle.world_front.specs.Refusing.{RefusedOrMemory};
-ghost use Rattle.world_front.specs.Front.{pieces_of, sealed_of, vector_of};
+ghost use Rattle.world_front.specs.ControlPlane.{pieces_of, sealed_of, vector_of};
 
 use crate::asking::Asker;
 use crate::session::Session;

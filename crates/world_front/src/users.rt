@@ -6,8 +6,8 @@ ghost use Rattle.auth_db.specs.Refusals.{auth_refusal, known_refusal};
 ghost use Rattle.auth_db.specs.Refusals as refusals;
 ghost use Rattle.auth_db.specs.Users.{after, user_at, GetOrCreate, SetCaps};
 ghost use Rattle.world_front.specs.Event.{OfUsers};
-ghost use Rattle.world_front.specs.Front.{command_of, told_auth, told_creation};
-ghost use Rattle.world_front.specs.Front as spec;
+ghost use Rattle.world_front.specs.ControlPlane.{command_of, told_auth, told_creation};
+ghost use Rattle.world_front.specs.ControlPlane as spec;
 ghost use Rattle.common_types.specs.Refused.{RefusedExactly};
 ghost use Rattle.world_front.specs.Refusing.{RefusedOrMemory};
 

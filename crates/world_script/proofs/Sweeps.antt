@@ -16,7 +16,7 @@ use Rattle.group_model.proofs.Lowering.{deliver_lowers, lose_lowers}
 use Rattle.world_events.specs.declared.event.Event.{Event}
 use Rattle.world_events.specs.declared.fault.WorldFault.{WorldFault as Fault}
 use Rattle.world_events.specs.declared.fault.WorldFault.TheVariants.{OutOfMemory, Group as OfGroup}
-use Rattle.world_front.specs.Front.{group_refusal}
+use Rattle.world_front.specs.ControlPlane.{group_refusal}
 use Rattle.world_core.specs.World.{World, group_at, at_group, world_step, refusal_of, refused_in, is_drop}
 use Rattle.world_core.specs.Calls.{KeepsPromises}
 use Rattle.world_script.specs.Script.{budget_in, has_messages, events_while, emptied_within, emptied, one_if_none, unrefused, on_each}

@@ -12,7 +12,7 @@ use Rattle.object_core.specs.declared.op.Op.{Op}
 use Rattle.object_core.specs.declared.op.Op.TheVariants as op
 use Rattle.auth_db.specs.declared.caps.Caps.{Caps}
 use Rattle.store_core.specs.declared.sealed.GroupId.{GroupId}
-use Rattle.world_front.specs.Front.{id_of}
+use Rattle.world_front.specs.ControlPlane.{id_of}
 use Rattle.world_events.specs.declared.event.AuthCommand.{AuthCommand}
 use Rattle.world_events.specs.declared.event.Event.TheVariants as happens
 use Rattle.world_events.specs.declared.event.AuthCommand.TheVariants as on_users

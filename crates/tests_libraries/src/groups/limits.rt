@@ -8,7 +8,7 @@ use super::steps::Step::{
 use super::steps::{Step, begun, expect, expect_from};
 use crate::operations::Work;
 use crate::pieces::expect_so;
-use common_types::TryCopy;
+use common_types::TryClone;
 use group_core::Group;
 use group_messages::GroupFault;
 use std::alloc::Global;

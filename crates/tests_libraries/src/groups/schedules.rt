@@ -8,7 +8,7 @@ use crate::pieces::expect_row;
 use crate::sets::{set, up};
 use Event::{Deliver, Lose, LoseAll, Move, Settle, Submit};
 use Party::{Client, Osd};
-use common_types::TryCopy;
+use common_types::TryClone;
 use entry_core::{Id, Reply};
 use group_core::Group;
 use group_messages::{GroupFault, Party};

@@ -4,7 +4,7 @@ ghost use Rattle.std.specs.Prelude.{◌≡◌, ◌+◌, ◌<◌, ◌%◌, IfOk, 
 ghost use Rattle.world_core.specs.Answers.{answer_at};
 ghost use Rattle.world_core.specs.Calls.{answer_refusal};
 ghost use Rattle.store_core.specs.Request.{numbers};
-ghost use Rattle.world_front.specs.Front.{error_of};
+ghost use Rattle.world_front.specs.ControlPlane.{error_of};
 ghost use Rattle.world_core.specs.Listing.{listing_at};
 ghost use Rattle.common_types.specs.Refused.{RefusedExactly};
 ghost use Rattle.world_front.specs.Refusing.{RefusedOrMemory};

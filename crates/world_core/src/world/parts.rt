@@ -14,7 +14,7 @@ use common_types::OutOfMemory;
 use group_core::Group;
 use map_core::ClusterMap;
 use std::alloc::Global;
-use world_front::{Front, Session, Submissions};
+use world_front::{ControlPlane, Session, Submissions};
 
 /// What a world is put together of, as threads give it back.
 #[derive(Drop)]
@@ -80,7 +80,7 @@ impl World {
             groups,
         } = parts;
         Ok(World {
-            front: Front::of(alloc, users, map, sessions, submissions),
+            front: ControlPlane::of(alloc, users, map, sessions, submissions),
             groups,
             runs,
         })
