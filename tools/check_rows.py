@@ -4,7 +4,8 @@
 A section of crates.txt begins with a line `# ROW NAME, ..`, and its crates are in that row. A crate uses crates of its own
 row and of lower rows. The section `questions` and the sections of the replicated half (`stores`, `groups`, `worlds`,
 `runs`) see nothing of each other; above them only the crates of BOTH see both halves, the others see `questions` alone.
-The drawing in crates/README.md has each crate in its row. Exit status 1 where one of these does not hold.
+The drawing in crates/README.md has each crate in its row. docs/design/ARCHITECTURE.md has the same drawing, and each crate in its
+table. Exit status 1 where one of these does not hold.
 """
 import fnmatch
 import os
@@ -69,6 +70,15 @@ def drawing_faults(crates, text):
             yield f"crates/README.md: there is no crate {word}"
 
 
+def architecture_faults(crates, page, text):
+    """Where the page on the architecture has another drawing, or leaves out a crate."""
+    if page.split("```")[1] != text.split("```")[1]:
+        yield "docs/design/ARCHITECTURE.md: its drawing is not that of crates/README.md"
+    listed = set(re.findall(r"`([a-z_]+)`", page))
+    for crate in (it for it in crates if it not in listed):
+        yield f"docs/design/ARCHITECTURE.md: {crate} is not in the table"
+
+
 def read(name):
     with open(f"{TOP}/{name}", encoding="utf-8") as it:
         return it.read()
@@ -76,7 +86,9 @@ def read(name):
 
 def main():
     crates = rows(read("crates.txt"))
-    faults = [*faults_of(crates), *drawing_faults(crates, read("crates/README.md"))]
+    text = read("crates/README.md")
+    faults = [*faults_of(crates), *drawing_faults(crates, text)]
+    faults += architecture_faults(crates, read("docs/design/ARCHITECTURE.md"), text)
     print("".join(f"{it}\n" for it in faults), end="")
     return 1 if faults else 0
 
