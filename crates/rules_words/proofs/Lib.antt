@@ -1,0 +1,4 @@
+pub mod Fronts
+pub mod FirstWords
+pub mod AllWords
+pub mod Names

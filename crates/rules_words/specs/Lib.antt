@@ -1,0 +1,4 @@
+pub mod Words
+pub mod Cutting
+pub mod Naming
+pub mod Named
