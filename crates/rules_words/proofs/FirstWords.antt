@@ -1,5 +1,5 @@
 -- What the rest of a line begins with.
-use Rattle.std.proofs.Common.{◌≡◌, ℕ, suc, ◌+◌, ◌-◌, ◌<◌, ◌≤◌, Bool, true, false, not, ◌||◌, ◌&&◌, ◌==◌, cond, List, [], ◌∷◌, ◌++◌, length, take, drop, get_or, refl, sym, ap, subst, ◌∙◌, arith, Option, None, Some, length-drop, length-append, append_assoc}
+use Rattle.std.proofs.Common.{◌≡◌, ℕ, zero, suc, ◌+◌, ◌-◌, ◌<◌, ◌≤◌, Bool, true, false, not, ◌||◌, ◌&&◌, ◌==◌, cond, List, [], ◌∷◌, ◌++◌, length, take, drop, get_or, refl, sym, ap, subst, ◌∙◌, arith, Option, None, Some, length-drop, length-append, append_assoc}
 use Rattle.std.specs.List.{prefix_len, list_all}
 use Rattle.std.specs.Str.{IsAscii}
 use Rattle.std.proofs.lemmas.Bool.Decides.{nat_tests}
@@ -101,7 +101,7 @@ bare_begins text (x ∷ xs) b is some first quote =
 
 pub quote_begins : (start : List ℕ) (b : ℕ) → 0 < length start → b ≡ get_or start 0 0 → is_quote b ≡ true → IsQuoted b start
 quote_begins [] b some first quote = absurd (omega arith)
-quote_begins (x ∷ xs) b some first quote = (quote, xs, ap (λ k. k ∷ xs) (sym first))
+quote_begins (x ∷ xs) b some first quote = (quote, (xs, ap (λ k. k ∷ xs) (sym first)))
 
 -- ---- words without quotes
 
@@ -114,6 +114,9 @@ stray_quote (b ∷ bs) text is h = by (is_blank b) (is_quote b) (rest_fails is_b
     by true false a b = absurd cc
     by false false a b = absurd cc
 
+one_byte : (n : ℕ) → not (suc n == 0) ≡ true
+one_byte n = grind (arith, nat_tests)
+
 some_bare : (text word : List ℕ) → 0 < prefix_len is_bare text → word ≡ take (prefix_len is_bare text) text → is_word None word ≡ true
 some_bare [] word some is = absurd (omega arith)
 some_bare (x ∷ xs) [] some is = absurd (none (prefix_len is_bare (x ∷ xs)) some is)
@@ -121,7 +124,7 @@ some_bare (x ∷ xs) [] some is = absurd (none (prefix_len is_bare (x ∷ xs)) s
     none : (n : ℕ) → 0 < n → [] ≡ take n (x ∷ xs) → ⊥
     none zero h e = omega arith
     none (suc n) h e = cc
-some_bare (x ∷ xs) (w ∷ ws) some is = ap (list_all is_bare) is ∙ front_passes is_bare (x ∷ xs)
+some_bare (x ∷ xs) (w ∷ ws) some is = rw (one_byte (length ws)) (ap (list_all is_bare) is ∙ front_passes is_bare (x ∷ xs))
 
 pub bare_first : (size : ℕ) (text : List ℕ) (word : Word) (behind : List ℕ) (r : FirstWord) → IsAscii text → length text ≤ size → 0 < prefix_len is_bare text → word.quote ≡ None
     → word.text.now ≡ take (prefix_len is_bare text) text → behind ≡ drop (prefix_len is_bare text) text → word.at ≡ size - length text → IsEnded size word behind r → IsFirst size text r
@@ -177,7 +180,7 @@ quoted_sound q inner word quote front = rw (quote, front) (front_passes (is_insi
 pub quoted_first : (size q : ℕ) (text inner : List ℕ) (word : Word) (behind : List ℕ) (r : FirstWord) → IsAscii text → length text ≤ size → IsQuoted q text → inner ≡ drop 1 text
     → prefix_len (is_inside q) inner < length inner → word.quote ≡ Some q → word.text.now ≡ take (prefix_len (is_inside q) inner) inner → behind ≡ drop 1 (drop (prefix_len (is_inside q) inner) inner)
     → word.at ≡ size - length text → IsEnded size word behind r → IsFirst size text r
-quoted_first size q text inner word behind r ascii within (quotes, rest, parts) is shut quote front back at h = go r h
+quoted_first size q text inner word behind r ascii within (quotes, (rest, parts)) is shut quote front back at h = go r h
   where
     opens : text ≡ q ∷ inner
     opens = parts ∙ ap (λ xs. q ∷ xs) (sym (is ∙ ap (drop 1) parts))
@@ -193,8 +196,8 @@ quoted_first size q text inner word behind r ascii within (quotes, rest, parts) 
 
     go : (r : FirstWord) → IsEnded size word behind r → IsFirst size text r
     go first.End h = absurd h
-    go (first.Word same rest) (is_word, rests, end) = (
-      subst (λ (w : Word). Begins size text w rest.now) (sym is_word) (subst (Begins size text word) (sym rests) begins),
+    go (first.Word same rest) (is_same, rests, end) = (
+      subst (λ (w : Word). Begins size text w rest.now) (sym is_same) (subst (Begins size text word) (sym rests) begins),
       ap ends rests ∙ end,
       subst (λ (xs : List ℕ). IsAscii xs) (sym (rests ∙ back)) (IsAscii-drop (drop (prefix_len (is_inside q) inner) inner) 1 (IsAscii-drop inner (prefix_len (is_inside q) inner) (subst (λ (xs : List ℕ). IsAscii xs) (sym is) (IsAscii-drop text 1 ascii)))),
       omega (arith, length-drop 1 (drop (prefix_len (is_inside q) inner) inner), length-drop (prefix_len (is_inside q) inner) inner, ap length (rests ∙ back), ap length opens),
@@ -206,6 +209,6 @@ quoted_first size q text inner word behind r ascii within (quotes, rest, parts) 
 
 pub open_first : (size q : ℕ) (text inner : List ℕ) (at : ℕ) → length text ≤ size → IsQuoted q text → inner ≡ drop 1 text → prefix_len (is_inside q) inner ≡ length inner → at ≡ size - length text
     → IsFirst size text (first.Bad (bad.OpenQuote at))
-open_first size q text inner at within (quotes, rest, parts) is all from =
+open_first size q text inner at within (quotes, (rest, parts)) is all from =
     let opens : text ≡ q ∷ inner = parts ∙ ap (λ xs. q ∷ xs) (sym (is ∙ ap (drop 1) parts)) in
     ([], inner, q, refl, quotes, all_pass (is_inside q) inner all, opens, subst (λ (xs : List ℕ). at + length xs ≡ size) opens (omega arith))
