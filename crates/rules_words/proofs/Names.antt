@@ -1,9 +1,9 @@
 -- The first fault of words, step by step.
-use Rattle.std.proofs.Common.{◌≡◌, ℕ, ◌+◌, ◌<◌, ◌≤◌, Bool, true, false, List, [], ◌∷◌, ◌++◌, Option, None, Some, is_some, nat_lt, length, drop, get_or, flat_map, refl, sym, ap, ◌∙◌, arith, length-append}
+use Rattle.std.proofs.Common.{◌≡◌, ℕ, ◌+◌, ◌<◌, ◌≤◌, true, false, List, ◌∷◌, ◌++◌, Option, None, Some, is_some, nat_lt, length, drop, get_or, refl, sym, ap, ◌∙◌, arith, length-append}
 use Rattle.std.specs.Option.{option_or}
 use Rattle.std.proofs.lemmas.Bool.Decides.{nat_tests}
 use Rattle.std.proofs.lemmas.List.{drop_more}
-use Rattle.rules_words.specs.Naming.{at, are_many, except_fault, excepted, fault_at, front, group_fault, group_name_fault, is_other, many_fault, name_fault, named, names_fault, names_of, place, rest, some_fault, who_fault}
+use Rattle.rules_words.specs.Naming.{at, except_fault, excepted, fault_at, front, group_fault, group_name_fault, is_other, many_fault, name_fault, names_fault, names_of, place, rest, some_fault, who_fault}
 use Rattle.rules_words.specs.declared.naming.Group.{Group}
 use Rattle.rules_words.specs.declared.naming.NameFault.TheVariants.{TooManyNames}
 use Rattle.rules_words.specs.declared.naming.NamesFault.{NamesFault}

@@ -1,10 +1,10 @@
 -- Refinement: only contracts inside the crate use it.
 -- What the rest of a line begins with.
-use Rattle.std.specs.Prelude.{ℕ, ◌≡◌, ◌+◌, ◌<◌, true, false, List, [], ◌∷◌, Result, Ok, Err, Vec, length}
+use Rattle.std.specs.Prelude.{ℕ, ◌≡◌, ◌+◌, ◌<◌, true, false, List, ◌∷◌, Result, Ok, Err, Vec, length}
 use Rattle.std.specs.List.{list_all}
 use Rattle.std.specs.Str.{IsAscii}
 use Rattle.std.specs.declared.alloc.Global.{Global}
-use Rattle.rules_words.specs.Words.{Begins, IsBadWord, IsCut, Leads, breaks, ends, is_blank, is_quote, is_word, written}
+use Rattle.rules_words.specs.Words.{Begins, IsBadWord, IsCut, Leads, ends, is_blank, is_quote}
 use Rattle.rules_words.specs.declared.words.BadWord.{BadWord}
 use Rattle.rules_words.specs.declared.words.BadWord.TheVariants.{OpenQuote, StrayQuote, BadByte, TooLong}
 use Rattle.rules_words.specs.declared.words.CutLine.{CutLine}

@@ -1,4 +1,4 @@
-use Rattle.std.proofs.Common.{refl, ap, ◌∙◌, sym, drop, take}
+use Rattle.std.proofs.Common.{refl, ap, ◌∙◌, drop, take}
 use Rattle.std.specs.List.{prefix_len}
 use Rattle.std.proofs.lemmas.List.Sums.{prefix_len-le-length}
 use Rattle.rules_words.specs.Words.{is_bare}

@@ -1,9 +1,8 @@
-use Rattle.std.proofs.Common.{ℕ, List, length, drop, get_or, sym, ap, ◌∙◌, rules, arith}
+use Rattle.std.proofs.Common.{ℕ, List, drop, get_or, sym, ap, ◌∙◌, rules}
 use Rattle.std.specs.List.{prefix_len}
 use Rattle.std.proofs.lemmas.List.Sums.{prefix_len-le-length}
-use Rattle.std.proofs.lemmas.Grind.{common_steps}
 use Rattle.rules_words.specs.Words.{is_blank}
-use Rattle.rules_words.proofs.FirstWords.{bare_begins, behind_all_blanks, only_blanks, quote_begins}
+use Rattle.rules_words.proofs.FirstWords.{bare_begins, behind_all_blanks, only_blanks}
 use Rattle.rules_words.proofs.words.first_word.Goals as goal
 
 pub cut-requires-clause-within : goal.cut-requires-clause-within

@@ -3,7 +3,6 @@ use Rattle.std.specs.List.{prefix_len}
 use Rattle.std.proofs.lemmas.List.Sums.{prefix_len-le-length}
 use Rattle.std.proofs.lemmas.Str.{IsAscii-drop}
 use Rattle.std.specs.Str.{IsAscii}
-use Rattle.std.proofs.lemmas.Grind.{common_steps}
 use Rattle.rules_words.specs.Words.{is_inside}
 use Rattle.rules_words.proofs.FirstWords.{open_first, quoted_first}
 use Rattle.rules_words.proofs.words.quoted_word.Goals as goal
