@@ -8,6 +8,7 @@ ghost use Rattle.rules_text.specs.Checked.{AreChecked};
 
 use crate::file::RuleLine;
 use common_types::OutOfMemory;
+use rights_core::Rights;
 use rules_core::{Outcome, Subject, check};
 use share_core::Pool;
 use std::alloc::Global;
@@ -28,16 +29,23 @@ impl Drop for CheckedRule<'_> {
     }
 }
 
+/// The rights of an entity's text, if it could be read.
+fn rights_of(entity: &ReadEntity) -> Option<&Rights>
+    ensures { option_copied result ≡ spec.rights_of entity.now.osd.read }
+{
+    match entity.osd.read() {
+        Ok(rights) => Some(rights),
+        Err(_) => None,
+    }
+}
+
 /// An entity as rules see it.
 fn subject_of(entity: &ReadEntity) -> Subject<'_>
     ensures { result ≡ spec.subject_of entity.now }
 {
     Subject {
         name: entity.name.as_str(),
-        rights: match entity.osd.read() {
-            Ok(rights) => Some(rights),
-            Err(_) => None,
-        },
+        rights: rights_of(entity),
     }
 }
 

@@ -49,14 +49,21 @@ fn push_glyph(text: &mut String, byte: u8) -> Result<(), OutOfMemory>
     }
 }
 
+/// Adds bytes as XML has them.
+fn push_glyphs(text: &mut String, bytes: &[u8]) -> Result<(), OutOfMemory>
+    ensures { OnOk result (string_bytes text.new ≡ string_bytes text.old ++ spec.escaped bytes.now) }
+{
+    for byte in bytes {
+        push_glyph(text, *byte)?;
+    }
+    Ok(())
+}
+
 /// Adds a text as XML has it.
 fn push_escaped(text: &mut String, more: &str) -> Result<(), OutOfMemory>
     ensures { OnOk result (string_bytes text.new ≡ string_bytes text.old ++ spec.escaped more.now) }
 {
-    for byte in more.as_bytes() {
-        push_glyph(text, *byte)?;
-    }
-    Ok(())
+    push_glyphs(text, more.as_bytes())
 }
 
 fn push_failure(text: &mut String, message: &str, body: &str) -> Result<(), OutOfMemory>

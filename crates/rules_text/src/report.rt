@@ -1,13 +1,14 @@
 //! Checked rules as a text.
 
 ghost use Rattle.std.specs.Prelude.{◌≡◌, ◌++◌, IfOk, OnOk, flat_map, option_copied, slice_get, string_bytes};
-ghost use Rattle.compare_text.specs.Request.{addressed_words};
+ghost use Rattle.compare_text.specs.Request.{addressed_words, from_words};
 ghost use Rattle.rules_text.specs.Report as spec;
 
 use crate::checked::{CheckedRule, broken_count, kept_count};
 use crate::file::RuleLine;
 use common_types::OutOfMemory;
 use compare_text::{AddressedExample, push_request};
+use network_core::Address;
 use rules_core::{Demand, Finding, Found, Outcome, Rule};
 use std::alloc::Global;
 use std::fmt::Write;
@@ -59,15 +60,22 @@ fn rule_words(rule: &Rule) -> &'static str
     }
 }
 
+/// Adds the option of an address, if there is one.
+fn push_from(text: &mut String, from: &Option<Address>) -> Result<(), OutOfMemory>
+    ensures { OnOk result (string_bytes text.new ≡ string_bytes text.old ++ from_words from.now) }
+{
+    match from {
+        Some(address) => write!(text, " --from {address}"),
+        None => Ok(()),
+    }
+}
+
 /// Adds a request in words of `osdgate verdict`.
 pub(crate) fn push_addressed(text: &mut String, found: &AddressedExample) -> Result<(), OutOfMemory>
     ensures { OnOk result (string_bytes text.new ≡ string_bytes text.old ++ addressed_words found.now) }
 {
     push_request(text, &found.example)?;
-    match &found.from {
-        Some(address) => write!(text, " --from {address}"),
-        None => Ok(()),
-    }
+    push_from(text, &found.from)
 }
 
 /// Adds the line of an entity, a grant and a request.
