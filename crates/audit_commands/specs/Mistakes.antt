@@ -18,7 +18,7 @@ abbrev pub mistakes : GrantLint → List Mistake
 mistakes lint =
     if lint.nothing then Unknown ∷ []
     else (if lint.dead then NoAddress ∷ []
-    else ((if lint.poolless then NoPool ∷ [] else []) ++ redundancy lint.standing))
+    else ((if lint.without_pool then NoPool ∷ [] else []) ++ redundancy lint.standing))
 
 -- it grants nothing as the cluster is now
 abbrev pub is_idle : Mistake → Bool

@@ -86,7 +86,7 @@ fn mistakes_of(alloc: Global, lint: &GrantLint) -> Result<Vec<Mistake>, OutOfMem
         all.push(Mistake::NoAddress)?;
         return Ok(all);
     }
-    if lint.poolless {
+    if lint.without_pool {
         all.push(Mistake::NoPool)?;
     }
     push_redundancy(&mut all, lint.standing)?;
@@ -113,14 +113,14 @@ fn push_findings<'a>(
 }
 
 /// The most grants that a text has by this project's rules.
-const MOST_GRANTS: usize = 64;
+const MAX_GRANTS: usize = 64;
 
 /// How many grants a text has by this project's rules, none where it is refused.
 fn count_of(alloc: Global, text: &str) -> Result<usize, OutOfMemory>
     ensures { IfOk result (λ count. count < 2 ^ 32) }
 {
     match parse(alloc, text) {
-        Ok(list) => Ok(list.grants().len().min(MOST_GRANTS)),
+        Ok(list) => Ok(list.grants().len().min(MAX_GRANTS)),
         Err(fault) if fault.kind == FaultKind::OutOfMemory => Err(AllocError),
         Err(_) => Ok(0),
     }

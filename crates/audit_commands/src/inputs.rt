@@ -3,7 +3,7 @@
 use crate::arguments::AuditArguments;
 use clap::ArgMatches;
 use command_steps::{NoAnswer, auth_in, or_bad_file, refuse_unmatched, text_in};
-use common_types::{OutOfMemory, TryCopy};
+use common_types::{OutOfMemory, TryClone};
 use gate_files::{Choice, Chosen, InputFiles, Purpose, keep_chosen, pools_of};
 use share_core::Pool;
 use std::alloc::Global;

@@ -178,7 +178,7 @@ every_given letters.Any pool grants h target needs inside (plain, are) = elim (e
       )
 ]
 
--- a number with which no name of the grants begins
+-- a number that is not the first byte of any name of the grants
 
 head : List ℕ → ℕ
 head [] = 0

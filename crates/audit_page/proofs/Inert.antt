@@ -27,7 +27,7 @@ and_both false b p q = p
 number : (b : ℕ) → list_all is_inert (escape b) ≡ true
 number b = and_both (is_inert (hex_digit (b / 16))) _ (digit (b / 16)) (and_both (is_inert (hex_digit (b % 16))) true (digit (b % 16)) refl)
 
--- a byte that is shown as it is, and is none of these four
+-- a byte that is shown as it is, and is not one of these four
 shown : (b : ℕ) → (b == 60) ≡ false → (b == 62) ≡ false → (b == 34) ≡ false → (b == 39) ≡ false → list_all is_inert (shown_byte b) ≡ true
 shown b p q r s = pick (nat_le 32 b && nat_le b 126)
   where

@@ -21,7 +21,7 @@ const BEFORE_POOL: &str = "--pool ";
 /// The words of a target behind the pool's.
 const BEHIND_POOL: &str = " --object a";
 
-/// A copy of a name, or another one where there is none or it is empty.
+/// A copy of a name, or of `other` if the name is absent or empty.
 fn name_or(alloc: Global, name: &Option<Name>, other: &str) -> Result<Name, OutOfMemory> {
     match name {
         Some(name) if !name.is_empty() => name.copy(),

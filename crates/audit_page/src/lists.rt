@@ -10,7 +10,7 @@ use std::alloc::Global;
 use std::fmt::Write;
 use verdict_text::ReadEntity;
 
-/// Adds a title, and the items below it or that there are none.
+/// Adds a title, and below it the items, or `None.` if there are no items.
 fn push_list(text: &mut String, title: &str, items: &str) -> Result<(), OutOfMemory> {
     write!(text, "<section><h2>{title}</h2>\n")?;
     if items.is_empty() {

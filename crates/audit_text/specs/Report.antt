@@ -27,7 +27,7 @@ abbrev pub head : Rules → List ℕ
 head rules =
     rules_words rules ++ codes ". These are osd capabilities alone: what an entity\nmay ask of mon, mgr and mds is not looked at.\nr reads, w writes, l lists, x calls methods of listed classes: plain where every\nobject of every namespace, in brackets where some. * is every request, - none.\n\n"
 
--- a title, and the lines below it or that there are none
+-- a title with the lines below it, or with the word none where no line follows
 abbrev pub section : List ℕ → List ℕ → List ℕ
 section title [] = title ++ codes ": none\n"
 section title (byte ∷ bytes) = title ++ (codes ":\n" ++ (byte ∷ bytes))

@@ -13,7 +13,7 @@ use std::alloc::Global;
 use verdict_text::push_shown_text;
 
 /// The longest word of a cell: letters and brackets.
-const LONGEST_WORD: usize = 6;
+const MAX_WORD_LENGTH: usize = 6;
 
 fn push_blanks(text: &mut String, count: usize) -> Result<(), OutOfMemory>
     ensures { OnOk result (string_bytes text.new ≡ string_bytes text.old ++ replicate count 32) }
@@ -30,7 +30,7 @@ fn column_width(alloc: Global, pool: &Pool) -> Result<usize, OutOfMemory>
 {
     let mut name = String::new(alloc);
     push_shown_text(&mut name, pool.name.as_str())?;
-    Ok(name.len().max(LONGEST_WORD))
+    Ok(name.len().max(MAX_WORD_LENGTH))
 }
 
 fn widths_of(alloc: Global, pools: &[Pool]) -> Result<Vec<usize>, OutOfMemory>

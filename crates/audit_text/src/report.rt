@@ -39,7 +39,7 @@ fn head(alloc: Global, rules: Rules) -> Result<String, OutOfMemory>
     Ok(text)
 }
 
-/// Adds a title, and the lines below it or that there are none.
+/// Adds a title with the lines below it, or with the word none where no line follows.
 fn push_section(text: &mut String, title: &str, lines: &str) -> Result<(), OutOfMemory>
     ensures { OnOk result (string_bytes text.new ≡ string_bytes text.old ++ spec.section title.now lines.now) }
 {

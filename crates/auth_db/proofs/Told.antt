@@ -20,7 +20,7 @@ use Rattle.auth_db.specs.declared.fault.AuthFault.TheVariants.{OutOfMemory, BadP
 use Rattle.auth_db.specs.Texts.{IsGood}
 use Rattle.auth_db.specs.Refusals.{fault_of_kind, profile_fault, read_refusal, OsdRefuses, RefusalsAreTheTexts}
 
--- the fault is this refusal, or want of memory
+-- the fault is this refusal, or out of memory
 abbrev pub Told : Option AuthFault → AuthFault → Type 0
 Told refusal fault = (fault ≡ OutOfMemory) ⊎ (refusal ≡ Some fault)
 

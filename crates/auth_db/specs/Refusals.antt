@@ -53,7 +53,7 @@ again name stored caps =
 
 -- ---- what an osd text is refused by
 
--- its first fault, or why its list is not expanded; want of memory may come in place of either
+-- its first fault, or why its list is not expanded; out of memory may come in place of either
 abbrev pub TextRefuses : Table → List ℕ → AuthFault → Type 0
 TextRefuses table text OutOfMemory = Unit {0}
 TextRefuses table text (BadCaps fault) = IsBadText text fault
@@ -98,7 +98,7 @@ auth_refusal database (GetOrCreate name caps) = creation_refusal database name c
 auth_refusal database (SetCaps name caps) = option_or (caps_refusal database.users name caps) (osd_refusal database.table caps.osd)
 auth_refusal database (Delete name) = known_refusal database.users name
 
--- accepted only where there is no such refusal, and refused by it or for want of memory
+-- accepted only where there is no such refusal; a fault is that refusal, or out of memory
 abbrev pub RefusedOrMemory : {T : Type 0} → Option AuthFault → Result T AuthFault → Type 0
 RefusedOrMemory refusal (Ok x) = refusal ≡ None
 RefusedOrMemory refusal (Err fault) = (fault ≡ OutOfMemory) ⊎ (refusal ≡ Some fault)
@@ -113,7 +113,7 @@ abbrev pub fault_of_kind : CapFault → FaultKind → AuthFault
 fault_of_kind fault kinds.OutOfMemory = OutOfMemory
 fault_of_kind fault kind = BadCaps fault
 
--- want of memory is this layer's own
+-- out of memory becomes this layer's own fault
 abbrev pub text_fault : CapFault → AuthFault
 text_fault fault = fault_of_kind fault fault.kind
 

@@ -1,5 +1,5 @@
 -- Statement: contracts of public calls use it.
--- The texts of a user, and what its osd text comes to.
+-- The texts of a user, and what its osd text expands to.
 use Rattle.std.specs.Prelude.{◌≡◌, ℕ, List, [], Bool, true, false, ◌&&◌, ◌||◌, not, Option, None, Some, length, nat_lt, is_some}
 use Rattle.std.specs.Str.{bytes_eq}
 use Rattle.cap_text.specs.declared.fault.CapFault.{CapFault}
@@ -45,7 +45,7 @@ are_same_caps a b = is_same_text a.mon b.mon && (is_same_text a.mgr b.mgr && (is
 abbrev pub IsGoodText : Table → List ℕ → Type 0
 IsGoodText table text = (grants : List Grant) × Spells text grants × (expand_refusal table grants ≡ None)
 
--- the grants that the text comes to with the table, each with its path
+-- the grants that the text expands to with the table, each with its path
 abbrev pub ComesTo : Table → List ℕ → Flat → Type 0
 ComesTo table text tree = (grants : List Grant) × Spells text grants × (tree ≡ flat table grants)
 

@@ -72,6 +72,6 @@ pub record IsKept (table : Table) (users : Users) : Type 0 where
   pub named : All (λ (name : List ℕ). is_user_name name ≡ true) (keys_of users)
   pub stored : All (IsStored table) (values_of users)
 
--- what the user's osd text comes to, until the end that was asked for
+-- the ticket that the user's osd text expands to, until the requested end
 abbrev pub HasTicket : Database → List ℕ → Option ℕ → Ticket → Type 0
 HasTicket database name until ticket = (caps : Caps) × (user_at database.users name ≡ Some caps) × IsTicket database.table caps.osd until ticket

@@ -6,7 +6,7 @@ ghost use Rattle.auth_db.specs.Texts as spec;
 use common_types::{Name, OutOfMemory, copy_name};
 
 /// The most bytes that a text may have.
-const LONGEST: usize = 4096;
+const MAX_LENGTH: usize = 4096;
 
 /// A user's texts, one for each type of daemon. Only the osd text is read here; the others are kept as they are.
 #[derive(Debug)]
@@ -96,7 +96,7 @@ fn is_long_text(text: &Option<Name>) -> bool
 {
     match text {
         None => false,
-        Some(text) => text.as_str().len() > LONGEST,
+        Some(text) => text.as_str().len() > MAX_LENGTH,
     }
 }
 

@@ -29,7 +29,7 @@ use std::marker::Model;
 use verdict_core::Ticket;
 
 /// The most users that there may be.
-const MOST_USERS: usize = 1024;
+const MAX_USERS: usize = 1024;
 
 /// What a call of `get_or_create` found.
 #[derive(Clone, Copy, Debug, PartialEq, Eq)]
@@ -87,8 +87,8 @@ impl AuthDb {
 
     /// Adds a user.
     ///
-    /// It is refused by the first of these that holds: A1 the name is none; A2 there is such a user; A8 there are 1,024;
-    /// A5 a text is too long, or the osd text spells no list; A6 its list is not expanded; A7 memory is wanting.
+    /// It is refused by the first of these that holds: A1 the name is not valid; A2 the user exists; A8 there are 1,024
+    /// users; A5 a text is too long, or the osd text spells no list; A6 its list is not expanded; A7 out of memory.
     pub fn add(&mut self, name: &str, caps: Caps) -> Result<(), AuthFault>
         ensures added { OnOk result (self.new ≡ after self.old (Add name.now caps)) }
         ensures judged { Judged (spec.add_refusal self.old.users name.now caps) self.old.table caps.osd result }
@@ -107,7 +107,8 @@ impl AuthDb {
 
     /// Makes a user, or finds it where no texts are given or just those that it has.
     ///
-    /// It is refused by A1 where the name is none, by A4 where the user is there with other texts, and else as by `add`.
+    /// It is refused by A1 where the name is not valid, by A4 where the user exists with other texts, and otherwise as
+    /// `add` is.
     pub fn get_or_create(&mut self, name: &str, caps: Caps) -> Result<Creation, AuthFault>
         ensures stepped { OnOk result (self.new ≡ after self.old (GetOrCreate name.now caps)) }
         ensures there { IfSome (user_at self.old.users name.now) (λ stored. result ≡ again name.now stored caps) }
@@ -126,10 +127,10 @@ impl AuthDb {
         }
     }
 
-    /// Puts all four texts of a user in the place of those that it has.
+    /// Replaces all four texts of a user.
     ///
-    /// It is refused by the first of these that holds: A1 the name is none; A3 there is no such user; A5 a text is too
-    /// long, or the osd text spells no list; A6 its list is not expanded; A7 memory is wanting.
+    /// It is refused by the first of these that holds: A1 the name is not valid; A3 there is no such user; A5 a text is
+    /// too long, or the osd text spells no list; A6 its list is not expanded; A7 out of memory.
     pub fn caps(&mut self, name: &str, caps: Caps) -> Result<(), AuthFault>
         ensures put { OnOk result (self.new ≡ after self.old (SetCaps name.now caps)) }
         ensures judged { Judged (spec.caps_refusal self.old.users name.now caps) self.old.table caps.osd result }
@@ -146,9 +147,9 @@ impl AuthDb {
         Ok(())
     }
 
-    /// Removes a user. It takes no memory.
+    /// Removes a user. It allocates nothing.
     ///
-    /// It is refused by A1 where the name is none, and by A3 where there is no such user.
+    /// It is refused by A1 where the name is not valid, and by A3 where there is no such user.
     pub fn del(&mut self, name: &str) -> Result<(), AuthFault>
         ensures removed { OnOk result (self.new ≡ after self.old (Delete name.now)) }
         ensures refused { RefusedExactly (auth_refusal self.old (Delete name.now)) result }
@@ -164,9 +165,9 @@ impl AuthDb {
         }
     }
 
-    /// The texts of a user. It takes no memory.
+    /// The texts of a user. It allocates nothing.
     ///
-    /// It is refused by A1 where the name is none, and by A3 where there is no such user.
+    /// It is refused by A1 where the name is not valid, and by A3 where there is no such user.
     pub fn get(&self, name: &str) -> Result<&Caps, AuthFault>
         ensures found { IfOk result (λ caps. user_at self.now.users name.now ≡ Some caps.now) }
         ensures good { IfOk result (λ caps. IsGood self.now.table caps.now.osd) }
@@ -197,10 +198,11 @@ impl AuthDb {
         }
     }
 
-    /// The ticket of a user, until a tick or for ever: what its osd text comes to with the table, and no grant
-    /// without one.
+    /// The ticket of a user, until a tick or for ever: the grants that its osd text expands to with the table.
+    /// Without an osd text the ticket has no grants.
     ///
-    /// It is refused by A1 where the name is none, by A3 where there is no such user, and by A7 for want of memory.
+    /// It is refused by A1 where the name is not valid, by A3 where there is no such user, and by A7 where an
+    /// allocation fails.
     pub fn ticket(&self, name: &str, until: Option<u64>) -> Result<Ticket, AuthFault>
         ensures ticket { IfOk result (λ ticket. HasTicket self.now name.now until ticket) }
         ensures refused { RefusedFirst (spec.known_refusal self.now.users name.now) AuthFault.OutOfMemory result }
@@ -238,7 +240,7 @@ fn add_refusal(users: &Users, name: &str, caps: &Caps) -> Option<AuthFault>
     if has_user(users, name) {
         return Some(AuthFault::Exists);
     }
-    if count(users) >= MOST_USERS {
+    if count(users) >= MAX_USERS {
         return Some(AuthFault::Limit);
     }
     long_text(caps)

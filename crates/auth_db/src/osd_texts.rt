@@ -16,7 +16,7 @@ use grant_core::{ExpandFault, GrantTree, ProfileTable, expand};
 use std::alloc::{AllocError, Global};
 use verdict_core::Ticket;
 
-/// What an osd text comes to with a table.
+/// Expands an osd text with a table.
 fn expand_text(alloc: Global, table: &ProfileTable, text: &str) -> Result<GrantTree, AuthFault>
     ensures good { OnOk result (IsGoodText table.now text.now) }
     ensures tree { IfOk result (λ tree. ComesTo table.now text.now tree) }
@@ -29,7 +29,7 @@ fn expand_text(alloc: Global, table: &ProfileTable, text: &str) -> Result<GrantT
     }
 }
 
-/// What a list comes to with a table. Want of memory is answered only where the list can be expanded.
+/// Expands a list with a table. Out of memory is returned only where the list can be expanded.
 fn expand_list(alloc: Global, table: &ProfileTable, list: &CapList) -> Result<GrantTree, AuthFault>
     ensures tree { IfOk result (λ tree. tree ≡ flat table.now list.now) }
     ensures accepted { OnOk result (expand_refusal table.now list.now ≡ None) }
@@ -41,7 +41,7 @@ fn expand_list(alloc: Global, table: &ProfileTable, list: &CapList) -> Result<Gr
     }
 }
 
-// A text's fault, where want of memory is the users' own.
+// A text's fault. Out of memory becomes the users' own fault.
 fn text_fault(fault: CapFault) -> AuthFault
     ensures { result ≡ spec.text_fault fault }
 {
@@ -51,7 +51,7 @@ fn text_fault(fault: CapFault) -> AuthFault
     }
 }
 
-// The fault of an expansion, where want of memory is the users' own.
+// The fault of an expansion. Out of memory becomes the users' own fault.
 fn profile_fault(fault: ExpandFault) -> AuthFault
     ensures { result ≡ spec.profile_fault fault }
 {

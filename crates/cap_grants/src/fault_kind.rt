@@ -22,7 +22,7 @@ pub enum FaultKind {
     BadWord,
     /// C7: a `network` clause, which grants nothing here and is never passed over.
     NetworkClause,
-    /// C8: a growth was refused; the text was not judged.
+    /// C8: an allocation failed; the text was not checked.
     OutOfMemory,
 }
 

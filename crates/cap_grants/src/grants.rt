@@ -25,7 +25,7 @@ impl Model for Grants {
 }
 
 impl Grants {
-    /// No grants, with room for so many. The error is want of memory.
+    /// No grants, with room for `count` of them. The error is out of memory.
     pub fn with_room(alloc: Global, count: usize) -> Result<Grants, OutOfMemory>
         ensures { IfOk result (λ grants. grants ≡ []) }
     {

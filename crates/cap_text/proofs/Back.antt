@@ -20,8 +20,8 @@ use Rattle.cap_text.specs.declared.keyword.Keyword.TheVariants as kw
 use Rattle.cap_text.specs.declared.stage.ClauseSet.{ClauseSet}
 use Rattle.cap_text.specs.Draft.{Head, Draft}
 use Rattle.cap_text.specs.Draft as heads
-use Rattle.cap_text.specs.declared.stage.Slot.{Slot}
-use Rattle.cap_text.specs.declared.stage.Slot.TheVariants as slots
+use Rattle.cap_text.specs.declared.stage.ValueFor.{ValueFor}
+use Rattle.cap_text.specs.declared.stage.ValueFor.TheVariants as slots
 use Rattle.cap_text.specs.Stage.{Stage}
 use Rattle.cap_text.specs.Stage as stages
 use Rattle.cap_text.specs.Words.{letters, keyword_of}
@@ -73,7 +73,7 @@ LeftTag a k v d ts g rest = LeftAll no_more (record d { tag = Some (record { app
 abbrev pub InKey : List ℕ → Draft → List Token → Grant → List Token → Type 0
 InKey a d ts g rest = (k v : Part) × (b c : List Token) × TagPart ts k (Equals ∷ b) × TagPart b v c × LeftTag a k v d c g rest
 
-abbrev pub InFilled : Slot → ClauseSet → Draft → List ℕ → List Token → Grant → List Token → Type 0
+abbrev pub InFilled : ValueFor → ClauseSet → Draft → List ℕ → List Token → Grant → List Token → Type 0
 InFilled slots.Profile may d v ts g rest = LeftAll may (record d { head = heads.Profile v }) ts g rest
 InFilled slots.Class may d v ts g rest = InMethod v may d ts g rest
 InFilled slots.Pool may d v ts g rest = LeftAll (after_pool may) (record d { pool = Some v }) ts g rest
@@ -362,20 +362,20 @@ part_back Equals p ts e = part_value Equals (value_of Equals) p ts refl e
 part_back (Word w) p ts e = part_value (Word w) (value_of (Word w)) p ts refl e
 part_back (Quoted q) p ts e = part_value (Quoted q) (value_of (Quoted q)) p ts refl e
 
-filled_back : (s : Slot) (may : ClauseSet) (d : Draft) (v : List ℕ) → (is_start (filled s may d v) ≡ false) × ((ts : List Token) (g : Grant) (rest : List Token) → InGrant (filled s may d v) ts g rest → InFilled s may d v ts g rest)
+filled_back : (s : ValueFor) (may : ClauseSet) (d : Draft) (v : List ℕ) → (is_start (filled s may d v) ≡ false) × ((ts : List Token) (g : Grant) (rest : List Token) → InGrant (filled s may d v) ts g rest → InFilled s may d v ts g rest)
 filled_back slots.Profile may d v = (refl, λ ts g rest h. h)
 filled_back slots.Class may d v = (refl, λ ts g rest h. h)
 filled_back slots.Pool may d v = (refl, λ ts g rest h. h)
 filled_back slots.Prefix may d v = (refl, λ ts g rest h. h)
 filled_back slots.Application may d v = (refl, λ ts g rest h. h)
 
-b_value : (s : Slot) (may : ClauseSet) (d : Draft) (t : Token) (ts : List Token) (q : Stage) → value_step s may d t ≡ Ok q → Back (stages.Value s may d) t ts q
+b_value : (s : ValueFor) (may : ClauseSet) (d : Draft) (t : Token) (ts : List Token) (q : Stage) → value_step s may d t ≡ Ok q → Back (stages.Value s may d) t ts q
 b_value s may d t ts q e =
     let m = mapped_is (filled s may d) (value_of t) q e in
     let f = filled_back s may d m.0 in
     back_along (stages.Value s may d) t ts (filled s may d m.0) q m.2 (f.0, λ g rest h. (m.0, ts, value_back t m.0 ts m.1, f.1 ts g rest h))
 
-b_assigned : (s : Slot) (may : ClauseSet) (d : Draft) (t : Token) (ts : List Token) (q : Stage) → value_step s may d t ≡ Ok q → Back (stages.Assigned s may d) t ts q
+b_assigned : (s : ValueFor) (may : ClauseSet) (d : Draft) (t : Token) (ts : List Token) (q : Stage) → value_step s may d t ≡ Ok q → Back (stages.Assigned s may d) t ts q
 b_assigned s may d t ts q e = let b = b_value s may d t ts q e in (b.0, λ g rest h. let r = b.1 g rest h in (r.0, r.1, inl r.2, r.3))
 
 b_namespace : (may : ClauseSet) (d : Draft) (t : Token) (ts : List Token) (q : Stage) → namespace_step may d t ≡ Ok q → Back (stages.NamespaceEquals may d) t ts q
@@ -530,7 +530,7 @@ live_key a d =
 live_method : (c : List ℕ) (may : ClauseSet) (d : Draft) → (ts : List Token) × (g : Grant) × InMethod c may d ts g []
 live_method c may d = let l = live (after_access may) (with_access d (accesses.Class c None)) in (l.0, l.1, (None, l.0, refl, l.2))
 
-live_filled : (s : Slot) (may : ClauseSet) (d : Draft) (v : List ℕ) → (ts : List Token) × (g : Grant) × InFilled s may d v ts g []
+live_filled : (s : ValueFor) (may : ClauseSet) (d : Draft) (v : List ℕ) → (ts : List Token) × (g : Grant) × InFilled s may d v ts g []
 live_filled slots.Profile may d v = live may (record d { head = heads.Profile v })
 live_filled slots.Class may d v = live_method v may d
 live_filled slots.Pool may d v = live (after_pool may) (record d { pool = Some v })

@@ -83,7 +83,7 @@ kind_once p n j k J K = kinds_same j k (λ differ.
     let access : IsAccessDue p → ⊥ = λ h. differ (((mine.1 network).1 clause).0 h ∙ sym (((yours.1 network).1 clause).0 h)) in
     differ (((mine.1 network).1 clause).1 access ∙ sym (((yours.1 network).1 clause).1 access)))
 
--- want of memory is no position kind
+-- out of memory is not a position kind
 never_memory : (p : List Token) (n : Next) → IsKind p n OutOfMemory → ⊥
 never_memory p n J =
     let word : IsBadWord p n → ⊥ = λ h. let e : OutOfMemory ≡ BadWord = J.0 h in cc in
@@ -112,7 +112,7 @@ placed_kind p n k at J =
     let M : FaultKind → Type 0 = λ x. IsKind p n x in
     placed_is k at (λ e. never_memory p n (subst M e J))
 
--- what is told of a kind that the position has, at the fault's position
+-- a kind that the position has, placed at the fault's position, is the fault
 told : (p : List Token) (n : Next) (k : FaultKind) (at : ℕ) (fault : CapFault) → IsKind p n k → IsKind p n fault.kind → at ≡ fault.at → placed k at ≡ fault
 told p n k at fault J K position =
     let same : k ≡ fault.kind = kind_once p n k fault.kind J K in

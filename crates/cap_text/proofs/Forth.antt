@@ -20,8 +20,8 @@ use Rattle.cap_text.specs.declared.keyword.Keyword.TheVariants as kw
 use Rattle.cap_text.specs.declared.stage.ClauseSet.{ClauseSet}
 use Rattle.cap_text.specs.Draft.{Head, Draft}
 use Rattle.cap_text.specs.Draft as heads
-use Rattle.cap_text.specs.declared.stage.Slot.{Slot}
-use Rattle.cap_text.specs.declared.stage.Slot.TheVariants as slots
+use Rattle.cap_text.specs.declared.stage.ValueFor.{ValueFor}
+use Rattle.cap_text.specs.declared.stage.ValueFor.TheVariants as slots
 use Rattle.cap_text.specs.Stage.{Stage, State}
 use Rattle.cap_text.specs.Stage as stages
 use Rattle.cap_text.specs.Words.{letters, keyword_of}
@@ -164,11 +164,11 @@ value_go done p f hw hq ts v mid (inl e) = ap (reads done p) e ∙ word_go done 
 value_go done p f hw hq ts [] mid (inr h) = absurd (h.0 refl)
 value_go done p f hw hq ts (b ∷ v) mid (inr h) = ap (reads done p) h.1 ∙ quoted_go done p (f (b ∷ v)) (b ∷ v) mid (hq b v)
 
-filled_go : (done : List Grant) (s : Slot) (may : ClauseSet) (d : Draft) (ts : List Token) (v : List ℕ) (mid : List Token) → Value ts v mid → Go done (stages.Value s may d) ts (filled s may d v) mid
+filled_go : (done : List Grant) (s : ValueFor) (may : ClauseSet) (d : Draft) (ts : List Token) (v : List ℕ) (mid : List Token) → Value ts v mid → Go done (stages.Value s may d) ts (filled s may d v) mid
 unfolding step
 filled_go done s may d = value_go done (stages.Value s may d) (filled s may d) (λ w. refl) (λ b q. refl)
 
-assigned_go : (done : List Grant) (s : Slot) (may : ClauseSet) (d : Draft) (ts : List Token) (v : List ℕ) (mid : List Token) → Assigned Value ts v mid → Go done (stages.Assigned s may d) ts (filled s may d v) mid
+assigned_go : (done : List Grant) (s : ValueFor) (may : ClauseSet) (d : Draft) (ts : List Token) (v : List ℕ) (mid : List Token) → Assigned Value ts v mid → Go done (stages.Assigned s may d) ts (filled s may d v) mid
 unfolding step
 assigned_go done s may d ts v mid (inl h) = value_go done (stages.Assigned s may d) (filled s may d) (λ w. refl) (λ b q. refl) ts v mid h
 assigned_go done s may d ts v mid (inr (m, e, h)) = ap (reads done (stages.Assigned s may d)) e ∙ equals_go done (stages.Assigned s may d) (stages.Value s may d) m refl ∙ filled_go done s may d m v mid h

@@ -47,7 +47,7 @@ module _ (text rest : List ℕ) (behind : Bool) (state : State) (p : List Token)
         room = advance_room state t next (few ne) s;
       }
 
-  -- ---- a token with which no list goes on
+  -- ---- a token that continues no list
 
   pub no_list_at : (t : Token) (after : List ℕ) (k : FaultKind) → ReadsOne behind rest t after → advance state t ≡ Err k → (gs : List Grant) → Spells text gs → ⊥
   no_list_at t after k one s gs (short, many, (ts, is_text, list)) =
@@ -149,7 +149,7 @@ module _ (text rest : List ℕ) (behind : Bool) (state : State) (p : List Token)
   pub spelled : (gs : List Grant) → length text ≤ 4096 → Each is_space rest → finish state ≡ Ok gs → Spells text gs
   spelled gs short spaces f = (short, few_at_end gs f, (p, (rest, spaces, h.reads), sound p state gs h.runs f))
 
--- ---- what is told
+-- ---- what is reported
 
 abbrev pub memory_or : {A : Type 0} → Result A FaultKind → FaultKind → Type 0
 memory_or r k = Gives (Err k) r

@@ -23,7 +23,7 @@ use Rattle.cap_text.proofs.Loop.{HasRead, begins, goes_on, spelled, first_at, fi
 use Rattle.cap_text.proofs.ReadTexts.{starts, token_found, at_rest, reads_from_start}
 use Rattle.cap_text.proofs.FirstFaults.{token_sound, kind_end, kind_token, placed_kind, too_long}
 
--- what is read is spelled, and what is told is the first fault
+-- the text spells the list that is read, or the fault is the text's first one
 abbrev IsAnswer : List ℕ → Read → Type 0
 IsAnswer text r = MatchResult r (Spells text) (IsFirstFault text)
 
@@ -48,7 +48,7 @@ looks behind rest start skipped = go (token_at (behind && is_empty skipped.0) st
         (skipped.0, start, skipped.1, skipped.2, is.0, is.1)
 
 module _ (text rest : List ℕ) (behind : Bool) (s : State) (p : List Token) (h : HasRead text rest behind s p) (short : length text ≤ 4096) where
-  -- a fault of a position kind is told as it is
+  -- a fault of a position kind is reported as it is
   answer_told : (k : FaultKind) (at : ℕ) → placed k at ≡ record { kind = k; at = at } → IsFaultWithin text (record { kind = k; at = at }) → IsAnswer text (Err (placed k at))
   answer_told k at is within = let A : Read → Type 0 = λ r. IsAnswer text r in subst A (ap Err (sym is)) (inr (short, within))
 

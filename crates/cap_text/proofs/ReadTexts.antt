@@ -154,7 +154,7 @@ at_end n total behind text s blank = at_rest n total behind text [] s (text, bla
 abbrev pub NotPastBefore : List Token → Type 0
 NotPastBefore ts = (p : List Token) (t : Token) (q : List Token) (s : State) → ts ≡ p ++ t ∷ q → run origin p ≡ whole s → length s.done ≡ 64 → s.stage ≡ stages.Separator → ⊥
 
--- where reading comes to behind some tokens
+-- the state of a reading behind some tokens
 pub record Comes (r : Read) (total : ℕ) (u : State) (behind : Bool) (rest : List ℕ) : Type 0 where
   pub fuel : ℕ
   pub enough : length rest < fuel

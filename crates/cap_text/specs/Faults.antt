@@ -133,6 +133,6 @@ abbrev pub MemoryOr : FaultKind → ℕ → Type 0 → Type 0
 MemoryOr OutOfMemory at P = at ≡ 0
 MemoryOr k at P = P
 
--- the fact, unless memory ran out, which is told at 0
+-- the fact, unless memory ran out; that fault is at position 0
 abbrev pub OrMemory : CapFault → Type 0 → Type 0
 OrMemory fault P = MemoryOr fault.kind fault.at P

@@ -1,5 +1,5 @@
 -- Refinement: only contracts inside the crate use it.
--- How the stage that a text has come to is kept: what may come next, and a sheet.
+-- How the stage that a text has reached is kept: what may come next, and a sheet.
 use Rattle.std.specs.Prelude.{List, [], Result, Ok, Err}
 use Rattle.cap_grants.specs.declared.fault_kind.FaultKind.{FaultKind}
 use Rattle.cap_grants.specs.declared.grant.Grant.{Grant}
@@ -7,7 +7,7 @@ use Rattle.cap_text.specs.Stage.{Stage, State}
 use Rattle.cap_text.specs.Stage as stages
 use Rattle.cap_text.specs.declared.stage.Next.{Next}
 use Rattle.cap_text.specs.declared.stage.Next.TheVariants as nexts
-use Rattle.cap_text.specs.Sheet.{Page}
+use Rattle.cap_text.specs.GrantBuilder.{Page}
 use Rattle.cap_grants.specs.Gives.{Gives}
 
 -- the stage with what was read

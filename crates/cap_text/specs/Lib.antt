@@ -2,7 +2,7 @@ pub mod Reads
 pub mod Words
 pub mod Draft
 pub mod Assembly
-pub mod Sheet
+pub mod GrantBuilder
 pub mod Grammar
 pub mod Faults
 pub mod Spelled

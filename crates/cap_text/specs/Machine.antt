@@ -19,8 +19,8 @@ use Rattle.cap_text.specs.declared.keyword.Keyword.TheVariants as kw
 use Rattle.cap_text.specs.declared.stage.ClauseSet.{ClauseSet}
 use Rattle.cap_text.specs.Draft.{Draft}
 use Rattle.cap_text.specs.Draft as heads
-use Rattle.cap_text.specs.declared.stage.Slot.{Slot}
-use Rattle.cap_text.specs.declared.stage.Slot.TheVariants as slots
+use Rattle.cap_text.specs.declared.stage.ValueFor.{ValueFor}
+use Rattle.cap_text.specs.declared.stage.ValueFor.TheVariants as slots
 use Rattle.cap_text.specs.Stage.{Stage, State}
 use Rattle.cap_text.specs.Stage as stages
 use Rattle.cap_text.specs.Words.{keyword_of}
@@ -122,14 +122,14 @@ abbrev pub mapped : {A B : Type 0} → (A → B) → Result A FaultKind → Resu
 mapped f (Ok x) = Ok (f x)
 mapped f (Err k) = Err k
 
-abbrev pub filled : Slot → ClauseSet → Draft → List ℕ → Stage
+abbrev pub filled : ValueFor → ClauseSet → Draft → List ℕ → Stage
 filled slots.Profile may d v = stages.Clauses may (record d { head = heads.Profile v })
 filled slots.Class may d v = stages.Method v may d
 filled slots.Pool may d v = stages.Clauses (after_pool may) (record d { pool = Some v })
 filled slots.Prefix may d v = stages.Clauses no_more (record d { prefix = Some v })
 filled slots.Application may d v = stages.Key v d
 
-abbrev pub value_step : Slot → ClauseSet → Draft → Token → Result Stage FaultKind
+abbrev pub value_step : ValueFor → ClauseSet → Draft → Token → Result Stage FaultKind
 value_step s may d t = mapped (filled s may d) (value_of t)
 
 abbrev pub namespace_stage : ClauseSet → Draft → NsMatch → Stage

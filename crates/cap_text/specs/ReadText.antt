@@ -1,5 +1,5 @@
 -- Statement: contracts of public calls use it.
--- What a capability text comes to, as a function: the grammar's lists are a relation, of at most one list to a text.
+-- The result of reading a capability text, as a function. The grammar is a relation, of at most one list to a text.
 use Prim.Native.Nat.{zero, suc}
 use Rattle.std.specs.Prelude.{◌≡◌, ℕ, ◌+◌, ◌-◌, Bool, false, ◌&&◌, ◌==◌, nat_lt, List, [], ◌∷◌, Option, Some, None, Result, Ok, Err, if◌then◌else◌, length, take, drop, MatchResult}
 use Rattle.std.specs.List.{prefix_len}
@@ -44,7 +44,7 @@ token_at behind (b ∷ bs) =
 abbrev pub Read : Type 0
 Read = Result (List Grant) CapFault
 
--- what a machine's answer at a stage comes to
+-- the result by a machine's answer: what is read next, or its fault at this position
 abbrev pub carried : {A : Type 0} → ℕ → Result A FaultKind → (A → Read) → Read
 carried at (Ok x) next = next x
 carried at (Err kind) next = Err (placed kind at)
@@ -60,7 +60,7 @@ read_at at s behind rest next =
     else if length s.done == 64 then Err (placed TooManyGrants at)
     else with_token at s (token_at behind rest) next
 
--- what is left of a text of so many bytes; more tokens than bytes there are not
+-- reads what is left of a text of `whole` bytes; a text has at most as many tokens as bytes
 abbrev pub read_from : ℕ → ℕ → State → Bool → List ℕ → Read
 read_from zero whole s behind text = Err (placed OutOfMemory 0)
 read_from (suc n) whole s behind text =
@@ -79,10 +79,10 @@ read_text text =
 abbrev pub ReadsTheGrammar : Type 0
 ReadsTheGrammar = (text : List ℕ) (grants : List Grant) → Spells text grants → read_text text ≡ Ok grants
 
--- a text's first fault is what this function tells, so that there is one at most, and none where the text spells a list
+-- This function reports a text's first fault. So a text has at most one, and none if it spells a list.
 abbrev pub TellsTheFirstFault : Type 0
 TellsTheFirstFault = (text : List ℕ) (fault : CapFault) → IsFirstFault text fault → read_text text ≡ Err fault
 
--- and nothing else is read or told: each text spells a list or has a first fault
+-- and nothing else is read or reported: each text spells a list or has a first fault
 abbrev pub ReadsNothingElse : Type 0
 ReadsNothingElse = (text : List ℕ) → MatchResult (read_text text) (Spells text) (IsFirstFault text)

@@ -1,11 +1,11 @@
 -- Statement: contracts of public calls use it.
--- Where in the grammar a text has come to.
+-- The position in the grammar that a text has reached.
 use Rattle.std.specs.Prelude.{ℕ, List}
 use Rattle.cap_grants.specs.declared.grant.Flags.{Flags}
 use Rattle.cap_grants.specs.declared.grant.Grant.{Grant}
 use Rattle.cap_grants.specs.declared.grant.Part.{Part}
 use Rattle.cap_text.specs.declared.stage.ClauseSet.{ClauseSet}
-use Rattle.cap_text.specs.declared.stage.Slot.{Slot}
+use Rattle.cap_text.specs.declared.stage.ValueFor.{ValueFor}
 use Rattle.cap_text.specs.Draft.{Draft}
 
 -- what may come next, and what was read of the next grant
@@ -16,8 +16,8 @@ pub data Stage : Type 0 where
   Letters : Flags → ClauseSet → Draft → Stage
   ClassRead : Flags → ClauseSet → Draft → Stage
   Method : List ℕ → ClauseSet → Draft → Stage
-  Assigned : Slot → ClauseSet → Draft → Stage
-  Value : Slot → ClauseSet → Draft → Stage
+  Assigned : ValueFor → ClauseSet → Draft → Stage
+  Value : ValueFor → ClauseSet → Draft → Stage
   Namespace : ClauseSet → Draft → Stage
   NamespaceEquals : ClauseSet → Draft → Stage
   NamespaceWord : List ℕ → ClauseSet → Draft → Stage

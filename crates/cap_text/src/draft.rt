@@ -4,10 +4,10 @@ ghost use Rattle.std.specs.Prelude.{◌≡◌, ◌++◌, ◌∷◌, [], None, So
 ghost use Rattle.cap_grants.specs.declared.grant.Grant.TheVariants.{Allow, Profile};
 ghost use Rattle.cap_grants.specs.Gives.{GivesIn};
 ghost use Rattle.cap_text.specs.Assembly.{after_access, after_namespace, after_pool, ended, fresh, grant_of, made, no_more, wants_access, with_access};
-ghost use Rattle.cap_text.specs.Sheet.{empty_allow};
+ghost use Rattle.cap_text.specs.GrantBuilder.{empty_allow};
 ghost use Rattle.cap_text.specs.Draft as heads;
 
-use crate::stage::{ClauseSet, Slot};
+use crate::stage::{ClauseSet, ValueFor};
 use cap_grants::{
     Access, AllowGrant, FaultKind, Flags, Grant, Grants, NsMatch, Part, ProfileUse, Tag,
 };
@@ -70,7 +70,7 @@ const NO_FLAGS: Flags = Flags {
 /// that may still come, the flags that were read, and what the next value is for. Its access counts only where the kind says so.
 ///
 /// A text has one, which is filled in place and emptied into the list at the end of each grant.
-pub struct Sheet {
+pub struct GrantBuilder {
     kind: Kind,
     profile: Name,
     grant: AllowGrant,
@@ -78,13 +78,13 @@ pub struct Sheet {
     key: Part,
     may: ClauseSet,
     flags: Flags,
-    slot: Slot,
+    slot: ValueFor,
 }
 
-impl Drop for Sheet {
+impl Drop for GrantBuilder {
     #[inline(always)]
     fn drop(self) {
-        let Sheet {
+        let GrantBuilder {
             kind: _,
             profile: _,
             grant: _,
@@ -97,18 +97,18 @@ impl Drop for Sheet {
     }
 }
 
-impl Model for Sheet {
-    ghost use Rattle.cap_text.specs.Sheet.{Page, page_of};
+impl Model for GrantBuilder {
+    ghost use Rattle.cap_text.specs.GrantBuilder.{Page, page_of};
 
     ghost Value = { Page };
 
     ghost view = { λ s. page_of s.kind s.profile s.grant s.word s.key s.may s.flags s.slot };
 }
 
-impl Sheet {
+impl GrantBuilder {
     /// An `allow` with nothing behind it, and no word.
-    pub fn new(alloc: Global) -> Sheet {
-        Sheet {
+    pub fn new(alloc: Global) -> GrantBuilder {
+        GrantBuilder {
             kind: Kind::Open,
             profile: no_name(alloc),
             grant: empty_allow(),
@@ -116,11 +116,12 @@ impl Sheet {
             key: Part::Any,
             may: NO_MORE,
             flags: NO_FLAGS,
-            slot: Slot::Profile,
+            slot: ValueFor::Profile,
         }
     }
 
-    /// Makes it an `allow` with nothing behind it. Mostly it is one: what is there is looked at before it is let go.
+    /// Makes it an `allow` with nothing behind it. Usually it already is one, so each part is tested before it is
+    /// dropped.
     pub fn clear(&mut self)
         ensures { self.new ≡ record self.old { draft = fresh (heads.Allow None) } }
     {
@@ -281,14 +282,14 @@ impl Sheet {
     }
 
     /// What the next value is for.
-    pub fn slot(&self) -> Slot
+    pub fn slot(&self) -> ValueFor
         ensures { result ≡ self.now.slot }
     {
         self.slot
     }
 
     /// Says what the next value is for.
-    pub fn set_slot(&mut self, slot: Slot)
+    pub fn set_slot(&mut self, slot: ValueFor)
         ensures { self.new ≡ record self.old { slot = slot } }
     {
         self.slot = slot;

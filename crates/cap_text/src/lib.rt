@@ -19,7 +19,7 @@
 //!
 //! The parser is a push machine (`machine.rt`): what may come next and a token give what may come then. It writes what it reads
 //! of a grant into one sheet (`draft.rt`), which the end of the grant empties into the list. Contracts see both together as the
-//! stage in the grammar (`specs/Sheet.antt`). A loop (`parser.rt`) takes one token after another from the front of the rest.
+//! stage in the grammar (`specs/GrantBuilder.antt`). A loop (`parser.rt`) takes one token after another from the front of the rest.
 //! Keywords are found by their first byte (`keyword.rt`), bytes of words by a table (`bytes.rt`).
 #![tactic(auto)]
 

@@ -8,11 +8,11 @@ ghost use Rattle.cap_text.specs.Kept.{GivesAt, stage_at};
 ghost use Rattle.cap_text.specs.Assembly.{ended};
 ghost use Rattle.cap_text.specs.Machine.{accessed, clause_word, access_word, clauses, letters_step, class_read_word, class_read_step, method_step, value_of, value_step, filled, namespace_stage, namespace_step, namespace_word_step, part_at, key_step, key_value_step, start_step, step, close};
 
-use crate::draft::Sheet;
+use crate::draft::GrantBuilder;
 use crate::keyword::{
     AT_CLAUSE, AT_START, BEHIND_CLASS, BEHIND_CLASS_READ, BEHIND_LETTERS, Keyword, keyword_of,
 };
-use crate::stage::{ClauseSet, Next, Slot};
+use crate::stage::{ClauseSet, Next, ValueFor};
 use crate::token::Token;
 use cap_grants::{Access, FaultKind, Flags, Grants, NsMatch, Part, Tag};
 use common_types::Name;
@@ -32,7 +32,7 @@ const OF_PROFILE: ClauseSet = ClauseSet {
     tag: false,
 };
 
-fn accessed(sheet: &mut Sheet, access: Access) -> Next
+fn accessed(sheet: &mut GrantBuilder, access: Access) -> Next
     ensures { stage_at result sheet.new ≡ accessed sheet.old.may sheet.old.draft access }
 {
     sheet.set_access(access);
@@ -41,7 +41,7 @@ fn accessed(sheet: &mut Sheet, access: Access) -> Next
 }
 
 #[inline(always)]
-fn access_word<const AT: u8>(sheet: &mut Sheet, keyword: Keyword) -> Result<Next, FaultKind>
+fn access_word<const AT: u8>(sheet: &mut GrantBuilder, keyword: Keyword) -> Result<Next, FaultKind>
     ensures { GivesAt result sheet.new (access_word sheet.old.may sheet.old.draft keyword) }
 {
     let none = Flags {
@@ -53,7 +53,7 @@ fn access_word<const AT: u8>(sheet: &mut Sheet, keyword: Keyword) -> Result<Next
     match keyword {
         Keyword::All => Ok(accessed(sheet, Access::All)),
         Keyword::Class => {
-            sheet.set_slot(Slot::Class);
+            sheet.set_slot(ValueFor::Class);
             Ok(Next::Value)
         }
         Keyword::Letters(read, write, execute) => {
@@ -86,7 +86,7 @@ fn access_word<const AT: u8>(sheet: &mut Sheet, keyword: Keyword) -> Result<Next
 
 /// What a clause's word says of the value behind it.
 #[inline(always)]
-fn for_value(sheet: &mut Sheet, slot: Slot, next: Next) -> Result<Next, FaultKind>
+fn for_value(sheet: &mut GrantBuilder, slot: ValueFor, next: Next) -> Result<Next, FaultKind>
     ensures { GivesAt result sheet.new (Ok (stage_at next (record sheet.old { slot = slot }))) }
 {
     sheet.set_slot(slot);
@@ -94,16 +94,16 @@ fn for_value(sheet: &mut Sheet, slot: Slot, next: Next) -> Result<Next, FaultKin
 }
 
 #[inline(always)]
-fn clause_word<const AT: u8>(sheet: &mut Sheet, keyword: Keyword) -> Result<Next, FaultKind>
+fn clause_word<const AT: u8>(sheet: &mut GrantBuilder, keyword: Keyword) -> Result<Next, FaultKind>
     ensures { GivesAt result sheet.new (clause_word sheet.old.may sheet.old.draft keyword) }
 {
     match keyword {
-        Keyword::Pool if sheet.may().pool => for_value(sheet, Slot::Pool, Next::Assigned),
+        Keyword::Pool if sheet.may().pool => for_value(sheet, ValueFor::Pool, Next::Assigned),
         Keyword::Namespace if sheet.may().namespace => Ok(Next::Namespace),
         Keyword::ObjectPrefix if sheet.may().prefix => {
-            for_value(sheet, Slot::Prefix, Next::Value)
+            for_value(sheet, ValueFor::Prefix, Next::Value)
         }
-        Keyword::Tag if sheet.may().tag => for_value(sheet, Slot::Application, Next::Value),
+        Keyword::Tag if sheet.may().tag => for_value(sheet, ValueFor::Application, Next::Value),
         Keyword::Pool | Keyword::Namespace | Keyword::ObjectPrefix | Keyword::Tag => {
             Err(FaultKind::BadMatch)
         }
@@ -114,7 +114,7 @@ fn clause_word<const AT: u8>(sheet: &mut Sheet, keyword: Keyword) -> Result<Next
 }
 
 #[inline(never)]
-fn clauses(sheet: &mut Sheet, token: &Token<'_>) -> Result<Next, FaultKind>
+fn clauses(sheet: &mut GrantBuilder, token: &Token<'_>) -> Result<Next, FaultKind>
     ensures { GivesAt result sheet.new (clauses sheet.old.may sheet.old.draft token.now) }
 {
     match token {
@@ -128,7 +128,7 @@ fn clauses(sheet: &mut Sheet, token: &Token<'_>) -> Result<Next, FaultKind>
 }
 
 #[inline(never)]
-fn letters(sheet: &mut Sheet, token: &Token<'_>) -> Result<Next, FaultKind>
+fn letters(sheet: &mut GrantBuilder, token: &Token<'_>) -> Result<Next, FaultKind>
     ensures { GivesAt result sheet.new (letters_step sheet.old.flags sheet.old.may sheet.old.draft token.now) }
 {
     match token {
@@ -149,7 +149,10 @@ fn letters(sheet: &mut Sheet, token: &Token<'_>) -> Result<Next, FaultKind>
 }
 
 #[inline(always)]
-fn class_read_word<const AT: u8>(sheet: &mut Sheet, keyword: Keyword) -> Result<Next, FaultKind>
+fn class_read_word<const AT: u8>(
+    sheet: &mut GrantBuilder,
+    keyword: Keyword,
+) -> Result<Next, FaultKind>
     ensures { GivesAt result sheet.new (class_read_word sheet.old.flags sheet.old.may sheet.old.draft keyword) }
 {
     let flags = sheet.flags();
@@ -173,7 +176,7 @@ fn class_read_word<const AT: u8>(sheet: &mut Sheet, keyword: Keyword) -> Result<
 }
 
 #[inline(never)]
-fn class_read(sheet: &mut Sheet, token: &Token<'_>) -> Result<Next, FaultKind>
+fn class_read(sheet: &mut GrantBuilder, token: &Token<'_>) -> Result<Next, FaultKind>
     ensures { GivesAt result sheet.new (class_read_step sheet.old.flags sheet.old.may sheet.old.draft token.now) }
 {
     match token {
@@ -198,7 +201,7 @@ fn class_of(class: Name, method: Option<Name>) -> Access
 }
 
 #[inline(never)]
-fn method(alloc: Global, sheet: &mut Sheet, token: &Token<'_>) -> Result<Next, FaultKind>
+fn method(alloc: Global, sheet: &mut GrantBuilder, token: &Token<'_>) -> Result<Next, FaultKind>
     ensures { GivesAt result sheet.new (method_step sheet.old.word sheet.old.may sheet.old.draft token.now) }
 {
     let class = sheet.take_word(alloc);
@@ -240,29 +243,29 @@ fn value(alloc: Global, token: &Token<'_>) -> Result<Name, FaultKind>
 }
 
 /// Writes a value into the sheet, and answers what may come behind it.
-fn filled(sheet: &mut Sheet, value: Name) -> Next
+fn filled(sheet: &mut GrantBuilder, value: Name) -> Next
     ensures { stage_at result sheet.new ≡ filled sheet.old.slot sheet.old.may sheet.old.draft value }
 {
     match sheet.slot() {
-        Slot::Profile => {
+        ValueFor::Profile => {
             sheet.set_profile(value);
             Next::Clauses
         }
-        Slot::Class => {
+        ValueFor::Class => {
             sheet.hold_word(value);
             Next::Method
         }
-        Slot::Pool => {
+        ValueFor::Pool => {
             sheet.set_pool(value);
             sheet.pass_pool();
             Next::Clauses
         }
-        Slot::Prefix => {
+        ValueFor::Prefix => {
             sheet.set_prefix(value);
             sheet.pass_last();
             Next::Clauses
         }
-        Slot::Application => {
+        ValueFor::Application => {
             sheet.hold_word(value);
             Next::Key
         }
@@ -270,7 +273,7 @@ fn filled(sheet: &mut Sheet, value: Name) -> Next
 }
 
 #[inline(never)]
-fn filled_by(alloc: Global, sheet: &mut Sheet, token: &Token<'_>) -> Result<Next, FaultKind>
+fn filled_by(alloc: Global, sheet: &mut GrantBuilder, token: &Token<'_>) -> Result<Next, FaultKind>
     ensures { GivesAt result sheet.new (value_step sheet.old.slot sheet.old.may sheet.old.draft token.now) }
 {
     let value = value(alloc, token)?;
@@ -288,7 +291,7 @@ fn namespace_of(alloc: Global, text: &str) -> Result<NsMatch, FaultKind>
     Ok(NsMatch::Prefix(name_of(alloc, front)?))
 }
 
-fn in_namespace(sheet: &mut Sheet, namespace: NsMatch) -> Next
+fn in_namespace(sheet: &mut GrantBuilder, namespace: NsMatch) -> Next
     ensures { stage_at result sheet.new ≡ namespace_stage sheet.old.may sheet.old.draft namespace }
 {
     sheet.set_namespace(namespace);
@@ -297,7 +300,7 @@ fn in_namespace(sheet: &mut Sheet, namespace: NsMatch) -> Next
 }
 
 #[inline(never)]
-fn namespace(alloc: Global, sheet: &mut Sheet, token: &Token<'_>) -> Result<Next, FaultKind>
+fn namespace(alloc: Global, sheet: &mut GrantBuilder, token: &Token<'_>) -> Result<Next, FaultKind>
     ensures { GivesAt result sheet.new (namespace_step sheet.old.may sheet.old.draft token.now) }
 {
     match token {
@@ -318,7 +321,11 @@ fn namespace(alloc: Global, sheet: &mut Sheet, token: &Token<'_>) -> Result<Next
 }
 
 #[inline(never)]
-fn behind_namespace(alloc: Global, sheet: &mut Sheet, token: &Token<'_>) -> Result<Next, FaultKind>
+fn behind_namespace(
+    alloc: Global,
+    sheet: &mut GrantBuilder,
+    token: &Token<'_>,
+) -> Result<Next, FaultKind>
     ensures { GivesAt result sheet.new (namespace_word_step sheet.old.word sheet.old.may sheet.old.draft token.now) }
 {
     let name = sheet.take_word(alloc);
@@ -356,7 +363,7 @@ fn part(alloc: Global, token: &Token<'_>) -> Result<Part, FaultKind>
 }
 
 #[inline(never)]
-fn key(alloc: Global, sheet: &mut Sheet, token: &Token<'_>) -> Result<Next, FaultKind>
+fn key(alloc: Global, sheet: &mut GrantBuilder, token: &Token<'_>) -> Result<Next, FaultKind>
     ensures { GivesAt result sheet.new (key_step sheet.old.word sheet.old.draft token.now) }
 {
     sheet.hold_key(part(alloc, token)?);
@@ -364,7 +371,7 @@ fn key(alloc: Global, sheet: &mut Sheet, token: &Token<'_>) -> Result<Next, Faul
 }
 
 #[inline(never)]
-fn key_value(alloc: Global, sheet: &mut Sheet, token: &Token<'_>) -> Result<Next, FaultKind>
+fn key_value(alloc: Global, sheet: &mut GrantBuilder, token: &Token<'_>) -> Result<Next, FaultKind>
     ensures { GivesAt result sheet.new (key_value_step sheet.old.word sheet.old.key sheet.old.draft token.now) }
 {
     let value = part(alloc, token)?;
@@ -379,7 +386,7 @@ fn key_value(alloc: Global, sheet: &mut Sheet, token: &Token<'_>) -> Result<Next
 }
 
 #[inline(never)]
-fn start(sheet: &mut Sheet, token: &Token<'_>) -> Result<Next, FaultKind>
+fn start(sheet: &mut GrantBuilder, token: &Token<'_>) -> Result<Next, FaultKind>
     ensures { GivesAt result sheet.new (start_step token.now) }
 {
     sheet.clear();
@@ -391,7 +398,7 @@ fn start(sheet: &mut Sheet, token: &Token<'_>) -> Result<Next, FaultKind>
             }
             Keyword::Profile => {
                 sheet.set_may(OF_PROFILE);
-                for_value(sheet, Slot::Profile, Next::Assigned)
+                for_value(sheet, ValueFor::Profile, Next::Assigned)
             }
             _ => Err(FaultKind::UnknownWord),
         },
@@ -406,7 +413,7 @@ fn start(sheet: &mut Sheet, token: &Token<'_>) -> Result<Next, FaultKind>
 pub(crate) fn step(
     alloc: Global,
     next: Next,
-    sheet: &mut Sheet,
+    sheet: &mut GrantBuilder,
     token: &Token<'_>,
 ) -> Result<Next, FaultKind>
     ensures { GivesAt result sheet.new (step (stage_at next sheet.old) token.now) }
@@ -443,7 +450,7 @@ pub(crate) fn step(
 pub(crate) fn close(
     alloc: Global,
     next: Next,
-    sheet: &mut Sheet,
+    sheet: &mut GrantBuilder,
     done: &mut Grants,
 ) -> Result<(), FaultKind>
     ensures { GivesIn result done.new (ended done.old (close (stage_at next sheet.old))) }

@@ -15,10 +15,10 @@ use cap_grants::FaultKind;
 use std::alloc::Global;
 
 /// The most bytes that a text may have.
-const LONGEST: usize = 4096;
+const MAX_LENGTH: usize = 4096;
 
 /// The most grants that a text may spell.
-const MOST_GRANTS: usize = 64;
+const MAX_GRANTS: usize = 64;
 
 /// For how many grants room is made at first, by the text's length in bytes. It says nothing else.
 fn first_room(length: usize) -> usize
@@ -46,7 +46,7 @@ pub fn parse(alloc: Global, text: &str) -> Result<CapList, CapFault>
     ensures none { IfErr result (λ fault. OrMemory fault ((gs : List Grant) → Spells text.now gs → ⊥)) }
     ensures first { IfErr result (λ fault. OrMemory fault (IsFirstFault text.now fault)) }
 {
-    if text.len() > LONGEST {
+    if text.len() > MAX_LENGTH {
         return Err(fault(FaultKind::TooLong, 0));
     }
     let mut state = Reading::new(alloc, first_room(text.len()))?;
@@ -61,7 +61,7 @@ pub fn parse(alloc: Global, text: &str) -> Result<CapList, CapFault>
                 Err(kind) => Err(fault(kind, at)),
             };
         }
-        if state.len() == MOST_GRANTS {
+        if state.len() == MAX_GRANTS {
             return Err(fault(FaultKind::TooManyGrants, at));
         }
         match found {

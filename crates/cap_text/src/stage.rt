@@ -1,4 +1,4 @@
-//! Where in the grammar a text has come to.
+//! The position in the grammar that a text has reached.
 
 use cap_grants::Flags;
 
@@ -13,7 +13,7 @@ pub struct ClauseSet {
 
 /// What a value is for.
 #[derive(Clone, Copy)]
-pub enum Slot {
+pub enum ValueFor {
     Profile,
     Class,
     Pool,
@@ -21,7 +21,7 @@ pub enum Slot {
     Application,
 }
 
-/// What may come next. It is a number alone, which a step hands on in a register; all else stays in the sheet.
+/// What may come next. It is a plain number, which a step passes in a register. All else stays in the sheet.
 #[derive(Clone, Copy)]
 pub enum Next {
     /// The first grant, or the end of an empty text.

@@ -5,7 +5,7 @@ ghost use Rattle.cap_grants.specs.Gives.{Gives, GivesIn};
 ghost use Rattle.cap_text.specs.Machine.{advance, finish};
 ghost use Rattle.cap_text.specs.Kept.{nothing_read};
 
-use crate::draft::Sheet;
+use crate::draft::GrantBuilder;
 use crate::machine::{close, step};
 use crate::stage::Next;
 use crate::token::Token;
@@ -18,7 +18,7 @@ use std::marker::Model;
 #[derive(Drop)]
 pub struct Reading {
     done: Grants,
-    sheet: Sheet,
+    sheet: GrantBuilder,
     next: Next,
 }
 
@@ -32,13 +32,13 @@ impl Model for Reading {
 }
 
 impl Reading {
-    /// Nothing was read, and there is room for so many grants.
+    /// A reading that has read nothing, with room for `count` grants.
     pub fn new(alloc: Global, count: usize) -> Result<Reading, OutOfMemory>
         ensures { IfOk result (λ reading. reading ≡ nothing_read) }
     {
         Ok(Reading {
             done: Grants::with_room(alloc, count)?,
-            sheet: Sheet::new(alloc),
+            sheet: GrantBuilder::new(alloc),
             next: Next::Start,
         })
     }

@@ -41,7 +41,7 @@ reads_one reader text (g ∷ gs) (i ∷ hs) a b h x k y =
 pub one_list : (text : List ℕ) (gs hs : List CephGrant) → IsCephText text gs → IsCephText text hs → gs ≡ hs
 one_list text gs hs x y = (reads_one first_grant text gs hs x.1.0 y.1.0 x.1.1.0 x.1.1.1 y.1.1.0 y.1.1.1).0
 
--- a text that is read to something other than spaces, or to nothing, is none
+-- a text is invalid where something other than spaces is left behind its grants, or where it has no grants
 pub refused_behind : (text : List ℕ) (gs : List CephGrant) (rest : List ℕ) → ReadsTo text gs rest → behind_spaces rest ≢ [] → IsNoCephText text
 refused_behind text gs rest h more hs x =
     let same = (reads_one first_grant text gs hs rest x.1.0 h.0 h.1 x.1.1.0 x.1.1.1).1 in

@@ -9,7 +9,7 @@ pub struct MethodFlags {
     pub reads: bool,
     /// It writes.
     pub writes: bool,
-    /// It promotes the object to the cache tier first, which no capability looks at.
+    /// It promotes the object to the cache tier first. Capabilities ignore this flag.
     pub promotes: bool,
 }
 

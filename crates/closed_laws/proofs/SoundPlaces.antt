@@ -11,7 +11,7 @@ use Rattle.map_core.specs.declared.pool.Pool.{Pool}
 use Rattle.map_core.proofs.Acceptance.{all_fail, not_false}
 use Rattle.store_core.specs.declared.sealed.GroupId.{GroupId}
 use Rattle.world_events.specs.declared.fault.WorldFault.TheVariants.{Map as OfMap}
-use Rattle.world_front.specs.Front.{Front, group_refusal}
+use Rattle.world_front.specs.ControlPlane.{ControlPlane, group_refusal}
 use Rattle.world_core.specs.World.{World}
 use Rattle.world_core.specs.Sound.{IsSound}
 use Rattle.world_core.proofs.Limits.{wrapped_none}
@@ -28,7 +28,7 @@ some_found : (o : Option Pool) → is_some o ≡ true → (p : Pool) × (o ≡ S
 some_found None h = absurd (cc)
 some_found (Some p) h = (p, refl)
 
-named_place : (f : Front) (id : GroupId) → group_refusal f id ≡ None → IsPlace f.history id
+named_place : (f : ControlPlane) (id : GroupId) → group_refusal f id ≡ None → IsPlace f.history id
 unfolding pool_in groups_in
 named_place f id h =
     let fails = all_fail (acting_tests (map_of f.history).pools id.pool id.number) (wrapped_none OfMap (first_of (acting_tests (map_of f.history).pools id.pool id.number)) h) in
@@ -39,7 +39,7 @@ named_place f id h =
       number = above found.0.pg_num id.number (sym (ap (λ o. nat_le (option_map_or (λ (p : Pool). p.pg_num) o 0) id.number) found.1) ∙ fails.1.1.0);
     }
 
-place_named : (f : Front) (id : GroupId) → IsAccepted f.history → IsPlace f.history id → group_refusal f id ≡ None
+place_named : (f : ControlPlane) (id : GroupId) → IsAccepted f.history → IsPlace f.history id → group_refusal f id ≡ None
 place_named f id accepted p = ap (option_map OfMap) (place_there f.history id p.pool accepted p.found p.number)
 
 pub found_by_place : (w : World) (id : GroupId) → IsSound w → IsFoundByPlace w id

@@ -23,7 +23,7 @@ use Rattle.world_events.specs.declared.event.Event.{Event}
 use Rattle.world_events.specs.declared.event.Event.TheVariants.{Deliver, Lose, Kick}
 use Rattle.world_events.specs.declared.fault.WorldFault.TheVariants.{Group as OfGroup}
 use Rattle.world_front.specs.Groups.{is_same_group, is_for}
-use Rattle.world_front.specs.Front.{group_refusal}
+use Rattle.world_front.specs.ControlPlane.{group_refusal}
 use Rattle.world_core.specs.World.{World, group_at, world_step, accepts}
 use Rattle.world_core.specs.Holds.{AcceptedFrom}
 use Rattle.world_core.specs.Answers.{answer_in, answer_to, answer_at}

@@ -16,7 +16,7 @@ use Rattle.store_core.specs.Request.{Sealed}
 use Rattle.store_core.specs.declared.sealed.GroupId.{GroupId}
 use Rattle.group_model_whole.specs.Each.{Each}
 use Rattle.group_model.specs.Group.{Group, Event, Submit, Deliver, Lose, Repeat, NewInterval, Restart, Kick, is_submitted}
-use Rattle.world_front.specs.Front.{id_of}
+use Rattle.world_front.specs.ControlPlane.{id_of}
 use Rattle.world_front.specs.Stands.{next_in, next_at, IsGiven}
 use Rattle.world_front.specs.Groups.{is_for}
 use Rattle.world_core.specs.World.{World}

@@ -9,7 +9,7 @@ use Rattle.group_model.specs.Group.{Event, is_submitted}
 use Rattle.world_events.specs.declared.event.Event.{Event as WorldEvent}
 use Rattle.world_core.specs.World.{World}
 use Rattle.world_core.specs.Holds.{Holds}
-use Rattle.world_front.specs.Front.{Front, first_front, front_step, front_after, requests_of, requests_in}
+use Rattle.world_front.specs.ControlPlane.{ControlPlane, first_front, front_step, front_after, requests_of, requests_in}
 use Rattle.cluster.specs.declared.cluster.Cluster.{Cluster}
 use Rattle.cluster.specs.declared.cluster.Seats.{Seats}
 use Rattle.cluster.specs.declared.monitor.Monitor.{Monitor}
@@ -32,23 +32,23 @@ use Rattle.cluster.proofs.GoingOn.{stands_whole}
 
 -- ---- where pools are created and users added, nothing is asked
 
-after_pools : (f : Front) (pools : List PoolSpec) → (fold front_step f (map creation_of pools)).submissions ≡ f.submissions
+after_pools : (f : ControlPlane) (pools : List PoolSpec) → (fold front_step f (map creation_of pools)).submissions ≡ f.submissions
 unfolding requests_of requests_in
 after_pools f [] = refl
 after_pools f (p ∷ ps) = after_pools (front_step f (creation_of p)) ps ∙ append-nil f.submissions
 
-after_users : (f : Front) (users : List UserSpec) → (fold front_step f (map addition_of users)).submissions ≡ f.submissions
+after_users : (f : ControlPlane) (users : List UserSpec) → (fold front_step f (map addition_of users)).submissions ≡ f.submissions
 unfolding requests_of requests_in
 after_users f [] = refl
 after_users f (u ∷ us) = after_users (front_step f (addition_of u)) us ∙ append-nil f.submissions
 
 unasked : (table : Table) (daemons : ℕ) (pools : List PoolSpec) (users : List UserSpec) → (front_after table daemons (events_of pools users)).submissions ≡ []
 unasked table daemons pools users =
-    ap (λ (f : Front). f.submissions) (fold-append front_step (first_front table daemons) (map creation_of pools) (map addition_of users))
+    ap (λ (f : ControlPlane). f.submissions) (fold-append front_step (first_front table daemons) (map creation_of pools) (map addition_of users))
     ∙ (after_users (fold front_step (first_front table daemons) (map creation_of pools)) users ∙ after_pools (first_front table daemons) pools)
 
 pub nothing_asked : (table : Table) (daemons : ℕ) (pools : List PoolSpec) (users : List UserSpec) (events : List WorldEvent) (w : World) → events ≡ events_of pools users → Holds table daemons events w → w.front.submissions ≡ []
-nothing_asked table daemons pools users events w are holds = ap (λ (f : Front). f.submissions) (holds.front ∙ ap (front_after table daemons) are) ∙ unasked table daemons pools users
+nothing_asked table daemons pools users events w are holds = ap (λ (f : ControlPlane). f.submissions) (holds.front ∙ ap (front_after table daemons) are) ∙ unasked table daemons pools users
 
 -- ---- want is a fault of the start
 

@@ -78,7 +78,7 @@ module _ (h : History) (g : Group) (cs : List MapCommand) (last : Group) where
   add_move : (c : MapCommand) → IsAccepted (later h c) → (moves_groups c ≡ true → refusal_of g (move_of (map_of h) c g.group) ≡ None) → Took (later h c) (moved_alone h g c) cs last → Took h g (c ∷ cs) last
   add_move c accepted passes t = (Moves c ∷ t.0, ((accepted, passes), t.1), ap (λ l. c ∷ l) t.2, t.3)
 
-  -- a command in which no group has a part
+  -- a command that moves no group
   add_still : (c : MapCommand) → moves_groups c ≡ false → IsAccepted (later h c) → Took (later h c) g cs last → Took h g (c ∷ cs) last
   add_still c still accepted t =
       let same : moved_alone h g c ≡ g = ap (λ (b : Bool). if b then group_step g (move_of (map_of h) c g.group) else g) still in

@@ -8,7 +8,7 @@ use Rattle.map_core.specs.State.{History}
 use Rattle.store_core.specs.declared.sealed.GroupId.{GroupId}
 use Rattle.group_model_whole.specs.Each.{Each}
 use Rattle.group_model.specs.Group.{Event, Submit, Deliver, Lose, Repeat, NewInterval, Restart, Kick, is_submitted}
-use Rattle.world_front.specs.Front.{id_of}
+use Rattle.world_front.specs.ControlPlane.{id_of}
 use Rattle.cluster.specs.declared.cluster.Cluster.{Cluster}
 use Rattle.cluster.specs.declared.cluster.Seats.{Seats}
 use Rattle.cluster.specs.declared.pass.OwnSession.{OwnSession}

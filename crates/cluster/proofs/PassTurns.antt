@@ -8,7 +8,7 @@ use Rattle.map_core.specs.State.{History, GoesOn}
 use Rattle.store_core.specs.Request.{Sealed}
 use Rattle.group_model_whole.specs.Each.{Each}
 use Rattle.group_model.specs.Group.{Group, Event, Submit, Deliver, Lose, Repeat, NewInterval, Restart, Kick, is_submitted}
-use Rattle.world_front.specs.Front.{id_of}
+use Rattle.world_front.specs.ControlPlane.{id_of}
 use Rattle.world_core.proofs.Acting.{each_join, each_weaker}
 use Rattle.cluster_locks.specs.declared.groups.GroupEntry.{GroupEntry}
 use Rattle.cluster.specs.declared.cluster.Cluster.{Cluster}

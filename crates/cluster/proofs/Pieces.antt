@@ -5,7 +5,7 @@ use Rattle.std.specs.List.{range_with_len}
 use Rattle.map_core.specs.State.{History}
 use Rattle.map_core.specs.declared.pool.PoolView.{PoolView}
 use Rattle.store_core.specs.Request.{Sealed}
-use Rattle.world_front.specs.Front.{◌>>=◌, refuse_if, error_of, id_of, Asker, is_namespace, asks_more}
+use Rattle.world_front.specs.ControlPlane.{◌>>=◌, refuse_if, error_of, id_of, Asker, is_namespace, asks_more}
 use Rattle.world_front.specs.Stands.{next_in}
 use Rattle.world_events.specs.declared.event.Ask.{Ask}
 use Rattle.world_events.specs.declared.fault.WorldFault.{WorldFault as Fault}
@@ -63,7 +63,7 @@ module _ (c : Cluster) (ask : Ask) (view : PoolView) where
     fails = subst (λ (k : ℕ). IsNoPiece c ask view k fault at new) (sym count) fails;
   }
 
--- ---- what they are told as
+-- ---- what a list answers for its pieces
 
 abbrev told_at : (session first : ℕ) → List ℕ → ℕ → Asked
 told_at session first pool n = record { id = id_of session (first + n); group = record { pool = pool; number = n } }

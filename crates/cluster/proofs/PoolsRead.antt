@@ -13,7 +13,7 @@ use Rattle.map_core.specs.declared.fault.MapFault.TheVariants as map_fault
 use Rattle.map_core.proofs.Acceptance.{all_fail, not_false}
 use Rattle.map_core.proofs.Kept.{views_are_of_pools}
 use Rattle.world_events.specs.declared.fault.WorldFault.{WorldFault as Fault}
-use Rattle.world_front.specs.Front.{need, error_of}
+use Rattle.world_front.specs.ControlPlane.{need, error_of}
 use Rattle.world_front.specs.Refusing.{fault_of_view as world_fault}
 use Rattle.world_events.specs.declared.fault.WorldFault.TheVariants.{NoPool, OutOfMemory}
 use Rattle.world_front.proofs.Bytes.{bytes_same}

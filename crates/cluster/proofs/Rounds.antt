@@ -87,7 +87,7 @@ entry_is (Err Full) g = refl
 entry_is (Err OutOfMemory) g = refl
 entry_is (Err Doubled) g = refl
 
--- a round that has come to the group `to`: one delivery at most on each group before it
+-- a round that has reached the group `to`: at most one delivery on each group before it
 pub record HasCome (to : ℕ) (old new : Pass) : Type 0 where
   pub before : (k : ℕ) → k < to → (n : ℕ) × (n ≤ 1) × (happened_at new.seats k ≡ happened_at old.seats k ++ deliveries n)
   pub later : (k : ℕ) → to ≤ k → happened_at new.seats k ≡ happened_at old.seats k

@@ -18,7 +18,7 @@ use Rattle.store_core.specs.declared.sealed.GroupId.{GroupId}
 use Rattle.group_model_whole.specs.Each.{Each}
 use Rattle.group_model.specs.Group.{Group, Submit}
 use Rattle.group_messages.specs.declared.fault.GroupFault.{GroupFault}
-use Rattle.world_front.specs.Front.{◌>>=◌, need, refuse_if, id_of, asks_more}
+use Rattle.world_front.specs.ControlPlane.{◌>>=◌, need, refuse_if, id_of, asks_more}
 use Rattle.world_core.specs.Moves.{IsAt}
 use Rattle.world_core.specs.Sound.{IsSealedFor}
 use Rattle.world_events.specs.declared.event.Ask.{Ask}
@@ -69,7 +69,7 @@ module _ (own : List OwnSession) (a : Asking) where
 
 -- ---- a group of the start
 
--- a request that was sealed by a pool of the start is for a group that there is
+-- a request that was sealed by a pool of the start is for an existing group
 pub group_there : (start : History) (s : Sealed) → IsSealedFor start s → is_word s.view.pool ≡ true → acting_refusal start s.view.pool s.group ≡ None
 unfolding groups_in
 group_there start s sealed word = three (is_word s.view.pool) (has_pool (map_of start).pools s.view.pool) (nat_le (groups_in (map_of start).pools s.view.pool) s.group) word (ap is_some found) low

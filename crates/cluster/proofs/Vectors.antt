@@ -11,7 +11,7 @@ use Rattle.object_core.specs.declared.needs.NeedsFault.{NeedsFault}
 use Rattle.object_core.specs.declared.op.Op.{Op}
 use Rattle.entry_core.specs.Locality.{Hashes}
 use Rattle.store_core.specs.Request.{Sealed, Work, Vector, Listing}
-use Rattle.world_front.specs.Front.{◌>>=◌, need, refuse_if, lower, error_of, id_of, Asker, is_object_name, is_namespace, sealed_of, vector_of}
+use Rattle.world_front.specs.ControlPlane.{◌>>=◌, need, refuse_if, lower, error_of, id_of, Asker, is_object_name, is_namespace, sealed_of, vector_of}
 use Rattle.world_front.specs.Stands.{next_in}
 use Rattle.world_events.specs.declared.event.Ask.{Ask}
 use Rattle.world_events.specs.declared.fault.WorldFault.{WorldFault as Fault}

@@ -12,7 +12,7 @@ use Rattle.group_messages.specs.declared.fault.GroupFault.{GroupFault}
 use Rattle.world_events.specs.declared.event.Ask.{Ask}
 use Rattle.world_events.specs.declared.fault.WorldFault.{WorldFault as Fault}
 use Rattle.world_events.specs.declared.fault.WorldFault.TheVariants.{NoSession, NoPool, BadObjectName, StaleTick, Needs as OfNeeds}
-use Rattle.world_front.specs.Front.{◌>>=◌, need, refuse_if, lower, Asker, is_object_name, is_namespace, sealed_of, vector_of, id_of, asks_more}
+use Rattle.world_front.specs.ControlPlane.{◌>>=◌, need, refuse_if, lower, Asker, is_object_name, is_namespace, sealed_of, vector_of, id_of, asks_more}
 use Rattle.world_core.specs.Moves.{IsAt}
 use Rattle.world_front.specs.declared.session.Session.{Session}
 use Rattle.cluster.specs.declared.asking.Asking.{Asking}
@@ -51,11 +51,11 @@ vector_by a asker object ops =
     lower OfNeeds (needs_fault ops) >>= λ _.
     Ok (vector_of (ask_by a asker.view) asker object ops)
 
--- the request of a vector, or why there is none
+-- the request of a vector, or why it is refused
 abbrev pub request_by : (start map : History) → List OwnSession → Asking → List ℕ → List Op → Result Sealed Fault
 request_by start map own a object ops = asker_by start map own a >>= λ asker. vector_by a asker object ops
 
--- the pool of which a list is asked, or why there is none
+-- the pool that a list names, or why the list is refused
 abbrev pub pool_by : (start map : History) → List OwnSession → Asking → Result PoolView Fault
 pool_by start map own a =
     asker_by start map own a >>= λ asker.
@@ -90,7 +90,7 @@ pub record WasRefused (c : Cluster) (request : Sealed) (fault : ClusterFault) (o
   pub turns : TurnsOn submission_entry SubmissionTells c place (record { 0 = Some request }) (Err why) old new
   pub is : fault ≡ fault_of_group why
 
--- a request was not submitted: for want of memory before its turn, or as its group refused it
+-- a request was not submitted: out of memory before its turn, or its group refused it
 abbrev pub IsNotAsked : Cluster → Sealed → ClusterFault → Pass → Pass → Type 0
 IsNotAsked c request fault old new = ((fault ≡ faults.OutOfMemory) × (new ≡ old)) ⊎ WasRefused c request fault old new
 
@@ -112,7 +112,7 @@ pub record HasNoSession (own : List OwnSession) (a : Asking) (fault : ClusterFau
   pub is : fault ≡ faults.World why
   pub unchanged : new ≡ old
 
--- by the map that was read there is no request, for this reason or for want of memory; or there is one, and it was not submitted
+-- the map that was read gives no request, for this reason or out of memory; or it gives one, which was not submitted
 abbrev pub IsRefusedBy : Cluster → Result Sealed Fault → ClusterFault → Pass → Pass → Type 0
 IsRefusedBy c (Err why) fault old new = ((fault ≡ faults.World why) ⊎ (fault ≡ faults.OutOfMemory)) × (new ≡ old)
 IsRefusedBy c (Ok request) fault old new = IsNotAsked c request fault old new
@@ -137,7 +137,7 @@ abbrev pub ArePieces : Cluster → Ask → PoolView → ℕ → List Asked → P
 ArePieces c ask view group [] old new = new ≡ old
 ArePieces c ask view group (x ∷ xs) old new = (next : Pass) × IsPiece c ask view group x old next × ArePieces c ask view (group + 1) xs next new
 
--- what a list answers: so many groups of a pool, in order, under consecutive numbers of the session
+-- what a list answers: the first `count` groups of a pool, in order, under consecutive numbers of the session
 abbrev pub numbered_from : (session first : ℕ) → List ℕ → ℕ → List Asked
 numbered_from session first pool count = each (λ n. record { id = id_of session (first + n); group = record { pool = pool; number = n } }) (range_with_len 0 count)
 
@@ -164,8 +164,8 @@ pub record IsCutShort (c : Cluster) (ask : Ask) (view : PoolView) (fault : Clust
   pub fewer : length before < view.pg_num
   pub fails : IsNoPiece c ask view (length before) fault at new
 
--- by the map that was read there is no such pool, for this reason or for want of memory; or there is one, and no memory was there for its view, or a piece was
--- not submitted
+-- The map that was read gives no such pool, for this reason or out of memory. Or it gives one, and memory ran out for
+-- its view, or a piece was not submitted.
 abbrev pub IsUnlistedBy : Cluster → Asking → Result PoolView Fault → ClusterFault → Pass → Pass → Type 0
 IsUnlistedBy c a (Err why) fault old new = ((fault ≡ faults.World why) ⊎ (fault ≡ faults.OutOfMemory)) × (new ≡ old)
 IsUnlistedBy c a (Ok view) fault old new = ((fault ≡ faults.OutOfMemory) × (new ≡ old)) ⊎ IsCutShort c (ask_by a view) view fault old new

@@ -8,7 +8,7 @@ use Rattle.store_core.specs.Request.{Sealed}
 use Rattle.store_core.specs.declared.sealed.GroupId.{GroupId}
 use Rattle.group_model_whole.specs.Each.{Each}
 use Rattle.group_model.specs.Group.{Group, Event, Submit, Deliver, Lose, Repeat, NewInterval, Restart, Kick, is_submitted}
-use Rattle.world_front.specs.Front.{id_of}
+use Rattle.world_front.specs.ControlPlane.{id_of}
 use Rattle.world_core.specs.World.{World}
 use Rattle.world_core.specs.Sound.{IsSealedFor, IsSound}
 use Rattle.cluster.specs.declared.cluster.Cluster.{Cluster}
@@ -73,7 +73,8 @@ seats_of p = p.seats
 abbrev pub sessions_of : Pass → List OwnSession
 sessions_of p = p.sessions.items
 
--- A pass of a cluster that began so: it has a seat of each lock, each of which knows all that it made, and its reader was told of the map of the start at least
+-- A pass of a cluster that began so. It has a seat of each lock, and each seat knows all that it made. Its reader
+-- knows at least the map of the start.
 pub record IsPassOf (c : Cluster) (p : Pass) : Type 0 where
   pub begun : IsBegun c
   pub seats : ArePassOf c p.seats

@@ -21,7 +21,7 @@ use Rattle.cluster.specs.Passes.{GroupTurn, firsts_of}
 
 -- ---- faults
 
--- a fault of a group, where want of memory is the cluster's own
+-- the cluster's fault for a fault of a group; out of memory is the cluster's own
 abbrev pub fault_of_group : GroupFault → ClusterFault
 fault_of_group group_fault.OutOfMemory = faults.OutOfMemory
 fault_of_group fault = faults.World (OfGroup fault)

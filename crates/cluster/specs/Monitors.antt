@@ -59,8 +59,8 @@ StandsBy None count own shown waiting = (shown ≡ own) × (waiting ≡ [])
 StandsBy (Some (Left command at)) count own shown waiting = (at ≤ count) × (waiting ≡ []) × (own ≡ with_command shown command)
 StandsBy (Some Laid) count own shown waiting = own ≡ with_commands shown waiting
 
--- the monitor has the monitor's seats of the cluster, each of which knows all that it made, and the places of its groups in order; and what is published is its own
--- map but for what is unfinished
+-- The monitor has the monitor's seats of the cluster, and each seat knows all that it made. It has the places of the
+-- cluster's groups in order. What is published is its own map, except for what is unfinished.
 pub record IsMonitorOf (c : Cluster) (m : Monitor) : Type 0 where
   pub seats : AreMonitorOf c m.seats
   pub places : m.places.items ≡ map (λ g. g.group) (firsts_of c)
@@ -135,7 +135,8 @@ pub record IsAdmitted (c : Cluster) (command : MapCommand) (old new : Monitor) :
   pub free : change_refusal old.map command ≡ None
   pub room : NoneFull c old.map command old.places.items (group_count c) old.seats new.seats
 
--- the first reason to refuse the command, or want of memory where there is none. Only for the latter groups were looked at
+-- The fault is the first reason to refuse the command, or out of memory if no reason applies. Groups were looked at
+-- only in the second case.
 pub record IsRefused (command : MapCommand) (fault : MapFault) (old new : Monitor) : Type 0 where
   pub fault_is : fault ≡ unwrap_or (change_refusal old.map command) map_fault.OutOfMemory
   pub looked : OnlyLooked old new
@@ -191,8 +192,8 @@ FollowBy None first commands places seats = AllFollow first commands places seat
 FollowBy (Some Laid) first commands places seats = AllFollow first commands places seats
 FollowBy (Some (Left command at)) first commands places seats = (before : List MapCommand) × (commands ≡ before ++ command ∷ []) × SomeFollow first before command at places seats
 
--- Since the first map the monitor's has these commands, none of which creates a pool. Each seat has made its group's events of all of them,
--- but for the last one where that one is left at an earlier group, and no others
+-- Since the first map the monitor's map has these commands, none of which creates a pool. Each seat has made exactly
+-- its group's events of them. Exception: the last command, if it is left at this group or an earlier one.
 pub record Follows (first : History) (m : Monitor) : Type 0 where
   pub commands : List MapCommand
   pub map_is : m.map ≡ with_commands first commands

@@ -83,7 +83,7 @@ AreMonitorOf c p = AreSeatsOf c p × HaveShare (monitor_share c.passes) p × Are
 
 -- ---- the end
 
--- Each group, and the users, are the fold of a list of turns. The list begins with what each pass and the monitor had seen, and where all
--- passes were handed in it has no entry but theirs, each one's in its order
+-- Each group is the fold of a list of turns, and so are the users. The list begins with what each pass and the
+-- monitor had seen. If all passes were returned, it has only their entries, each one's in its order.
 abbrev pub Closed : Cluster → Seats → List Seats → Ended → Type 0
 Closed c monitor passes w = (all : Seats) × Gathers monitor passes all × ClosedAll group_after entry_fits group_in c.groups.items all.groups.items w.groups.items × Closes table_after (λ t entry. Unit {0}) c.users.first w.users all.users

@@ -2,7 +2,7 @@
 -- The sessions that a pass has opened, by their numbers.
 use Rattle.std.specs.Prelude.{◌≡◌, ℕ, ◌-◌, ◌<◌, ◌≤◌, ◌==◌, List, [], ◌∷◌, Option, Some, None, if◌then◌else◌, slice_get}
 use Rattle.store_core.specs.Request.{numbers}
-use Rattle.world_front.specs.Front.{id_of}
+use Rattle.world_front.specs.ControlPlane.{id_of}
 use Rattle.world_front.specs.Stands.{next_in}
 use Rattle.world_front.specs.declared.session.Session.{Session}
 use Rattle.cluster.specs.declared.pass.OwnSession.{OwnSession}

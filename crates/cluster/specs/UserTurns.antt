@@ -5,7 +5,7 @@ use Rattle.verdict_core.specs.Ticket.{Ticket}
 use Rattle.auth_db.specs.declared.fault.AuthFault.{AuthFault}
 use Rattle.auth_db.specs.declared.fault.AuthFault.TheVariants as auth_fault
 use Rattle.world_events.specs.declared.fault.WorldFault.TheVariants.{Limit, Auth as OfUsers}
-use Rattle.world_front.specs.Front.{opened}
+use Rattle.world_front.specs.ControlPlane.{opened}
 use Rattle.world_front.specs.declared.session.Session.{Session}
 use Rattle.world_events.specs.declared.event.AuthCommand.{AuthCommand}
 use Rattle.world_events.specs.declared.event.Told.{Told}
@@ -21,7 +21,7 @@ use Rattle.cluster_locks.specs.Users.{open_entry, OpenTells, renew_entry, RenewT
 
 -- ---- faults
 
--- a fault of the users, where want of memory is the cluster's own
+-- the cluster's fault for a fault of the users; out of memory is the cluster's own
 abbrev pub fault_of_users : AuthFault → ClusterFault
 fault_of_users auth_fault.OutOfMemory = faults.OutOfMemory
 fault_of_users fault = faults.World (OfUsers fault)
@@ -46,7 +46,7 @@ ChangeTurn c command old new answer = UserTurn change_entry ChangeTells c old.se
 abbrev pub OnlyTurned : Pass → Pass → Type 0
 OnlyTurned old new = (new.sessions.items ≡ old.sessions.items) × (new.reader ≡ old.reader)
 
--- Refused: for want of memory before the turn, or as the turn was
+-- Refused: out of memory before the turn, or with the fault of the turn
 abbrev pub RefusedAs : {F : Type 0} → (F → Type 0) → (F → ClusterFault) → ClusterFault → Pass → Pass → Type 0
 RefusedAs {F} Turn fault_of fault old new = OnlyTurned old new × (((fault ≡ faults.OutOfMemory) × (new.seats ≡ old.seats)) ⊎ ((f : F) × Turn f × (fault ≡ fault_of f)))
 

@@ -16,7 +16,7 @@ use Rattle.published_map.specs.declared.published.Knowledge.{Knowledge}
 use Rattle.cluster.specs.declared.pass.Pass.{Pass}
 use Rattle.published_map.specs.Published.{Sees}
 
--- a fault of the map, where want of memory is the cluster's own
+-- the cluster's fault for a fault of the map; out of memory is the cluster's own
 abbrev pub fault_of_map : MapFault → ClusterFault
 fault_of_map map_fault.OutOfMemory = faults.OutOfMemory
 fault_of_map fault = faults.World (OfMap fault)

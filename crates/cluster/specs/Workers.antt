@@ -16,12 +16,13 @@ use Rattle.cluster_locks.specs.Places.{InStep}
 use Rattle.cluster.specs.Asks.{IsPassOf}
 use Rattle.cluster.specs.Deliveries.{WorksAt}
 
--- message 0, so many times
+-- `n` deliveries of message 0
 abbrev pub deliveries : ℕ → List Event
 deliveries zero = []
 deliveries (suc n) = Deliver 0 ∷ deliveries n
 
--- Its own new events are deliveries of message 0, at most so many on each group, and it has seen at least what it had seen
+-- Its own new events are deliveries of message 0, at most `most` on each group. It has seen at least what it had
+-- seen.
 pub record HasWorked (most : ℕ) (old new : Pass) : Type 0 where
   pub made : (k : ℕ) → (n : ℕ) × (n ≤ most) × (happened_at new.seats k ≡ happened_at old.seats k ++ deliveries n)
   pub goes : Goes old.seats new.seats
@@ -58,7 +59,7 @@ abbrev pub first_fault : List (Option ClusterFault) → Option ClusterFault
 first_fault [] = None
 first_fault (fault ∷ later) = option_or fault (first_fault later)
 
--- there was no memory before any round; or each worker ended so, and what is told is the first one's fault
+-- out of memory before any round; or each worker ended so, and the fault is the first one of a worker, by number
 abbrev pub TellsFault : Cluster → (old new : List Pass) → Option ClusterFault → Type 0
 TellsFault c old new fault =
     ((fault ≡ Some faults.OutOfMemory) × (new ≡ old))

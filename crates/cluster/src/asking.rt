@@ -5,7 +5,7 @@ ghost use Rattle.std.specs.Option.{option_map};
 ghost use Rattle.object_core.specs.Needs.{needs_fault};
 ghost use Rattle.world_events.specs.declared.fault.WorldFault.{WorldFault as Fault};
 ghost use Rattle.world_events.specs.declared.fault.WorldFault.TheVariants.{Needs as OfNeeds};
-ghost use Rattle.world_front.specs.Front.{error_of, vector_of, asks_more};
+ghost use Rattle.world_front.specs.ControlPlane.{error_of, vector_of, asks_more};
 ghost use Rattle.common_types.specs.Refused.{RefusedExactly};
 ghost use Rattle.cluster.specs.declared.fault.ClusterFault.TheVariants as faults;
 ghost use Rattle.cluster.specs.Sessions.{own_session_at, next_of};
@@ -106,8 +106,8 @@ fn move_on(own: &mut Vec<OwnSession>, k: usize, ask: &Ask)
     count_request(&mut own[k].session, ask);
 }
 
-// The request of a vector under the next number of a session. K3 also where the session's numbers are used up: no group has room for
-// so many requests.
+// The request of a vector under the next number of a session. It returns K3 also if the session's numbers are used
+// up: no group has room for that many requests.
 fn seal_next(
     alloc: Global,
     ask: &Ask,
@@ -193,13 +193,22 @@ impl Cluster {
         }
     }
 
-    /// Submits a vector of operations on an object, sealed with the session's ticket and with the pool by a map that goes on from all
-    /// that this pass saw before or was told of. It waits for the group's turn.
+    /// Submits a vector of operations on an object, sealed with the session's ticket and with the pool. It waits for
+    /// the group's turn.
     ///
-    /// It is refused by the first of these that holds: W1 where the pass has no such session, W9, W2 where the map that was read has no
-    /// such pool, W3, N1 to N3, and P3 where the group has all its requests. K4, no reading, comes after W9, and K3, want of memory,
-    /// in any place after it; K3 also where the session has given all its 2^32 numbers. A refused call submits nothing, and leaves the
-    /// sessions as they were.
+    /// The pool is read from a published map that extends every map that this pass saw before or learned of.
+    ///
+    /// The first of these faults that applies is returned:
+    /// - W1: the pass has no such session.
+    /// - W9: the tick is before one that this session has used.
+    /// - K4: there was no reading.
+    /// - W2: the map that was read has no such pool.
+    /// - W3: the object's name or the namespace is not valid.
+    /// - N1 to N3: a fault of the vector.
+    /// - P3: the group has all its requests.
+    ///
+    /// K3, out of memory, may come at any place after K4. It is returned also if the session has given all its 2^32
+    /// numbers. A refused call submits nothing, and leaves the sessions as they were.
     pub fn submit<R: Wait>(
         &self,
         rt: &R,

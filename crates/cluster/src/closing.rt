@@ -23,8 +23,8 @@ use world_core::{Session, WorldParts};
 /// Why a cluster is not closed.
 #[derive(Clone, Copy, Debug, PartialEq, Eq)]
 pub enum CloseFault {
-    /// L1: not all passes that `start` gave came back. It is told by how many there are, and by their sessions, whose numbers have no
-    /// gap where all passes are there.
+    /// L1: a pass that `start` gave is missing. The call checks the number of passes, and that the numbers of their
+    /// sessions have no gap: they have none if all passes are there.
     MissingPass,
     /// L2: a change of the map is unfinished.
     Unfinished,
@@ -147,13 +147,16 @@ fn end_all<R: Wait>(
 impl Cluster {
     /// Closes the cluster, and gives the parts of a world: the users, the monitor's map, the groups, and the sessions of all passes.
     ///
-    /// Give the parts to `World::of`, which makes a world of them wherever there is memory for it. How much that takes is known only
-    /// once the locks are open, so that call is apart, and hands the parts back where memory is refused.
+    /// Pass the parts to `World::of`, which makes a world of them if there is memory for it. How much that takes is
+    /// known only once the locks are open. So it is a separate call, which returns the parts if an allocation fails.
     ///
-    /// It refuses, in this order: where a pass is missing (L1), where a change of the map is unfinished (L2), for want of memory (L3).
-    /// All memory is taken before the first lock is closed, so at `Err` nothing changed, and the cluster, the monitor and the passes
-    /// come back. It ends the publication, for which it waits until no reader is within a reading, and takes a last turn on each
-    /// lock. A note that nobody has heard does not hinder it. Its time is at most quadratic in the number of sessions.
+    /// The first of these faults that applies is returned: L1 if a pass is missing, L2 if a change of the map is
+    /// unfinished, L3 if an allocation fails. All memory is taken before the first lock is closed. So at `Err`
+    /// nothing changed, and the cluster, the monitor and the passes are returned.
+    ///
+    /// It ends the publication, for which it waits until no reader is within a reading. It takes a last turn on each
+    /// lock. A note that nobody has heard does not hinder it. Its time is at most quadratic in the number of
+    /// sessions.
     pub fn close<R: Wait>(
         self,
         rt: &R,

@@ -93,10 +93,11 @@ impl Cluster {
         self.passes
     }
 
-    /// A turn on a group, counted from 0, by any step. It waits for the turns before it.
+    /// Takes a turn on a group, counted from 0, with any step. It waits for the turns before it.
     ///
-    /// `work`, `submit` and `answer` take such turns for a pass. A step of one's own may do what no pass does, so what is known of a pass
-    /// is not known of its seats afterwards, and they cannot be handed in at the end.
+    /// `work`, `submit` and `answer` take such turns for a pass. A caller's own step is not limited to what a pass
+    /// does. So what is known of a pass is not known of these seats afterwards, and they cannot be returned at the
+    /// end.
     pub fn turn<R: Wait, St: Step<Value = LockedGroup> + Drop>(
         &self,
         rt: &R,

@@ -19,7 +19,7 @@ use group_messages::GroupFault;
 use std::sync::Wait;
 use world_core::{WorldFault, place_of};
 
-// A fault of a group, where want of memory is the cluster's own.
+// The cluster's fault for a fault of a group; out of memory is the cluster's own.
 pub(crate) fn of_group(fault: GroupFault) -> ClusterFault
     ensures { result ≡ fault_of_group fault }
 {
@@ -58,11 +58,11 @@ impl Cluster {
         }
     }
 
-    /// Delivers message 0 of a group, the one that was sent first of those on their way, or answers `Idle` where there is none. It waits
-    /// for the group's turn.
+    /// Delivers message 0 of a group: the one that was sent first of those on their way. It returns `Idle` if no
+    /// message is on its way. It waits for the group's turn.
     ///
-    /// M9, M2 and M10 tell that the cluster has no such group, and leave all as it was. P2: the message was to a daemon that is down, and
-    /// is dropped. K3: memory was wanting, and the message is left.
+    /// M9, M2 or M10: the cluster has no such group, and nothing changed. P2: the message was to a daemon that is
+    /// down, and is dropped. K3: out of memory, and the message stays.
     pub fn work<R: Wait>(
         &self,
         rt: &R,

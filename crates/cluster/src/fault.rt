@@ -9,8 +9,8 @@ use world_core::WorldFault;
 /// Why a call on a cluster is refused.
 #[derive(Clone, Copy, Debug)]
 pub enum ClusterFault {
-    /// A refusal of a lower layer, in the order of the world's event of that name. It leaves all as it was, but for a delivery to a
-    /// daemon that is down (P2), which has dropped its message.
+    /// A refusal of a lower layer, in the order of the world's event of that name. It leaves all as it was.
+    /// Exception: a delivery to a daemon that is down (P2) has dropped its message.
     World(WorldFault),
     /// K1: a change of the map is unfinished at this group, counted from 0, or, at the number of groups, at its publication.
     Unfinished(usize),

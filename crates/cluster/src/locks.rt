@@ -29,10 +29,11 @@ fn pair(
     Ok(all)
 }
 
-/// A cluster that begins with this map, these groups and these users, with so many passes, and the seats of its monitor.
+/// A cluster that begins with this map, these groups and these users, the seats of its monitor, and those of `passes`
+/// passes.
 ///
-/// The passes and the monitor share all numbers that their turns may draw evenly: each pass may take about 2^64 / (passes + 1)
-/// turns on each lock.
+/// The passes and the monitor evenly share all numbers that their turns may draw. Each pass may take about
+/// 2^64 / (passes + 1) turns on each lock.
 pub(crate) fn open_cluster(
     alloc: Global,
     map: ClusterMap,

@@ -118,7 +118,8 @@ impl Monitor {
         lay(&mut self.writer, command)
     }
 
-    /// The news of what the monitor has published. There is none while a change is unfinished. At `Err` nothing changed.
+    /// The news of what the monitor has published. While a change is unfinished, it returns `Err`. At `Err` nothing
+    /// changed.
     pub fn tell(&mut self, cluster: &Cluster) -> Result<News, TellFault>
         requires { IsMonitorOf cluster.now self.old }
         ensures monitor { IsMonitorOf cluster.now self.new }
@@ -272,11 +273,18 @@ impl Monitor {
         }
     }
 
-    /// Changes the map, then moves the groups in order, then publishes, and answers the new epoch.
+    /// Changes the map, then moves the groups in order, then publishes, and returns the new epoch. It takes turns on
+    /// groups, and waits for them.
     ///
-    /// It is refused while a change is unfinished, K1; for a new pool, M7; then as the map refuses it; then by P3 where a group of which
-    /// it begins an interval has all of them; then for want of memory. So far nothing changed. Where the move of a group is refused or
-    /// memory for the publication, K1, the change is left for `finish`. It takes turns on groups, and waits for them.
+    /// The first of these faults that applies is returned, and then nothing changed:
+    /// - K1: a change is unfinished.
+    /// - M7: the command creates a pool.
+    /// - The fault by which the map refuses the command.
+    /// - P3: the command begins an interval of a group that has all its intervals.
+    /// - Out of memory.
+    ///
+    /// If the move of a group is refused, or memory for the publication, it returns K1 and leaves the change for
+    /// `finish`.
     pub fn change_map<R: Wait>(
         &mut self,
         rt: &R,

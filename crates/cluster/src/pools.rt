@@ -22,7 +22,7 @@ fn has_pool(map: &ClusterMap, name: &Name) -> bool
     map.pool(name).is_some()
 }
 
-// Why a pool is not seen: W2, but for want of memory.
+// Why a pool is not seen: K3 if memory ran out, else W2.
 fn of_view(fault: MapFault) -> ClusterFault
     ensures { result ≡ fault_of_view fault }
 {

@@ -16,7 +16,7 @@ use crate::locks::open_cluster;
 use crate::monitor::Monitor;
 use crate::pass::Pass;
 use cluster_locks::{LockedGroup, PoolSpec, UserSpec, UserTable, events_of};
-use common_types::{OutOfMemory, TryCopy};
+use common_types::{OutOfMemory, TryClone};
 use entry_core::GroupId;
 use grant_core::ProfileTable;
 use group_core::Group;
@@ -27,10 +27,10 @@ use std::sync::Wait;
 use world_core::{WorldFault, WorldParts, run};
 
 /// How many news there may be at once, beside a reader for each pass.
-const MOST_NEWS: usize = 64;
+const MAX_NEWS: usize = 64;
 
 /// The most passes: each has a reader of the published map.
-const MOST_PASSES: usize = 65536;
+const MAX_PASSES: usize = 65536;
 
 // Each group, to be put under a lock.
 fn to_lock(alloc: Global, groups: Vec<Group>) -> Result<Vec<LockedGroup>, AllocError>
@@ -54,7 +54,7 @@ fn places_of(alloc: Global, groups: &[LockedGroup]) -> Result<Vec<GroupId>, Allo
     Ok(places)
 }
 
-// A monitor of a cluster by its map, which is published for at most so many readers at once.
+// A monitor of a cluster by its map, which is published for at most `readers` readers at once.
 fn watch<R: Wait>(
     rt: &R,
     alloc: Global,
@@ -82,7 +82,7 @@ fn watch<R: Wait>(
     })
 }
 
-// A pass of these seats, with a reader who is told of the monitor's map.
+// A pass of these seats, with a reader that knows the monitor's map.
 fn pass_with(
     alloc: Global,
     cluster: &Cluster,
@@ -129,7 +129,7 @@ fn all_passes(
     Ok(passes)
 }
 
-// The cluster of a world that was taken apart.
+// The cluster of a world's parts.
 fn cluster_of<R: Wait>(
     rt: &R,
     alloc: Global,
@@ -145,7 +145,7 @@ fn cluster_of<R: Wait>(
         sessions: _,
         groups,
     } = parts;
-    if passes > MOST_PASSES {
+    if passes > MAX_PASSES {
         return Err(ClusterFault::NoReader);
     }
     let groups = to_lock(alloc, groups)?;
@@ -156,7 +156,7 @@ fn cluster_of<R: Wait>(
         sessions: 0,
     };
     let (cluster, seats, all) = open_cluster(alloc, start, groups, users, passes)?;
-    match watch(rt, alloc, &cluster, seats, map, places, passes + MOST_NEWS) {
+    match watch(rt, alloc, &cluster, seats, map, places, passes + MAX_NEWS) {
         Err(_) => Err(ClusterFault::OutOfMemory),
         Ok(monitor) => with_passes(rt, alloc, cluster, monitor, all),
     }
@@ -184,11 +184,13 @@ fn with_passes<R: Wait>(
     }
 }
 
-/// A cluster of 1 to 16 daemons, all up, with these pools and users, its monitor, and so many passes, one for each thread and at least one.
+/// Starts a cluster of 1 to 16 daemons, all up, with these pools and users. It returns the cluster, its monitor, and
+/// `passes` passes: one for each thread, and at least one.
 ///
-/// It is refused as the first of the creations of the pools, in order, and then the additions of the users is refused by a world; for
-/// want of memory (K3); or where the published map gives no reader (K4), of which there may be one for each of 65,536 passes. No pool
-/// comes later. Each pass may take about 2^64 / (passes + 1) turns on each group and on the users.
+/// No pool can be created later. Each pass may take about 2^64 / (passes + 1) turns on each group and on the users.
+///
+/// A world creates the pools in order, then adds the users: the first of these events that it refuses is the fault.
+/// K3: out of memory. K4: the published map gives no reader; it can give one for each of 65,536 passes.
 pub fn start<R: Wait>(
     rt: &R,
     alloc: Global,

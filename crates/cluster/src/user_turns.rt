@@ -18,7 +18,7 @@ use std::sync::Wait;
 use verdict_core::SharedTicket;
 use world_core::{AuthCommand, Session, Told, WorldFault};
 
-// A fault of the users, where want of memory is the cluster's own.
+// The cluster's fault for a fault of the users; out of memory is the cluster's own.
 fn of_users(fault: AuthFault) -> ClusterFault
     ensures { result ≡ fault_of_users fault }
 {

@@ -3,7 +3,7 @@
 ghost use Rattle.std.specs.Prelude.{◌≡◌, ◌&&◌, Ok, Err, MatchOption};
 ghost use Rattle.verdict_core.specs.Verdict.{is_allowed};
 ghost use Rattle.world_events.specs.declared.fault.WorldFault.TheVariants.{NoSession};
-ghost use Rattle.world_front.specs.Front as front;
+ghost use Rattle.world_front.specs.ControlPlane as front;
 ghost use Rattle.cluster.specs.declared.fault.ClusterFault.TheVariants as faults;
 ghost use Rattle.cluster.specs.Asks.{IsPassOf, known_by, sessions_of};
 ghost use Rattle.published_map.specs.Answers.{IsLocated};
@@ -21,7 +21,7 @@ use published_map::{Located, locate, view};
 use verdict_core::Needs;
 use world_core::{WorldFault, are_names};
 
-// A fault of the map, where want of memory is the cluster's own.
+// The cluster's fault for a fault of the map; out of memory is the cluster's own.
 fn of_map(fault: MapFault) -> ClusterFault
     ensures { result ≡ fault_of_map fault }
 {
@@ -31,7 +31,7 @@ fn of_map(fault: MapFault) -> ClusterFault
     }
 }
 
-// An answer by the map, or `NoReader` where there is none.
+// An answer by the map, or `NoReader` if the map gave no answer.
 fn told<T>(found: Option<Result<T, MapFault>>) -> Result<T, ClusterFault>
     ensures { result ≡ told_by found }
 {
@@ -65,11 +65,11 @@ fn view_of(pass: &mut Pass, pool: &Name) -> Result<PoolView, ClusterFault>
 }
 
 impl Cluster {
-    /// A pool as it is at the present epoch of one published map, which goes on from all that this pass has seen or was told of. It waits for
-    /// nobody.
+    /// A pool at the present epoch of one published map, which extends every map that this pass has seen or learned
+    /// of. It waits for nobody.
     ///
-    /// M9: the pool's name is no name. M2: there is no such pool. `NoReader`: there was no reading, and the pass has seen nothing; the call
-    /// can be made again. K3: memory was wanting for the copy.
+    /// M9: the pool's name is not valid. M2: there is no such pool. `NoReader`: there was no reading, and the pass
+    /// has seen nothing; the call can be made again. K3: out of memory for the copy.
     pub fn view(&self, pass: &mut Pass, pool: &Name) -> Result<PoolView, ClusterFault>
         requires { IsPassOf self.now pass.old }
         ensures pass { IsPassOf self.now pass.new }
@@ -79,10 +79,11 @@ impl Cluster {
         view_of(pass, pool)
     }
 
-    /// Where an object is by one published map, which goes on from all that this pass has seen or was told of. It waits for nobody.
+    /// Where an object is by one published map, which extends every map that this pass has seen or learned of. It
+    /// waits for nobody.
     ///
-    /// M9 and M2 are refused as of a view, and then W3: the object's name or the namespace is none. `NoReader`: there was no reading, and the
-    /// pass has seen nothing; the call can be made again. K3: memory was wanting.
+    /// M9 and M2 as in `view`, and then W3: the object's name or the namespace is not valid. `NoReader`: there was no
+    /// reading, and the pass has seen nothing; the call can be made again. K3: out of memory.
     pub fn locate(
         &self,
         pass: &mut Pass,

@@ -84,7 +84,7 @@ fn work_round<R: Wait>(rt: &R, cluster: &Cluster, pass: &mut Pass) -> Result<(),
     Ok(())
 }
 
-// So many rounds, as long as the gate lets the worker in.
+// At most `rounds` rounds, as long as the gate lets the worker in.
 fn work_rounds<R: Wait, G: Gate>(
     rt: &R,
     cluster: &Cluster,
@@ -181,12 +181,16 @@ fn dismiss(workers: Vec<Worker>, mut passes: Vec<Pass>) -> (Vec<Pass>, Option<Cl
     (passes, first)
 }
 
-/// Workers deliver messages, each by a pass and on a thread of its own: worker w has pass w, both counted from 0.
+/// Runs workers that deliver messages, each with a pass and on a thread of its own: worker w has pass w, both counted
+/// from 0.
 ///
-/// In each of so many rounds a worker asks the gate, and ends where it is not let in; then it delivers message 0 of each group once, in
-/// order, and passes over a message to a daemon that is down. Another fault ends that worker. The passes come back in order, also where a
-/// worker ended early, and with them the fault of the first worker that did, by number: what its last turn told. K3 comes before any round. Where no thread can be
-/// made the workers run one after another, so a gate that waits for another worker may wait for ever.
+/// Each worker has at most `rounds` rounds. In each it asks the gate, and ends if the gate does not let it in. Then
+/// it delivers message 0 of each group once, in order. It passes over a message to a daemon that is down. Another
+/// fault ends that worker.
+///
+/// The passes are returned in order, even if a worker ended early. The fault is that of the last turn of the first
+/// worker, by number, that a fault ended. If memory runs out before any round, it is K3. If no thread can be started,
+/// the workers run one after another, so a gate that waits for another worker may wait forever.
 pub fn run_workers<R: Threads + Wait + Sync, G: Gate + Sync>(
     rt: &R,
     alloc: Global,

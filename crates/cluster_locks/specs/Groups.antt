@@ -48,7 +48,7 @@ abbrev pub if_accepted : {T F : Type 0} → Event → Result T F → GroupEntry
 if_accepted e (Ok x) = Happened e
 if_accepted e (Err f) = Idle
 
--- the answer is the first reason to refuse the event, or want of memory where there is none
+-- success and out of memory occur only where nothing refuses the event; else the answer is the first reason to refuse
 abbrev pub AnswersFor : {T : Type 0} → Group → Event → Result T GroupFault → Type 0
 AnswersFor g e (Ok x) = refusal_of g e ≡ None
 AnswersFor g e (Err OutOfMemory) = refusal_of g e ≡ None

@@ -9,7 +9,7 @@ use Rattle.auth_db.specs.Users.{after, HasTicket}
 use Rattle.auth_db.specs.Refusals.{known_refusal, auth_refusal, RefusedOrMemory}
 use Rattle.world_events.specs.declared.event.AuthCommand.{AuthCommand}
 use Rattle.world_events.specs.declared.event.Told.{Told}
-use Rattle.world_front.specs.Front.{command_of, most_sessions, told_auth}
+use Rattle.world_front.specs.ControlPlane.{command_of, most_sessions, told_auth}
 use Rattle.cluster_locks.specs.declared.users.UserTable.{UserTable}
 use Rattle.cluster_locks.specs.declared.users.UserEntry.{UserEntry}
 use Rattle.cluster_locks.specs.declared.users.UserEntry.TheVariants.{Changed, Opened, Looked, Idle}

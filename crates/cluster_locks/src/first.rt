@@ -1,4 +1,4 @@
-//! Which of several faults is told.
+//! Which of several faults is reported.
 
 ghost use Rattle.std.specs.Prelude.{◌≡◌};
 ghost use Rattle.std.specs.Option.{option_or};

@@ -4,7 +4,7 @@ ghost use Rattle.std.specs.Prelude.{◌≡◌, Option};
 ghost use Rattle.group_model.specs.Group.{Deliver};
 ghost use Rattle.cluster_locks.specs.Groups.{group_after, entry_fits, submission_entry, SubmissionTells, work_entry, WorkTells, answer_entry, AnswerTells};
 
-use common_types::TryCopy;
+use common_types::TryClone;
 use entry_core::{Id, Reply, Sealed};
 use group_core::Group;
 use group_messages::GroupFault;
@@ -52,7 +52,7 @@ impl Recorded for LockedGroup {
     ghost fits = { entry_fits };
 }
 
-/// Submits a request, which the step hands over.
+/// Submits a request, which the step passes to the group.
 #[derive(Drop)]
 pub struct Submission(pub Option<Sealed>);
 

@@ -1,8 +1,11 @@
-//! What stands under a cluster's turn locks, the steps on it, and what a cluster is made of otherwise.
+//! What is under a cluster's turn locks, the steps on it, and the other parts of a cluster.
 //!
-//! There is a lock for each group and one for the users. A step takes one turn on one of them, and its list of turns gets one entry, the
-//! step's. The calls on rows are those of `cluster`: a row is a seat of each lock of a list, and each pass has one. What a pass does with
-//! a session of its own, and what a cluster begins with, needs no lock; it stands here so that its wrong bodies are tried in a small crate.
+//! There is a lock for each group and one for the users. A step takes one turn on one of them. The lock's list of turns
+//! gets one entry, the step's.
+//!
+//! The calls on rows are those of `cluster`: a row is a seat of each lock of a list, and each pass has one. What a pass
+//! does with a session of its own, and what a cluster begins with, needs no lock. It is here so that its mutants are
+//! tested in a small crate.
 #![tactic(auto)]
 
 mod beginning;

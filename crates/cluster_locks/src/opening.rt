@@ -1,4 +1,4 @@
-//! Locks over groups and over users, each with a seat for each of so many.
+//! Locks over groups and over users, each with `count` seats.
 
 ghost use Rattle.std.specs.Prelude.{◌≡◌, ℕ, ◌+◌, ◌<◌, [], ◌∷◌, ◌++◌, All, vec_len, map as each, IfOk};
 ghost use Rattle.turn_lock.specs.Seats.{IsNewSeatOf, first_of};
@@ -13,9 +13,9 @@ use turn_lock::{Recorded, Seat, TurnLock};
 /// The seats of a list of locks, for one pass.
 pub type Row<T> = Vec<Seat<T>>;
 
-/// A lock over a value, and a seat for each of so many. They share the numbers that turns may draw evenly.
+/// A lock over a value, and `count` seats. The seats share evenly the numbers that turns may draw.
 ///
-/// `AllocError`: memory was wanting, and the value is gone.
+/// `AllocError`: out of memory. The value is dropped.
 pub fn open_lock<T: Recorded + Drop>(
     alloc: Global,
     value: T,
@@ -50,7 +50,7 @@ fn deal<T: Recorded>(
     Ok(dealt)
 }
 
-// So many rows without a seat.
+// `count` rows without a seat.
 fn empty_rows<T: Recorded>(alloc: Global, count: usize) -> Result<Vec<Row<T>>, AllocError>
     ensures { IfOk result (λ rows. (vec_len rows ≡ count) × All (λ row. row.items ≡ []) rows.items) }
 {
@@ -81,9 +81,9 @@ fn open_group(
     Ok(longer)
 }
 
-/// A lock over each group, in order, and a row of their seats for each of so many.
+/// A lock over each group, in order, and `count` rows of their seats.
 ///
-/// `AllocError`: memory was wanting, and the groups are gone.
+/// `AllocError`: out of memory. The groups are dropped.
 pub fn open_groups(
     alloc: Global,
     groups: Vec<LockedGroup>,

@@ -3,7 +3,7 @@
 ghost use Rattle.std.specs.Prelude.{◌≡◌, ◌+◌, ◌<◌, ◌≤◌, IfOk};
 ghost use Rattle.verdict_core.specs.Verdict.{is_allowed};
 ghost use Rattle.store_core.specs.Request.{Listing, numbers};
-ghost use Rattle.world_front.specs.Front.{asks_more, sealed_of};
+ghost use Rattle.world_front.specs.ControlPlane.{asks_more, sealed_of};
 
 use common_types::OutOfMemory;
 use entry_core::Sealed;
@@ -44,7 +44,7 @@ pub fn count_request(session: &mut Session, ask: &Ask)
 
 /// The piece of a list for one group, under the session's next number.
 ///
-/// `OutOfMemory`: memory was wanting, or the session's numbers are used up: no group has room for so many requests.
+/// `OutOfMemory`: an allocation failed, or the session's numbers are used up. No group has room for that many requests.
 pub fn next_piece(
     alloc: Global,
     ask: &Ask,

@@ -11,7 +11,7 @@ use common_types::Name;
 use std::marker::Model;
 use turn_lock::{Recorded, Step};
 use verdict_core::SharedTicket;
-use world_front::{AuthCommand, MOST_SESSIONS, Told, change_users};
+use world_front::{AuthCommand, MAX_SESSIONS, Told, change_users};
 
 /// The users, and how many sessions were opened.
 #[derive(Drop)]
@@ -107,7 +107,7 @@ impl Step for Open {
         if let Err(fault) = table.db.get(self.name.as_str()) {
             return Err(OpenFault::User(fault));
         }
-        if table.sessions >= MOST_SESSIONS {
+        if table.sessions >= MAX_SESSIONS {
             return Err(OpenFault::Limit);
         }
         match shared_ticket(&table.db, self.name.as_str(), self.until) {
@@ -138,7 +138,7 @@ impl Step for Renew {
     }
 }
 
-/// Carries out a command, which the step hands over.
+/// Carries out a command, which the step passes to the users.
 #[derive(Drop)]
 pub struct Change(pub Option<AuthCommand>);
 

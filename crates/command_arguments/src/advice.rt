@@ -68,7 +68,7 @@ fn push_meant(line: &mut String, meant: &str) -> Result<(), OutOfMemory> {
     write!(line, "did you mean `{meant}`?")
 }
 
-/// What is told of a word that begins no grant.
+/// Adds the advice on a word that begins no grant.
 fn push_no_grant(line: &mut String, word: &str) -> Result<(), OutOfMemory> {
     match nearest(word, GRANTS) {
         Some(meant) => push_meant(line, meant),
@@ -79,7 +79,7 @@ fn push_no_grant(line: &mut String, word: &str) -> Result<(), OutOfMemory> {
     }
 }
 
-/// What is told of a word behind a grant's parts.
+/// Adds the advice on a word after a grant's parts.
 fn push_no_clause(line: &mut String, front: &str, behind: &str) -> Result<(), OutOfMemory> {
     let part = last_part(front);
     let word = first_word(behind);
@@ -122,7 +122,7 @@ fn ordered_letters(word: &str) -> Option<&'static str> {
     }
 }
 
-/// What is told where no access is.
+/// Adds the advice on a word that is no access.
 fn push_no_access(line: &mut String, word: &str) -> Result<(), OutOfMemory> {
     if let Some(letters) = ordered_letters(word) {
         line.push_str("letters come in the order r, w, x, each once: ")?;
@@ -145,7 +145,7 @@ fn push_no_access(line: &mut String, word: &str) -> Result<(), OutOfMemory> {
     }
 }
 
-/// What is told of a clause that may not come.
+/// Adds the advice on a clause that is not allowed.
 fn push_no_match(line: &mut String, word: &str) -> Result<(), OutOfMemory> {
     line.push_str(if CLAUSES.iter().any(|clause| *clause == word) {
         CLAUSE_ORDER
@@ -154,7 +154,7 @@ fn push_no_match(line: &mut String, word: &str) -> Result<(), OutOfMemory> {
     })
 }
 
-/// What is told where no name is.
+/// Adds the advice for where a name is missing.
 fn push_no_name(line: &mut String, front: &str, behind: &str) -> Result<(), OutOfMemory> {
     if let Some(value) = behind.strip_prefix('=') {
         if last_part(front) == "object_prefix" {

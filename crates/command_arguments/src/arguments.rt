@@ -246,7 +246,7 @@ const VERDICT: &[OptionRow; 15] = &[
 /// The options of a line of a file of requests.
 const REQUEST: &[OptionRow; 7] = &[POOL, OBJECT, NAMESPACE, TAG, READ, WRITE, FROM];
 
-/// The options of `osdgate who`, but for the last two.
+/// The options of `osdgate who`, except the last two.
 const WHO: &[OptionRow; 15] = &[
     ("auth", Needed("FILE"), AUTH_HELP),
     RULES,
@@ -280,7 +280,7 @@ const COMPARE_HOW: &[OptionRow; 4] = &[
     FORMAT,
 ];
 
-/// The options of `osdgate share` that only the entities of a file are asked with, but for `flows`.
+/// The options of `osdgate share` that apply only to the entities of a file, except `flows`.
 const SHARE_FILE: &[OptionRow; 5] = &[
     ("auth", Value("FILE"), AUTH_HELP),
     ("pools", Value("FILE"), SHARED_POOLS_HELP),
@@ -496,7 +496,7 @@ fn explain_command<'a>(alloc: Global) -> Result<Command<'a>, AllocError> {
 /// The options that choose entities of files.
 const CHOICE: &[OptionRow; 3] = &[ONLY, WITHOUT, KNOWN];
 
-/// The same, beside which no text is compared.
+/// The options that choose entities of files, each of which conflicts with a single text.
 const OF_ENTITIES: &[&str; 3] = &["only", "without", "known"];
 
 /// The present text, which comes with the new one, or else files do.
@@ -558,7 +558,7 @@ fn two_texts_option<'a>(alloc: Global) -> Result<Arg<'a>, AllocError> {
     in_place_of(texts, OF_FILE)
 }
 
-/// Where what each entity writes may come to, in the place of what each two of them share.
+/// Where the data that each entity writes may flow, in place of what each two of them share.
 fn flows_option<'a>(alloc: Global) -> Result<Arg<'a>, AllocError> {
     let help =
         "Show instead which entities may come to know what another one writes, and through whom";
@@ -586,7 +586,7 @@ fn one_text_option<'a>(alloc: Global) -> Result<Arg<'a>, AllocError> {
     in_place_of(text, OF_ENTITIES)
 }
 
-/// The text without needless grants, which is made of a text alone.
+/// The text without redundant grants. It applies to a text alone.
 fn tidy_option<'a>(alloc: Global) -> Result<Arg<'a>, AllocError> {
     flag(alloc, "tidy", "Print the text without redundant grants").conflicts_with("auth")
 }
@@ -734,8 +734,10 @@ pub fn whole_command<'a>(alloc: Global) -> Result<Command<'a>, AllocError> {
     Ok(command)
 }
 
-/// The command that words ask for, the first of which is the program's own name. The error is what clap says of words that it
-/// does not take, the help that they ask for, or want of memory: `refuse_command` tells it.
+/// The command that arguments request, the first of which is the program's own name.
+///
+/// The error is what clap reports of arguments that it does not take, the help that they request, or out of memory.
+/// `refuse_command` writes it.
 pub fn command_words<'a, S: AsStr>(alloc: Global, words: &'a [S]) -> Result<ArgMatches<'a>, Error> {
     whole_command(alloc)?.try_get_matches_from(words)
 }

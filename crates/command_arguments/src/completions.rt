@@ -221,7 +221,7 @@ fn push_fish_help(text: &mut String, help: &str) -> Result<(), OutOfMemory> {
     Ok(())
 }
 
-/// Adds what zsh is told of an option's value.
+/// Adds the value of an option, for zsh.
 fn push_zsh_value(text: &mut String, arg: &Arg<'_>, name: &str) -> Result<(), OutOfMemory> {
     match offer_of(arg) {
         Offer::Files => text.push_str(":file:_files"),
@@ -295,7 +295,7 @@ fn push_zsh(text: &mut String, command: &Command<'_>) -> Result<(), OutOfMemory>
     text.push_str("    esac\n}\n_osdgate \"$@\"\n")
 }
 
-/// Adds what fish is told of an option's value.
+/// Adds the value of an option, for fish.
 fn push_fish_value(text: &mut String, arg: &Arg<'_>) -> Result<(), OutOfMemory> {
     match offer_of(arg) {
         Offer::Files => text.push_str(" -r -F"),

@@ -19,14 +19,14 @@ fn common_end(first: &[u8], second: &[u8]) -> usize {
         .count()
 }
 
-/// What is left of a text without so many bytes in front and at its end.
+/// What is left of a text without its first `front` bytes and its last `end` bytes.
 fn middle(text: &[u8], front: usize, end: usize) -> &[u8] {
     let rest = text.get(front..).unwrap_or(&[]);
     rest.get(..rest.len().saturating_sub(end)).unwrap_or(&[])
 }
 
-/// Whether one word is the other but for its case and one slip: a letter too many, too few or another one, or two letters
-/// the wrong way round.
+/// Whether one word is the other except for its case and at most one slip: a letter too many, too few or another one,
+/// or two letters swapped.
 fn is_near(first: &str, second: &str) -> bool {
     let (first, second) = (first.as_bytes(), second.as_bytes());
     let front = common_front(first, second);

@@ -68,7 +68,7 @@ fn push_wrapped(
     text.push_str("\n")
 }
 
-/// A text of help with lines of at most so many columns. What is of an option stays beside it; commands stay whole.
+/// A text of help with lines of at most `width` columns. The help of an option stays next to it; commands stay whole.
 pub fn wrapped(alloc: Global, help: &str, width: usize) -> Result<String, OutOfMemory> {
     let mut text = String::new(alloc);
     for line in help.lines() {

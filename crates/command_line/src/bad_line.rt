@@ -1,5 +1,5 @@
-//! What is wrong with a line of a script that is no command, in words. What is proved of scripts says only that it is none:
-//! what is told here comes from a table of the commands, and is tested.
+//! Describes what is wrong with a line of a script that is not a command. The proofs about scripts state only that
+//! the line is not a command. The descriptions here come from a table of the commands, and are tested.
 
 use command_arguments::nearest;
 use common_types::OutOfMemory;
@@ -59,7 +59,7 @@ const OPERATIONS: &[&str; 13] = &[
 ];
 
 /// The longest line, in bytes.
-const LONGEST: usize = 8192;
+const MAX_LENGTH: usize = 8192;
 
 /// What is wrong with a line, and at which column, counted from 1.
 #[derive(Drop)]
@@ -129,7 +129,7 @@ fn known_words(
     Ok(known)
 }
 
-/// That a word is none of those that are known, and which was meant.
+/// Reports that a word is not one of the known ones, and which of these was meant.
 fn unknown(
     alloc: Global,
     what: &str,
@@ -217,10 +217,10 @@ fn bad_byte(line: &[u8]) -> Option<usize> {
 
 /// What is wrong with a line that is no command.
 pub(crate) fn slip_of(alloc: Global, line: &[u8]) -> Result<Slip, OutOfMemory> {
-    if line.len() > LONGEST {
+    if line.len() > MAX_LENGTH {
         let text = String::from_str(alloc, "a line has at most 8192 bytes")?;
         return Ok(Slip {
-            column: LONGEST,
+            column: MAX_LENGTH,
             text,
         });
     }

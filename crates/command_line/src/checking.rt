@@ -1,4 +1,4 @@
-//! What is told of the lines of a script that are no commands there.
+//! Reports the lines of a script that are not commands at their place.
 
 use crate::bad_line::slip_of;
 use common_types::OutOfMemory;
@@ -46,7 +46,8 @@ fn push_slip(
     told.push_str(shown.as_str())
 }
 
-/// Adds what is told of a line that is not blank, behind which a script has begun or not: whether it is wrong.
+/// Adds the report on a line that is not blank, and returns whether the line is wrong. `has_begun`: the script began
+/// before this line.
 fn push_wrong(
     told: &mut String,
     alloc: Global,
@@ -71,7 +72,8 @@ fn push_wrong(
     Ok(true)
 }
 
-/// What is told of a script's line with this number, or of each line where none is given, that is no command there.
+/// The report on the lines that are not commands at their place: on the line with this number, or on each line if no
+/// number is given.
 pub(crate) fn wrong_lines(
     alloc: Global,
     looked: Looked<'_>,

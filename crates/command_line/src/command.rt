@@ -171,7 +171,7 @@ fn finish_workload<T: fmt::Display, F: fmt::Display, O: Write, E: Write>(
     }
 }
 
-/// Tells that so many workers there cannot be, and answers the status.
+/// Prints how many workers are allowed, and returns the exit status.
 fn refuse_workers<E: Write>(err: &mut E) -> u8
     ensures { result ≤ 2 }
 {
@@ -179,13 +179,14 @@ fn refuse_workers<E: Write>(err: &mut E) -> u8
     TROUBLE
 }
 
-/// Runs the program on the words of its command line, the first of which is the program's own name, and
-/// answers its exit status: `DONE`, `FOUND` or `TROUBLE`. A script that has a bad line, and workers that meet a fault, are found.
+/// Runs the program on its arguments, the first of which is the program's own name, and returns its exit status:
+/// `DONE`, `FOUND` or `TROUBLE`. For a script that has a bad line, and for workers that meet a fault, it is `FOUND`.
 ///
-/// `workload` runs so many workers on threads, with moves or without, where the words ask for them; what it gives is printed.
+/// `workload` is called with a number of workers and whether there are moves, if the arguments request it. It runs
+/// the workers on threads, and its result is printed.
 ///
-/// Answers, and the help that was asked for, go to `out`, and what is wrong with a command line to `err`. Where a
-/// capability text has a fault, the text and a caret under the fault's byte go to `err` as well. What a script prints is
+/// Answers, and the help that was requested, go to `out`. What is wrong with the arguments goes to `err`. If a
+/// capability text has a fault, the text and a caret under the fault's byte also go to `err`. What a script prints is
 /// written as it runs.
 pub fn run_command<
     S: AsStr,

@@ -12,16 +12,16 @@ use std::io::{ErrorKind, Read, Write};
 use world_script::run_script;
 
 /// The most bytes that a script may have; one that has more is S2.
-const MOST_BYTES: u64 = 1_048_576;
+const MAX_BYTES: u64 = 1_048_576;
 
 /// Why a script did not run to its end.
 #[derive(Drop)]
 pub(crate) enum RunFault {
     /// The file cannot be read: nothing was run.
     Unread(io::Error),
-    /// The script ended early, and this is told beside the fault.
+    /// The script ended early. `told` is printed with the fault.
     Script { fault: ScriptFault, told: String },
-    /// Lines of a script that is only looked at are no commands, as this tells.
+    /// Lines of a script that is only checked are not commands. This is the report on them.
     Wrong(String),
     /// A growth was refused before the script began.
     OutOfMemory,
@@ -42,7 +42,7 @@ impl From<OutOfMemory> for RunFault {
     }
 }
 
-/// What ended a script, with what is told of a bad line.
+/// What ended a script, with the report on a bad line.
 fn ended_by(
     alloc: Global,
     looked: Looked<'_>,
@@ -84,7 +84,7 @@ fn script_at<F: InputFiles, R: Read>(
     reader: &mut R,
 ) -> Result<Vec<u8>, RunFault> {
     if path != "-" {
-        return Ok(files.read_bytes(path, MOST_BYTES)?);
+        return Ok(files.read_bytes(path, MAX_BYTES)?);
     }
     match read_script(alloc, reader) {
         Ok(script) => Ok(script),

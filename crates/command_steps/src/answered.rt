@@ -10,7 +10,7 @@ use verdict_text::{Format, Printed, ReadText};
 #[derive(Drop)]
 pub struct Answered {
     pub printed: Printed,
-    /// Lines for standard error, each with its line feed; empty if there are none.
+    /// Lines for standard error, each with its line feed. It is empty if no line is noted.
     pub note: String,
     /// The entities that could not be checked.
     unchecked: Vec<Unchecked>,

@@ -80,7 +80,7 @@ impl BadWords {
 #[derive(Drop)]
 pub enum NoRequest {
     Words(BadWords),
-    /// The same, where this tells why.
+    /// The arguments are no request, and this text says why.
     Told(String),
     /// A growth was refused.
     OutOfMemory,

@@ -143,7 +143,7 @@ pub(crate) fn stated_calls(
     Ok(calls)
 }
 
-/// The calls of the class registry, as they are given. By Ceph's rules there are none.
+/// The calls of the class registry, as they are given. By Ceph's rules the list is empty.
 pub(crate) fn registry_words<'a>(
     alloc: Global,
     rules: CallRules<'_>,

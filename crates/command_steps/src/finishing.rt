@@ -72,7 +72,7 @@ pub fn finish_unanswered<O: Write, E: Write>(why: &NoAnswer, out: &mut O, err: &
     }
 }
 
-/// The help that arguments ask for, with lines of at most so many columns.
+/// The help that arguments request, with lines of at most `width` columns.
 fn help_text(alloc: Global, error: &Error, width: usize) -> Result<String, OutOfMemory> {
     let help = format!(in alloc; "{error}")?;
     wrapped(alloc, help.as_str(), width)

@@ -113,7 +113,7 @@ pub fn chosen_in<F: InputFiles, R: Read>(
     Ok(file.into_chosen())
 }
 
-/// The same with their texts for other services.
+/// The entities of the file of `--auth` that the arguments choose, each read once, with their texts for other services.
 pub fn chosen_file_in<F: InputFiles, R: Read>(
     alloc: Global,
     files: &F,
@@ -138,7 +138,7 @@ pub fn chosen_by<F: InputFiles, R: Read>(
     Ok(file.into_chosen())
 }
 
-/// The same with their texts for other services.
+/// The entities of the file of `--auth` that a choice has, each read once, with their texts for other services.
 fn chosen_file_by<F: InputFiles, R: Read>(
     alloc: Global,
     files: &F,

@@ -11,7 +11,7 @@ ghost use Rattle.verdict_core.specs.Verdict as spec;
 
 use crate::known_methods::{rights_of, with_access};
 use cap_text::{Access, Flags};
-use common_types::{OutOfMemory, TryCopy};
+use common_types::{OutOfMemory, TryClone};
 use compare_core::Registry;
 use compare_text::{AddressedExample, widening_from};
 use grant_core::Path;
@@ -160,7 +160,8 @@ fn number_of(path: &Path) -> usize {
     }
 }
 
-/// What the grant of a number comes to, or all others of the text, with their paths and networks.
+/// What the grant with a number expands to, with paths and networks. Where `is_own` is false, it is what all other
+/// grants of the text expand to.
 pub fn rights_part(
     alloc: Global,
     rights: &Rights,

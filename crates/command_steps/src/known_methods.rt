@@ -9,7 +9,7 @@ use crate::tag_words::{StatedWords, call_by};
 use cap_text::{Access, AllowGrant, Flags};
 use ceph_text::{CephEntry, CephFault, expand_ceph, push_ceph_grant};
 use class_table::{ClassMethod, default_list, is_listed, methods};
-use common_types::{OutOfMemory, TryCopy};
+use common_types::{OutOfMemory, TryClone};
 use grant_core::Path;
 use network_core::Network;
 use rights_core::{MAX_GRANTS, Rights};

@@ -1,7 +1,7 @@
 //! The steps that all commands share: arguments become values, files become values, and an answer is written.
 //!
-//! A command takes the matches of its arguments, makes values of them and of its files, and returns an [`Answered`], or a
-//! [`NoAnswer`] that says why there is none. [`finish_answer`] and [`finish_unanswered`] write them, and return the status.
+//! A command takes the matches of its arguments, and makes values of them and of its files. It returns an [`Answered`],
+//! or a [`NoAnswer`] with the reason. [`finish_answer`] and [`finish_unanswered`] write them, and return the status.
 #![tactic(auto)]
 
 mod answered;

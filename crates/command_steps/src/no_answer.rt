@@ -18,9 +18,9 @@ pub struct BadFile {
 /// Why arguments have no answer.
 #[derive(Drop)]
 pub enum NoAnswer {
-    /// Clap takes them, and yet they are no command line.
+    /// Clap takes the arguments, and yet they are no command line.
     Words(BadWords),
-    /// The same, where this tells why.
+    /// Clap takes the arguments, and yet they are no command line. This text says why.
     Told(String),
     /// A file is not what it is read for.
     File(BadFile),

@@ -21,7 +21,7 @@ const COMMANDS: &str =
 const OF_METADATA: &str =
     "osdgate: this is for metadata servers; for object stores a file system's pools are named as in `allow rw tag cephfs data=NAME`\n";
 
-/// A kind of fault, the word that stands there, and what is told.
+/// A kind of fault, the word at the fault, and the line to print.
 type Row = (FaultKind, &'static str, &'static str);
 
 const PASTED: &[Row; 9] = &[
@@ -36,7 +36,7 @@ const PASTED: &[Row; 9] = &[
     (FaultKind::UnknownWord, "gids", OF_METADATA),
 ];
 
-/// What is told of a fault of a text, or the empty text.
+/// The line to print for a fault of a text, or the empty text.
 fn way_out(caps: &str, fault: CapFault) -> &'static str {
     let behind = caps.get(fault.at..).unwrap_or("");
     PASTED
@@ -72,7 +72,7 @@ pub fn fault_note(alloc: Global, text: &ReadText, screen: Screen) -> Result<Stri
     Ok(note)
 }
 
-/// The same of the first of two texts that has a fault.
+/// What standard error has on the first of two texts that has a fault. It is empty where neither has one.
 pub fn first_fault_note(
     alloc: Global,
     first: &ReadText,

@@ -26,7 +26,7 @@ pub struct RequestWords<'a, 'p> {
     /// The pool of a file, whose own tags take the place of these.
     pool: Option<&'p Pool>,
     calls: Vec<Op>,
-    /// The same calls as they are given.
+    /// The words of `calls`, as they are given.
     call_words: Vec<&'a str>,
     stated: Vec<ClassCall>,
     /// The client's address, if it is given.

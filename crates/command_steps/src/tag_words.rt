@@ -51,8 +51,8 @@ fn value_in(text: &str) -> &str {
     }
 }
 
-/// An application tag: an application, or `APPLICATION:KEY=VALUE`, each of them bare or between quotes. A text with a `:`
-/// and no `=` behind it is none.
+/// An application tag: an application, or `APPLICATION:KEY=VALUE`, each of them bare or between quotes. A text with a
+/// `:` and no `=` behind it is invalid, and gives `None`.
 pub(crate) fn tag_of(alloc: Global, text: &str) -> Result<Option<AppTags>, OutOfMemory> {
     let Some((application, pair)) = name_before(text, ':') else {
         return Ok(None);

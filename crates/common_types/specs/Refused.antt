@@ -2,7 +2,7 @@
 -- When a call is refused, by one rule for every crate (this project's profile).
 use Rattle.std.specs.Prelude.{◌≡◌, Option, None, Some, Result, Ok, Err, unwrap_or}
 
--- a call is accepted only where nothing refuses it, and refused by what must, or for want of memory where nothing else does
+-- a call succeeds only where nothing refuses it; its error is what refuses it, or out of memory where nothing does
 abbrev pub RefusedFirst : {T E : Type 0} → Option E → E → Result T E → Type 0
 RefusedFirst refusal memory (Ok x) = refusal ≡ None
 RefusedFirst refusal memory (Err fault) = fault ≡ unwrap_or refusal memory

@@ -7,33 +7,33 @@ use std::alloc::{AllocError, Global};
 use std::marker::Model;
 
 /// Values that can be copied where there is memory.
-pub trait TryCopy {
-    /// An equal value. It is refused for want of memory alone.
+pub trait TryClone {
+    /// An equal value. The only error is out of memory.
     fn copy(&self) -> Result<Self, AllocError>
     where
         Self: Sized,
         ensures { IfOk result (λ it. it ≡ self.now) };
 }
 
-impl TryCopy for u8 {
+impl TryClone for u8 {
     fn copy(&self) -> Result<u8, AllocError> {
         Ok(*self)
     }
 }
 
-impl TryCopy for u64 {
+impl TryClone for u64 {
     fn copy(&self) -> Result<u64, AllocError> {
         Ok(*self)
     }
 }
 
-impl TryCopy for Name {
+impl TryClone for Name {
     fn copy(&self) -> Result<Name, AllocError> {
         Name::copy(self)
     }
 }
 
-impl TryCopy for (Name, Name) {
+impl TryClone for (Name, Name) {
     fn copy(&self) -> Result<(Name, Name), AllocError> {
         Ok((self.0.copy()?, self.1.copy()?))
     }
@@ -96,7 +96,7 @@ impl<T> Items<T> {
         self.items.as_slice()
     }
 
-    /// Adds an item at the end. Where memory is wanting, the items stay as they were.
+    /// Adds an item at the end. Out of memory leaves the items unchanged.
     pub fn push(&mut self, x: T) -> Result<(), AllocError>
     where
         T: Drop,
@@ -117,7 +117,7 @@ impl<T: Drop> Items<T> {
     }
 }
 
-impl<T: TryCopy + Drop> TryCopy for Items<T> {
+impl<T: TryClone + Drop> TryClone for Items<T> {
     fn copy(&self) -> Result<Items<T>, AllocError> {
         let mut all = Vec::with_capacity(*self.items.allocator(), self.items.len())?;
         for x in self.items.as_slice() {

@@ -1,4 +1,5 @@
-//! The small types that the crates above share: names, lists, a pool's tags, bytes shown by their numbers, and want of memory.
+//! The small types that the crates above share: names, lists, a pool's tags, bytes shown by their numbers, and the
+//! error of a failed allocation.
 //!
 //! # What contracts see
 //!
@@ -19,7 +20,7 @@ mod tags;
 mod word_bytes;
 
 pub use escapes::push_escape;
-pub use items::{Items, TryCopy};
+pub use items::{Items, TryClone};
 pub use memory::OutOfMemory;
 pub use name::{Name, copy_name};
 pub use tags::{AppTags, Pairs, Tags};

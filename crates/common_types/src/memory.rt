@@ -1,6 +1,6 @@
-//! Want of memory.
+//! Out of memory.
 
 use std::alloc::AllocError;
 
-/// A growth was refused.
+/// An allocation failed.
 pub type OutOfMemory = AllocError;

@@ -2,7 +2,7 @@
 //!
 //! Source: the Ceph manual's Pools chapter, "Associating a pool with an application".
 
-use crate::items::{Items, TryCopy};
+use crate::items::{Items, TryClone};
 use crate::memory::OutOfMemory;
 use crate::name::Name;
 
@@ -19,7 +19,7 @@ pub type Pairs = Items<(Name, Name)>;
 /// The applications of a pool, which contracts see as the list of them.
 pub type Tags = Items<AppTags>;
 
-impl TryCopy for AppTags {
+impl TryClone for AppTags {
     fn copy(&self) -> Result<AppTags, OutOfMemory> {
         Ok(AppTags {
             application: self.application.copy()?,

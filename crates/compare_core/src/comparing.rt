@@ -97,12 +97,13 @@ pub fn example_of(
     }
 }
 
-/// For each grant of `new`, in order, that by itself allows some request which `old` denies, its path and one such
-/// request. Where there is none, `new` allows nothing that `old` denies.
+/// For each grant of `new`, in order, that by itself allows some request which `old` denies: its path and one such
+/// request. Without such a grant, `new` allows nothing that `old` denies.
 ///
-/// The requests are all that can be asked: of all pools, of all tags that a pool can have, of all namespaces and all objects, for
-/// something, by at most 16 calls of the registry; and the listings, which only read. When a ticket ends is not looked at. A
-/// ticket has at most `verdict_core::MAX_GRANTS` grants, so that characters are left for names that `old` does not speak of.
+/// The requests are all possible ones: of all pools, of all tags that a pool can have, of all namespaces and all
+/// objects. Each asks for something, by at most 16 calls of the registry. They include the listings, which only read.
+/// The end of a ticket is ignored. A ticket has at most `verdict_core::MAX_GRANTS` grants, so characters are left for
+/// names that `old` does not use.
 pub fn widening_by(
     alloc: Global,
     registry: Registry,
@@ -122,7 +123,8 @@ pub fn widening_by(
     Ok(examples)
 }
 
-/// The same over every class registry: the requests have calls of any class and any method, on the default list or not, each of which reads, writes or both.
+/// Compares as [`widening_by`] does, over every class registry: the requests have calls of any class and any method, on
+/// the default list or not. Each call reads, writes or both.
 pub fn widening(alloc: Global, old: &Ticket, new: &Ticket) -> Result<Vec<Example>, OutOfMemory>
     ensures answers { IfOk result (λ examples. Answers old.now.grants new.now.grants examples.items) }
     ensures gained { IfOk result (λ examples. All (λ example. IsGained old.now.grants new.now.grants (request_of example)) examples.items) }

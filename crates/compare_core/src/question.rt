@@ -8,7 +8,7 @@ use crate::calls::calls_for;
 use crate::owned_target::OwnedTarget;
 use crate::registry::Registry;
 use cap_text::AllowGrant;
-use common_types::{OutOfMemory, TryCopy};
+use common_types::{OutOfMemory, TryClone};
 use grant_core::Path;
 use std::alloc::Global;
 use verdict_core::{Calls, ClassCall, Needs, Ticket, grants_allow};

@@ -24,7 +24,7 @@ is_known call = option_map_or (λ method. are_alike (registered call.class call.
 abbrev pub known_words : ClassCall → List ℕ
 known_words call = codes " " ++ (shell_word call.class ++ (codes "." ++ shell_word call.method))
 
--- a class stands bare where it has bytes, and all are those of words but for the full stop
+-- a class is written without quotes if it is not empty and has only word bytes other than the full stop
 abbrev pub is_bare : List ℕ → Bool
 is_bare class = not (length class == 0) && list_all is_word_byte class && not (list_any (λ byte. byte == 46) class)
 

@@ -31,7 +31,7 @@ abbrev pub change_lines : List ℕ → Option (List ℕ) → List AddressedExamp
 change_lines name None gained lost = []
 change_lines name (Some word) gained lost = shown name ++ (codes " " ++ (word ++ (codes "\n" ++ indented_lines gained lost)))
 
--- what became of the text of an entity that is not judged
+-- what became of the text of an entity that is not checked
 abbrev pub became : Presence → List ℕ
 became Both = codes "text changed"
 became New = codes "new"
@@ -98,7 +98,7 @@ abbrev pub IsPairTold : Rules → Comparison → List ℕ → List ℕ → List 
 IsPairTold rules how name old new text fails =
     (old_read new_read : Reading) × IsReading rules old None old_read × IsReading rules new None new_read × AreTextsTold how Both name old_read new_read text fails
 
--- Of an entity whose texts are the same, byte for byte, nothing is told: whoever reads them, they give the same rights.
+-- Nothing is printed of an entity whose texts are the same, byte for byte: every reader gives them the same rights.
 abbrev pub IsBothTold : Bool → Rules → Comparison → List ℕ → List ℕ → List ℕ → List ℕ → Bool → Type 0
 IsBothTold true rules how name old new text fails = (text ≡ []) × (fails ≡ false)
 IsBothTold false rules how name old new text fails = IsPairTold rules how name old new text fails
@@ -117,8 +117,8 @@ IsOldToldBy rules how (Some other) entity text fails =
 abbrev pub IsOldTold : Rules → Comparison → List Entity → Entity → List ℕ → Bool → Type 0
 IsOldTold rules how new entity text fails = IsOldToldBy rules how (entity_in new (string_bytes entity.name)) entity text fails
 
--- an entity of the new list, by what the old list has under its name: one that is new had no rights, and nothing more is told of
--- one that the old list has
+-- an entity of the new list, by what the old list has under its name: a new one had no rights, and nothing more is
+-- printed of one that the old list has
 abbrev pub IsNewToldBy : Rules → Comparison → Option Entity → Entity → List ℕ → Bool → Type 0
 IsNewToldBy rules how None entity text fails =
     (read : Reading) × IsReading rules (string_bytes entity.osd) None read × AreTextsTold how New (string_bytes entity.name) (Ok nothing) read text fails
@@ -127,7 +127,7 @@ IsNewToldBy rules how (Some other) entity text fails = (text ≡ []) × (fails �
 abbrev pub IsNewTold : Rules → Comparison → List Entity → Entity → List ℕ → Bool → Type 0
 IsNewTold rules how old entity text fails = IsNewToldBy rules how (entity_in old (string_bytes entity.name)) entity text fails
 
--- what is told of two lists, and whether it fails: the entities of the old list, and then those of the new list alone
+-- what is printed of two lists, and whether it fails: the entities of the old list, then those of the new list alone
 pub record AreListsTold (rules : Rules) (how : Comparison) (old new : List Entity) (text : List ℕ) (fails : Bool) : Type 0 where
   pub old_text : List ℕ
   pub new_text : List ℕ

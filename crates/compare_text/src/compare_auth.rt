@@ -47,7 +47,7 @@ fn change_lines(
     Ok(text)
 }
 
-/// The same as a piece of a document.
+/// The piece of an entity's change, or nothing where there is no word for it.
 fn change_json(
     alloc: Global,
     listed: &Listed<'_>,
@@ -62,7 +62,7 @@ fn change_json(
     }
 }
 
-/// What is told of an entity's change, as a text or as a piece of a document.
+/// What is printed of an entity's change, as a text or as a piece of a document.
 fn change_by(
     alloc: Global,
     listed: &Listed<'_>,
@@ -78,7 +78,7 @@ fn change_by(
     }
 }
 
-/// What became of the text of an entity that is not judged.
+/// What became of the text of an entity that is not checked.
 pub(crate) fn became(presence: Presence) -> &'static str
     ensures { result.now ≡ spec.became presence }
 {
@@ -89,7 +89,7 @@ pub(crate) fn became(presence: Presence) -> &'static str
     }
 }
 
-/// The line of an entity of which a text is refused.
+/// The line of an entity one of whose texts is refused.
 fn unjudged_line(
     alloc: Global,
     name: &str,
@@ -108,7 +108,7 @@ fn unjudged_line(
     Ok(text)
 }
 
-/// The same as a text or as a piece of a document.
+/// What is printed of an entity one of whose texts is refused, as a text or as a piece of a document.
 fn unjudged_by(
     alloc: Global,
     name: &str,
@@ -124,7 +124,7 @@ fn unjudged_by(
     }
 }
 
-/// What is told of an entity of which a text is refused, which fails.
+/// What is printed of an entity one of whose texts is refused. It fails.
 fn unjudged_pair(
     alloc: Global,
     listed: &Listed<'_>,
@@ -139,7 +139,7 @@ fn unjudged_pair(
     })
 }
 
-/// What is told of an entity whose texts grant these rights.
+/// What is printed of an entity whose texts grant these rights.
 fn changed_pair(
     alloc: Global,
     listed: &Listed<'_>,
@@ -219,8 +219,8 @@ fn nothing(alloc: Global) -> Printed
     }
 }
 
-/// What is told of an entity that both lists have: nothing where its texts are the same, byte for byte, since whoever
-/// reads them, they give the same rights.
+/// What is printed of an entity that both lists have. It is nothing where its texts are the same, byte for byte: every
+/// reader gives them the same rights.
 fn told_both(
     alloc: Global,
     reader: &Reader,
@@ -245,7 +245,7 @@ fn no_rights(alloc: Global) -> Reading
     Ok(Rights::from_ticket(alloc, Ticket::empty(alloc, None)))
 }
 
-/// What is told of an entity that the old list alone has.
+/// What is printed of an entity that the old list alone has.
 fn told_gone(
     alloc: Global,
     reader: &Reader,
@@ -262,7 +262,7 @@ fn told_gone(
     told_texts(alloc, &listed, &old, &no_rights(alloc), how)
 }
 
-/// What is told of an entity that the new list alone has.
+/// What is printed of an entity that the new list alone has.
 fn told_added(
     alloc: Global,
     reader: &Reader,
@@ -279,7 +279,7 @@ fn told_added(
     told_texts(alloc, &listed, &no_rights(alloc), &new, how)
 }
 
-/// What is told of an entity of the old list.
+/// What is printed of an entity of the old list.
 fn told_of_old(
     alloc: Global,
     reader: &Reader,
@@ -299,7 +299,7 @@ fn told_of_old(
     }
 }
 
-/// What is told of an entity of the new list, which is nothing where the old list has it.
+/// What is printed of an entity of the new list. It is nothing where the old list has the entity.
 fn told_of_new(
     alloc: Global,
     reader: &Reader,
@@ -315,7 +315,7 @@ fn told_of_new(
     }
 }
 
-/// Adds what is told behind what is printed, which fails where one of them does.
+/// Adds `told` behind `printed`, which fails if one of them does.
 fn push_told(printed: &mut Printed, told: &Printed) -> Result<(), OutOfMemory>
     ensures text { OnOk result (string_bytes printed.new.text ≡ string_bytes printed.old.text ++ string_bytes told.now.text) }
     ensures fails { OnOk result (printed.new.fails ≡ (printed.old.fails || told.now.fails)) }
@@ -325,7 +325,7 @@ fn push_told(printed: &mut Printed, told: &Printed) -> Result<(), OutOfMemory>
     Ok(())
 }
 
-/// What is told of the entities of the old list, in its order.
+/// What is printed of the entities of the old list, in its order.
 fn old_told(
     alloc: Global,
     reader: &Reader,
@@ -343,7 +343,7 @@ fn old_told(
     Ok(printed)
 }
 
-/// What is told of the entities of the new list, in its order.
+/// What is printed of the entities of the new list, in its order.
 fn new_told(
     alloc: Global,
     reader: &Reader,
@@ -361,7 +361,7 @@ fn new_told(
     Ok(printed)
 }
 
-/// What is told of the old list, whose entities are looked up in the new one by their names.
+/// What is printed of the old list, whose entities are looked up in the new one by their names.
 fn old_list_told(
     alloc: Global,
     reader: &Reader,
@@ -375,7 +375,7 @@ fn old_list_told(
     old_told(alloc, reader, old, &by_new, how)
 }
 
-/// What is told of the new list, whose entities are looked up in the old one by their names.
+/// What is printed of the new list, whose entities are looked up in the old one by their names.
 fn new_list_told(
     alloc: Global,
     reader: &Reader,
@@ -389,7 +389,7 @@ fn new_list_told(
     new_told(alloc, reader, &by_old, new, how)
 }
 
-/// What is told of both lists: of the old one, and then of the new one.
+/// What is printed of both lists: of the old one, and then of the new one.
 fn lists_told(
     alloc: Global,
     reader: &Reader,
@@ -405,21 +405,25 @@ fn lists_told(
     Ok(told)
 }
 
-/// What the program prints of two lists of entities, whose texts `reader` reads: for each entity of the old list in its order,
-/// and then for each of the new list alone, a line `ENTITY WORD`, and below it, indented by two blanks, the lines of
-/// [`compare_text`](crate::compare_text) for its texts. WORD is `narrower`, `wider` or `different`, or `new` or `gone` where one
-/// list alone has the entity, which has no rights in the other. An entity that both have with the same rights has no line, nor
-/// has one whose texts are the same, byte for byte, whether they are refused or not: they are not read. Every other text is read
+/// What the program prints of two lists of entities, whose texts `reader` reads: the entities of the old list in its
+/// order, and then those of the new list alone. The only error is out of memory.
+///
+/// Each entity has a line `ENTITY WORD`. Below it, indented by two blanks, are the lines of
+/// [`compare_text`](crate::compare_text) for its texts. WORD is `narrower`, `wider` or `different`. It is `new` or
+/// `gone` where one list alone has the entity, which has no rights in the other.
+///
+/// An entity that both lists have with the same rights has no line. If its texts are the same, byte for byte, it has
+/// no line either, even if they would be refused: they are not read. Every other text is read
 /// once. Where it is refused, the entity's line is `ENTITY not judged: NUMBER, text changed` (or `new` or `gone`), by the number
-/// of the first fault, which fails. With a check it fails too where an entity's new text allows something that its old one
-/// denies.
+/// of the first fault. Then the command fails. With a check it also fails where an entity's new text allows something
+/// that its old one denies.
 ///
 /// Where a list has a name twice, an entity of the other list is compared with the first of them. A name's bytes
 /// outside 32 to 126 are shown as `\x` and two hexadecimal digits.
 ///
-/// As a document it has the member `entities`, of whose items each has `entity`, `change`, which is WORD, and `gained` and
-/// `lost`, of whose items each has `path` and `example`; or `entity`, `change`, `fault`, and `byte` where one is at fault.
-/// The only error is out of memory.
+/// As a document it has the member `entities`. Each item has `entity`, `change`, which is WORD, `gained` and `lost`.
+/// Each item of the latter two has `path` and `example`. Where a text is refused, the entity's item has `entity`,
+/// `change`, `fault`, and `byte` where one is at fault.
 pub fn compare_entities(
     alloc: Global,
     reader: &Reader,

@@ -120,7 +120,7 @@ fn unjudged_value(
     }
 }
 
-/// The piece of an entity that is not judged.
+/// The piece of an entity one of whose texts is refused.
 pub(crate) fn unjudged_piece(
     alloc: Global,
     name: &str,

@@ -106,9 +106,9 @@ fn push_namespace(line: &mut String, namespace: &Name) -> Result<(), OutOfMemory
     push_option(line, " --namespace ", namespace)
 }
 
-/// Adds a target in the words that `osdgate verdict` takes, quoted for a shell: `--pool`, `--namespace` but for the empty
-/// one, `--object`, and a `--tag` for each pair of an application, or for the application alone. The words are this
-/// project's profile. An `Err` leaves a front of them behind the line.
+/// Adds a target as arguments of `osdgate verdict`, quoted for a shell. They are `--pool`, `--namespace` if it is not
+/// empty, `--object`, and a `--tag` for each pair of an application, or for an application without pairs. The form of
+/// the arguments is this project's profile. An `Err` leaves a beginning of them behind the line.
 ///
 /// An application with a `:`, or a key with a `=`, is printed, but `--tag` is cut there.
 pub fn push_target(line: &mut String, target: &OwnedTarget) -> Result<(), OutOfMemory>

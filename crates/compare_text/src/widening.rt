@@ -17,7 +17,7 @@ use std::alloc::Global;
 /// A request that a grant of new rights allows by itself and that old rights deny, and the address that it comes from.
 #[derive(Debug)]
 pub struct AddressedExample {
-    /// The address. Where no grant of either side has a network there is none: the request may come from every address.
+    /// The address. It is `None` if no grant of either side has a network: the request may come from every address.
     pub from: Option<Address>,
     pub example: Example,
 }

@@ -12,7 +12,7 @@ ghost use Rattle.entry_core.specs.Stored.{LeadsBack, Places, place_in};
 ghost use Rattle.store_core.specs.Objects.{change_of};
 
 use crate::draft::Draft;
-use common_types::{Items, TryCopy};
+use common_types::{Items, TryClone};
 use std::alloc::{AllocError, Global};
 use std::collections::{HashMap, HashSet};
 use std::marker::Model;
@@ -155,8 +155,9 @@ impl Log {
         decide(*self.entries.allocator(), &self.objects, sealed)
     }
 
-    /// Adds what was decided on this log, under a new id. No object is copied. Where memory is wanting, the log stays as
-    /// it was.
+    /// Adds what was decided on this log, under a new id. It copies no object.
+    ///
+    /// Where an allocation fails, the log stays as it was.
     pub fn push(&mut self, decided: Decided) -> Result<(), AllocError>
         requires here { decided ≡ decision self.old decided.entry.sealed }
         requires new { is_in (ids self.old) decided.entry.sealed.id ≡ false }
@@ -230,7 +231,7 @@ impl Log {
         Ok(draft)
     }
 
-    // What requests come to behind the first entries.
+    // Decides requests behind the first `kept` entries, as a draft.
     fn draft(&self, kept: usize, part: &[Sealed]) -> Result<Draft, AllocError>
         requires within { kept ≤ length self.now }
         requires one { length self.now ≤ kept + 1 }
@@ -282,14 +283,16 @@ impl Log {
         Ok(true)
     }
 
-    /// Fits the log to a part of another one, from a place on: the part's first requests that this log has at the same
-    /// places, by their ids, are passed over; the entries behind them are dropped; the rest is decided and added.
+    /// Fits the log to a part of another one, from a position on.
     ///
-    /// It answers false, and changes nothing, where the place is behind the log's end, where more than one entry would
-    /// be dropped, or where an id would stand twice. Where memory is wanting, nothing changes either.
+    /// It skips the part's first requests that this log has at the same positions, by their ids. It drops the entries
+    /// behind them, then decides and adds the rest.
     ///
-    /// It costs what the part costs, and nothing in the log's length, unless the last entry goes right after a fit that
-    /// dropped one and decided none: then the earlier requests are decided again.
+    /// It returns false, and changes nothing, where the position is behind the log's end, where more than one entry
+    /// would be dropped, or where an id would occur twice. Where an allocation fails, nothing changes either.
+    ///
+    /// It costs what the part costs, and nothing in the log's length. Exception: where the last entry goes right after
+    /// a fit that dropped one and decided none, the earlier requests are decided again.
     pub fn fit(&mut self, from: usize, part: &[Sealed]) -> Result<bool, AllocError>
         ensures fits { IfOk result (λ fits. fits ≡ is_some (fitted self.old from part.now)) }
         ensures log { OnOk result (self.new ≡ unwrap_or (fitted self.old from part.now) self.old) }
@@ -416,7 +419,7 @@ fn append_all(entries: &mut Vec<Entry>, index: &mut HashMap<Id, usize, IdHash>, 
     }
 }
 
-impl TryCopy for Log {
+impl TryClone for Log {
     fn copy(&self) -> Result<Log, AllocError> {
         Ok(Log {
             entries: copy_entries(*self.entries.allocator(), self.entries.as_slice())?,

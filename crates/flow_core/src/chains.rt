@@ -27,7 +27,7 @@ fn longer(alloc: Global, chain: &[usize], place: usize) -> Result<Vec<usize>, Ou
     Ok(longer)
 }
 
-/// Finds a place by a step from the end of a chain, if it is one of so many places and was not found before.
+/// Finds a place by a step from the end of a chain, if it is below `places` and was not found before.
 fn find(
     alloc: Global,
     found: &mut IndexMap<usize, Vec<usize>>,
@@ -79,9 +79,9 @@ fn in_order(
 /// `steps` lists for each place the places that it has a step to; a place that does not exist is no step, and a start that does
 /// not exist reaches nothing. A chain has at least one step, so that the start is found where a chain leads back to it.
 ///
-/// It is a breadth-first search: each step from a place that is found is looked at once. Time goes by these steps and by the
-/// chains that are found, and by putting them in order; a place that is not found takes none. The only error is want of memory,
-/// which leaves nothing.
+/// It is a breadth-first search: each step from a place that is found is looked at once. Time grows with these steps,
+/// with the chains that are found, and with sorting them. A place that is not found takes no time. The only error is
+/// `OutOfMemory`, which leaves nothing.
 pub fn chains_from(
     alloc: Global,
     steps: &[Vec<usize>],

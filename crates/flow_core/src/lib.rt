@@ -1,6 +1,6 @@
 //! Chains of steps between places, which are the numbers below a count.
 //!
-//! Each step is a pair of places. The only error is want of memory.
+//! Each step is a pair of places. The only error is `OutOfMemory`.
 #![tactic(auto)]
 
 mod chains;

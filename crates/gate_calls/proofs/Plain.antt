@@ -1,4 +1,4 @@
--- Rights of which no grant has a network.
+-- Rights whose grants have no network.
 use Rattle.std.proofs.Common.{◌≡◌, ℕ, Bool, true, false, Option, None, Some, refl, sym, ap, List, [], ◌∷◌, inl, inr}
 use Rattle.std.specs.List.{filter_map}
 use Rattle.cap_grants.specs.declared.grant.AllowGrant.{AllowGrant}

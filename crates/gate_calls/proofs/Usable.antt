@@ -11,7 +11,7 @@ use Rattle.request_types.specs.Target.{Target}
 use Rattle.rights_core.specs.Rights.{NetworkGrant, grants_at, is_for}
 use Rattle.verdict_core.specs.Verdict.{first_failure, grants_allow, is_usable, unless, uncovered_from, names, matches_namespace, matches_tag, matches_prefix, can_read, can_write}
 
--- the first failing of six conditions is none where all hold
+-- the first failing of six conditions is `None` where all hold
 six : (a b c d e f : Bool) → is_none (unless a why.Pool (unless b why.Namespace (unless c why.Tag (unless d why.Prefix (unless e why.Read (unless f why.Write None)))))) ≡ ((a && b && c && d) && e && f)
 six false b c d e f = refl
 six true false c d e f = refl

@@ -69,7 +69,7 @@ abbrev pub trouble_code : Trouble → ℕ
 trouble_code NotUtf8 = numbers.not_utf8
 trouble_code OutOfMemory = numbers.no_memory
 
--- the number for an answer, or for why there is none
+-- the number for an answer, or for the trouble in its place
 abbrev pub code_of : Result Answer Trouble → ℕ
 code_of (Ok answer) = answer_code answer
 code_of (Err trouble) = trouble_code trouble

@@ -82,7 +82,7 @@ fn printed(alloc: Global, found: &AddressedExample) -> Result<String, OutOfMemor
     Ok(text)
 }
 
-/// A request that `new` allows and `old` denies, in words of a shell; `None` if there is none.
+/// A request that `new` allows and `old` denies, in words of a shell; `None` if no such request exists.
 fn first_gain(alloc: Global, old: &Caps, new: &Caps) -> Result<Option<String>, OutOfMemory>
     ensures { IfOk result (λ found. MatchOption found (¬ spec.IsWider old.now new.now) (λ text. spec.IsGainText old.now new.now (string_bytes text))) }
 {

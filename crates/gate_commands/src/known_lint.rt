@@ -11,7 +11,7 @@ use verdict_core::ClassCall;
 use verdict_text::Printed;
 
 /// The most grants that a text has.
-const MOST_GRANTS: usize = 4_096;
+const MAX_GRANTS: usize = 4_096;
 
 /// How the grants of a text stand to one another, over which methods.
 #[derive(Clone, Copy)]
@@ -70,7 +70,7 @@ fn known_standing(
     }
 }
 
-/// Adds the lines of a grant that comes to something at some address.
+/// Adds the lines of a grant that expands to something at some address.
 fn push_live(
     text: &mut String,
     before: &str,
@@ -87,7 +87,7 @@ fn push_live(
         Reach::EveryPoolByPrefix => write!(text, "{before}{number} every pool, by prefix\n")?,
         Reach::EveryPool => write!(text, "{before}{number} every pool\n")?,
     }
-    if found.poolless {
+    if found.without_pool {
         write!(text, "{before}{number} matches no pool\n")?;
     }
     Ok(())
@@ -112,7 +112,7 @@ fn push_found(
 /// Whether a check fails by a grant.
 fn is_mistake(found: &GrantLint) -> bool {
     let is_redundant = !matches!(found.standing, Standing::Needed);
-    found.nothing || found.dead || is_redundant || found.poolless
+    found.nothing || found.dead || is_redundant || found.without_pool
 }
 
 /// What is found of each grant over the methods that count.
@@ -122,7 +122,7 @@ fn known_lints(
     rights: &Rights,
     count: usize,
 ) -> Result<Vec<GrantLint>, OutOfMemory> {
-    let count = count.min(MOST_GRANTS);
+    let count = count.min(MAX_GRANTS);
     let mut all = lint_rights(alloc, rights, count, how.pools)?;
     for (place, found) in all.iter_mut().enumerate() {
         found.standing = known_standing(alloc, how.calls, rights, count, place + 1)?;
@@ -130,8 +130,8 @@ fn known_lints(
     Ok(all)
 }
 
-/// The lines on the grants of a text that comes to these rights, each behind some words; or nothing where every class registry is asked
-/// about, and it does not matter which methods there are.
+/// The lines on the grants of a text that expands to these rights, each behind the text `before`. It is `None` if every
+/// class registry counts and the methods make no difference.
 pub(crate) fn known_lines(
     alloc: Global,
     how: KnownLint<'_, '_>,

@@ -20,7 +20,7 @@ use verdict_text::{Printed, ReadEntity, ReadText, Reader, Reading, Rules};
 enum Question {
     /// What each two of them both reach.
     Shared(Strictness),
-    /// Where what each of them writes may come to. With a check a line fails.
+    /// Where what each of them writes may flow to. With a check a line fails.
     Flows { check: bool },
 }
 

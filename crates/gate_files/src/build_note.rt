@@ -6,7 +6,7 @@ use std::path::{Path, PathBuf};
 use std::{fs, io};
 
 /// The most bytes that are read of a note.
-const MOST_BYTES: u64 = 1024;
+const MAX_BYTES: u64 = 1024;
 
 /// Where a note is of a program in this folder, behind the folder's path.
 const INSTALLED: &str = "../share/osdgate/build";
@@ -14,7 +14,7 @@ const INSTALLED: &str = "../share/osdgate/build";
 /// What a file says, where it can be read and is a text.
 fn text_at(rt: &HostRuntime, path: &str) -> Option<String> {
     let alloc = rt.alloc();
-    let bytes = read_most(alloc, fs::open(rt, path).ok()?, MOST_BYTES).ok()?;
+    let bytes = read_most(alloc, fs::open(rt, path).ok()?, MAX_BYTES).ok()?;
     String::from_utf8(bytes).ok()
 }
 

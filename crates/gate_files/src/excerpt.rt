@@ -9,7 +9,7 @@ use verdict_text::TextFault;
 /// What is shown in place of the rest of a line.
 const REST: &str = "...";
 
-/// A shown text cut to so many columns around a column, and below it a caret.
+/// A shown text cut to `width` columns around a column, and below it a caret.
 fn cut_text(
     alloc: Global,
     shown: &str,

@@ -8,7 +8,7 @@ use std::io::Read;
 use std::{fs, io};
 
 /// The most bytes that a file of entities, pools or requests may have: 64 MiB.
-const MOST_BYTES: u64 = 67_108_864;
+const MAX_BYTES: u64 = 67_108_864;
 
 /// What some programs write in front of UTF-8.
 const BYTE_ORDER_MARK: char = '\u{feff}';
@@ -64,11 +64,11 @@ pub fn read_text<F: InputFiles, R: Read>(
     path: &str,
 ) -> Result<String, FileFault> {
     let bytes = if path == "-" {
-        read_most(alloc, reader.by_ref(), MOST_BYTES)?
+        read_most(alloc, reader.by_ref(), MAX_BYTES)?
     } else {
-        files.read_bytes(path, MOST_BYTES)?
+        files.read_bytes(path, MAX_BYTES)?
     };
-    if bytes.len() as u64 > MOST_BYTES {
+    if bytes.len() as u64 > MAX_BYTES {
         return Err(FileFault::TooLong);
     }
     match String::from_utf8(bytes) {

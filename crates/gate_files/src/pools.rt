@@ -48,7 +48,7 @@ pub fn taken_line(alloc: Global, pool: &Pool) -> Result<String, OutOfMemory> {
     Ok(line)
 }
 
-/// What tells that there is no pool of this name, and which there are.
+/// The line that reports that the file has no pool of this name, and lists the pools that it has.
 pub fn no_pool_line(alloc: Global, pools: &[Pool], name: &str) -> Result<String, OutOfMemory> {
     let mut line = String::from_str(alloc, "the pools file has no pool ")?;
     push_name(&mut line, name)?;

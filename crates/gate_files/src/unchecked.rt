@@ -48,7 +48,7 @@ fn push_unchecked(
     line.push_str(")")
 }
 
-/// A line on the entities that could not be checked, empty if there are none.
+/// A line on the entities that could not be checked, empty if all could be checked.
 pub(crate) fn unchecked_line(
     alloc: Global,
     unchecked: &[Unchecked],

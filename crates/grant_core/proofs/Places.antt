@@ -44,7 +44,7 @@ pub later : (es : Entries) (name : List ℕ) (before place : ℕ) (used : Profil
 later es name before place used at h low is =
     absent before (table_of es) used (rw length-map h) (λ k l. rw is (name_fails es name k (omega arith) (λ d. (position-Some (λ k'. bytes_eq name (string_bytes k')) (keys_of es) place d at).2 k (omega arith))))
 
--- the name is the key at this place, which no other key is equal to
+-- the name is the key at this place, and no other key equals it
 pub here : (es : Entries) (name : List ℕ) (before place : ℕ) (key : String Global) (profile : Profile)
     → IsDistinct (λ (a b : String Global). bytes_eq (string_bytes a) (string_bytes b)) (keys_of es) → position (λ k. bytes_eq name (string_bytes k)) (keys_of es) ≡ Some place
     → slice_get es place ≡ Some (key, profile) → before ≤ length es → place < before → IsFound es before name place profile

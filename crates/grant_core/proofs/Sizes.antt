@@ -14,7 +14,7 @@ use Rattle.grant_core.specs.Found.{parts_before, IsFound}
 use Rattle.grant_core.specs.declared.table.Profile.{Profile}
 use Rattle.grant_core.proofs.Tables.{length-alone, length-body, name-filled}
 
--- a use of the profile comes to as many grants as its size says
+-- a use of the profile expands to as many grants as its size says
 pub size_found : (es : Entries) (before : ℕ) (used : ProfileUse) (place : ℕ) (profile : Profile) → IsSized es → IsFound es before used.name place profile → profile.size ≡ length (parts_before es before used)
 size_found es before used place profile sized found =
     sized.sizes place (found.key, profile) found.there ∙ sym (length-body (reverse (take place (table_of es))) used profile.body) ∙ ap length (sym (found.means used refl))

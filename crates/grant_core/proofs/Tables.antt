@@ -1,4 +1,4 @@
--- Looking a profile up in the table, and what its use comes to.
+-- Looking a profile up in the table, and what its use expands to.
 use Rattle.std.proofs.Common.{◌≡◌, ℕ, zero, suc, ◌+◌, ◌<◌, ◌≤◌, List, [], ◌∷◌, Bool, true, false, cond, is_some, length, get_or, take, map, reverse, refl, sym, ap, ◌∙◌, subst, arith, length-append, ◌⊎◌, inl, inr}
 use Rattle.std.proofs.Math.Numerals.{add-one}
 use Rattle.std.proofs.lemmas.Bool.{cases_lt}
@@ -21,7 +21,7 @@ next t k used h = ap (λ l. parts_of (reverse l) used) ((take_at_read t k nothin
 next_suc : (t : Table) (k : ℕ) (used : ProfileUse) → k < length t → parts_of (reverse (take (suc k) t)) used ≡ parts_of (get_or t k nothing ∷ reverse (take k t)) used
 next_suc t k used h = subst (λ n. parts_of (reverse (take n t)) used ≡ parts_of (get_or t k nothing ∷ reverse (take k t)) used) (add-one k) (next t k used h)
 
--- what a use of the profile at place j comes to
+-- what a use of the profile at place j expands to
 abbrev pub body_parts : Table → ProfileUse → ℕ → Flat
 body_parts t used j = numbered (parts_of (reverse (take j t))) 1 (map (filled used) (get_or t j nothing).1)
 
@@ -52,11 +52,11 @@ found (suc k) t j used low h here others =
     next_suc t k used (omega arith)
     ∙ found_by k t j used (omega arith) (omega arith) here (λ l. others k l (omega arith)) (λ l. found k t j used l (omega arith) here (λ i m n. others i m (omega arith))) (cases_lt j k)
 
--- a list of one use comes to as many grants as the use
+-- a list of one use expands to as many grants as the use
 pub length-alone : (f : ProfileUse → Flat) (used : ProfileUse) → length (numbered f 1 (Profile used ∷ [])) ≡ length (f used)
 length-alone f used = length-append (map (under 1) (f used)) [] ∙ omega (arith, length-map (f used) (under 1))
 
--- how many grants a grant and those after it come to
+-- how many grants a grant and those after it expand to
 pub length-numbered : (f : ProfileUse → Flat) (i : ℕ) (g : Grant) (gs : List Grant) → length (numbered f i (g ∷ gs)) ≡ length (numbered f 1 (g ∷ [])) + length (numbered f (i + 1) gs)
 length-numbered f i (Allow g) gs = omega arith
 length-numbered f i (Profile used) gs =
@@ -86,7 +86,7 @@ by_name : (b : Bool) (x y x' y' : Flat) → length x ≡ length x' → length y 
 by_name true x y x' y' e f = e
 by_name false x y x' y' e f = f
 
--- two uses of one profile come to as many grants
+-- two uses of one profile expand to the same number of grants
 pub names_of : (t : Table) (p q : ProfileUse) → p.name ≡ q.name → length (parts_of t p) ≡ length (parts_of t q)
 names_of [] p q e = refl
 names_of (profile ∷ before) p q e =
@@ -95,6 +95,6 @@ names_of (profile ∷ before) p q e =
     ap (λ n. length (cond (bytes_eq n profile.0) (numbered (parts_of before) 1 (map (filled p) profile.1)) (parts_of before p))) e
     ∙ by_name (bytes_eq q.name profile.0) _ _ _ _ body (names_of before p q e)
 
--- the body of a profile comes to as many grants in any use
+-- the body of a profile expands to the same number of grants in any use
 pub length-body : (t : Table) (used : ProfileUse) (body : List Grant) → length (numbered (parts_of t) 1 (map (filled used) body)) ≡ length (numbered (parts_of t) 1 body)
 length-body t used body = same_numbered (parts_of t) (names_of t) used 1 1 body

@@ -1,5 +1,5 @@
 -- Statement: contracts of public calls use it.
--- What a list of grants comes to, with each use of a profile replaced by the profile's grants.
+-- The expansion of a list of grants: each use of a profile is replaced by the profile's grants.
 -- Profiles are those of Ceph User Management; how a use fills its profile's grants is this project's profile.
 use Rattle.std.specs.Prelude.{ℕ, ◌+◌, List, [], ◌∷◌, ◌++◌, map, reverse, if◌then◌else◌, is_some}
 use Rattle.std.specs.Option.{option_or}
@@ -40,12 +40,12 @@ numbered parts number [] = []
 numbered parts number (Allow g ∷ gs) = (number ∷ [], g) ∷ numbered parts (number + 1) gs
 numbered parts number (Profile used ∷ gs) = map (under number) (parts used) ++ numbered parts (number + 1) gs
 
--- What a use comes to: the filled body of its profile. The profiles stand newest first, so those that a body may name are the rest of the list.
+-- What a use expands to: its profile's filled body. The newest profile is first; a body may name those after its own.
 abbrev pub parts_of : Table → ProfileUse → Flat
 parts_of [] used = []
 parts_of (profile ∷ before) used =
     if bytes_eq used.name profile.0 then numbered (parts_of before) 1 (map (filled used) profile.1) else parts_of before used
 
--- what a list comes to with a table
+-- what a list expands to with a table
 abbrev pub flat : Table → List Grant → Flat
 flat table grants = numbered (parts_of (reverse table)) 1 grants

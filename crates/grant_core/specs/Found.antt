@@ -7,7 +7,7 @@ use Rattle.grant_core.specs.Flat.{Flat, parts_of, numbered, filled}
 use Rattle.grant_core.specs.Table.{Entries, table_of}
 use Rattle.grant_core.specs.declared.table.Profile.{Profile}
 
--- what a use comes to with the profiles before a place
+-- what a use expands to with the profiles before a place
 abbrev pub parts_before : Entries → ℕ → ProfileUse → Flat
 parts_before entries before used = parts_of (reverse (take before (table_of entries))) used
 

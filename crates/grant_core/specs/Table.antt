@@ -11,7 +11,7 @@ Entries = List (String Global × Profile)
 abbrev pub table_of : Entries → Table
 table_of entries = map (λ e. (string_bytes e.0, e.1.body)) entries
 
--- each profile's size is how many grants its body comes to with the profiles before it
+-- each profile's size is how many grants its body expands to with the profiles before it
 pub record IsSized (entries : Entries) : Type 0 where
   pub few : length entries ≤ 32
   pub sizes : (k : ℕ) (e : String Global × Profile) → slice_get entries k ≡ Some e → e.1.size ≡ length (flat (take k (table_of entries)) e.1.body)

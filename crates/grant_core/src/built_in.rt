@@ -38,7 +38,7 @@ fn add_built_in(alloc: Global, table: &mut ProfileTable) -> Result<(), OutOfMemo
     add_free(table, "rbd", rbd_body(alloc)?)
 }
 
-// Adds a profile that nothing but want of memory refuses.
+// Adds a profile. Its only possible fault is out of memory.
 fn add_free(table: &mut ProfileTable, name: &str, body: CapList) -> Result<(), OutOfMemory>
     requires { add_refusal table.old name.now body ≡ None }
     ensures { OnOk result (table.new ≡ table.old ++ (name.now, body) ∷ []) }

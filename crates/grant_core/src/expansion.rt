@@ -20,10 +20,11 @@ use common_types::{Name, OutOfMemory};
 use indexmap::IndexMap;
 use std::alloc::Global;
 
-/// What a list of grants comes to with a table: each use is replaced by the grants of its profile, filled with the use's
-/// pool and namespace where they have no pool of their own.
+/// Expands a list of grants with a table: each use of a profile is replaced by the profile's grants.
 ///
-/// The time is linear in the grants of the list and in those that it comes to: a use that comes to none is passed over.
+/// A profile's grant that has no pool of its own is filled with the use's pool and namespace. The time is linear in the
+/// grants of the list and in those that it expands to, since a use that expands to nothing is skipped.
+///
 /// It is refused by the first of these that holds: the first grant that uses an unknown profile; more than 256 grants.
 pub fn expand(alloc: Global, table: &ProfileTable, list: &CapList) -> Result<GrantTree, ExpandFault>
     ensures tree { IfOk result (λ tree. tree ≡ flat table.now list.now) }
@@ -36,7 +37,7 @@ pub fn expand(alloc: Global, table: &ProfileTable, list: &CapList) -> Result<Gra
     Ok(GrantTree::new(grants))
 }
 
-// What a list's grants come to with all profiles. A list is filled as the body of a use that gives nothing.
+// Expands a list's grants with all profiles. The list is filled as the body of a use without pool and namespace.
 fn grow_list(
     alloc: Global,
     profiles: &IndexMap<String, Profile>,
@@ -64,8 +65,8 @@ fn grow_list(
     Ok(grants)
 }
 
-// Adds what the grants of a body come to where it is used, with the profiles before a place. Their paths begin with the
-// numbers above.
+// Adds what the grants of a body expand to where it is used, with the profiles before a place. Their paths begin with
+// the numbers above.
 #[cycle(grow)]
 fn grow(
     profiles: &IndexMap<String, Profile>,
@@ -88,7 +89,7 @@ fn grow(
     Ok(())
 }
 
-// Adds what the grant of a number comes to.
+// Adds what the grant with this number expands to.
 #[cycle(grow)]
 fn grow_one(
     profiles: &IndexMap<String, Profile>,
@@ -130,7 +131,7 @@ fn push_allow(
     Ok(())
 }
 
-// Adds what a use in a body comes to where that is used. Its paths begin with the numbers above and its own.
+// Adds what a use in a body expands to where the body is used. The paths begin with the numbers above and its own.
 #[cycle(grow)]
 fn grow_use(
     profiles: &IndexMap<String, Profile>,

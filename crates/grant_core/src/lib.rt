@@ -1,4 +1,4 @@
-//! Profiles, and what a list of grants comes to with them.
+//! Profiles, and what a list of grants expands to with them.
 //!
 //! A profile is a named list of grants that a capability text may use: the Ceph manual's User Management chapter,
 //! "Authorization capabilities". How a use fills the grants of its profile, and the limits, are this project's profile.

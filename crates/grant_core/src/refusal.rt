@@ -67,7 +67,7 @@ fn first_body_fault(profiles: &IndexMap<String, Profile>, body: &[Grant]) -> Opt
     None
 }
 
-/// How many grants a profile comes to, if it may be added.
+/// The number of grants that a profile expands to, if it may be added.
 pub(crate) fn accepted_size(
     profiles: &IndexMap<String, Profile>,
     name: &str,

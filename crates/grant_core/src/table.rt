@@ -17,7 +17,7 @@ use indexmap::IndexMap;
 use std::alloc::Global;
 use std::marker::Model;
 
-/// A profile's grants, and how many they come to.
+/// A profile's grants, and how many they expand to.
 #[derive(Drop)]
 pub(crate) struct Profile {
     pub(crate) body: CapList,
@@ -58,10 +58,14 @@ impl ProfileTable {
         &self.profiles
     }
 
-    /// Adds a profile, whose body may use those that are in the table.
+    /// Adds a profile. Its body may use the profiles that are in the table.
     ///
-    /// It is refused, and the table stays as it was, by the first of these that holds: the table has a profile of that name;
-    /// it has 32; the body's first grant that uses an unknown profile or has a tag; the body comes to more than 256 grants.
+    /// The first of these that holds refuses it, and the table then stays as it was:
+    ///
+    /// - the table has a profile of that name;
+    /// - the table has 32 profiles;
+    /// - the body's first grant that uses an unknown profile or has a tag;
+    /// - the body expands to more than 256 grants.
     pub fn add(&mut self, name: &str, body: CapList) -> Result<(), ExpandFault>
         ensures added { OnOk result (self.new ≡ self.old ++ (name.now, body) ∷ []) }
         ensures refused { RefusedFirst (add_refusal self.old name.now body) ExpandFault.OutOfMemory result }
@@ -120,7 +124,7 @@ pub(crate) fn find_before<'a>(
     Some((place, profile))
 }
 
-// How many grants a grant comes to.
+// How many grants a grant expands to.
 fn size_of_grant(profiles: &IndexMap<String, Profile>, grant: &Grant) -> usize
     requires { IsSized profiles.now.entries }
     ensures value { result ≡ length (flat (table_of profiles.now.entries) (grant.now ∷ [])) }
@@ -135,7 +139,7 @@ fn size_of_grant(profiles: &IndexMap<String, Profile>, grant: &Grant) -> usize
     }
 }
 
-/// How many grants a list comes to.
+/// How many grants a list expands to.
 pub(crate) fn size_of(profiles: &IndexMap<String, Profile>, grants: &[Grant]) -> usize
     requires sized { IsSized profiles.now.entries }
     requires few { length grants.now ≤ 64 }

@@ -6,9 +6,10 @@ use crate::path::Path;
 use cap_text::AllowGrant;
 use std::marker::Model;
 
-/// What a list of grants comes to, which contracts see as the list of at most 256 paths and grants.
+/// What a list of grants expands to. Contracts see it as the list of at most 256 paths and grants.
 ///
-/// No use of a profile is left in it. The grants stand one behind another, so that no call's stack grows with their number.
+/// It contains no use of a profile. The grants are stored one after another, so no call's stack grows with their
+/// number.
 #[derive(Debug, Drop)]
 pub struct GrantTree {
     grants: Vec<(Path, AllowGrant)>,
@@ -41,7 +42,7 @@ impl GrantTree {
         self.grants.as_slice()
     }
 
-    /// The same grants, which are moved and not copied.
+    /// Returns the grants as a vector, moved and not copied.
     pub fn into_flat(self) -> Vec<(Path, AllowGrant)>
         ensures value { result.items ≡ self }
         ensures few { length result.items ≤ 256 }

@@ -10,7 +10,7 @@ ghost use Rattle.group_model.specs.Types as types;
 ghost use Rattle.group_model.specs.Group.{is_submitted, answers_after, announced, resent};
 ghost use Rattle.group_model.specs.Reached.{unsent};
 
-use common_types::{Items, OutOfMemory, TryCopy};
+use common_types::{Items, OutOfMemory, TryClone};
 use entry_core::Sealed;
 use group_messages::IntervalSets;
 use group_wire::{Answer, Ledger, Wire, at, is_up, open, prepare};
@@ -18,7 +18,7 @@ use peer_core::{Body, Daemon, Message, Sent};
 use place_core::{ActingSet, DaemonSet};
 use std::alloc::Global;
 
-/// The copies of so many daemons, or of all 16, as they begin.
+/// The copies of `count` daemons, capped at 16, as they begin.
 pub(crate) fn blank_copies(
     alloc: Global,
     count: u8,
@@ -183,7 +183,7 @@ fn hear(ledger: &mut Ledger, body: &Body) -> Result<(), OutOfMemory>
 }
 
 /// The most messages that a copy sends at once, besides one for each request that waits.
-const MOST_SENT: usize = 20;
+const MAX_SENT: usize = 20;
 
 /// Takes the message at place k to a copy.
 pub(crate) fn reach(wire: &mut Wire, copy: &mut Daemon, k: usize) -> Result<(), OutOfMemory>
@@ -201,7 +201,7 @@ pub(crate) fn reach(wire: &mut Wire, copy: &mut Daemon, k: usize) -> Result<(), 
         },
         None => unreachable!(),
     };
-    wire.reserve(copy.waiting_count().saturating_add(MOST_SENT))?;
+    wire.reserve(copy.waiting_count().saturating_add(MAX_SENT))?;
     let sent = copy.on(message)?;
     wire.append(sent.into_vec());
     wire.remove(k);

@@ -20,14 +20,22 @@
 //! the longest log), and the group keeps its length. Requests and answers are lists, each beside an `IndexSet` of its ids in the
 //! same order. A `Ledger` has both, and beside them the places of the requests that have no answer. Its invariant says that they
 //! are these, of the two lists alone, so no other proof speaks of them: contracts see a ledger as its requests and its answers.
-//! The wire is a vector of which a front is passed over and dropped later, 32 messages or more at a time. Before a step it makes
-//! room for all that the step may send, so that there is nothing to undo. A move makes what it sends, and room on the wire,
-//! before it changes anything (`Opening`), so that it can be made ready and given up (`PreparedGroup`). No law about a group is
-//! proved here: a group that can be stands for one that sends whole logs and to which the same happened, and what the code needs
-//! to know is carried over from that one: that each log is legal, that what was decided begins the furthest log, that no request
-//! was submitted twice, how many messages a step sends, and that deliveries come to an end (`proofs/Reached.antt`,
-//! `proofs/Lowering.antt`, `proofs/Sends.antt`). Only where the requests in parts come from is an induction of its own
-//! (`proofs/Asks.antt`), since parts stand nowhere in the other group.
+//! The wire is a vector of which a front is passed over and dropped later, 32 messages or more at a time. Before a
+//! step it makes room for all that the step may send, so that nothing needs to be undone. A move makes what it sends,
+//! and room on the wire, before it changes anything (`Opening`). So it can be prepared and abandoned
+//! (`PreparedGroup`).
+//!
+//! No law about a group is proved here. Each group that can be corresponds to one that sends whole logs and to which
+//! the same happened. What the code needs is carried over from that one (`proofs/Reached.antt`,
+//! `proofs/Lowering.antt`, `proofs/Sends.antt`):
+//! - each log is legal;
+//! - what was decided begins the furthest log;
+//! - no request was submitted twice;
+//! - how many messages a step sends;
+//! - deliveries end.
+//!
+//! Only where the requests in parts come from is an induction of its own (`proofs/Asks.antt`), since the other group
+//! has no parts.
 #![tactic(auto)]
 
 mod call;

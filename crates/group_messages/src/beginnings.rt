@@ -56,7 +56,7 @@ pub fn start_for(log: &Log, len: usize, last: Option<Id>) -> usize
     len.min(log.len()).saturating_sub(1)
 }
 
-/// A log's requests after a place, which may be behind its end. An `Err` is want of memory alone.
+/// A log's requests from an index on, which may be behind the log's end. The only error is out of memory.
 pub fn part_from(log: &Log, start: usize) -> Result<Items<Sealed>, OutOfMemory>
     ensures { IfOk result (λ part. part ≡ part_of log.now start) }
 {

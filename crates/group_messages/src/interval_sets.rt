@@ -2,7 +2,7 @@
 
 ghost use Rattle.std.specs.Prelude.{◌≡◌, ◌++◌, [], ◌∷◌, length, IfOk};
 
-use common_types::{OutOfMemory, TryCopy};
+use common_types::{OutOfMemory, TryClone};
 use place_core::ActingSet;
 use std::alloc::Global;
 use std::marker::Model;
@@ -67,8 +67,8 @@ impl IntervalSets {
     }
 }
 
-impl TryCopy for IntervalSets {
-    /// The same sets, shared.
+impl TryClone for IntervalSets {
+    /// A copy that shares the sets.
     fn copy(&self) -> Result<IntervalSets, OutOfMemory> {
         match &self.shared {
             Some(sets) => Ok(IntervalSets {

@@ -2,7 +2,7 @@
 
 use crate::interval_sets::IntervalSets;
 use crate::party::Party;
-use common_types::{Items, OutOfMemory, TryCopy};
+use common_types::{Items, OutOfMemory, TryClone};
 use entry_core::{Id, Reply, Sealed};
 
 /// What a message says (Ceph Peering, by this project's profile). Intervals count from 1, and so does an entry's index in a log.
@@ -79,7 +79,7 @@ impl Drop for Sent {
     }
 }
 
-impl TryCopy for Body {
+impl TryClone for Body {
     fn copy(&self) -> Result<Body, OutOfMemory> {
         Ok(match self {
             Body::Interval(sets) => Body::Interval(sets.copy()?),
@@ -138,7 +138,7 @@ impl TryCopy for Body {
     }
 }
 
-impl TryCopy for Message {
+impl TryClone for Message {
     fn copy(&self) -> Result<Message, OutOfMemory> {
         Ok(Message {
             from: self.from,
@@ -147,7 +147,7 @@ impl TryCopy for Message {
     }
 }
 
-impl TryCopy for Sent {
+impl TryClone for Sent {
     fn copy(&self) -> Result<Sent, OutOfMemory> {
         Ok(Sent {
             from: self.from,

@@ -3,7 +3,7 @@
 ghost use Rattle.std.specs.Prelude.{◌≡◌, ◌+◌, ◌<◌, ◌==◌, ◌++◌, [], ◌∷◌, length, drop, OnOk, OnErr, slice_index_or};
 ghost use Rattle.std.specs.List.{list_any};
 
-use common_types::{OutOfMemory, TryCopy};
+use common_types::{OutOfMemory, TryClone};
 use entry_core::{Id, IdHash, Sealed};
 use std::alloc::Global;
 use std::collections::{HashSet, VecDeque};
@@ -73,7 +73,7 @@ impl Queue {
         self.seen.contains(&id) && self.requests.iter().any(|w| w.id() == id)
     }
 
-    /// Puts a request behind the others. An `Err` is want of memory, and leaves all as it was.
+    /// Puts a request behind the others. The only error is out of memory, which leaves all as it was.
     pub fn push_back(&mut self, request: Sealed) -> Result<(), OutOfMemory>
         ensures ok { OnOk result (self.new ≡ self.old ++ request ∷ []) }
         ensures err { OnErr result (self.new ≡ self.old) }
@@ -83,7 +83,7 @@ impl Queue {
         Ok(())
     }
 
-    /// Puts a request before the others. An `Err` is want of memory, and leaves all as it was.
+    /// Puts a request before the others. The only error is out of memory, which leaves all as it was.
     pub fn push_front(&mut self, request: Sealed) -> Result<(), OutOfMemory>
         ensures ok { OnOk result (self.new ≡ request ∷ self.old) }
         ensures err { OnErr result (self.new ≡ self.old) }
@@ -111,7 +111,7 @@ impl Queue {
     }
 }
 
-impl TryCopy for Queue {
+impl TryClone for Queue {
     fn copy(&self) -> Result<Queue, OutOfMemory> {
         let mut queue = Queue::new(*self.requests.allocator());
         for request in &self.requests {

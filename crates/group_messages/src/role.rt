@@ -1,10 +1,10 @@
 //! What a daemon does for its group.
 
-use common_types::{Items, OutOfMemory, TryCopy};
+use common_types::{Items, OutOfMemory, TryClone};
 use entry_core::Sealed;
 use place_core::ActingSet;
 
-/// What another daemon told of its copy: its log is this copy's up to a place, and then this part.
+/// What another daemon reported about its copy. Its log is this copy's log up to an index, followed by this part.
 #[derive(Drop)]
 pub struct PeerInfo {
     pub number: u8,
@@ -26,7 +26,7 @@ pub struct Common {
 /// What a daemon does for its group in the interval that it promised (Ceph Peering, by this project's profile).
 pub enum Role {
     Idle,
-    /// It asks for copies: the others that told of theirs.
+    /// It requests copies: the others that reported theirs.
     Peering(Items<PeerInfo>),
     /// It sends out what the other members lack of the chosen log: those that have it, and how much each had of it.
     Installing {
@@ -48,7 +48,7 @@ impl Drop for Role {
     }
 }
 
-impl TryCopy for PeerInfo {
+impl TryClone for PeerInfo {
     fn copy(&self) -> Result<PeerInfo, OutOfMemory> {
         Ok(PeerInfo {
             number: self.number,
@@ -59,13 +59,13 @@ impl TryCopy for PeerInfo {
     }
 }
 
-impl TryCopy for Common {
+impl TryClone for Common {
     fn copy(&self) -> Result<Common, OutOfMemory> {
         Ok(*self)
     }
 }
 
-impl TryCopy for Role {
+impl TryClone for Role {
     fn copy(&self) -> Result<Role, OutOfMemory> {
         match self {
             Role::Idle => Ok(Role::Idle),

@@ -205,7 +205,7 @@ answers_after answers (Appended n index) = answers
 answers_after answers (Request s) = answers
 answers_after answers (NotHere id) = answers
 
--- what a refused event leaves: the group, but for a message to a daemon that is down, which is dropped
+-- what a refused event leaves: the group, except that a message to a daemon that is down is dropped
 abbrev pub left_by : Group → Event → Fault → Group
 left_by g (Deliver k) Unreachable = without g k
 left_by g (Deliver k) (NoMessage place) = g

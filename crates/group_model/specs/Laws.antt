@@ -49,13 +49,13 @@ pub record OneEntryIsOpen (g : Group) : Type 0 where
   pub decided : (d : ℕ) (copy : Copy) → slice_get g.copies d ≡ Some copy → Begins (but_last copy.log) g.audit
   pub keeps : (e : Event) (d : ℕ) (before after : Copy) → slice_get g.copies d ≡ Some before → slice_get (group_step g e).copies d ≡ Some after → Begins (but_last before.log) after.log
 
--- Each `Append` on its way goes from the primary of its interval to another member. So a copy that it comes to, and that promised its interval, has no
--- role: nothing is in flight there
+-- Each `Append` on its way goes from the primary of its interval to another member. So if its receiver promised that
+-- interval, the receiver has no role: nothing is in flight there
 pub record AppendsGoToOthers (g : Group) : Type 0 where
   pub goes : (k n place : ℕ) (s : Sealed) (m : Sent) → slice_get g.wire k ≡ Some m → m.body ≡ Append n place s → GoesToOther g.sets n m.from m.to
   pub idle : (k place : ℕ) (s : Sealed) (m : Sent) (d : ℕ) (c : Copy) → slice_get g.wire k ≡ Some m → m.to ≡ Osd d → slice_get g.copies d ≡ Some c → m.body ≡ Append c.promise place s → c.role ≡ Idle
 
--- so many deliveries calm events made from the beginning on
+-- the number of deliveries that calm events made from the beginning on
 abbrev pub made_so_far : {min_size count : ℕ} {acting up : List ℕ} {g : Group} → IsCalmGroup min_size count acting up g → ℕ
 made_so_far {min_size} {count} {acting} {up} calm = deliveries_made calm.events (start calm.group min_size count acting up)
 

@@ -5,7 +5,7 @@ use Rattle.group_model_whole.specs.Within.{LiesWithin, ActsWithin}
 use Rattle.group_model.specs.Group.{Group}
 use Rattle.group_model.specs.Reached.{IsReached}
 
--- each acting set that was handed in lay within the daemons that were handed in as up, and that there are
+-- each acting set that was passed lay within the daemons that were passed as up, and that exist
 pub record IsReachedWithin (g : Group) : Type 0 where
   pub reached : IsReached g
   pub first : LiesWithin reached.daemons reached.acting reached.up

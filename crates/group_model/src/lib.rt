@@ -5,10 +5,10 @@
 //!
 //! # What contracts see
 //!
-//! Groups stand here as plain records, made of the copies and messages of `peer_core`, and `group_step` is the definition of each
-//! event: that of `group_model_whole` but for what peering sends. The laws of this crate are functions that do nothing. They have
-//! the names and the words of those of `group_model_whole`, and take from `group_model_whole` each definition that is over sets,
-//! requests, answers and entries alone.
+//! Groups are plain records here, made of the copies and messages of `peer_core`. `group_step` defines each event: as
+//! `group_model_whole` does, except for what peering sends. The laws of this crate are functions that do nothing. They
+//! have the names and the words of those of `group_model_whole`. They use each definition of `group_model_whole` that
+//! is over sets, requests, answers and entries alone.
 //!
 //! # Design
 //!

@@ -26,7 +26,7 @@ AllGo g = Each (SentGoes g.sets) g.wire
 
 -- one more interval
 
--- only an interval that there is has a first
+-- only an existing interval has a primary
 first_within : (sets : List (List ℕ)) (k d : ℕ) → is_primary (get_or sets k []) d ≡ true → k < length sets
 first_within [] k d is = absurd (both_ways false refl is)
 first_within (s ∷ sets) zero d is = omega arith

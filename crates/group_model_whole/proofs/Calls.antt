@@ -280,7 +280,7 @@ begun_is group z count acting up copies wire wire' sets sets' requests answers i
     ∙ ap (λ v. made (map (blank z) (take count daemons)) (announced (acting ∷ []) ++ resent (acting ∷ []) [] []) (acting ∷ []) v answers) is_requests
     ∙ ap (λ v. made (map (blank z) (take count daemons)) (announced (acting ∷ []) ++ resent (acting ∷ []) [] []) (acting ∷ []) [] v) is_answers
 
--- the same, where who is up is told by an equation
+-- the results of a step, where an equation gives who is up
 
 pub whole_up : {g new : Group} {e : Event} {m : ℕ} {up : List ℕ} → up ≡ new.up → Next g e new m → IsSound (record new { up = up }) m
 whole_up {new = new} {m = m} is n = subst (λ u. IsSound (record new { up = u }) m) (sym is) n.whole

@@ -35,7 +35,7 @@ module _ (D : Group → ℕ → Type 0) where
     reached : delivered_now (slice_get g.wire 0) g + left ≡ due
     requests : (group_step g (Deliver 0)).requests ≡ g.requests
 
-  -- so many times
+  -- message 0 was delivered n times, or until no message was left
   pub record Settled (n : ℕ) (g : Group) (due : ℕ) : Type 0 where
     pub left : ℕ
     pub now : D (settle n g) left
@@ -43,7 +43,7 @@ module _ (D : Group → ℕ → Type 0) where
     pub requests : (settle n g).requests ≡ g.requests
 
 module _ (cost : ℕ) (D : Group → ℕ → Type 0) where
-  -- after some events, in which so many deliveries were made
+  -- after some events, with `made` deliveries
   pub record Ran (g g' : Group) (due made : ℕ) : Type 0 where
     pub left : ℕ
     pub now : D g' left

@@ -18,7 +18,7 @@ abbrev pub Any : {X : Type 0} → (X → Type 0) → List X → Type 0
 Any P [] = ⊥
 Any P (x ∷ xs) = P x ⊎ Any P xs
 
--- a copy asks d, or is told by it
+-- a copy asks d, or d reports to the copy
 pub record IsToldBy (c : Daemon) (d : ℕ) (m : Sent) : Type 0 where
   pub base : ℕ
   pub log : List Entry

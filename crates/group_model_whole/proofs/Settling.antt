@@ -11,7 +11,7 @@ use Rattle.group_model_whole.proofs.Calls.{At}
 use Rattle.group_model_whole.specs.Reached.{Refuses}
 use Rattle.group_model_whole.proofs.Refusals.{refused_leaves}
 
--- after some deliveries, of which so many reached their party
+-- after some deliveries, of which `count` reached their party
 pub record SoFar (old now : Group) (count : ℕ) : Type 0 where
   pub n : ℕ
   pub is : now ≡ settle n old

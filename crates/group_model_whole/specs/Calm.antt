@@ -12,7 +12,7 @@ use Rattle.group_messages.specs.Answers.{Answer}
 use Rattle.group_model_whole.specs.Group.{Group, IsSet, is_submitted, run, start, Event, Submit, Deliver, Lose, Repeat, NewInterval, Restart, Kick}
 use Rattle.group_model_whole.specs.Budget.{settled_group}
 
--- the set is the one that there is, and its members are up
+-- the set is the acting set, and its members are up
 pub record KeepsSet (acting set up : List ℕ) : Type 0 where
   pub same : set ≡ acting
   pub live : (d : ℕ) → is_in acting d ≡ true → is_in up d ≡ true

@@ -202,7 +202,7 @@ refusal_of g (NewInterval acting up) = if same_set acting (last_set g.sets) then
 refusal_of g (Restart d) = if is_in (last_set g.sets) d then (if has_all_intervals g then Some Full else None) else None
 refusal_of g Kick = None
 
--- what a refused event leaves: the group, but for a message to a daemon that is down, which is dropped
+-- what a refused event leaves: the group, except that a message to a daemon that is down is dropped
 abbrev pub left_by : Group → Event → Fault → Group
 left_by g (Deliver k) Unreachable = without g k
 left_by g (Deliver k) (NoMessage place) = g

@@ -58,13 +58,13 @@ pub record GoesToOther (sets : List (List ℕ)) (n : ℕ) (from to : Party) : Ty
   pub is_member : is_in (set_of sets n) member ≡ true
   pub other : is_primary (set_of sets n) member ≡ false
 
--- Each `Append` on its way goes from the primary of its interval to another member. So a copy that it comes to, and that promised its interval, has no
--- role: nothing is in flight there
+-- Each `Append` on its way goes from the primary of its interval to another member. So a copy that it is addressed to,
+-- and that promised its interval, has no role: nothing is in flight there.
 pub record AppendsGoToOthers (g : Group) : Type 0 where
   pub goes : (k n place : ℕ) (s : Sealed) (m : Sent) → slice_get g.wire k ≡ Some m → m.body ≡ Append n place s → GoesToOther g.sets n m.from m.to
   pub idle : (k place : ℕ) (s : Sealed) (m : Sent) (d : ℕ) (c : Daemon) → slice_get g.wire k ≡ Some m → m.to ≡ Osd d → slice_get g.copies d ≡ Some c → m.body ≡ Append c.promise place s → c.role ≡ Idle
 
--- so many deliveries calm events made from the beginning on
+-- how many deliveries calm events made from the beginning on
 abbrev pub made_so_far : {min_size count : ℕ} {acting up : List ℕ} {g : Group} → IsCalmGroup min_size count acting up g → ℕ
 made_so_far {min_size} {count} {acting} {up} calm = deliveries_made calm.events (start calm.group min_size count acting up)
 

@@ -21,7 +21,7 @@ pub record IsReached (g : Group) : Type 0 where
   pub fit : Each EventFits events
   pub is : run events (start group min_size daemons acting up) ≡ g
 
--- a refused call: for the first reason that there is, or, where there is none, for want of memory, and then nothing changes
+-- a refused call: for the first reason that applies; without one, it is out of memory, and nothing changes
 abbrev pub Refuses : Group → Event → Fault → Group → Type 0
 Refuses old e OutOfMemory new = (refusal_of old e ≡ None) × (new ≡ old)
 Refuses old e (NoMessage k) new = (refusal_of old e ≡ Some (NoMessage k)) × (new ≡ left_by old e (NoMessage k))

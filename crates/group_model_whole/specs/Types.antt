@@ -32,7 +32,7 @@ pub record Sent : Type 0 where
   pub to : Party
   pub body : Body
 
--- what another daemon told of its copy
+-- what another daemon reported of its copy
 pub record PeerInfo : Type 0 where
   pub number : ℕ
   pub base : ℕ
@@ -41,7 +41,7 @@ pub record PeerInfo : Type 0 where
 -- what a daemon does for its group in the interval that it promised
 pub data Role : Type 0 where
   Idle : Role
-  Peering : (informed : List PeerInfo) → Role  -- it asks for copies: the others that told of theirs
+  Peering : (informed : List PeerInfo) → Role  -- it asks for copies: the others that reported theirs
   Installing : (done : List ℕ) → Role  -- it sends out the chosen log: the other members that have it
   Active : (flight : Option (List ℕ)) → Role  -- it takes requests: of the entry in flight, the other members that have it
 

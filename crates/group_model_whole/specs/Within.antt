@@ -11,7 +11,7 @@ use Rattle.group_model_whole.specs.Reached.{IsReached}
 abbrev pub LiesWithin : ℕ → List ℕ → List ℕ → Type 0
 LiesWithin count acting up = (d : ℕ) → is_in acting d ≡ true → (is_in up d ≡ true) × (d < length (take count daemons))
 
--- an acting set is handed in with its members up, and among the first count daemons
+-- an acting set is passed in with its members up, and among the first count daemons
 abbrev pub ActsWithin : ℕ → Event → Type 0
 ActsWithin count (NewInterval acting up) = LiesWithin count acting up
 ActsWithin count (Submit s) = Unit {0}
@@ -21,7 +21,7 @@ ActsWithin count (Repeat k) = Unit {0}
 ActsWithin count (Restart d) = Unit {0}
 ActsWithin count Kick = Unit {0}
 
--- each acting set that was handed in lay within the daemons that were handed in as up, and that there are
+-- the members of each acting set passed in are among the daemons passed in as up, and among the existing daemons
 pub record IsReachedWithin (g : Group) : Type 0 where
   pub reached : IsReached g
   pub first : LiesWithin reached.daemons reached.acting reached.up

@@ -112,10 +112,12 @@ pub fn calm_groups_stay_calm()
         IsCalmGroup min_size count acting up g → IsCalm acting e → KeepsCount (unserved_cost (length acting)) g e }
 {}
 
-/// Nobody is stranded. Take a group each of whose acting sets lay within the daemons that were handed in as up, and that is
-/// ready: its last set is large enough, and each earlier one that is, from the greatest base of a copy that is up, has a member
-/// that is up. Where all messages are lost and the group is kicked, settling answers every request and empties the wire, in as
-/// many deliveries as the budget at most. Whichever way the messages are lost, the same group is left.
+/// Nobody is stranded. Take a ready group whose acting sets each lay within the daemons that were passed in as up. A
+/// group is ready if its last set is large enough, and each earlier large enough set has a member that is up. The
+/// earlier sets count from the greatest base of a copy that is up.
+///
+/// After all messages are lost and the group is kicked, settling answers every request and empties the wire. It takes
+/// at most as many deliveries as the budget. Every way of losing all messages leaves the same group.
 pub fn a_kick_recovers()
     ensures recovers { (g : Group) → IsReachedWithin g → IsReady g → Recovers g }
     ensures lost { (g : Group) (losses : List Event) → Each IsLoss losses → (run losses g).wire ≡ [] → run losses g ≡ lost_all g }

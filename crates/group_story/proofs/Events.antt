@@ -21,7 +21,7 @@ use Rattle.world_events.specs.declared.event.Event.{Event}
 use Rattle.world_events.specs.declared.event.Event.TheVariants.{Auth, Map, Open, Renew, Close, Submit, List as ListNames, Deliver, Lose, Repeat, Kick}
 use Rattle.world_events.specs.declared.fault.WorldFault.{WorldFault as Fault}
 use Rattle.world_front.specs.Groups.{is_same_group}
-use Rattle.world_front.specs.Front.{Front, group_refusal, sealed_by}
+use Rattle.world_front.specs.ControlPlane.{ControlPlane, group_refusal, sealed_by}
 use Rattle.world_core.specs.World.{World, Part, part, group_at, members_of, parts_of, map_parts, moved_parts, restarted_parts, asked_parts, created_by, world_step}
 use Rattle.world_front.specs.Groups.{groups_of}
 use Rattle.world_core.specs.Holds.{events_in, group_step_alone}
@@ -91,7 +91,7 @@ call_sends id at e g taken is = go (is_same_group id at)
 plain_sends : (id at : GroupId) (e : group.Event) (g : Group) → Quiet e → Sent_in id (part at e ∷ []) g
 plain_sends id at e g quiet = quietly id (part at e ∷ []) g (quiet, tt)
 
-event_sends : (f : Front) (e : Event) (id : GroupId) (g : Group) → Sends (run (events_in id (parts_of f e)) g).wire (kept g.wire (place_in id e))
+event_sends : (f : ControlPlane) (e : Event) (id : GroupId) (g : Group) → Sends (run (events_in id (parts_of f e)) g).wire (kept g.wire (place_in id e))
 event_sends f (Map c) id g = map_sends id (map_of f.history) c g
 event_sends f (Submit ask object ops) id g = asked_send id (sealed_by f (Submit ask object ops)) g
 event_sends f (ListNames ask) id g = asked_send id (sealed_by f (ListNames ask)) g
@@ -115,7 +115,7 @@ nothing_kept (Some (suc k)) = refl
 all_new : (wire : List Sent) (taken : Option ℕ) → Sends wire (kept [] taken)
 all_new wire taken = (wire, ap (λ l. l ++ wire) (sym (nothing_kept taken)))
 
-alone_sends : (f : Front) (e : Event) (id : GroupId) (found : Option Group) → Sends (wire_where None (group_step_alone f id e found)) (kept (wire_where None found) (place_in id e))
+alone_sends : (f : ControlPlane) (e : Event) (id : GroupId) (found : Option Group) → Sends (wire_where None (group_step_alone f id e found)) (kept (wire_where None found) (place_in id e))
 alone_sends f e id None = all_new (wire_where None (group_at id (created_by f e))) (place_in id e)
 alone_sends f e id (Some g) = event_sends f e id g
 
@@ -131,7 +131,7 @@ world_sends w e id = go (group_refusal w.front id) refl
     go (Some fault) is = all_new (wire_in (world_step w e) id) (place_in id e)
     go None is = subst (λ wire. Sends wire (kept (wire_where None (group_at id w.groups)) (place_in id e))) (there is) (alone_sends w.front e id (group_at id w.groups))
 
--- what is told of a step is told of this one
+-- the report of a step is the report of this event
 pub tells_event : (id : GroupId) (old : World) (e : Event) (new : World) (told_taken : Option Sent) (told_sent : List Sent) → new ≡ world_step old e
     → ((sent : List Sent) → wire_in new id ≡ kept (wire_in old id) (place_in id e) ++ sent → TellsStep (wire_in old id) (place_in id e) sent told_taken told_sent)
     → TellsEvent id old e new told_taken told_sent

@@ -16,7 +16,7 @@ use Rattle.map_core.proofs.Kept.{pools_stay}
 use Rattle.world_events.specs.declared.event.Event.{Event}
 use Rattle.world_events.specs.declared.event.Event.TheVariants.{Auth, Map, Open, Renew, Close, Submit, List as ListNames, Deliver, Lose, Repeat, Kick}
 use Rattle.world_events.specs.declared.fault.WorldFault.TheVariants.{Map as OfMap}
-use Rattle.world_front.specs.Front.{Front, front_step, group_refusal}
+use Rattle.world_front.specs.ControlPlane.{ControlPlane, front_step, group_refusal}
 use Rattle.world_front.proofs.Bytes.{bytes_same}
 
 -- the pool that is found has the name
@@ -68,7 +68,7 @@ unmapped : (o : Option MapFault) → option_map OfMap o ≡ None → o ≡ None
 unmapped None e = refl
 unmapped (Some x) e = absurd (cc)
 
-pub goes_on : (f : Front) (e : Event) (id : GroupId) → group_refusal f id ≡ None → group_refusal (front_step f e) id ≡ None
+pub goes_on : (f : ControlPlane) (e : Event) (id : GroupId) → group_refusal f id ≡ None → group_refusal (front_step f e) id ≡ None
 goes_on f (Map c) id none = ap (option_map OfMap) (map_goes_on f.history c id.pool id.number (unmapped (acting_refusal f.history id.pool id.number) none))
 goes_on f (Auth command) id none = none
 goes_on f (Open entity until) id none = none

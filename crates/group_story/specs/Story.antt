@@ -8,7 +8,7 @@ use Rattle.world_events.specs.declared.event.Event.{Event}
 use Rattle.world_events.specs.declared.event.Event.TheVariants.{Auth, Map, Open, Renew, Close, Submit, List as ListNames, Deliver, Lose, Repeat, Kick}
 use Rattle.world_events.specs.declared.fault.WorldFault.{WorldFault as Fault}
 use Rattle.world_front.specs.Groups.{is_same_group}
-use Rattle.world_front.specs.Front.{group_refusal}
+use Rattle.world_front.specs.ControlPlane.{group_refusal}
 use Rattle.world_core.specs.World.{World, group_at}
 use Rattle.group_story.specs.Wire.{kept, TellsStep}
 
@@ -35,8 +35,8 @@ place_in id (ListNames ask) = None
 place_in id (Repeat group place) = None
 place_in id (Kick group) = None
 
--- Of the messages of a group before an event and those after it, just the one that the event took and just those that it sent are
--- told: those after are those before without what was taken, and then what was sent, and each is told once, in order.
+-- The report of an event has exactly the message that it took from a group and those that it sent, each once and in
+-- order. The group's messages after the event are those before without what was taken, and then what was sent.
 pub record TellsEvent (id : GroupId) (old : World) (e : Event) (new : World) (told_taken : Option Sent) (told_sent : List Sent) : Type 0 where
   pub sent : List Sent
   pub after : wire_in new id ≡ kept (wire_in old id) (place_in id e) ++ sent

@@ -1,6 +1,6 @@
 -- Statement: contracts of public calls use it.
 -- What happens to the messages of a group that are on their way: a step takes the message at a place, or none, and sends
--- others behind those that stay. Each is told once, in order.
+-- others behind those that stay. Each is reported once, in order.
 use Rattle.std.specs.Prelude.{ℕ, ◌≡◌, List, ◌++◌, Option, Some, None, remove, slice_get}
 use Rattle.group_model.specs.Types.{Sent}
 use Rattle.group_model.specs.Group.{Group, Event, Submit, Deliver, Lose, Repeat, NewInterval, Restart, Kick, group_step}
@@ -15,7 +15,8 @@ abbrev pub kept : List Sent → Option ℕ → List Sent
 kept wire None = wire
 kept wire (Some place) = remove wire place
 
--- what is told of a step that takes the message at this place and sends these: just that message, and just these, in order
+-- what is reported of a step that takes the message at this place and sends these: exactly that message and these, in
+-- order
 pub record TellsStep (before : List Sent) (place : Option ℕ) (sent : List Sent) (told_taken : Option Sent) (told_sent : List Sent) : Type 0 where
   pub taken : told_taken ≡ taken_from before place
   pub rest : told_sent ≡ sent

@@ -2,7 +2,7 @@
 
 ghost use Rattle.std.specs.Prelude.{◌≡◌, ℕ, true, false, IfOk};
 ghost use Rattle.world_front.specs.Groups.{is_same_group};
-ghost use Rattle.world_front.specs.Front.{told_of};
+ghost use Rattle.world_front.specs.ControlPlane.{told_of};
 ghost use Rattle.world_front.specs.Refusing.{RefusedOrMemory};
 ghost use Rattle.common_types.specs.Refused.{RefusedExactly};
 ghost use Rattle.world_events.specs.declared.event.Event.TheVariants as happens;
@@ -17,12 +17,12 @@ use peer_core::Sent;
 use std::alloc::Global;
 use world_core::{Event, Told, World, WorldFault};
 
-/// What an event came to.
+/// The result of an event.
 pub struct GroupStep {
     /// What the world told, or why it refused the event.
     pub done: Result<Told, WorldFault>,
-    /// The message that the event took from the group, and those that it sent. They are told where the event happened; a refused one
-    /// has done nothing, whatever stands here.
+    /// The message that the event took from the group, and those that it sent, if the event happened. A refused event
+    /// has done nothing, whatever is here.
     pub wire: WireStep,
 }
 

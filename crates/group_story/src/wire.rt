@@ -4,7 +4,7 @@ ghost use Rattle.std.specs.Prelude.{◌≡◌, ◌++◌, ℕ, List, Option, leng
 ghost use Rattle.group_model.specs.Types.{Sent};
 ghost use Rattle.group_story.specs.Wire.{taken_from, kept, TellsStep};
 
-use common_types::{Items, OutOfMemory, TryCopy};
+use common_types::{Items, OutOfMemory, TryClone};
 use peer_core::Sent;
 use std::alloc::Global;
 
@@ -76,8 +76,8 @@ pub fn hold_wire(wire: &[Sent], place: Option<usize>) -> Result<HeldWire, OutOfM
     })
 }
 
-/// What the step did after which the wire is this one: where the wire is now what was kept of the one before, and then what was
-/// sent, just those messages are told, each once and in order.
+/// What the step did after which the wire is `after`. The wire must be what was kept of the one before, and then what
+/// was sent. Exactly those messages are reported, each once and in order.
 pub fn tell_step(alloc: Global, held: HeldWire, after: &[Sent]) -> Result<WireStep, OutOfMemory>
     ensures { IfOk result (λ step. (before : List Sent) (place : Option ℕ) (sent : List Sent)
         → held.taken ≡ taken_from before place → held.kept ≡ length (kept before place)

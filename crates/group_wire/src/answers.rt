@@ -4,7 +4,7 @@ ghost use Rattle.std.specs.Prelude.{◌≡◌, ◌+◌, ◌<◌, ◌++◌, [], �
 ghost use Rattle.group_model.specs.Group.{is_answered, answer_of};
 
 use crate::element_at::at;
-use common_types::{Items, OutOfMemory, TryCopy};
+use common_types::{Items, OutOfMemory, TryClone};
 use entry_core::{Id, IdHash, Reply};
 use indexmap::IndexSet;
 use std::alloc::Global;
@@ -30,7 +30,7 @@ impl Model for Answer {
     ghost view = { λ a. record { id = a.id; reply = a.reply } };
 }
 
-impl TryCopy for Answer {
+impl TryClone for Answer {
     fn copy(&self) -> Result<Answer, OutOfMemory> {
         Ok(Answer {
             id: self.id,
@@ -106,7 +106,7 @@ impl Answers {
     }
 }
 
-impl TryCopy for Answers {
+impl TryClone for Answers {
     fn copy(&self) -> Result<Answers, OutOfMemory> {
         let mut all = Items::new(*self.all.allocator());
         for answer in self.all.as_slice() {

@@ -7,7 +7,7 @@ ghost use Rattle.group_wire.specs.Places.{IsRising, open_places};
 
 use crate::answers::{Answer, Answers};
 use crate::requests::Requests;
-use common_types::{OutOfMemory, TryCopy};
+use common_types::{OutOfMemory, TryClone};
 use entry_core::{Id, Reply, Sealed};
 use std::alloc::Global;
 use std::marker::Model;
@@ -103,7 +103,7 @@ impl Ledger {
         self.answers.get(id)
     }
 
-    /// Adds a request of a new id. An `Err` is want of memory alone, and then nothing changes.
+    /// Adds a request of a new id. The only error is out of memory, and then nothing changes.
     pub fn submit(&mut self, request: Sealed) -> Result<(), OutOfMemory>
         requires { is_submitted self.old.requests request.id ≡ false }
         ensures requests { OnOk result (self.new.requests ≡ self.old.requests ++ request ∷ []) }
@@ -121,7 +121,7 @@ impl Ledger {
     }
 
     /// Takes the last request away, if there is one. It takes no memory.
-    pub fn take_back(&mut self)
+    pub fn undo_submit(&mut self)
         ensures requests { self.new.requests ≡ take (length self.old.requests - 1) self.old.requests }
         ensures answers { self.new.answers ≡ self.old.answers }
     {
@@ -136,7 +136,7 @@ impl Ledger {
         }
     }
 
-    /// Adds the answer to a request that has none. An `Err` is want of memory alone, and then nothing changes.
+    /// Adds the answer to a request that has none. The only error is out of memory, and then nothing changes.
     pub fn hear(&mut self, answer: Answer) -> Result<(), OutOfMemory>
         requires { is_answered self.old.answers answer.id ≡ false }
         ensures requests { OnOk result (self.new.requests ≡ self.old.requests) }
@@ -153,7 +153,7 @@ impl Ledger {
     }
 }
 
-impl TryCopy for Ledger {
+impl TryClone for Ledger {
     fn copy(&self) -> Result<Ledger, OutOfMemory> {
         Ok(Ledger {
             requests: self.requests.copy()?,

@@ -19,8 +19,8 @@ pub struct Opening {
     pub sent: Vec<Sent>,
 }
 
-/// Makes what an interval of this set begins with, and room for its messages. An `Err` is want of memory alone, and leaves
-/// the messages that are on their way.
+/// Makes what an interval of this set begins with, and room for its messages. The only error is out of memory, and it
+/// leaves the messages that are on their way.
 pub fn prepare(
     alloc: Global,
     wire: &mut Wire,

@@ -4,7 +4,7 @@ ghost use Rattle.std.specs.Prelude.{◌≡◌, ◌-◌, ◌++◌, [], ◌∷◌,
 ghost use Rattle.group_model.specs.Group.{is_submitted};
 ghost use Rattle.group_wire.specs.Places.{IsPlaceOf};
 
-use common_types::{Items, OutOfMemory, TryCopy};
+use common_types::{Items, OutOfMemory, TryClone};
 use entry_core::{Id, IdHash, Sealed};
 use indexmap::IndexSet;
 use std::alloc::Global;
@@ -92,7 +92,7 @@ impl Requests {
     }
 }
 
-impl TryCopy for Requests {
+impl TryClone for Requests {
     fn copy(&self) -> Result<Requests, OutOfMemory> {
         let mut all = Items::new(*self.all.allocator());
         for request in self.all.as_slice() {

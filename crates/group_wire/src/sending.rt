@@ -8,7 +8,7 @@ ghost use Rattle.group_model.specs.Group.{to_daemon, to_primary, last_set, annou
 use crate::daemon_sets::last_set;
 use crate::element_at::at;
 use crate::ledger::Ledger;
-use common_types::{OutOfMemory, TryCopy};
+use common_types::{OutOfMemory, TryClone};
 use entry_core::Sealed;
 use group_messages::{IntervalSets, Party};
 use peer_core::{Body, Daemon, Sent};
@@ -26,7 +26,7 @@ fn to_daemon(daemon: u8, body: Body) -> Sent
     }
 }
 
-/// A request to the first of a set, if there is one. An `Err` is want of memory alone.
+/// A request to the first of a set, if there is one. The only error is out of memory.
 pub fn to_primary(
     alloc: Global,
     set: &ActingSet,
@@ -41,7 +41,7 @@ pub fn to_primary(
     Ok(sent)
 }
 
-/// Tells each of the last set of all sets. An `Err` is want of memory alone.
+/// Messages to each member of the last set with all sets. The only error is out of memory.
 pub fn announced(alloc: Global, sets: &IntervalSets) -> Result<Vec<Sent>, OutOfMemory>
     ensures { IfOk result (λ v. v.items ≡ announced sets.now) }
 {
@@ -68,7 +68,7 @@ fn send_at(
     Ok(())
 }
 
-/// Sends the requests that have no answer to the first of the last set. An `Err` is want of memory alone.
+/// Sends the requests that have no answer to the first of the last set. The only error is out of memory.
 pub fn resent(alloc: Global, sets: &IntervalSets, ledger: &Ledger) -> Result<Vec<Sent>, OutOfMemory>
     ensures { IfOk result (λ v. v.items ≡ resent sets.now ledger.now.requests ledger.now.answers) }
 {
@@ -83,7 +83,7 @@ pub fn resent(alloc: Global, sets: &IntervalSets, ledger: &Ledger) -> Result<Vec
     Ok(sent)
 }
 
-/// What the copy of the last set's first daemon sends again. An `Err` is want of memory alone.
+/// What the copy of the last set's first daemon sends again. The only error is out of memory.
 pub fn retransmit_primary(
     alloc: Global,
     sets: &IntervalSets,

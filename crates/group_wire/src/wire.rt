@@ -2,13 +2,13 @@
 
 ghost use Rattle.std.specs.Prelude.{◌≡◌, ◌+◌, ◌-◌, ◌<◌, ◌≤◌, ◌++◌, [], length, take, remove, IfOk, OnOk, OnErr, vec_len};
 
-use common_types::{Items, OutOfMemory, TryCopy};
+use common_types::{Items, OutOfMemory, TryClone};
 use peer_core::Sent;
 use std::alloc::Global;
 use std::marker::Model;
 
 /// How many messages that were taken away may stand in front of a short wire.
-const MOST_PASSED: usize = 32;
+const MAX_PASSED: usize = 32;
 
 /// Messages in order of sending. The first is taken away at once: it stays in front, and is dropped later with others.
 pub struct Wire {
@@ -53,7 +53,7 @@ impl Wire {
         &self.sent.as_slice()[self.passed..]
     }
 
-    /// Makes room for so many more. An `Err` is want of memory alone.
+    /// Makes room for `more` more messages. The only error is out of memory.
     pub fn reserve(&mut self, more: usize) -> Result<(), OutOfMemory>
         ensures room { OnOk result (more ≤ self.new.room) }
         ensures same { self.new.sent ≡ self.old.sent }
@@ -69,7 +69,7 @@ impl Wire {
         let _ = self.sent.append(&mut more);
     }
 
-    /// Adds messages, where there is memory for them. An `Err` is want of memory alone, and then nothing changes.
+    /// Adds messages, if there is memory for them. The only error is out of memory, and then nothing changes.
     pub fn extend(&mut self, mut more: Vec<Sent>) -> Result<(), OutOfMemory>
         ensures ok { OnOk result (self.new.sent ≡ self.old.sent ++ more.items) }
         ensures err { OnErr result (self.new.sent ≡ self.old.sent) }
@@ -104,7 +104,7 @@ impl Wire {
     fn drop_passed(&mut self)
         ensures { self.new.sent ≡ self.old.sent }
     {
-        if self.passed < MOST_PASSED || self.passed <= self.sent.len() / 2 {
+        if self.passed < MAX_PASSED || self.passed <= self.sent.len() / 2 {
             return;
         }
         let left = self.sent.len() - self.passed;
@@ -113,7 +113,7 @@ impl Wire {
         self.passed = 0;
     }
 
-    /// A copy. An `Err` is want of memory alone.
+    /// A copy. The only error is out of memory.
     pub fn copy(&self) -> Result<Wire, OutOfMemory>
         ensures { IfOk result (λ w. w.sent ≡ self.now.sent) }
     {

@@ -18,7 +18,7 @@ use Rattle.compare_core.proofs.Bools.{all_also, any_at, both, both_left, both_ri
 use Rattle.compare_core.proofs.Gains.{allowed_among, nothing_widens}
 use Rattle.lint_core.specs.Lint.{AllowsAll}
 
--- whether some grant that a grant comes to passes a test
+-- whether a grant expands to some grant that passes a test
 some_of : (ProfileUse → Flat) → (AllowGrant → Bool) → Grant → Bool
 some_of parts test (Allow g) = test g
 some_of parts test (Profile used) = list_any (λ entry. test entry.1) (parts used)
@@ -27,7 +27,7 @@ any_under : (test : AllowGrant → Bool) (number : ℕ) (entries : Flat) → lis
 any_under test number [] = refl
 any_under test number (entry ∷ entries) = ap (λ others. test entry.1 || others) (any_under test number entries)
 
--- what a list comes to passes a test where a grant of it does
+-- some grant that a list expands to passes a test exactly if a grant of the list expands to one
 any_numbered : (parts : ProfileUse → Flat) (test : AllowGrant → Bool) (number : ℕ) (grants : List Grant)
     → list_any (λ entry. test entry.1) (numbered parts number grants) ≡ list_any (some_of parts test) grants
 unfolding some_of
@@ -37,7 +37,7 @@ any_numbered parts test number (Profile used ∷ grants) =
     list_any-append (λ entry. test entry.1) (map (under number) (parts used)) (numbered parts (number + 1) grants)
     ∙ (λ i. any_under test number (parts used) i || any_numbered parts test (number + 1) grants i)
 
--- what one use comes to
+-- some grant that a single use expands to passes a test exactly if one of its parts does
 pub any_of_use : (parts : ProfileUse → Flat) (test : AllowGrant → Bool) (number : ℕ) (used : ProfileUse)
     → list_any (λ entry. test entry.1) (numbered parts number (Profile used ∷ [])) ≡ (list_any (λ entry. test entry.1) (parts used) || false)
 unfolding some_of

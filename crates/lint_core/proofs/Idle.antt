@@ -160,11 +160,11 @@ taken pass a true false false one two three four known h i j k = i
 taken pass true false false false one two three four known h i j k = h
 taken pass false false false false one two three four known h i j k = absurd (cc)
 
--- what a profile's grant comes to, with its number
+-- a grant that a profile expands to, with its number
 part : ProfileUse → ℕ → Bool → Bool → Bool → List ℕ × AllowGrant
 part used number w x y = (number ∷ [], used_as used (record { read = true; write = w; class_read = x; class_write = y }))
 
--- what the use in the profile rbd comes to
+-- what the use in the profile rbd expands to
 inner_parts : ProfileUse → Flat
 inner_parts used = map (under 1) (parts_of (reverse (take 3 built_in)) (filled_use used (record { name = codes "rbd-read-only"; pool = None; namespace = None })))
 

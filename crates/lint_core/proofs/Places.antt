@@ -1,4 +1,4 @@
--- The grant at a place, alone, and a list that is told place by place.
+-- The grant at an index, alone, and a list of answers that grows index by index.
 use Rattle.std.proofs.Common.{◌≡◌, ℕ, ◌+◌, ◌-◌, ◌<◌, List, [], ◌∷◌, ◌++◌, Bool, map, take, drop, length, get_or, sym, ap, ◌∙◌, arith}
 use Rattle.std.proofs.lemmas.Grind.{take_at_read}
 use Rattle.std.proofs.lemmas.List.{map-append}
@@ -11,7 +11,7 @@ one_alone grants place d h =
     let one : place + 1 - place ≡ 1 = omega arith in
     (λ i. take (one i) (behind_is grants place d h i))
 
--- one place more is told
+-- the answer of one more index is appended
 pub told_next : (test : List Grant → Bool) (grants : List Grant) (place : ℕ) (old new : List Bool) (next : Bool) → place < length grants
     → old ≡ map (λ grant. test (grant ∷ [])) (take place grants) → new ≡ old ++ next ∷ [] → next ≡ test (alone grants place)
     → new ≡ map (λ grant. test (grant ∷ [])) (take (place + 1) grants)

@@ -62,7 +62,7 @@ all_less test front middle behind h =
     let later : (list_all test middle && list_all test behind) ≡ true = sym (list_all-append test middle behind) ∙ both_right (list_all test front) _ first in
     list_all-append test front behind ∙ both _ _ (both_left _ _ first) (both_right (list_all test middle) _ later)
 
--- how many grants a grant comes to
+-- how many grants a grant expands to
 size : (ProfileUse → Flat) → Grant → ℕ
 size parts (Allow g) = 1
 size parts (Profile used) = length (parts used)

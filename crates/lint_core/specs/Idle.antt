@@ -1,5 +1,5 @@
 -- Statement: contracts of public calls use it.
--- Grants that can allow nothing, of which no text has one (this project's profile).
+-- Idle grants: they can allow nothing. No grant of a text is idle (this project's profile).
 use Rattle.std.specs.Prelude.{◌≡◌, ◌<◌, ℕ, List, true, None, length}
 use Rattle.cap_text.specs.Grammar.{Spells}
 use Rattle.cap_grants.specs.declared.grant.Grant.{Grant}

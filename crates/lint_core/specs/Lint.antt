@@ -1,6 +1,6 @@
 -- Statement: contracts of public calls use it.
--- Which grants of a list nobody needs, said by what is allowed alone. A grant here is one of the list: an allow, or a use of a
--- profile with all that it comes to (this project's profile).
+-- Which grants of a list nobody needs, defined only by what is allowed. A grant here is one of the list: an allow, or a
+-- use of a profile with all that it expands to (this project's profile).
 use Rattle.std.specs.Prelude.{◌≡◌, ◌≢◌, ℕ, ◌+◌, ◌<◌, ◌⊎◌, List, [], ◌∷◌, ◌++◌, true, Some, length}
 use Rattle.std.specs.List.{remove, slice_get, slice_range}
 use Rattle.cap_grants.specs.declared.grant.Grant.{Grant}
@@ -66,8 +66,8 @@ AreKept table list front (grant ∷ behind) kept =
     (others : List Grant) × AreKept table list (front ++ grant ∷ []) behind others
     × ((AllowsAll (flat table (front ++ others)) (flat table list) × (kept ≡ others)) ⊎ ((¬ AllowsAll (flat table (front ++ others)) (flat table list)) × (kept ≡ grant ∷ others)))
 
--- Some of the grants, which allow the same as all, and none of which is needless among them. Of grants that could each go the
--- first one stays.
+-- Some of the grants, which allow the same as all. Each of them is needed among them. Of grants that could each be
+-- removed the first one stays.
 pub record IsTidied (table : Table) (grants tidied : List Grant) : Type 0 where
   pub kept : IsSublist tidied grants
   pub same : AllowSame (flat table tidied) (flat table grants)

@@ -7,10 +7,10 @@ use Rattle.grant_core.specs.Flat.{Table, flat}
 use Rattle.share_core.specs.Pools.{is_for}
 use Rattle.share_core.specs.declared.pools.Pool.{Pool}
 
--- none of the grants that a grant of a list comes to matches one of the pools
+-- none of the grants that a grant of a list expands to matches one of the pools
 abbrev pub matches_no_pool : Table → List Pool → Grant → Bool
 matches_no_pool table pools grant = not (list_any (λ entry. list_any (is_for entry.1) pools) (flat table (grant ∷ [])))
 
--- the same of each grant of a list, in order
+-- for each grant of a list, in order: whether it matches no pool
 abbrev pub without_pools : Table → List Pool → List Grant → List Bool
 without_pools table pools grants = map (matches_no_pool table pools) grants

@@ -1,6 +1,6 @@
 -- Statement: contracts of public calls use it.
--- Which grants of a text nobody needs at any address. A grant of the text has a number, counted from 1, and the grants that it
--- comes to have paths that begin with the number (this project's profile).
+-- Which grants of a text nobody needs at any address. A grant of the text has a number, counted from 1. The grants that
+-- it expands to have paths that begin with the number (this project's profile).
 use Rattle.std.specs.Prelude.{◌≡◌, ◌≢◌, ◌≤◌, ◌<◌, ◌+◌, ◌==◌, ◌&&◌, ℕ, Bool, true, false, not, List, [], ◌∷◌, Option, None, Some, length, filter, is_some}
 use Rattle.std.specs.List.{list_any, slice_get}
 use Rattle.cap_grants.specs.declared.grant.AllowGrant.{AllowGrant}
@@ -21,7 +21,7 @@ abbrev pub begins_with : ℕ → List ℕ → Bool
 begins_with number [] = false
 begins_with number (first ∷ others) = first == number
 
--- what the grant of a number comes to, or all that is not of it
+-- what the grant of a number expands to, or everything else
 abbrev pub is_part : Bool → ℕ → List ℕ × AllowGrant → Bool
 is_part true number entry = begins_with number entry.0
 is_part false number entry = not (begins_with number entry.0)
@@ -50,17 +50,17 @@ pub record IsFirstCoverIn (rights : Rights) (count number found : ℕ) : Type 0 
   pub covers : CoversIn rights number (place + 1)
   pub first : NoneCovers rights number place
 
--- how the grant of a number stands to the others, of which there are so many
+-- how the grant of a number stands to the others, where the text has `count` grants
 abbrev pub IsStandingIn : Rights → ℕ → ℕ → Standing → Type 0
 IsStandingIn rights count number Needed = ¬ IsRedundantIn rights number
 IsStandingIn rights count number Needless = IsRedundantIn rights number × NoneCovers rights number count
 IsStandingIn rights count number (Covered found) = IsRedundantIn rights number × IsFirstCoverIn rights count number found
 
--- whether some grant that the grant of a number comes to passes a test
+-- whether the grant of a number expands to some grant that passes a test
 abbrev pub some_of : (NetworkGrant → Bool) → ℕ → List NetworkGrant → Bool
 some_of test number entries = list_any (λ entry. begins_with number entry.path && test entry) entries
 
--- it comes to no grant: it uses a profile of an unknown name
+-- it expands to no grant: it uses a profile of an unknown name
 abbrev pub is_nothing : Rights → ℕ → Bool
 is_nothing rights number = not (some_of (λ entry. true) number rights.grants)
 
@@ -82,7 +82,7 @@ abbrev pub reach_of : Rights → ℕ → Reach
 reach_of rights number =
     reach_by (some_of (λ entry. is_unbounded entry.grant && not (is_some entry.grant.prefix)) number rights.grants) (some_of (λ entry. is_unbounded entry.grant) number rights.grants)
 
--- none of what it comes to matches one of the pools, where pools are given
+-- pools are given, and none of what it expands to matches one of them
 abbrev pub is_without_pool : Option (List Pool) → Rights → ℕ → Bool
 is_without_pool None rights number = false
 is_without_pool (Some pools) rights number = not (some_of (λ entry. list_any (is_for entry.grant) pools) number rights.grants)
@@ -93,9 +93,9 @@ pub record IsLintIn (pools : Option (List Pool)) (rights : Rights) (count number
   pub nothing : found.nothing ≡ is_nothing rights number
   pub dead : found.dead ≡ is_dead rights number
   pub reach : found.reach ≡ reach_of rights number
-  pub poolless : found.poolless ≡ is_without_pool pools rights number
+  pub without_pool : found.without_pool ≡ is_without_pool pools rights number
 
--- of each of so many grants, in order
+-- what is found of each of `count` grants, in order
 pub record AreLintsIn (pools : Option (List Pool)) (rights : Rights) (count : ℕ) (all : List GrantLint) : Type 0 where
   pub all_of_them : length all ≡ count
   pub each : (place : ℕ) (found : GrantLint) → slice_get all place ≡ Some found → IsLintIn pools rights count (place + 1) found

@@ -1,5 +1,5 @@
 -- Refinement: only contracts inside the crate use it.
--- What is looked for among the grants that a grant of a text comes to.
+-- What is looked for among the grants that a grant of a text expands to.
 use Rattle.std.specs.Prelude.{Bool, true, not, ◌&&◌, is_some}
 use Rattle.std.specs.List.{list_any}
 use Rattle.rights_core.specs.Rights.{NetworkGrant, is_live}

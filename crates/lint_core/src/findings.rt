@@ -86,15 +86,16 @@ fn standings(
 }
 
 /// How each grant of a list stands to the others, in the list's order: whether the list without it allows the same, and
-/// which other grant alone allows all that it allows. The grants are those of the list, so that a use of a profile is one
-/// (this project's profile).
+/// which other grant alone allows all that it allows. A use of a profile is one grant (this project's profile).
 ///
-/// What is allowed is compared over all targets, all reads and writes, and all calls of every class registry. Each grant is
-/// looked at alone: of two equal grants each is needless, and yet not both can go; [`crate::tidied`] leaves one.
+/// What is allowed is compared over all targets, all reads and writes, and all calls of every class registry. Each
+/// grant is checked alone: of two equal grants each is redundant, but only one can be removed. [`crate::tidied`] keeps
+/// one of them.
 ///
-/// A list that cannot be expanded is refused by its first fault, or memory is; both leave table and list as they are. The
-/// time is that of one comparison of the whole list, and for a redundant grant a comparison with each other grant alone.
-pub fn needless(
+/// The error is the first fault of a list that cannot be expanded, or out of memory. Both leave table and list as they
+/// are. The time is that of one comparison of the whole list, and for a redundant grant a comparison with each other
+/// grant alone.
+pub fn redundancy(
     alloc: Global,
     table: &ProfileTable,
     list: &CapList,

@@ -4,8 +4,8 @@ ghost use Rattle.std.specs.Prelude.{ℕ, List};
 ghost use Rattle.cap_grants.specs.declared.grant.Grant.{Grant};
 ghost use Rattle.lint_core.specs.Idle.{NoneIsIdle};
 
-/// Each grant of a text, by the built-in profiles, allows some request that asks for something: to read, to write, or one
-/// call of some class method. So no grant is told to be idle (this project's profile).
+/// Each grant of a text, by the built-in profiles, allows some request that needs something: a read, a write, or one
+/// call of some class method. So no grant is reported as idle (this project's profile).
 pub fn no_grant_is_idle()
     ensures { (text : List ℕ) (grants : List Grant) → NoneIsIdle text grants }
 {}

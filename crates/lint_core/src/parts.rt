@@ -1,4 +1,4 @@
-//! The grants of a text among those that it comes to.
+//! The parts of an expanded text that belong to a grant of the text.
 
 ghost use Rattle.std.specs.Prelude.{◌≡◌, IfOk, not};
 ghost use Rattle.std.specs.List.{list_any};
@@ -26,7 +26,7 @@ fn begins_with(number: usize, path: &Path) -> bool
     }
 }
 
-/// Whether a grant is one that the grant of a number comes to, or else one that it does not.
+/// Whether the grant of a number expands to this one, if `own`; else whether it does not.
 fn is_part(own: bool, number: usize, entry: &(Path, AllowGrant)) -> bool
     ensures { result ≡ is_part own number entry.now }
 {
@@ -34,7 +34,7 @@ fn is_part(own: bool, number: usize, entry: &(Path, AllowGrant)) -> bool
     if own { is_under } else { !is_under }
 }
 
-/// The ticket of what the grant of a number comes to, or else of all that it does not.
+/// The ticket of what the grant of a number expands to, if `own`; else of everything else.
 pub(crate) fn part(
     alloc: Global,
     own: bool,
@@ -53,7 +53,7 @@ pub(crate) fn part(
     Ok(Ticket::from_grants(part, None))
 }
 
-/// What is looked for among the grants that a grant comes to.
+/// What is looked for among the grants that a grant expands to.
 #[derive(Clone, Copy)]
 pub(crate) enum Sought<'a> {
     /// Any grant.
@@ -104,7 +104,7 @@ fn is_sought(sought: Sought<'_>, entry: &Entry<'_>) -> bool
     }
 }
 
-/// Whether some grant that the grant of a number comes to is one that is looked for.
+/// Whether the grant of a number expands to some grant that is looked for.
 pub(crate) fn has_sought(rights: &Rights, number: usize, sought: Sought<'_>) -> bool
     ensures { result ≡ some_of (spec_sought.is_sought sought.entry) number rights.now.grants }
 {

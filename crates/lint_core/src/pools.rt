@@ -64,12 +64,12 @@ fn all_without(
     Ok(without)
 }
 
-/// For each grant of a list, in order, whether it matches none of some pools: none of the grants that it comes to matches
-/// the name and the tags of a pool. The grants are those of the list, so that a use of a profile is one. Namespaces and
-/// prefixes of objects are not looked at, since a pool can have any (this project's profile).
+/// For each grant of a list, in order, whether it matches none of some pools: none of the grants that it expands to
+/// matches the name and the tags of a pool. A use of a profile is one grant. Namespaces and prefixes of objects are
+/// ignored, since a pool can have any (this project's profile).
 ///
-/// A list that cannot be expanded is refused by its first fault, or memory is; both leave all as it is.
-pub fn poolless(
+/// The error is the first fault of a list that cannot be expanded, or out of memory. Both leave all as it is.
+pub fn without_pool(
     alloc: Global,
     table: &ProfileTable,
     list: &CapList,

@@ -30,13 +30,13 @@ pub enum Reach {
 pub struct GrantLint {
     /// How it stands to the others, at every address.
     pub standing: Standing,
-    /// It comes to no grant: it uses a profile that Ceph does not know.
+    /// It expands to no grant: it uses a profile that Ceph does not know.
     pub nothing: bool,
     /// Its network matches no address.
     pub dead: bool,
     pub reach: Reach,
     /// It matches none of the pools that are given.
-    pub poolless: bool,
+    pub without_pool: bool,
 }
 
 /// The tickets at addresses that decide for all addresses.
@@ -173,16 +173,16 @@ fn lint_of(
         nothing: !has_sought(rights, number, Sought::Any),
         dead: has_sought(rights, number, Sought::Dead),
         reach: reach_of(rights, number),
-        poolless: is_without_pool(rights, number, pools),
+        without_pool: is_without_pool(rights, number, pools),
     })
 }
 
-/// What is found of each grant of a text, in the text's order. `rights` are those of the text, and `count` is how many grants
-/// the text has; the paths of what a grant comes to begin with its number, counted from 1.
+/// What is found of each grant of a text, in the text's order. `rights` are those of the text, and `count` is how many
+/// grants the text has. The paths of what a grant expands to begin with its number, counted from 1.
 ///
-/// What is allowed is compared at every address, over all targets, all reads and writes, and all calls of every class registry.
-/// Each grant is looked at alone: of two equal grants each is redundant, and yet not both can go. Pools are looked at where
-/// they are given. The only error is out of memory.
+/// What is allowed is compared at every address, over all targets, all reads and writes, and all calls of every class
+/// registry. Each grant is checked alone: of two equal grants each is redundant, but only one can be removed. Pools are
+/// checked if they are given. The only error is out of memory.
 ///
 /// It takes a comparison of the whole text for each grant and each sample address, and for a redundant one a comparison with
 /// each other grant.

@@ -37,7 +37,7 @@ fn push_copies(copies: &mut Vec<Grant>, grants: &[Grant]) -> Result<(), OutOfMem
     Ok(())
 }
 
-/// The ticket of the grants before and behind a place of a list. Nothing but want of memory refuses it, since the list can
+/// The ticket of the grants before and behind an index of a list. The only error is out of memory, since the list can
 /// be expanded.
 pub(crate) fn part_ticket(
     alloc: Global,

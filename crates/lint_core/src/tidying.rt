@@ -1,4 +1,4 @@
-//! A list without its needless grants.
+//! A list without its redundant grants.
 
 ghost use Rattle.std.specs.Prelude.{◌≡◌, IfOk, None};
 ghost use Rattle.common_types.specs.Refused.{RefusedFirst};
@@ -35,12 +35,12 @@ fn kept_grants(
     Ok(kept)
 }
 
-/// The list without needless grants: some of its grants, in its order, which allow the same as all, and none of which is
-/// needless among them. Of grants that could each go it keeps the earlier ones, so that a text keeps its beginning (this
-/// project's profile).
+/// The list without redundant grants: some of its grants, in its order, which allow the same as all. Each of them is
+/// needed among them. Of grants that could each be removed it keeps the earlier ones, so that a text keeps its
+/// beginning (this project's profile).
 ///
-/// A list that cannot be expanded is refused by its first fault, or memory is; both leave table and list as they are. The
-/// time is that of as many comparisons of the whole list as it has grants, at most 64.
+/// The error is the first fault of a list that cannot be expanded, or out of memory. Both leave table and list as they
+/// are. The time is that of as many comparisons of the whole list as it has grants, at most 64.
 #[tactic(auto, using(crate::proofs::Steps::tidied_all))]
 pub fn tidied(alloc: Global, table: &ProfileTable, list: &CapList) -> Result<CapList, ExpandFault>
     ensures tidied { IfOk result (λ tidied. IsTidied table.now list.now tidied) }

@@ -1,4 +1,4 @@
--- The lines of the grants from a place on, and how many grants are told to match no pool.
+-- The lines of the grants from an index on, and the length of the list that reports which grants match no pool.
 use Rattle.std.proofs.Common.{◌≡◌, ℕ, ◌+◌, ◌<◌, List, ◌∷◌, ◌++◌, Bool, false, Option, None, Some, drop, length, get_or, sym, ap, ◌∙◌}
 use Rattle.std.proofs.lemmas.List.{length-map, length-replicate}
 use Rattle.std.proofs.Math.Numerals.{add-one}

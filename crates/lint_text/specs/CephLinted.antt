@@ -31,9 +31,9 @@ reach_line before number EveryPool = line_of before number (codes " every pool\n
 
 -- how a grant stands to the others, which pools it reaches, and whether it matches none that are given
 abbrev pub live_lines : List ℕ → ℕ → GrantLint → List ℕ
-live_lines before number found = standing_line before number found.standing ++ (reach_line before number found.reach ++ pool_line before number found.poolless)
+live_lines before number found = standing_line before number found.standing ++ (reach_line before number found.reach ++ pool_line before number found.without_pool)
 
--- a grant that comes to nothing, or whose network matches no address, has that line alone
+-- a grant that expands to nothing, or whose network matches no address, has that line alone
 abbrev pub found_lines : List ℕ → ℕ → GrantLint → List ℕ
 found_lines before number found =
     if found.nothing then line_of before number (codes " unknown profile, grants nothing\n")
@@ -45,7 +45,7 @@ all_lines before number [] = []
 all_lines before number (found ∷ others) = found_lines before number found ++ all_lines before (number + 1) others
 
 abbrev pub is_mistake : GrantLint → Bool
-is_mistake found = found.nothing || (found.dead || (is_needless found.standing || found.poolless))
+is_mistake found = found.nothing || (found.dead || (is_needless found.standing || found.without_pool))
 
 -- Ceph reads these grants of the text, and this is found of them
 pub record AreFound (pools : Option (List Pool)) (caps : List ℕ) (all : List GrantLint) : Type 0 where

@@ -55,7 +55,7 @@ is_needless Needed = false
 is_needless Needless = true
 is_needless (Covered cover) = true
 
--- a grant is needless, or matches no pool
+-- some grant is redundant, or matches no pool
 abbrev pub has_mistake : List Standing → List Bool → Bool
 has_mistake standings without = list_any is_needless standings || list_any (λ none. none) without
 
@@ -74,7 +74,7 @@ pub record IsRefusal (caps text : List ℕ) (fails : Bool) : Type 0 where
 abbrev pub or_nothing : List ℕ → List ℕ
 or_nothing lines = if length lines == 0 then codes "nothing needless\n" else lines
 
--- The lines of each grant of a text. It fails where a check was asked for and a grant is needless or matches no pool.
+-- The lines of each grant of a text. With a check it fails if some grant is redundant or matches no pool.
 pub record IsLinted (pools : Option (List Pool)) (check : Bool) (caps text : List ℕ) (fails : Bool) : Type 0 where
   pub grants : List Grant
   pub spelled : SpellsList caps grants
@@ -105,7 +105,7 @@ pub record IsTooLong (tidied : List Grant) (text : List ℕ) (fails : Bool) : Ty
 abbrev pub IsTidyForm : Bool → List Grant → List Grant → List ℕ → Bool → Type 0
 IsTidyForm check grants tidied text fails = IsTidyLine check grants tidied text fails ⊎ IsTooLong tidied text fails
 
--- the text without needless grants
+-- the text without redundant grants
 pub record IsTidyText (check : Bool) (caps text : List ℕ) (fails : Bool) : Type 0 where
   pub grants : List Grant
   pub spelled : SpellsList caps grants

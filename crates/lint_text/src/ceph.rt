@@ -37,7 +37,7 @@ fn push_reach(
     }
 }
 
-/// Adds the lines of a grant that comes to something at some address.
+/// Adds the lines of a grant that expands to something at some address.
 fn push_live(
     text: &mut String,
     before: &str,
@@ -48,7 +48,7 @@ fn push_live(
 {
     push_standing(text, before, number, found.standing)?;
     push_reach(text, before, number, found.reach)?;
-    push_without(text, before, number, found.poolless)
+    push_without(text, before, number, found.without_pool)
 }
 
 /// Adds the lines of a grant.
@@ -88,7 +88,7 @@ fn is_needless(standing: Standing) -> bool
 fn is_mistake(found: &GrantLint) -> bool
     ensures { result ≡ is_mistake found.now }
 {
-    found.nothing || found.dead || is_needless(found.standing) || found.poolless
+    found.nothing || found.dead || is_needless(found.standing) || found.without_pool
 }
 
 fn has_mistake(all: &[GrantLint]) -> bool
@@ -130,13 +130,19 @@ fn linted(alloc: Global, all: &[GrantLint], check: bool) -> Result<Printed, OutO
     })
 }
 
-/// What the program prints of the grants of a capability text that nobody needs, by Ceph's rules and at every address. For each
-/// grant it has these lines, with the grant's number, counted from 1: `N needless` or `N needless, by M` as [`crate::lint_caps`]
-/// has them; `N every pool` where some grant that it comes to names neither a pool nor a tag, or `N every pool, by prefix`
-/// where all such grants have a prefix of objects; and `N matches no pool` where pools are given and none matches. A grant that
-/// uses an unknown profile has the line `N unknown profile, grants nothing` alone, and one whose network matches no address
-/// `N network matches no address`. There is `nothing needless` where there is no line. With a check it fails where there is a
-/// line other than those on every pool. A text that Ceph refuses prints `refused FAULT`, which fails.
+/// What the program prints of the grants of a capability text that nobody needs, by Ceph's rules and at every address.
+///
+/// Each grant has these lines, with its number `N`, counted from 1:
+///
+/// - `N needless` or `N needless, by M`, as [`crate::lint_caps`] prints them;
+/// - `N every pool`, if some grant that it expands to names neither a pool nor a tag, or `N every pool, by prefix`, if
+///   all such grants have a prefix of objects;
+/// - `N matches no pool`, if pools are given and none matches;
+/// - `N unknown profile, grants nothing` alone, if it uses an unknown profile;
+/// - `N network matches no address` alone, if its network matches no address.
+///
+/// If no grant has a line, it prints `nothing needless`. With a check it fails if some grant has a line other than
+/// those on every pool. A text that Ceph refuses prints `refused FAULT`, which fails.
 pub fn lint_ceph_caps(
     alloc: Global,
     caps: &str,

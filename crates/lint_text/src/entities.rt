@@ -57,8 +57,8 @@ fn told(
 
 /// What the program prints of the grants of some entities that nobody needs: the lines of each entity's grants, in its
 /// text's order, each behind the entity's name and a blank. A name's bytes outside 32 to 126 are shown as `\x` and two
-/// hexadecimal digits. An entity whose text is refused has no line. With a check it fails
-/// where some grant is needless or matches no pool.
+/// hexadecimal digits. An entity whose text is refused has no line. With a check it fails if some grant is redundant or
+/// matches no pool.
 pub fn lint_entities(
     alloc: Global,
     entities: &[Entity],

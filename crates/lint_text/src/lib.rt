@@ -1,7 +1,7 @@
 //! What the program prints of grants that nobody needs.
 //!
-//! Each text is a value, made of a capability text or of entities. Each call borrows what it is given, and its only error is
-//! want of memory: what is wrong with a capability text is part of what is printed. The forms of the lines are this
+//! Each text is a value, made of a capability text or of entities. Each call borrows its arguments, and its only error
+//! is out of memory: what is wrong with a capability text is part of what is printed. The forms of the lines are this
 //! project's profile.
 //!
 //! # What contracts see

@@ -10,7 +10,7 @@ use common_types::OutOfMemory;
 use lint_core::Standing;
 use std::fmt::Write;
 
-/// Adds the line of a grant that is needless, behind what stands before it.
+/// Adds the line of a grant that is redundant, behind the text `before`.
 pub(crate) fn push_standing(
     text: &mut String,
     before: &str,
@@ -89,7 +89,7 @@ pub(crate) fn push_lines(
     Ok(())
 }
 
-/// Whether some grant is needless.
+/// Whether some grant is redundant.
 fn any_needless(standings: &[Standing]) -> bool
     ensures { result ≡ list_any is_needless standings.now }
 {
@@ -105,7 +105,7 @@ fn any_without(without: &[bool]) -> bool
     without.iter().any(|none| *none)
 }
 
-/// Whether some grant is needless or matches no pool.
+/// Whether some grant is redundant or matches no pool.
 pub(crate) fn is_mistaken(standings: &[Standing], without: &[bool]) -> bool
     ensures { result ≡ has_mistake standings.now without.now }
 {

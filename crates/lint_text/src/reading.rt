@@ -8,7 +8,7 @@ ghost use Rattle.lint_text.specs.Linted.{poolless_by};
 use cap_text::{CapFault, CapList, FaultKind, parse};
 use common_types::OutOfMemory;
 use grant_core::{ExpandFault, ProfileTable};
-use lint_core::{Pool, Standing, needless, poolless, tidied};
+use lint_core::{Pool, Standing, redundancy, tidied, without_pool};
 use std::alloc::{AllocError, Global};
 use verdict_text::TextFault;
 
@@ -42,8 +42,8 @@ impl Drop for Kept {
     }
 }
 
-/// Whether each grant of a list that can be expanded matches no pool, by the built-in profiles. Where no pools are given
-/// none is told so.
+/// For each grant of a list that can be expanded, whether it matches no pool, by the built-in profiles. If no pools are
+/// given, each answer is `false`.
 fn without_pools(
     alloc: Global,
     profiles: &ProfileTable,
@@ -55,7 +55,7 @@ fn without_pools(
 {
     match pools {
         None => Ok(vec![in alloc; false; list.grants().len()]?),
-        Some(pools) => match poolless(alloc, profiles, list, pools) {
+        Some(pools) => match without_pool(alloc, profiles, list, pools) {
             Ok(without) => Ok(without),
             Err(_) => Err(AllocError),
         },
@@ -92,7 +92,7 @@ fn judged_list(
     requires { profiles.now ≡ built_in }
     ensures { IfOk result (λ judged. IsJudgedList (option_copied pools.entry) list judged) }
 {
-    match needless(alloc, profiles, &list) {
+    match redundancy(alloc, profiles, &list) {
         Ok(standings) => Ok(Ok(judged_with(alloc, profiles, list, standings, pools)?)),
         Err(ExpandFault::OutOfMemory) => Err(AllocError),
         Err(fault) => Ok(Err(TextFault::Expansion(fault))),

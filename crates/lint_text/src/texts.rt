@@ -47,12 +47,17 @@ fn linted(alloc: Global, judged: &Judged, check: bool) -> Result<Printed, OutOfM
     Ok(Printed { text, fails })
 }
 
-/// What the program prints of the grants of a capability text that nobody needs, by the built-in profiles: for each grant
-/// without which the text allows the same a line `N needless`, or `N needless, by M` where the grant M is the first other
-/// one that alone allows all that it allows; for each grant that names neither a pool nor a tag a line `N every pool`; where
-/// pools are given, for each grant that matches none of them by its name and tags a line `N matches no pool`; and
-/// `nothing needless` where there is no line. Numbers count from 1. With a check it fails where a grant is needless or
-/// matches no pool. A text that has no grants prints `refused FAULT`, which fails.
+/// What the program prints of the grants of a capability text that nobody needs, by the built-in profiles.
+///
+/// Each grant has these lines, with its number `N`, counted from 1:
+///
+/// - `N needless`, if the text without it allows the same, or `N needless, by M`, if also the grant M is the first
+///   other one that alone allows all that it allows;
+/// - `N every pool`, if it names neither a pool nor a tag;
+/// - `N matches no pool`, if pools are given and it matches none of them by its name and tags.
+///
+/// If no grant has a line, it prints `nothing needless`. With a check it fails if a grant is redundant or matches no
+/// pool. A text that has no grants prints `refused FAULT`, which fails.
 pub fn lint_caps(
     alloc: Global,
     caps: &str,
@@ -90,9 +95,10 @@ fn tidy(alloc: Global, kept: &Kept, check: bool) -> Result<Printed, OutOfMemory>
     Ok(Printed { text, fails })
 }
 
-/// What the program prints of a capability text to tidy it up: the canonical form of some of its grants, which allow the
-/// same as all and none of which is needless among them, on a line. Of grants that could each go the earlier ones stay. With
-/// a check it fails where a grant went. A text that has no grants prints `refused FAULT`, which fails.
+/// What the program prints of a capability text to tidy it up: the canonical form of some of its grants, on a line.
+/// They allow the same as all, and each of them is needed among them. Of grants that could each be removed the earlier
+/// ones stay. With a check it fails if a grant was removed. A text that has no grants prints `refused FAULT`, which
+/// fails.
 ///
 /// What is printed can be read again and spells these grants. A canonical form of more than 4,096 bytes, the most that a text
 /// may have, prints `refused tidied text of N bytes, of at most 4096` instead, which fails.

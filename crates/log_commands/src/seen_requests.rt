@@ -4,7 +4,7 @@ use clap::ArgMatches;
 use command_steps::{
     CallRules, LineRequest, NoAnswer, lines_of, or_bad_file, requests_of, text_in,
 };
-use common_types::{Name, OutOfMemory, Tags, TryCopy};
+use common_types::{Name, OutOfMemory, Tags, TryClone};
 use compare_core::OwnedTarget;
 use gate_files::{FileFault, InputFiles, Purpose};
 use indexmap::IndexMap;

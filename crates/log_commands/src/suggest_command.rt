@@ -198,7 +198,7 @@ impl Suggesting<'_, '_> {
     }
 }
 
-/// The line on what no suggestion allows.
+/// The line on what suggestions do not allow.
 const NOT_SEEN: &str = "osdgate: what was not seen is not allowed by a suggested text\n";
 
 /// The suggestions for entities.

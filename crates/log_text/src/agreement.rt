@@ -16,7 +16,7 @@ pub enum Agreement {
     Agrees,
     /// They differ, whatever the client's address is.
     Differs,
-    /// It depends on the client's address, which no log has.
+    /// It depends on the client's address, which logs do not have.
     Depends,
 }
 

@@ -39,8 +39,8 @@ fn or_network(network: &Option<Network>, condition: Option<Condition>) -> Option
     }
 }
 
-/// The first condition of a grant that a request fails. A request that fails nothing else may fail by the address, which no log
-/// has.
+/// The first condition of a grant that a request fails. A request that fails nothing else may fail by the address,
+/// which logs do not have.
 pub fn failed_condition(entry: &Entry<'_>, decided: &Decided) -> Option<Condition>
     ensures { result ≡ spec.failed_condition entry.now decided.now }
 {

@@ -10,7 +10,7 @@ ghost use Rattle.log_text.specs.Suggested.{AllowsEach, IsSuggestedText};
 use crate::decided::Decided;
 use cap_text::AllowGrant;
 use ceph_text::push_ceph_grant;
-use common_types::{OutOfMemory, TryCopy};
+use common_types::{OutOfMemory, TryClone};
 use compare_core::{OwnedTarget, Registry};
 use compare_text::{Comparison, compare_read};
 use grant_core::Path;

@@ -1,7 +1,7 @@
 //! A logged request in the words of `osdgate verdict`.
 
 use crate::decided::Decided;
-use common_types::{OutOfMemory, TryCopy};
+use common_types::{OutOfMemory, TryClone};
 use compare_core::{Example, OwnedTarget};
 use compare_text::push_request;
 use grant_core::Path;

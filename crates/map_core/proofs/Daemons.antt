@@ -22,7 +22,7 @@ use Rattle.map_core.proofs.Current.{daemons_stay, after_push}
 use Rattle.map_core.specs.declared.command.MapCommand.{MapCommand}
 use Rattle.map_core.specs.declared.command.MapCommand.TheVariants.{PoolCreate, AppEnable, AppSet, AppRm, OsdUp, OsdDown, OsdRestart}
 
--- sixteen flags, and none is set past the daemons that there are
+-- sixteen flags, and each one that is set has an index below the number of daemons
 pub record FlagsFit (state : MapState) : Type 0 where
   pub long : length state.up ≡ 16
   pub below : (d : ℕ) → slice_index_or state.up d false ≡ true → d < state.daemons
@@ -80,7 +80,7 @@ flags_steps state epoch (c ∷ commands) accepted fit = flags_steps (after state
 flags_of : (history : History) → AcceptedFrom (initial history.daemons) 1 history.commands → FlagsFit (map_of history)
 flags_of history accepted = flags_steps (initial history.daemons) 1 history.commands accepted (first_flags history.daemons)
 
--- a daemon that is up is one of those that there are
+-- each daemon that is up has a number below the number of daemons
 up_below : (state : MapState) → FlagsFit state → All (λ d. d < state.daemons) (numbers_of state.up)
 unfolding numbers_of
 up_below state fit = λ k d low. fit.below _ (filter_passes (λ i. slice_index_or state.up i false) (range_with_len 0 (length state.up)) k d low)
@@ -115,7 +115,7 @@ sets_are_acting history pool group members accepted h =
       there = λ k d low. All-contains (λ x. x < state.daemons) (numbers_of state.up) _ (up_below state fit) (is.from_up k d low);
     }
 
--- the same of a map that is told by another name, and of the one after a command
+-- this holds for a map by another name, and for the map after a command
 pub set_shown : (history shown : History) (pool : List ℕ) (group : ℕ) (members : List ℕ) → AcceptedFrom (initial history.daemons) 1 history.commands → history ≡ shown → set_of (map_of shown) pool group ≡ Some members → IsSetOf (map_of shown) pool group members
 set_shown history shown pool group members accepted view h =
     let P : History → Type 0 = λ x. AcceptedFrom (initial x.daemons) 1 x.commands in

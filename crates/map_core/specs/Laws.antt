@@ -22,7 +22,7 @@ later history commands = record history { commands = history.commands ++ command
 abbrev pub SetsAreActing : Type 0
 SetsAreActing = (history : History) (pool : List ℕ) (group : ℕ) (members : List ℕ) → IsAccepted history → set_of (map_of history) pool group ≡ Some members → IsSetOf (map_of history) pool group members
 
--- the daemons that are up are among those that there are
+-- each daemon that is up has a number below the number of daemons
 abbrev pub UpAreThere : Type 0
 UpAreThere = (history : History) → IsAccepted history → All (λ d. d < history.daemons) (numbers_of (map_of history).up)
 

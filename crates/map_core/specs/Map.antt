@@ -93,6 +93,6 @@ pool_in pools name = find (is_named name) pools
 abbrev pub view_of : ℕ → Pool → PoolView
 view_of epoch pool = record { epoch = epoch; pool = pool.name; pg_num = pool.pg_num; size = pool.size; min_size = pool.min_size; tags = pool.tags }
 
--- the pool as it was at an epoch, which stands after so many commands but one
+-- the pool as it was at an epoch: after `epoch - 1` commands
 unfoldable pub view_at : History → List ℕ → ℕ → Option PoolView
 view_at history name epoch = option_map (view_of epoch) (pool_in (map_after history.daemons (take (epoch - 1) history.commands)).pools name)

@@ -11,7 +11,7 @@ use crate::pool::{Pool, find_pool};
 use common_types::Name;
 use place_core::{ActingSet, DaemonSet};
 
-/// The acting set of a group, where sets have so many daemons. It takes no memory.
+/// The acting set of a group in a pool whose sets have `size` daemons. It takes no memory.
 pub fn set_of_size(pool: &Name, group: u32, up: &DaemonSet, size: u32) -> ActingSet
     requires { size ≤ 5 }
     ensures { result ≡ acting_of pool.now group (numbers_of up.now) size }

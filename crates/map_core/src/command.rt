@@ -41,7 +41,7 @@ pub enum MapCommand {
     OsdUp(u8),
     /// A daemon that was up is down.
     OsdDown(u8),
-    /// A daemon that is up begins anew. The map stays, but for its epoch.
+    /// A daemon that is up restarts. Only the epoch of the map changes.
     OsdRestart(u8),
 }
 

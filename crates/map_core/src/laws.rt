@@ -2,7 +2,8 @@
 
 ghost use Rattle.map_core.specs.Laws.{SetsAreActing, UpAreThere, PoolsDiffer, PoolsAreFew, PoolsStay, TagsArePossible, ViewsAreOfPools, ViewsArePossible, CommandsBeginIntervals, PresentSetIsLast, OthersLeaveSets};
 
-/// On every map a group's acting set is that of its ranking: at most five daemons, each once, each of them up and one that there is.
+/// On every map a group's acting set is that of its ranking: at most five daemons, each once, and each of them up. Each
+/// daemon that is up has a number below the number of daemons.
 pub fn sets_are_acting()
     ensures sets { SetsAreActing }
     ensures up { UpAreThere }

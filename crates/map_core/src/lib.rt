@@ -5,16 +5,16 @@
 //!
 //! # What contracts see
 //!
-//! A `ClusterMap` is its `History`: the number of daemons and the commands that were accepted. Beside them it keeps the pools and
-//! the daemons as they are now, and its invariant says that these are what the commands lead to.
+//! A `ClusterMap` is its `History`: the number of daemons and the commands that were accepted. It also keeps the pools
+//! and the daemons as they are now, and its invariant says that these are what the commands lead to.
 //!
 //! # Costs
 //!
 //! A command costs look-ups by name among at most 32 pools, 8 applications and 16 pairs, one push for which room was reserved,
 //! and copies of the names that it adds. A refusal takes no memory. A view at the present epoch is one look-up and a copy of that
-//! pool. One at an earlier epoch is a walk over the commands up to it, of which those on its pool are done again. A command that
-//! is kept takes about a hundred bytes and its names: 65,535 of them, each setting a pair of names of 64 bytes, come to about 35
-//! megabytes.
+//! pool. A view at an earlier epoch is a walk over the commands up to it, which applies those on its pool again. A
+//! command that is kept takes about a hundred bytes and its names: 65,535 of them, each setting a pair of names of 64
+//! bytes, take about 35 megabytes.
 #![tactic(auto)]
 
 mod acting_sets;

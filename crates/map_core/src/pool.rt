@@ -3,7 +3,7 @@
 ghost use Rattle.std.specs.Prelude.{◌≡◌, IfOk, option_copied};
 ghost use Rattle.map_core.specs.Map as map;
 
-use common_types::{Name, OutOfMemory, Tags, TryCopy};
+use common_types::{Name, OutOfMemory, Tags, TryClone};
 use std::alloc::Global;
 
 /// The number of a state of the map, from 1 on, at most 65,535.
@@ -15,7 +15,7 @@ pub struct Pool {
     pub name: Name,
     /// Its groups are numbered from 0.
     pub pg_num: u32,
-    /// How many daemons an acting set has, where so many are up.
+    /// How many daemons an acting set has, if at least `size` daemons are up.
     pub size: u32,
     /// How many daemons of an acting set are needed to decide a request.
     pub min_size: u32,

@@ -14,11 +14,11 @@ use place_core::DaemonSet;
 
 const LAST_EPOCH: u32 = 65535;
 
-const MOST_POOLS: usize = 32;
+const MAX_POOLS: usize = 32;
 
-const MOST_APPLICATIONS: usize = 8;
+const MAX_APPLICATIONS: usize = 8;
 
-const MOST_PAIRS: usize = 16;
+const MAX_PAIRS: usize = 16;
 
 // 1 to 64 word bytes.
 #[tactic(auto, unfolding(crate::specs::Refusal::is_word))]
@@ -95,7 +95,7 @@ fn create_refusal(
         return Some(MapFault::PoolExists);
     }
     if !in_limits(numbers.0, numbers.1, numbers.2)
-        || pools.len() >= MOST_POOLS
+        || pools.len() >= MAX_POOLS
         || epoch >= LAST_EPOCH
     {
         return Some(MapFault::Limit);
@@ -117,7 +117,7 @@ fn enable_refusal(pools: &[Pool], epoch: u32, pool: &Name, app: &Name) -> Option
     if has_app(tags, app) {
         return Some(MapFault::AlreadySo);
     }
-    if tags.len() >= MOST_APPLICATIONS || epoch >= LAST_EPOCH {
+    if tags.len() >= MAX_APPLICATIONS || epoch >= LAST_EPOCH {
         return Some(MapFault::Limit);
     }
     None
@@ -145,7 +145,7 @@ fn set_refusal(
         return Some(MapFault::NoApplication);
     }
     let pairs = pairs_in(applications, app);
-    if (!has_key(pairs, key) && pairs.len() >= MOST_PAIRS) || epoch >= LAST_EPOCH {
+    if (!has_key(pairs, key) && pairs.len() >= MAX_PAIRS) || epoch >= LAST_EPOCH {
         return Some(MapFault::Limit);
     }
     None
@@ -196,7 +196,7 @@ fn daemon_refusal(daemons: u8, up: &DaemonSet, epoch: u32, daemon: u8, so: bool)
     None
 }
 
-// Why a command is refused, want of memory aside.
+// Why a command is refused, except for out of memory.
 #[tactic(auto, unfolding(crate::specs::Refusal::refusal))]
 pub(crate) fn refusal(
     daemons: u8,
@@ -228,7 +228,7 @@ pub(crate) fn refusal(
     }
 }
 
-// Why a group's acting set is refused, want of memory aside.
+// Why a group's acting set is refused, except for out of memory.
 pub(crate) fn acting_refusal(pools: &[Pool], name: &Name, group: u32) -> Option<MapFault>
     ensures { result ≡ first_of (acting_tests pools.now name.now group) }
 {

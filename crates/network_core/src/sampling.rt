@@ -88,7 +88,7 @@ fn push_once(kept: &mut Vec<Address>, address: &Address) -> Result<(), OutOfMemo
     Ok(())
 }
 
-/// The same addresses in order, each once. Many entities have the same network.
+/// Sorts addresses, and keeps each once. Many entities have the same network.
 fn sorted_once(alloc: Global, mut samples: Vec<Address>) -> Result<Vec<Address>, OutOfMemory>
     ensures keeps { IfOk result (λ kept. (a : Address) → Contains samples.items a → Contains kept.items a) }
     ensures addresses { IfOk result (λ kept. All IsAddress samples.items → All IsAddress kept.items) }

@@ -3,11 +3,11 @@
 -- write, append and truncate.
 use Rattle.std.specs.Prelude.{ℕ, ◌+◌, ◌-◌, List, ◌++◌, if◌then◌else◌, ◌==◌, length, take, drop, replicate}
 
--- the bytes from a place on, at most so many; all of them where the number is 0
+-- the bytes from `offset` on, at most `count`; all of them where `count` is 0
 abbrev pub part_of : List ℕ → ℕ → ℕ → List ℕ
 part_of bytes offset count = if count == 0 then drop offset bytes else take count (drop offset bytes)
 
--- cut to so many bytes, or extended to them by zero bytes
+-- cut to `size` bytes, or extended to `size` by zero bytes
 abbrev pub resized : ℕ → List ℕ → List ℕ
 resized size bytes = take size bytes ++ replicate (size - length bytes) 0
 

@@ -4,12 +4,12 @@ ghost use Rattle.std.specs.Prelude.{◌≡◌, true, [], is_some, IfOk, OnOk, op
 ghost use Rattle.object_core.specs.Content.{AreAttributes, IsAttribute, place_of, value_of, has_room, with_attribute, without_attribute};
 
 use crate::bytes::Bytes;
-use common_types::{Name, OutOfMemory, TryCopy};
+use common_types::{Name, OutOfMemory, TryClone};
 use std::alloc::Global;
 use std::marker::Model;
 
 /// How many attributes an object has at most.
-const ATTRIBUTE_LIMIT: usize = 16;
+const MAX_ATTRIBUTES: usize = 16;
 
 /// At most 16 names of 1 to 64 bytes with their values of at most 1,024, in the order of their setting, which
 /// contracts see as the list of these pairs.
@@ -89,7 +89,7 @@ impl Attributes {
     pub(crate) fn has_room(&self, name: &Name) -> bool
         ensures { result ≡ has_room name.now self.now }
     {
-        self.has(name) || self.as_slice().len() < ATTRIBUTE_LIMIT
+        self.has(name) || self.as_slice().len() < MAX_ATTRIBUTES
     }
 
     /// Sets a name to a value, in its place or at the end.

@@ -3,7 +3,7 @@
 ghost use Rattle.std.specs.Prelude.{◌≡◌, ◌+◌, ◌≤◌, ◌++◌, [], IfOk, OnOk, length, take, drop};
 ghost use Rattle.object_core.specs.Bytes.{part_of, resized, overwritten};
 
-use common_types::{OutOfMemory, TryCopy};
+use common_types::{OutOfMemory, TryClone};
 use std::alloc::Global;
 use std::marker::Model;
 
@@ -69,7 +69,7 @@ impl Bytes {
         self.as_slice().len()
     }
 
-    /// A copy of the bytes from a place on, at most so many; of all of them where the number is 0.
+    /// A copy of the bytes from `offset` on, at most `count`; of all of them where `count` is 0.
     pub(crate) fn part(
         &self,
         alloc: Global,
@@ -95,7 +95,7 @@ impl Bytes {
         self.bytes.extend_from_slice(more.as_slice())
     }
 
-    /// Cuts the bytes to so many, or extends them by zeros.
+    /// Cuts the bytes to `size`, or extends them to it by zeros.
     pub(crate) fn resize(&mut self, size: usize) -> Result<(), OutOfMemory>
         ensures { OnOk result (self.new ≡ resized size self.old) }
     {
@@ -123,7 +123,7 @@ fn lay(bytes: &mut [u8], offset: usize, more: &[u8])
     bytes[offset..end].copy_from_slice(more);
 }
 
-impl TryCopy for Bytes {
+impl TryClone for Bytes {
     fn copy(&self) -> Result<Bytes, OutOfMemory> {
         Bytes::from_slice(*self.bytes.allocator(), self.as_slice())
     }

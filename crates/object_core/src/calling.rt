@@ -15,7 +15,7 @@ use crate::looking::{counter_get, decimal, vault_peek};
 use crate::number::number_of;
 use crate::object::Object;
 use crate::outcome::Change;
-use common_types::{Name, OutOfMemory, TryCopy};
+use common_types::{Name, OutOfMemory, TryClone};
 use std::alloc::Global;
 
 /// An output and what became of the object, or the number of an error.

@@ -15,19 +15,19 @@ ghost use Rattle.object_core.specs.declared.outcome.Change.TheVariants.{Became};
 use crate::attributes::Attributes;
 use crate::bytes::Bytes;
 use crate::errors::{EEXIST, EFBIG, EINVAL, ENODATA, ENOENT, ERANGE};
-use crate::object::{BYTE_LIMIT, Object};
+use crate::object::{MAX_BYTES, Object};
 use crate::outcome::Change;
-use common_types::{Name, OutOfMemory, TryCopy};
+use common_types::{Name, OutOfMemory, TryClone};
 use std::alloc::Global;
 
 /// What became of the object, or the number of an error; or a growth was refused.
 pub type Changing = Result<Result<Change, u32>, OutOfMemory>;
 
 /// How long an attribute's name is at most.
-const NAME_LIMIT: usize = 64;
+const MAX_NAME_BYTES: usize = 64;
 
 /// How long an attribute's value is at most.
-const VALUE_LIMIT: usize = 1024;
+const MAX_VALUE_BYTES: usize = 1024;
 
 /// How many bytes the object has; a missing one has none.
 fn size_of(object: Option<&Object>) -> usize
@@ -61,7 +61,7 @@ pub fn write(
         told_change (option_copied given.entry) r ≡ put object (overwritten (bytes_of object) offset more.now)) }
 {
     let offset = offset as usize;
-    if offset > BYTE_LIMIT || more.len() > BYTE_LIMIT - offset {
+    if offset > MAX_BYTES || more.len() > MAX_BYTES - offset {
         return Ok(Err(EFBIG));
     }
     let (mut bytes, attributes) = change.into_parts(alloc, given)?;
@@ -74,7 +74,7 @@ pub fn write_full(alloc: Global, given: Option<&Object>, change: Change, bytes: 
     ensures { IfOk result (λ r.
         told_change (option_copied given.entry) r ≡ put (after (option_copied given.entry) change) bytes.now) }
 {
-    if bytes.len() > BYTE_LIMIT {
+    if bytes.len() > MAX_BYTES {
         return Ok(Err(EFBIG));
     }
     let bytes = bytes.copy()?;
@@ -88,7 +88,7 @@ pub fn append(alloc: Global, given: Option<&Object>, change: Change, more: &Byte
         told_change (option_copied given.entry) r ≡ put object (bytes_of object ++ more.now)) }
 {
     let size = size_of(change.look(given));
-    if more.len() > BYTE_LIMIT - size {
+    if more.len() > MAX_BYTES - size {
         return Ok(Err(EFBIG));
     }
     let (mut bytes, attributes) = change.into_parts(alloc, given)?;
@@ -106,7 +106,7 @@ pub fn truncate(alloc: Global, given: Option<&Object>, change: Change, size: u32
         return Ok(Err(ENOENT));
     }
     let size = size as usize;
-    if size > BYTE_LIMIT {
+    if size > MAX_BYTES {
         return Ok(Err(EFBIG));
     }
     let (mut bytes, attributes) = change.into_parts(alloc, given)?;
@@ -168,7 +168,10 @@ pub fn set_attribute(
     if name_len == 0 {
         return Ok(Err(EINVAL));
     }
-    if name_len > NAME_LIMIT || value.len() > VALUE_LIMIT || !has_room(change.look(given), name) {
+    if name_len > MAX_NAME_BYTES
+        || value.len() > MAX_VALUE_BYTES
+        || !has_room(change.look(given), name)
+    {
         return Ok(Err(ERANGE));
     }
     let (bytes, mut attributes) = change.into_parts(alloc, given)?;

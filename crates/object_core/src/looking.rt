@@ -11,13 +11,13 @@ use crate::bytes::Bytes;
 use crate::errors::{EINVAL, ENODATA, ENOENT};
 use crate::number::number_of;
 use crate::object::Object;
-use common_types::{Name, OutOfMemory, TryCopy};
+use common_types::{Name, OutOfMemory, TryClone};
 use std::alloc::Global;
 
 /// An output, or the number of an error; or a growth was refused.
 pub type Answer = Result<Result<Bytes, u32>, OutOfMemory>;
 
-/// A number in decimal, as sizes and counters are told. Its error is that a growth was refused.
+/// A number in decimal, as sizes and counters are printed. Its error is that an allocation failed.
 #[tactic(auto, using(crate::proofs::Lengths::short_decimal))]
 pub fn decimal(alloc: Global, number: u64) -> Result<Bytes, OutOfMemory>
     ensures text { IfOk result (λ text. text ≡ decimal_text number) }
@@ -27,7 +27,7 @@ pub fn decimal(alloc: Global, number: u64) -> Result<Bytes, OutOfMemory>
     Ok(Bytes::from_vec(text.into_bytes()))
 }
 
-/// The bytes from a place on, at most so many, or all of them where the count is 0. It is ENOENT where the object is missing.
+/// The bytes from `offset` on, at most `count`, or all of them where `count` is 0; ENOENT where the object is missing.
 pub fn read(alloc: Global, object: Option<&Object>, offset: u32, count: u32) -> Answer
     ensures { IfOk result (λ answer. answer ≡ found (option_copied object.entry) (λ o. Ok (part_of o.bytes offset count))) }
 {

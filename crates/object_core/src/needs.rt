@@ -18,7 +18,7 @@ use std::fmt;
 use verdict_core::{Calls, ClassCall, Needs};
 
 /// How many operations a vector has at most.
-const OP_LIMIT: usize = 16;
+const MAX_OPERATIONS: usize = 16;
 
 /// Why a vector of operations is refused before it runs.
 #[derive(Clone, Copy, Debug, PartialEq, Eq)]
@@ -34,7 +34,7 @@ pub enum NeedsFault {
 }
 
 impl NeedsFault {
-    /// The fault's error number; want of memory has none.
+    /// The fault's error number. `OutOfMemory` has none.
     pub fn number(self) -> Option<u32>
         ensures { result ≡ number_of_fault self }
     {
@@ -120,7 +120,7 @@ fn needs_fault(ops: &[Op]) -> Option<NeedsFault>
 {
     if ops.is_empty() {
         Some(NeedsFault::EmptyVector)
-    } else if ops.len() > OP_LIMIT {
+    } else if ops.len() > MAX_OPERATIONS {
         Some(NeedsFault::TooManyOps)
     } else if calls_unknown(ops) {
         Some(NeedsFault::NoMethod)
@@ -171,11 +171,11 @@ fn writes(ops: &[Op]) -> bool
     ops.iter().any(|op| is_write(op))
 }
 
-/// What a vector asks for: whether some operation reads, whether some writes, and its class calls in order,
+/// What a vector requests: whether some operation reads, whether some writes, and its class calls in order,
 /// each with what the class registry says of it. A call itself neither reads nor writes.
 ///
-/// Refused are the empty vector, one of more than 16 operations, and one that calls an unknown method, in
-/// this order; want of memory comes last.
+/// Refused are, in this order: the empty vector, a vector of more than 16 operations, and one that calls an unknown
+/// method. `OutOfMemory` comes last.
 pub fn needs_of(alloc: Global, ops: &[Op]) -> Result<Needs, NeedsFault>
     ensures refused { RefusedFirst (needs_fault ops.now) NeedsFault.OutOfMemory result }
     ensures needs { IfOk result (λ needs. needs ≡ spec.needs_of ops.now) }

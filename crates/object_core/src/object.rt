@@ -5,12 +5,12 @@ ghost use Rattle.object_core.specs.Content.{Content, empty};
 
 use crate::attributes::Attributes;
 use crate::bytes::Bytes;
-use common_types::{OutOfMemory, TryCopy};
+use common_types::{OutOfMemory, TryClone};
 use std::alloc::Global;
 use std::marker::Model;
 
 /// How many bytes an object has at most.
-pub(crate) const BYTE_LIMIT: usize = 65536;
+pub(crate) const MAX_BYTES: usize = 65536;
 
 /// An object: at most 65,536 bytes, and its attributes.
 #[derive(Debug)]

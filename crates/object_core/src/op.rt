@@ -1,12 +1,12 @@
 //! Operations on an object.
 
 use crate::bytes::Bytes;
-use common_types::{Name, OutOfMemory, TryCopy};
+use common_types::{Name, OutOfMemory, TryClone};
 
 /// An operation on an object. Places, lengths and sizes are in bytes.
 #[derive(Debug)]
 pub enum Op {
-    /// Gives the bytes from a place on, at most so many, or all of them where the length is 0.
+    /// Gives the bytes from `offset` on, at most `length`, or all of them where `length` is 0.
     Read {
         offset: u32,
         length: u32,
@@ -76,7 +76,7 @@ impl Drop for Op {
     }
 }
 
-impl TryCopy for Op {
+impl TryClone for Op {
     fn copy(&self) -> Result<Op, OutOfMemory> {
         match self {
             Op::Read { offset, length } => Ok(Op::Read {

@@ -1,4 +1,4 @@
-//! What a vector of operations comes to.
+//! The outcome of a vector of operations.
 
 ghost use Rattle.std.specs.Prelude.{◌≡◌, ◌≤◌, IfOk, length, option_copied};
 ghost use Rattle.object_core.specs.Content.{bytes_of, attributes_of};
@@ -8,7 +8,7 @@ ghost use Rattle.object_core.specs.ToldEffects.{after, told};
 use crate::attributes::Attributes;
 use crate::bytes::Bytes;
 use crate::object::Object;
-use common_types::{Items, OutOfMemory, TryCopy};
+use common_types::{Items, OutOfMemory, TryClone};
 use std::alloc::Global;
 use std::marker::Model;
 
@@ -24,7 +24,7 @@ pub enum Change {
     Became(Option<Object>),
 }
 
-/// What a vector of operations comes to.
+/// The outcome of a vector of operations.
 #[derive(Debug, Drop)]
 pub enum Outcome {
     /// All operations were done: their outputs, and what becomes of the object.

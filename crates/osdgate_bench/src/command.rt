@@ -153,7 +153,7 @@ fn write_out<W: Write>(out: &mut W, text: &str) -> u8
     }
 }
 
-/// Writes a table, or why there is none, and answers the status behind it.
+/// Writes a table to `out`, or the fault in its place to `err`, and returns the exit status.
 fn write_table<O: Write, E: Write>(out: &mut O, err: &mut E, table: Result<String, Fault>) -> u8
     ensures { result ≤ 1 }
 {

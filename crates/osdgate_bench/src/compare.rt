@@ -11,7 +11,7 @@ use std::time::Clock;
 use stopwatch::{Table, Work};
 use verdict_core::Ticket;
 
-/// Two tickets, and whether the new one allows what the old one denies. The examples are let go.
+/// Two tickets, and whether the new one allows what the old one denies. The examples are dropped.
 struct Widening {
     alloc: Global,
     old: Ticket,
@@ -73,7 +73,7 @@ impl Change {
         }
     }
 
-    /// The new text, of so many grants.
+    /// The new text, of `grants` grants.
     fn new(self, alloc: Global, name: &str, grants: usize) -> Result<String, OutOfMemory>
         requires { grants ≤ 64 }
     {

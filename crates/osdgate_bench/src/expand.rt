@@ -10,7 +10,7 @@ use std::time::Clock;
 use stopwatch::{Table, Work};
 use verdict_core::Ticket;
 
-/// A list, which is expanded. The tree is let go.
+/// A list, which is expanded. The tree is dropped.
 #[derive(Drop)]
 struct Expand<'a> {
     alloc: Global,
@@ -55,7 +55,7 @@ impl Work for MakeTicket<'_> {
     }
 }
 
-/// A profile's use, so many times.
+/// The text of a profile's use, repeated `times` times.
 fn uses(alloc: Global, name: &str, times: usize) -> Result<String, OutOfMemory> {
     let grant = format!(in alloc; "profile rbd pool={name}")?;
     let mut text = String::new(alloc);
@@ -65,7 +65,7 @@ fn uses(alloc: Global, name: &str, times: usize) -> Result<String, OutOfMemory> 
     Ok(text)
 }
 
-/// The list of a profile's use, so many times.
+/// The list of a profile's use, repeated `times` times.
 fn list_of(alloc: Global, name: &str, times: usize) -> Result<CapList, Fault> {
     Ok(parse(alloc, uses(alloc, name, times)?.as_str())?)
 }
@@ -84,7 +84,7 @@ fn add_row<C: Clock, W: Work>(
     Ok(table.row(row.as_str(), work)?)
 }
 
-/// Adds the rows of a profile's use, so many times.
+/// Adds the rows of a profile's use, repeated `times` times.
 fn add_uses<C: Clock>(
     table: &mut Table<'_, C>,
     profiles: &ProfileTable,

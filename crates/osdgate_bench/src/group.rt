@@ -4,7 +4,7 @@ ghost use Rattle.std.specs.Prelude.{◌≡◌, IfOk};
 
 use crate::fault::Fault;
 use crate::grants::ticket_of;
-use common_types::{Name, OutOfMemory, Tags, TryCopy};
+use common_types::{Name, OutOfMemory, Tags, TryClone};
 use entry_core::{GroupId, Id, Sealed};
 use group_core::Group;
 use map_core::PoolView;

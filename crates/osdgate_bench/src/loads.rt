@@ -18,7 +18,7 @@ const VERDICTS: u32 = 1_000_000;
 /// How many views the worker asks for.
 const VIEWS: u32 = 20_000;
 
-/// A load on a new cluster of so many groups, by workers on threads. The time is of one of all requests, verdicts or views.
+/// A load on a new cluster of `groups` groups, by workers on threads. The time is that of one request, verdict or view.
 #[derive(Drop)]
 struct Loaded<'a, R> {
     rt: &'a R,
@@ -78,8 +78,8 @@ impl Work for Alone {
     }
 }
 
-/// What is measured on threads: requests by so many workers on so many groups, verdicts by so many workers, and views
-/// by one worker, while the map changes or not.
+/// What is measured on threads: requests by `workers` workers on `groups` groups, verdicts by `workers` workers, and
+/// views by one worker, while the map changes or not.
 #[derive(Clone, Copy)]
 enum Kind {
     Requests { groups: u32, workers: u32 },

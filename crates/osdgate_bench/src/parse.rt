@@ -8,7 +8,7 @@ use std::alloc::{AllocError, Global};
 use std::time::Clock;
 use stopwatch::{Table, Work};
 
-/// A text, which is read and let go.
+/// A text, which is parsed. The list is dropped.
 #[derive(Drop)]
 struct Parse {
     alloc: Global,

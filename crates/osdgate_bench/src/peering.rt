@@ -2,7 +2,7 @@
 
 use crate::fault::Fault;
 use crate::group::{all, request, three_daemons};
-use common_types::{Name, OutOfMemory, TryCopy};
+use common_types::{Name, OutOfMemory, TryClone};
 use entry_core::Sealed;
 use group_core::Group;
 use place_core::{ActingSet, DaemonSet};
@@ -83,7 +83,7 @@ fn decide(
     Ok(())
 }
 
-/// A group that decided so many requests.
+/// A group that decided `count` requests.
 fn decided(alloc: Global, count: u32, name: &str) -> Result<Box<Group>, Fault> {
     let ticket = all(alloc)?;
     let mut group = Box::new(alloc, three_daemons(alloc, Name::new(alloc, name)?)?)?;
@@ -91,7 +91,7 @@ fn decided(alloc: Global, count: u32, name: &str) -> Result<Box<Group>, Fault> {
     Ok(group)
 }
 
-/// Requests that a group of so many has not yet.
+/// Requests that are new to a group that decided `count` requests.
 fn more(alloc: Global, count: u32, name: &str) -> Result<Vec<Sealed>, Fault> {
     let ticket = all(alloc)?;
     let mut requests = Vec::new(alloc);
@@ -101,7 +101,8 @@ fn more(alloc: Global, count: u32, name: &str) -> Result<Vec<Sealed>, Fault> {
     Ok(requests)
 }
 
-/// Groups that decided so many requests: copied alone, moved where nothing is missing, and where one entry is each time.
+/// Adds the rows of groups that decided `size.count` requests: only copied, moved while nothing is missing, and moved
+/// while one entry is missing each time.
 fn add_moves<C: Clock>(table: &mut Table<'_, C>, name: &str, size: Size) -> Result<(), Fault> {
     let alloc = table.alloc();
     let mut work = Moves {
@@ -146,7 +147,7 @@ const SIZES: &[Size] = &[
     },
 ];
 
-/// A daemon comes back that lacks so many of 16,000.
+/// Adds the row of a daemon that comes back and lacks 1,000 of 16,000 requests.
 fn add_return<C: Clock>(table: &mut Table<'_, C>, name: &str) -> Result<(), Fault> {
     let alloc = table.alloc();
     let ticket = all(alloc)?;

@@ -10,7 +10,7 @@ use std::time::Clock;
 use stopwatch::{Table, Work};
 use world_script::{ScriptFault, run_script};
 
-/// A script, which is run, and what it prints kept to its end. The time is of each of so many of its lines.
+/// A script, which is run. What it prints is kept to its end. The time is per line, for `lines` of its lines.
 #[derive(Drop)]
 struct Running {
     alloc: Global,
@@ -41,7 +41,7 @@ impl Work for Running {
     }
 }
 
-/// What is measured: so many comments, ticks, requests, pairs of moves, or restarts.
+/// What is measured: a number of comments, ticks, requests, pairs of moves, or restarts.
 #[derive(Clone, Copy)]
 enum Kind {
     Comments(u32),

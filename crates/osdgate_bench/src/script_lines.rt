@@ -27,7 +27,7 @@ pub(crate) fn comments(alloc: Global, name: &str, count: u32) -> Result<Script, 
     Ok(Script { text, ending })
 }
 
-/// A cluster, and so many stamps.
+/// A cluster, and `count` stamps.
 pub(crate) fn ticks(alloc: Global, count: u32) -> Result<Script, OutOfMemory> {
     let mut text = String::from_str(alloc, "osds 1\n")?;
     for tick in 0..count {
@@ -56,7 +56,7 @@ impl Settling {
         }
     }
 
-    /// Whether requests are settled behind so many, and the last one is still to come.
+    /// Whether requests are settled after the first `number` of them, before the last one.
     fn is_between(self, number: u32) -> bool {
         match self {
             Settling::Once => false,
@@ -72,7 +72,7 @@ fn session(alloc: Global, name: &str) -> Result<String, OutOfMemory> {
     )
 }
 
-/// So many requests of one session, each of which replaces the contents of one of 64 objects.
+/// `count` requests of one session, each of which replaces the contents of one of 64 objects.
 pub(crate) fn requests(
     alloc: Global,
     name: &str,
@@ -98,7 +98,7 @@ pub(crate) fn requests(
 /// How many pools move.
 const POOLS: u32 = 32;
 
-/// What a script of so many moves prints last.
+/// What a script of `pairs` pairs of moves prints last.
 fn last_of_moves(alloc: Global, pairs: u16) -> Result<String, OutOfMemory> {
     if pairs == 0 {
         let settled = POOLS * 64 * 11;
@@ -108,8 +108,8 @@ fn last_of_moves(alloc: Global, pairs: u16) -> Result<String, OutOfMemory> {
     format!(in alloc; "epoch {last}\n")
 }
 
-/// Pools whose groups settle, each of three members in 11 deliveries. So many times, a daemon that has a copy of every group
-/// goes down and comes up.
+/// Pools whose groups settle, each of three members in 11 deliveries. Then a daemon that has a copy of every group goes
+/// down and comes up, `pairs` times.
 pub(crate) fn moves(alloc: Global, name: &str, pairs: u16) -> Result<Script, OutOfMemory> {
     let mut text = String::from_str(alloc, "osds 3\n")?;
     for number in 0..POOLS {
@@ -123,7 +123,7 @@ pub(crate) fn moves(alloc: Global, name: &str, pairs: u16) -> Result<Script, Out
     Ok(Script { text, ending })
 }
 
-/// So many restarts of the only daemon of a group.
+/// `count` restarts of the only daemon of a group.
 pub(crate) fn restarts(alloc: Global, name: &str, count: u16) -> Result<Script, OutOfMemory> {
     let mut text = format!(in alloc; "osds 1\nosd pool create {name} 1 1 1\n")?;
     for _ in 0..count {

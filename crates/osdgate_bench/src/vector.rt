@@ -9,7 +9,7 @@ use std::alloc::Global;
 use std::time::Clock;
 use stopwatch::{Table, Work};
 
-/// A vector on an object, which is run and its outcome let go.
+/// A vector on an object, which is run. The outcome is dropped.
 struct Run {
     alloc: Global,
     object: Object,

@@ -13,7 +13,7 @@ use verdict_core::{Calls, ClassCall, IndexedTicket, Needs, Target, Ticket, judge
 /// A number that no grant has.
 const NOBODY: usize = 99;
 
-/// By which condition the last grant of a ticket is told from those before it.
+/// By which condition the last grant of a ticket differs from those before it.
 #[derive(Clone, Copy)]
 enum Shape {
     Pool,
@@ -74,7 +74,7 @@ impl Shape {
         }
     }
 
-    /// The text of so many grants.
+    /// The text of `grants` grants.
     fn text(self, alloc: Global, name: &str, grants: usize) -> Result<String, OutOfMemory>
         requires { grants ≤ 64 }
     {
@@ -184,7 +184,7 @@ impl Drop for Asked {
     }
 }
 
-/// The ticket of so many grants.
+/// The ticket of `grants` grants.
 fn ticket(alloc: Global, shape: Shape, name: &str, grants: usize) -> Result<Ticket, Fault>
     requires { grants ≤ 64 }
 {
@@ -317,7 +317,7 @@ impl Work for JudgeAndReport<'_> {
     }
 }
 
-/// The tickets of some rows: by which condition their grants are told apart, and how many there are.
+/// The tickets of some rows: by which condition their grants differ, and how many grants they have.
 #[derive(Clone, Copy)]
 struct Rows {
     shape: Shape,

@@ -10,7 +10,7 @@ impl State {
     ghost use Rattle.peer_core.specs.Steps.{still};
     ghost use Rattle.peer_core.specs.Copy as rules;
 
-    /// A copy is told, by a daemon alone.
+    /// Takes a report of a copy, from a daemon alone.
     fn on_info_from(
         &mut self,
         from: Party,

@@ -4,7 +4,7 @@ ghost use Rattle.std.specs.Prelude.{◌≡◌, ◌+◌, length, IfOk};
 ghost use Rattle.peer_core.specs.Choice.{is_better};
 
 use crate::state::State;
-use common_types::{Items, OutOfMemory, TryCopy};
+use common_types::{Items, OutOfMemory, TryClone};
 use entry_core::Sealed;
 use group_messages::PeerInfo;
 use place_core::ActingSet;

@@ -6,7 +6,7 @@ ghost use Rattle.peer_core.specs.Decided.{decided_by};
 ghost use Rattle.peer_core.specs.Copy.{copy_step, retransmit};
 
 use crate::state::State;
-use common_types::{Items, OutOfMemory, TryCopy};
+use common_types::{Items, OutOfMemory, TryClone};
 use entry_core::{Entry, Log};
 use group_messages::{Message, Role, Sent};
 use std::alloc::Global;
@@ -120,7 +120,7 @@ impl Daemon {
     }
 }
 
-impl TryCopy for Daemon {
+impl TryClone for Daemon {
     fn copy(&self) -> Result<Daemon, OutOfMemory> {
         Ok(Daemon {
             state: self.state.copy()?,

@@ -2,7 +2,7 @@
 
 ghost use Rattle.std.specs.Prelude.{◌≤◌, length};
 
-use common_types::{Items, OutOfMemory, TryCopy};
+use common_types::{Items, OutOfMemory, TryClone};
 use entry_core::{Entry, Log, Sealed};
 use group_messages::{PeerInfo, alike_part, alike_requests, part_from};
 

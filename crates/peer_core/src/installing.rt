@@ -6,7 +6,7 @@ ghost use Rattle.entry_core.specs.Fitting.{fitted};
 use crate::fitting::Fitting;
 use crate::serve::decide_each;
 use crate::state::State;
-use common_types::{Items, OutOfMemory, TryCopy};
+use common_types::{Items, OutOfMemory, TryClone};
 use entry_core::{Log, Sealed};
 use group_messages::{Body, Common, Party, PeerInfo, Role, Sent};
 use place_core::ActingSet;

@@ -20,12 +20,13 @@
 //!
 //! # Design
 //!
-//! A handler makes all that can fail first, the log's push last, and then assigns. A new interval, an offer and a request put
-//! into the queue are undone by moves where memory is refused. With how many entries two logs begin alike is looked for behind
-//! the place up to which they are known to be equal: behind the entries that stay. What a choice sends is made before the log is
-//! fitted, from the entries that stay and the requests that come behind them (`Fitting`): messages carry requests, and a fit
-//! changes none. The log is fitted last, in place, so that there is nothing to undo where memory is refused. Where it does not
-//! fit, the messages are dropped.
+//! A handler makes all that can fail first, the log's push last, and then assigns. A new interval, an offer and a
+//! request put into the queue are undone by moves where an allocation fails. The number of entries with which two logs
+//! begin alike is looked for behind the index up to which they are known to be equal: behind the entries that stay.
+//!
+//! What a choice sends is made before the log is fitted, from the entries that stay and the requests that come behind
+//! them (`Fitting`): messages carry requests, and a fit changes none. The log is fitted last, in place, so an
+//! allocation that fails leaves nothing to undo. Where the log does not fit, the messages are dropped.
 #![tactic(auto)]
 
 mod arrival;

@@ -8,7 +8,7 @@ ghost use Rattle.group_messages.specs.ActingSets.{set_of, is_primary};
 
 use crate::fitting::Fitting;
 use crate::state::State;
-use common_types::{Items, OutOfMemory, TryCopy};
+use common_types::{Items, OutOfMemory, TryClone};
 use entry_core::Sealed;
 use group_messages::{Body, Common, Party, PeerInfo, Sent, count_at};
 use place_core::ActingSet;

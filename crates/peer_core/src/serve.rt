@@ -6,7 +6,7 @@ ghost use Rattle.entry_core.specs.Log.{find};
 ghost use Rattle.peer_core.specs.Stages.{log_with, entry_of, reply_of, log_after, replies_to};
 
 use crate::state::State;
-use common_types::{Items, OutOfMemory, TryCopy};
+use common_types::{Items, OutOfMemory, TryClone};
 use entry_core::{Decided, Log, Reply, Sealed};
 use group_messages::{Body, Party, Queue, Role, Sent};
 use place_core::ActingSet;

@@ -2,7 +2,7 @@
 
 ghost use Rattle.std.specs.Prelude.{◌≡◌};
 
-use common_types::{OutOfMemory, TryCopy};
+use common_types::{OutOfMemory, TryClone};
 use entry_core::Log;
 use group_messages::{IntervalSets, Queue, Role};
 use std::alloc::Global;
@@ -77,7 +77,7 @@ impl State {
     }
 }
 
-impl TryCopy for State {
+impl TryClone for State {
     fn copy(&self) -> Result<State, OutOfMemory> {
         Ok(State {
             number: self.number,

@@ -63,7 +63,7 @@ impl Drop for Flights {
 }
 
 impl Flights {
-    /// No flight of so many messages.
+    /// No flights yet, of a story with `messages` messages.
     fn new(alloc: Global, messages: usize) -> Result<Flights, OutOfMemory> {
         Ok(Flights {
             flights: Vec::new(alloc),
@@ -170,7 +170,7 @@ fn give_tracks(flights: &mut Vec<Flight>, taken: &mut Taken, lane: usize, early:
     }
 }
 
-/// The messages of a picture, in the order of their sending but for those that were sent before the first row.
+/// The messages of a picture. They are in the order of their sending, except those that were sent before the first row.
 pub(crate) fn flights_of(
     alloc: Global,
     story: &Story,

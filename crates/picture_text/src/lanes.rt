@@ -32,9 +32,10 @@ const LEAST_WIDTH: Px = Px(1286);
 /// The height of what stands below the last row.
 const FOOT: Px = Px(88);
 
-/// So many bytes of a script's line stand side by side, and so many such pieces below one another.
+/// The largest number of bytes of a script's line side by side, in one piece.
 pub(crate) const LINE_BYTES: usize = 52;
 
+/// The largest number of such pieces, one below another.
 pub(crate) const LINE_PIECES: usize = 4;
 
 /// A lane of the picture.
@@ -161,7 +162,7 @@ pub(crate) fn label_lane(flight: &Flight) -> usize {
     }
 }
 
-/// How wide so many letters are.
+/// The width of `count` letters.
 pub(crate) fn text_width(count: usize) -> Px {
     Px(7) * count
 }

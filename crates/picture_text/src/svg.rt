@@ -22,7 +22,7 @@ const BANDS: Px = Px(422);
 /// The left edge of the lines' texts, behind their numbers.
 const LINES: Px = Px(64);
 
-/// The names of the lanes are repeated after so many rows.
+/// The number of rows after which the names of the lanes are repeated.
 const NAMES_EVERY: usize = 40;
 
 /// How the picture begins: its size, its title and its style.

@@ -24,7 +24,8 @@ rank_of pool group daemon = fnv (pool ++ (46 ∷ decimal group) ++ (46 ∷ decim
 abbrev pub Before : List ℕ → ℕ → ℕ → ℕ → Type 0
 Before pool group a b = (rank_of pool group b < rank_of pool group a) ⊎ ((rank_of pool group a ≡ rank_of pool group b) × (a < b))
 
--- a group's acting set (Ceph Peering: the ordered list of daemons that serve it): so many of the up daemons, in order, and each that is left out would stand after them all
+-- a group's acting set (Ceph Peering: the ordered list of daemons that serve it): `size` of the up daemons, or all if
+-- fewer are up, in order; each that is left out would be after them all
 pub record IsActing (pool : List ℕ) (group : ℕ) (up : List ℕ) (size : ℕ) (members : List ℕ) : Type 0 where
   pub count : length members ≡ min size (length up)
   pub from_up : All (Contains up) members
@@ -41,7 +42,7 @@ pub record IsActingSet (up members : List ℕ) : Type 0 where
 unfoldable pub is_before : List ℕ → ℕ → ℕ → ℕ → Bool
 is_before pool group a b = nat_lt (rank_of pool group b) (rank_of pool group a) || (rank_of pool group a == rank_of pool group b && nat_lt a b)
 
--- the up daemon with exactly so many up daemons before it
+-- the up daemon with exactly `place` up daemons before it
 abbrev pub daemon_at : List ℕ → ℕ → List ℕ → ℕ → Option ℕ
 daemon_at pool group up place = find (λ d. count_by (λ e. is_before pool group e d) up == place) up
 

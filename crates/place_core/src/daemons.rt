@@ -25,7 +25,7 @@ impl Model for DaemonSet {
 }
 
 impl DaemonSet {
-    /// The daemons with the smallest numbers: so many of them, or all 16.
+    /// The `count` daemons with the smallest numbers, or all 16.
     pub fn first(count: u8) -> DaemonSet
         ensures { result ≡ map (λ d. nat_lt d count) (range_with_len 0 16) }
     {

@@ -14,7 +14,7 @@ use Rattle.map_core.specs.declared.fault.MapFault.TheVariants as faults
 use Rattle.map_core.specs.declared.pool.PoolView.{PoolView}
 use Rattle.published_map.specs.declared.places.Located.{Located}
 
--- refused first as the map refuses a view of the pool, else for want of memory
+-- refused first as the map refuses a view of the pool, else out of memory
 abbrev pub RefusedOf : {T : Type 0} → List ℕ → History → Result T MapFault → Type 0
 RefusedOf pool map answer = RefusedFirst (view_refusal map pool (epoch_of map)) faults.OutOfMemory answer
 

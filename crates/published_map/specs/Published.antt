@@ -24,7 +24,7 @@ SeesNoLess later None = Unit {0}
 SeesNoLess None (Some seen) = ⊥
 SeesNoLess (Some map) (Some seen) = GoesOn map seen
 
--- the map goes on from what was seen, and from what was told of
+-- the map goes on from what was seen, and from what was reported
 abbrev pub Covers : History → Knowledge → Type 0
 Covers map v = GoesOnFrom map v.seen × GoesOnFrom map v.told
 

@@ -9,7 +9,7 @@ ghost use Rattle.published_map.specs.Told.{knowledge_of};
 use crate::published::{MapReader, MapWriter, Sees, inform};
 use core::mem::replace_with;
 
-/// What the writer has published: a reader that was told of it. It takes a reader's place while it is kept.
+/// What the writer has published, as a reader that was told it. It takes a reader's place while it is kept.
 #[derive(Drop)]
 pub struct News {
     reader: MapReader,
@@ -47,7 +47,7 @@ pub fn learn(reader: &mut MapReader, news: News) -> Result<(), News>
     replace_with(reader, news, |reader, news| learn_by(reader, news))
 }
 
-// The same, by a reader that is handed in and comes back.
+// Does what `learn` does, by a reader that it takes and returns.
 fn learn_by(reader: MapReader, news: News) -> (MapReader, Result<(), News>)
     ensures ok { OnOk result.1 ((map : History) × ((known result.0.place).seen ≡ Some map) × Covers map (known reader.place) × Covers map (knowledge_of news)) }
     ensures own { OnErr result.1 (KnowsAll (known result.0.place) (known reader.place)) }

@@ -26,9 +26,9 @@ struct Sought<'a> {
     object: &'a str,
 }
 
-/// Where an object is now, by a map that goes on from all that this reader saw before or was told of. It waits for nobody.
+/// Where an object is now, by a map that goes on from all that this reader saw or learned before.
 ///
-/// `None` where `left_right` gives no reading, as once the writer was ended.
+/// It waits for nobody. It is `None` where `left_right` gives no reading, for example once the writer was ended.
 pub fn locate(
     reader: &mut MapReader,
     pool: &Name,
@@ -45,7 +45,7 @@ pub fn locate(
     replace_with(reader, sought, |reader, sought| locate_by(reader, sought))
 }
 
-// The same, by a reader that is handed in and comes back.
+// Does what `locate` does, by a reader that it takes and returns.
 fn locate_by(reader: MapReader, sought: Sought) -> (MapReader, Option<Result<Located, MapFault>>)
     ensures { AnswersBy (SaysWhere sought.entry.pool.now sought.entry.namespace.now sought.entry.object.now) result.1 (known reader.place) (known result.0.place) }
 {

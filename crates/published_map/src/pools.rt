@@ -13,16 +13,16 @@ use common_types::Name;
 use core::mem::replace_with;
 use map_core::{ClusterMap, MapFault, PoolView};
 
-/// A pool at the present epoch of a map that goes on from all that this reader saw before or was told of. It waits for nobody.
+/// A pool at the present epoch of a map that goes on from all that this reader saw or learned before.
 ///
-/// `None` where `left_right` gives no reading, as once the writer was ended.
+/// It waits for nobody. It is `None` where `left_right` gives no reading, for example once the writer was ended.
 pub fn view(reader: &mut MapReader, pool: &Name) -> Option<Result<PoolView, MapFault>>
     ensures { AnswersBy (SaysOf pool.now) result (known reader.old.place) (known reader.new.place) }
 {
     replace_with(reader, pool, |reader, pool| view_by(reader, pool))
 }
 
-// The same, by a reader that is handed in and comes back.
+// Does what `view` does, by a reader that it takes and returns.
 fn view_by(reader: MapReader, pool: &Name) -> (MapReader, Option<Result<PoolView, MapFault>>)
     ensures { AnswersBy (SaysOf pool.now) result.1 (known reader.place) (known result.0.place) }
 {

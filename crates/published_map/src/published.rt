@@ -62,11 +62,11 @@ impl Model for SeenMap {
 pub struct Knowledge {
     /// The map that was seen last.
     pub seen: SeenMap,
-    /// The map that was told of since.
+    /// The map that was reported since.
     pub told: SeenMap,
 }
 
-/// The rule of the published map: it goes on from all that its readers and its writer saw or were told of.
+/// The rule of the published map: it goes on from all that its readers and its writer saw or that was reported to them.
 pub struct PublishedRule;
 
 impl Protocol<PublishedMap, Knowledge> for PublishedRule {
@@ -114,9 +114,9 @@ fn first_writer(alloc: Global, map: &ClusterMap, readers: usize) -> Result<MapWr
     Writer::new(alloc, first, second, readers)
 }
 
-/// Publishes a map, for at most so many readers at once.
+/// Publishes a map, for at most `readers` readers at once.
 ///
-/// It takes two copies of the map, and waits for nobody in fact, since there are no readers yet.
+/// It takes two copies of the map. In fact it waits for nobody, since there are no readers yet.
 pub fn publish_first<R: Wait>(
     rt: &R,
     alloc: Global,
@@ -159,7 +159,7 @@ pub fn publish<R: Wait>(rt: &R, writer: &mut MapWriter) -> Result<(), AllocError
     replace_with(writer, rt, |writer, rt| publish_by(rt, writer))
 }
 
-// The same, by a writer that is handed in and comes back.
+// Does what `publish` does, by a writer that it takes and returns.
 fn publish_by<R: Wait>(rt: &R, writer: MapWriter) -> (MapWriter, Result<(), AllocError>)
     ensures ok { OnOk result.1 (result.0.desk.shown.value.map ≡ with_commands writer.desk.shown.value.map (dropped writer.behind writer.log.items)) }
     ensures none_left { OnOk result.1 (dropped result.0.behind result.0.log.items ≡ []) }

@@ -1,6 +1,6 @@
 //! Which group a picture shows where none is named: the one with most messages.
 
-use common_types::{OutOfMemory, TryCopy};
+use common_types::{OutOfMemory, TryClone};
 use entry_core::GroupId;
 use std::alloc::Global;
 use world_core::{Event, World, place_of};

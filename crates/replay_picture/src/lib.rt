@@ -1,7 +1,7 @@
 //! Pictures of scripts: what happens to a group of the script's world, drawn.
 //!
-//! A script is replayed line by line in a world of its own. What each event does to the group is told as a list of happenings, and
-//! `picture_text` draws that list alone. Which messages a step took and sent is told by `group_story`.
+//! A script is replayed line by line in a world of its own. What each event does to the group becomes a list of
+//! happenings, and `picture_text` draws that list alone. `group_story` reports which messages a step took and sent.
 //!
 //! # What contracts see
 //!

@@ -11,10 +11,11 @@ use std::alloc::Global;
 use std::fmt::Write;
 use verdict_core::Condition;
 
-/// So many lines of a report, of outputs or of names stand in a picture, and so many bytes of each output or name.
-const MOST_LINES: usize = 12;
+/// The largest number of lines of a report, of outputs or of names in a picture.
+const MAX_LINES: usize = 12;
 
-const MOST_BYTES: usize = 32;
+/// The largest number of bytes of each output or name in a picture.
+const MAX_BYTES: usize = 32;
 
 /// An id and what follows it.
 fn headed(alloc: Global, id: Id, rest: &str) -> Result<String, OutOfMemory> {
@@ -26,7 +27,7 @@ fn headed(alloc: Global, id: Id, rest: &str) -> Result<String, OutOfMemory> {
 
 /// How many lines more there are.
 fn push_rest(alloc: Global, lines: &mut Vec<String>, all: usize) -> Result<(), OutOfMemory> {
-    let rest = all.saturating_sub(MOST_LINES);
+    let rest = all.saturating_sub(MAX_LINES);
     if rest > 0 {
         lines.push(format!(in alloc; "and {rest} more")?)?;
     }
@@ -38,7 +39,7 @@ fn push_report(
     lines: &mut Vec<String>,
     report: &[(Path, Condition)],
 ) -> Result<(), OutOfMemory> {
-    for (path, condition) in report.iter().take(MOST_LINES) {
+    for (path, condition) in report.iter().take(MAX_LINES) {
         lines.push(format!(in alloc; "- {path} {condition}")?)?;
     }
     push_rest(alloc, lines, report.len())
@@ -47,7 +48,7 @@ fn push_report(
 /// A line with the beginning of some bytes.
 fn push_bytes(alloc: Global, lines: &mut Vec<String>, bytes: &[u8]) -> Result<(), OutOfMemory> {
     let mut text = String::from_str(alloc, "- ")?;
-    let rest = bytes.len().saturating_sub(MOST_BYTES);
+    let rest = bytes.len().saturating_sub(MAX_BYTES);
     let shown = bytes.len().saturating_sub(rest);
     push_quoted(&mut text, &bytes[..shown])?;
     if rest > 0 {
@@ -62,14 +63,14 @@ fn push_outputs(
     lines: &mut Vec<String>,
     outputs: &[Bytes],
 ) -> Result<(), OutOfMemory> {
-    for output in outputs.iter().take(MOST_LINES) {
+    for output in outputs.iter().take(MAX_LINES) {
         push_bytes(alloc, lines, output.as_slice())?;
     }
     push_rest(alloc, lines, outputs.len())
 }
 
 fn push_names(alloc: Global, lines: &mut Vec<String>, names: &[Name]) -> Result<(), OutOfMemory> {
-    for name in names.iter().take(MOST_LINES) {
+    for name in names.iter().take(MAX_LINES) {
         push_bytes(alloc, lines, name.as_str().as_bytes())?;
     }
     push_rest(alloc, lines, names.len())

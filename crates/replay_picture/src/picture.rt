@@ -1,13 +1,13 @@
 //! A script's bytes as a picture.
 
 use crate::replaying::{busiest_group, has_group, row_counts, story_of};
-use common_types::{OutOfMemory, TryCopy};
+use common_types::{OutOfMemory, TryClone};
 use entry_core::GroupId;
 use picture_text::{Story, mermaid_of, svg_of};
 use std::alloc::Global;
 
-/// A picture has at most so many rows, the last ones. Those of messages that are on their way at the end are among them.
-const MOST_ROWS: usize = 2_000;
+/// The largest number of rows of a picture, the last ones. They include those of messages on their way at the end.
+const MAX_ROWS: usize = 2_000;
 
 /// What a picture is written as.
 #[derive(Clone, Copy)]
@@ -51,7 +51,7 @@ fn copy_group(group: &Option<GroupId>) -> Result<Option<GroupId>, OutOfMemory> {
 /// What happens to a group in the last rows of a script.
 fn last_rows(alloc: Global, script: &[u8], group: &Option<GroupId>) -> Result<Story, OutOfMemory> {
     let (count, waiting) = row_counts(alloc, script, copy_group(group)?)?;
-    let first = count.saturating_add(waiting).saturating_sub(MOST_ROWS);
+    let first = count.saturating_add(waiting).saturating_sub(MAX_ROWS);
     story_of(alloc, script, copy_group(group)?, first)
 }
 
@@ -69,8 +69,9 @@ fn drawn(
     }
 }
 
-/// Draws what a script does to a group: to the one that is named, or else to the one with most messages. The lines up to the first
-/// that is no command are drawn. Nothing is drawn where the group that is named is none of the script's.
+/// Draws what a script does to a group: to the named one, or else to the one with most messages.
+///
+/// The lines up to the first that is no command are drawn. Nothing is drawn where the script has no group of that name.
 ///
 /// The script is replayed in worlds of its own, line by line.
 pub fn draw_script(

@@ -2,7 +2,7 @@
 
 use crate::naming::title_of;
 use crate::watching::Watched;
-use common_types::{Name, OutOfMemory, TryCopy};
+use common_types::{Name, OutOfMemory, TryClone};
 use entry_core::GroupId;
 use picture_text::{Beginning, Happening, Row, ScriptLine, Story};
 use place_core::{ActingSet, DaemonSet};
@@ -12,11 +12,11 @@ use std::mem;
 use world_core::{Ask, Event, World};
 use world_script::{Command, read_line};
 
-/// No settling takes so many deliveries.
-const MOST_DELIVERIES: u32 = u32::MAX;
+/// A bound of the deliveries of a settling. No settling reaches it.
+const MAX_DELIVERIES: u32 = u32::MAX;
 
-/// So many messages that are on their way at the end have a row.
-const MOST_WAITING: usize = 200;
+/// The largest number of messages on their way at the end that have a row.
+const MAX_WAITING: usize = 200;
 
 /// The rows of a picture as they are made, and the world that they are made of.
 struct Replay {
@@ -153,7 +153,7 @@ impl Replay {
 
     /// Delivers or loses the messages of a group until none is left.
     fn sweep_group(&mut self, sweep: Sweep, group: &GroupId) -> Result<(), OutOfMemory> {
-        for _ in 0..MOST_DELIVERIES {
+        for _ in 0..MAX_DELIVERIES {
             let Some(watched) = &self.watched else {
                 return Ok(());
             };
@@ -318,8 +318,8 @@ impl Replay {
             story.daemons = watched.daemons;
             mem::swap(&mut story.messages, &mut watched.messages);
             mem::swap(&mut story.waiting, &mut watched.waiting);
-            story.waiting_left_out = story.waiting.len().saturating_sub(MOST_WAITING);
-            story.waiting.truncate(MOST_WAITING);
+            story.waiting_left_out = story.waiting.len().saturating_sub(MAX_WAITING);
+            story.waiting.truncate(MAX_WAITING);
         }
         Ok(story)
     }
@@ -360,7 +360,7 @@ pub(crate) fn row_counts(
     replay.replay(script)?;
     let waiting = match &replay.watched {
         None => 0,
-        Some(watched) => watched.waiting.len().min(MOST_WAITING),
+        Some(watched) => watched.waiting.len().min(MAX_WAITING),
     };
     Ok((replay.count, waiting))
 }

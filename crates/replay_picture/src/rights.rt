@@ -2,7 +2,7 @@
 
 use crate::naming::push_id;
 use cap_text::AllowGrant;
-use common_types::{Name, OutOfMemory, TryCopy};
+use common_types::{Name, OutOfMemory, TryClone};
 use entry_core::Id;
 use grant_core::Path;
 use object_core::needs_of;

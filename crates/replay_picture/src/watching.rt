@@ -23,7 +23,7 @@ pub(crate) struct Watched {
     rights: Rights,
     tally: Tally,
     group: Option<GroupId>,
-    /// Whether decisions are told, for which all entries are looked at.
+    /// Whether decisions are reported. To report them, all entries are looked at.
     pub(crate) tells_decisions: bool,
     /// How many entries were decided in all groups, where it is known.
     decided: Option<usize>,
@@ -65,7 +65,7 @@ struct Seen {
     /// Whether it is sent once more.
     repeats: bool,
     change: Option<(u8, Change)>,
-    /// Whether a message comes to a daemon or the client.
+    /// Whether a message reaches a daemon or the client.
     delivers: bool,
 }
 
@@ -129,7 +129,7 @@ fn answered_by(message: &Sent) -> Option<Id> {
 }
 
 impl Watched {
-    /// A new world of so many daemons, of which one group is watched.
+    /// A new world of `daemons` daemons, of which one group is watched.
     pub(crate) fn new(
         alloc: Global,
         daemons: u8,
@@ -180,7 +180,7 @@ impl Watched {
         }
     }
 
-    /// How many entries were decided in all groups, where that is told.
+    /// How many entries were decided in all groups, or 0 where the event reports no decisions.
     fn decided_before(&self, seen: &Seen) -> Result<usize, OutOfMemory> {
         if !(seen.delivers && self.tells_decisions) {
             return Ok(0);
@@ -299,7 +299,7 @@ impl Watched {
         }
     }
 
-    /// The interval that began, by what is sent of it or, where nobody is told, by the map.
+    /// The interval that began, by the messages that announce it or, where none was sent, by the map.
     fn interval_after(&self, step: &WireStep) -> Option<(usize, ActingSet)> {
         for sent in &step.sent {
             if let Body::Interval(sets) = &sent.body {

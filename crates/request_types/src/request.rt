@@ -3,7 +3,7 @@
 ghost use Rattle.std.specs.Prelude.{Some};
 ghost use Rattle.request_types.specs.Text.{condition_text};
 
-use common_types::{Items, Name, OutOfMemory, Tags, TryCopy};
+use common_types::{Items, Name, OutOfMemory, Tags, TryClone};
 use std::fmt;
 use std::marker::Model;
 
@@ -97,7 +97,7 @@ impl fmt::Display for Condition {
     }
 }
 
-impl TryCopy for ClassCall {
+impl TryClone for ClassCall {
     fn copy(&self) -> Result<ClassCall, OutOfMemory> {
         Ok(ClassCall {
             class: self.class.copy()?,

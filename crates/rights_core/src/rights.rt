@@ -139,7 +139,7 @@ impl Rights {
         self.ticket.grants().is_empty()
     }
 
-    /// The path, the network and the grant at an index, or `None` where there are not so many grants.
+    /// The path, the network and the grant at an index, or `None` if the index is not below the number of grants.
     pub fn entry(&self, index: usize) -> Option<(&Path, Option<Network>, &AllowGrant)>
         ensures { MatchOption result (length self.now.grants ≤ index) (λ e. slice_get self.now.grants index ≡ Some (record { path = e.0.now; network = e.1; grant = e.2.now })) }
     {

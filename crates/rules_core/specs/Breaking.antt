@@ -94,7 +94,7 @@ IsPairBy pools ones one_writes others other_writes (Some pair) =
 abbrev pub crossing_of : Pair → Option Address → Option Address → Crossing
 crossing_of pair from other_from = record { one = record { from = from; example = pair.one }; other = record { from = other_from; example = pair.other } }
 
--- requests of grants that one address has and of rights at one of some addresses, or there are none at any
+-- requests of grants that one address has and of rights at one of some addresses, or no such requests at any
 abbrev pub IsCrossedWith : Option (List Pool) → Flat → Address → List NetworkGrant → List Address → Option Crossing → Type 0
 IsCrossedWith pools here a other samples None = (k : ℕ) (b : Address) → slice_get samples k ≡ Some b → IsCrossedBy pools here (grants_at other b) None
 IsCrossedWith pools here a other samples (Some crossing) =

@@ -7,7 +7,7 @@ ghost use Rattle.rules_core.specs.Narrowed as spec;
 use crate::demand::Demand;
 use cap_grants::copy_namespace;
 use cap_text::AllowGrant;
-use common_types::{OutOfMemory, TryCopy, copy_name};
+use common_types::{OutOfMemory, TryClone, copy_name};
 use compare_core::{Example, OwnedTarget, Registry, example_of};
 use grant_core::Path;
 use share_core::{Pool, is_for};
@@ -66,7 +66,7 @@ fn copy_needs(needs: &Needs) -> Result<Needs, OutOfMemory>
     })
 }
 
-/// The same request of a pool, with exactly its tags.
+/// An example's request as one of a pool, with exactly its tags.
 fn placed(example: &Example, pool: &Pool) -> Result<Example, OutOfMemory>
     ensures { IfOk result (λ placed. placed ≡ spec.placed pool.now example.now) }
 {

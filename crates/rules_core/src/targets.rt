@@ -4,7 +4,7 @@ ghost use Rattle.std.specs.Prelude.{◌≡◌, ◌≢◌, [], IfOk, MatchOption,
 ghost use Rattle.request_types.specs.Target.{Target as TargetSeen};
 ghost use Rattle.rules_core.specs.Touches.{Meets};
 
-use common_types::{OutOfMemory, TryCopy};
+use common_types::{OutOfMemory, TryClone};
 use compare_core::OwnedTarget;
 use share_core::{Pool, Touch, example_in, share, share_in, sharing};
 use std::alloc::Global;
@@ -64,8 +64,8 @@ fn common_in(
     Ok(found)
 }
 
-/// An object at which the one ticket allows a touch and the other another one, in some of the pools where they are given. Without
-/// one they share no listing either. Where there is none it takes no memory.
+/// An object at which `ones` allows `one` and `others` allows `other`, in one of `pools` if they are given. Without
+/// such an object they share no listing either, and no memory is allocated.
 pub(crate) fn common_target(
     alloc: Global,
     pools: Option<&[Pool]>,

@@ -5,7 +5,7 @@ ghost use Rattle.share_core.specs.Sharing as sharing;
 ghost use Rattle.rules_core.specs.Touches as spec;
 
 use cap_text::{Access, AllowGrant};
-use common_types::{Name, OutOfMemory, TryCopy};
+use common_types::{Name, OutOfMemory, TryClone};
 use grant_core::Path;
 use share_core::Touch;
 use std::alloc::Global;

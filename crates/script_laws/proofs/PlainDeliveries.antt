@@ -21,7 +21,7 @@ use Rattle.group_model.proofs.Runs.{delivered_idle}
 use Rattle.world_events.specs.declared.event.Event.{Event}
 use Rattle.world_events.specs.declared.event.Event.TheVariants.{Deliver}
 use Rattle.world_events.specs.declared.fault.WorldFault.TheVariants.{Group as OfGroup}
-use Rattle.world_front.specs.Front.{group_refusal}
+use Rattle.world_front.specs.ControlPlane.{group_refusal}
 use Rattle.world_core.specs.World.{World, group_at, decided_in, acted, refused_in, refusal_of, world_step}
 use Rattle.world_laws.specs.Recovery.{if_sent, deliveries_of}
 use Rattle.world_script.specs.Script.{has_messages, events_while, emptied_within, one_if_none, unrefused}

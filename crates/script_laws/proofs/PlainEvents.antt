@@ -35,7 +35,7 @@ use Rattle.world_events.specs.declared.event.Event.TheVariants.{Auth, Map, Open,
 use Rattle.world_events.specs.declared.fault.WorldFault.{WorldFault as Fault}
 use Rattle.world_events.specs.declared.fault.WorldFault.TheVariants.{Map as OfMap, Group as OfGroup}
 use Rattle.world_front.specs.Groups.{is_same_group, is_for}
-use Rattle.world_front.specs.Front.{Front, front_step, front_refusal, requests_of, requests_in, sealed_by, if_ok}
+use Rattle.world_front.specs.ControlPlane.{ControlPlane, front_step, front_refusal, requests_of, requests_in, sealed_by, if_ok}
 use Rattle.world_core.specs.World.{World, Part, part, group_at, members_of, moved_parts, asked_parts, parts_of, created_by, decided_in, act, acted, refused_in, parts_refusal, refusal_of, world_step}
 use Rattle.world_front.specs.Groups.{groups_of}
 use Rattle.world_core.specs.Holds.{events_in, group_step_alone}
@@ -221,7 +221,7 @@ asking_event p w e ask s free same parts new single =
 
 -- ---- the map
 
-next_map : (f : Front) (c : MapCommand) → FrontKept f → front_refusal f (Map c) ≡ None → IsMap (after (map_of f.history) c)
+next_map : (f : ControlPlane) (c : MapCommand) → FrontKept f → front_refusal f (Map c) ≡ None → IsMap (after (map_of f.history) c)
 next_map f c kept allowed = record { history = later f.history c; accepted = (front_kept f (Map c) kept allowed).accepted; is = after_push f.history.daemons f.history.commands c }
 
 Stays : World → MapCommand → Type 0
@@ -332,7 +332,7 @@ new_group : (p : Plain) (w : World) (name : List ℕ) (pg_num size min_size : �
 unfolding requests_of requests_in
 new_group p w name pg_num size min_size id g s allowed made =
     let c : MapCommand = PoolCreate name pg_num size min_size in
-    let f : Front = w.front in
+    let f : ControlPlane = w.front in
     let state : MapState = map_of f.history in
     let state' : MapState = after state c in
     let p' : Plain = asks (at_front p w) (Map c) in
@@ -423,5 +423,5 @@ happened_at p w (Kick id) s allowed quiet still = absurd (cc)
 
 pub happened : (p : Plain) (w : World) (e : Event) → Simulates p w → front_refusal p.front e ≡ None → is_message e ≡ false → is_move p.front e ≡ false → Happened p w e
 happened p w e s allowed quiet still =
-    let P : Front → Type 0 = λ f. Happened (record p { front = f }) w e in
+    let P : ControlPlane → Type 0 = λ f. Happened (record p { front = f }) w e in
     subst P (sym s.agrees.front) (happened_at p w e s (ap (λ f. front_refusal f e) (sym s.agrees.front) ∙ allowed) quiet (ap (λ f. is_move f e) (sym s.agrees.front) ∙ still))

@@ -69,7 +69,7 @@ is_if : (x : Decided) (b : Bool) (g h : Group) → Is x g → Is x h → Is x (i
 is_if x true g h p q = p
 is_if x false g h p q = q
 
--- what is no delivery decides nothing, and no loss or repeat is told here
+-- a submission, a new interval or a restart: such an event decides nothing
 abbrev pub IsStill : group.Event → Type 0
 IsStill (group.Submit s) = Unit {0}
 IsStill (group.NewInterval acting up) = Unit {0}

@@ -22,7 +22,7 @@ use Rattle.world_events.specs.declared.event.Event.{Event}
 use Rattle.world_events.specs.declared.fault.WorldFault.{WorldFault as Fault}
 use Rattle.world_events.specs.declared.event.Event.TheVariants as happens
 use Rattle.world_front.specs.Groups.{is_for}
-use Rattle.world_front.specs.Front.{front_refusal}
+use Rattle.world_front.specs.ControlPlane.{front_refusal}
 use Rattle.world_script.specs.declared.command.Command.{Command}
 use Rattle.world_script.specs.declared.command.Command.TheVariants.{Osds, Happens, Submit, List as ListNames, Locate, ShowUser, ListUsers, Tick, Settle, KickAll, LoseAll, Answer as AskAnswer, Listing as AskListing, Ready}
 use Rattle.world_script.specs.Command.{read_line}

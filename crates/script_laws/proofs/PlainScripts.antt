@@ -24,7 +24,7 @@ use Rattle.world_events.specs.declared.fault.WorldFault.{WorldFault as Fault}
 use Rattle.world_events.specs.declared.event.Event.TheVariants.{Auth, Map, Open, Renew, Close, Submit as SubmitEvent, List as ListEvent, Deliver, Lose, Repeat, Kick}
 use Rattle.world_events.specs.declared.fault.WorldFault.TheVariants.{Group as OfGroup}
 use Rattle.world_front.specs.Groups.{is_for}
-use Rattle.world_front.specs.Front.{front_refusal, group_refusal, told_of}
+use Rattle.world_front.specs.ControlPlane.{front_refusal, group_refusal, told_of}
 use Rattle.world_core.specs.World.{World, first_world, group_at, members_of, parts_of, parts_refusal, refusal_of, is_drop}
 use Rattle.world_core.specs.Standing.{audit_in, audit_at}
 use Rattle.world_core.specs.Answers.{answer_in as answer_in_group, answer_to, answer_at}

@@ -23,7 +23,7 @@ use Rattle.group_model.proofs.SameGroups.{same_settle}
 use Rattle.world_events.specs.declared.event.Event.{Event}
 use Rattle.world_events.specs.declared.event.Event.TheVariants.{Deliver}
 use Rattle.world_front.specs.Groups.{is_same_group, is_for}
-use Rattle.world_front.specs.Front.{Front, group_refusal}
+use Rattle.world_front.specs.ControlPlane.{ControlPlane, group_refusal}
 use Rattle.world_core.specs.World.{World, group_at, members_of, world_step, world_after}
 use Rattle.world_core.specs.Holds.{AcceptedFrom, AreAccepted}
 use Rattle.world_laws.specs.Places.{HasPlaces, IsFoundByPlace}
@@ -201,9 +201,9 @@ settling_next : (p p' : Plain) (w : World) (x : GroupId) (xs : List GroupId) (g 
 settling_next p p' w x xs g es s d r n =
     let w' : World = fold world_step w es in
     let l = agrees_legal p w w' es s.agrees refl d.accepted in
-    let H : Front → GroupId → Group → Type 0 = λ f id h. GroupAgrees (map_of f.history) p' id h in
-    let O : Front → GroupId → Group → Type 0 = λ f id h. filter (is_same_group id) xs ≡ id ∷ [] → Owes (map_of f.history) p' id h in
-    let R : Front → GroupId → Group → Type 0 = λ f id h. filter (is_same_group id) xs ≡ [] → Rested (map_of f.history) p' id h in
+    let H : ControlPlane → GroupId → Group → Type 0 = λ f id h. GroupAgrees (map_of f.history) p' id h in
+    let O : ControlPlane → GroupId → Group → Type 0 = λ f id h. filter (is_same_group id) xs ≡ id ∷ [] → Owes (map_of f.history) p' id h in
+    let R : ControlPlane → GroupId → Group → Type 0 = λ f id h. filter (is_same_group id) xs ≡ [] → Rested (map_of f.history) p' id h in
     record {
       agrees = record {
         daemons = s.agrees.daemons;

@@ -27,7 +27,7 @@ use Rattle.group_model_whole.specs.Calm.{IsCalm, answer_with}
 use Rattle.group_model.proofs.SameGroups.{same_step, takes_last}
 use Rattle.world_events.specs.declared.event.Event.{Event}
 use Rattle.world_front.specs.Groups.{is_same_group, is_for}
-use Rattle.world_front.specs.Front.{Front}
+use Rattle.world_front.specs.ControlPlane.{ControlPlane}
 use Rattle.world_core.specs.World.{World, group_at, members_of, world_step, world_after, refusal_of, accepts, is_accepted}
 use Rattle.world_core.specs.Holds.{AreAccepted}
 use Rattle.world_script.specs.Script.{places}
@@ -124,7 +124,7 @@ unless_none false x h = refl
 least_found : (state : MapState) (id : GroupId) (p : Pool) → find (is_named id.pool) state.pools ≡ Some p → least_of state id ≡ p.min_size
 least_found state id p h = ap (λ o. option_map_or (λ (q : Pool). q.min_size) o 0) h
 
-pub remains : (f : Front) (c : MapCommand) (id : GroupId) (g : Group) → GroupKept f id g → moves (map_of f.history) c id ≡ false → Remains (map_of f.history) c id
+pub remains : (f : ControlPlane) (c : MapCommand) (id : GroupId) (g : Group) → GroupKept f id g → moves (map_of f.history) c id ≡ false → Remains (map_of f.history) c id
 remains f c id g k still =
     let state : MapState = map_of f.history in
     let next : map_of (later f.history c) ≡ after state c = after_push f.history.daemons f.history.commands c in
@@ -149,7 +149,7 @@ remains f c id g k still =
     }
 
 -- the place of a group is one of the map's
-pub of_places : (P : GroupId → Type 0) (f : Front) (id : GroupId) (g : Group) → FrontKept f → GroupKept f id g → Each P (places f) → P id
+pub of_places : (P : GroupId → Type 0) (f : ControlPlane) (id : GroupId) (g : Group) → FrontKept f → GroupKept f id g → Each P (places f) → P id
 of_places P f id g kept k all =
     let one : filter (is_same_group id) (places f) ≡ id ∷ [] =
     places_once id (map_of f.history).pools k.pool.is.pool (once f kept) (found_in f.history id.pool k.groups k.pool) (subst (λ n. id.number < n) (sym k.pool.is.groups) k.number) in

@@ -7,7 +7,7 @@ use Rattle.map_core.specs.Refusal.{is_word, tags_in, pairs_in, has_app, has_key,
 use Rattle.place_core.specs.Placement.{rank_of, is_before, acting_of, numbers_of}
 use Rattle.cap_text.specs.Machine.{step}
 use Rattle.cap_text.specs.ReadText.{read_text}
-use Rattle.world_front.specs.Front.{requests_of, requests_in}
+use Rattle.world_front.specs.ControlPlane.{requests_of, requests_in}
 use Rattle.script_laws.specs.Worked.{script, printed, WorkedScript, WorkedLongerScript, WorldsCount, longer_script, longer_printed, in_list}
 use Rattle.world_script.specs.Script.{Output, Whole, BadAt}
 use Rattle.script_laws.specs.Plain.{output_in, plain_output, IsPlain}

@@ -28,7 +28,7 @@ use Rattle.world_events.specs.declared.fault.WorldFault.{WorldFault as Fault}
 use Rattle.world_events.specs.declared.event.Event.TheVariants.{Map, Deliver, Lose, Repeat, Kick}
 use Rattle.world_events.specs.declared.event.Event.TheVariants as happens
 use Rattle.world_front.specs.Groups.{is_same_group, is_for}
-use Rattle.world_front.specs.Front.{Front, first_front, front_step, front_refusal, sealed_by, told_of, group_refusal}
+use Rattle.world_front.specs.ControlPlane.{ControlPlane, first_front, front_step, front_refusal, sealed_by, told_of, group_refusal}
 use Rattle.world_core.specs.World.{members_of}
 use Rattle.world_script.specs.declared.command.Command.{Command}
 use Rattle.world_script.specs.declared.command.Command.TheVariants.{Osds, Happens, Submit, List as ListNames, Locate, ShowUser, ListUsers, Tick, Settle, KickAll, LoseAll, Answer as AskAnswer, Listing, Ready}
@@ -48,7 +48,7 @@ abbrev pub in_store : Keeping Store
 in_store = record { nothing = empty; decide = λ store s. of_decision store s (decision_on store s) }
 
 pub record PlainIn (S : Type 0) : Type 0 where
-  pub front : Front
+  pub front : ControlPlane
   pub tick : ℕ
   pub objects : S
   pub pending : List Sealed  -- without an answer, in order of submission
@@ -88,10 +88,10 @@ abbrev pub least_of : MapState → GroupId → ℕ
 least_of state id = option_map_or (λ (p : Pool). p.min_size) (find (is_named id.pool) state.pools) 0
 
 -- whether the acting set of a place is large enough
-abbrev pub is_enough : Front → GroupId → Bool
+abbrev pub is_enough : ControlPlane → GroupId → Bool
 is_enough front id = nat_le (least_of (map_of front.history) id) (length (members_of (map_of front.history) id))
 
-abbrev pub members_count : Front → GroupId → ℕ
+abbrev pub members_count : ControlPlane → GroupId → ℕ
 members_count front id = length (members_of (map_of front.history) id)
 
 abbrev pub is_open : {S : Type 0} → PlainIn S → GroupId → Bool
@@ -126,7 +126,7 @@ settled_step c = Goes (line (codes "settled " ++ numeral c.count)) (rested c.pla
 abbrev pub moves : MapState → MapCommand → GroupId → Bool
 moves state command id = is_some (begun command (set_of state id.pool id.number) (set_of (after state command) id.pool id.number))
 
-abbrev pub is_move : Front → Event → Bool
+abbrev pub is_move : ControlPlane → Event → Bool
 is_move front (Map command) = list_any (moves (map_of front.history) command) (places front)
 is_move front e = false
 
@@ -221,6 +221,6 @@ PlainScriptsPrint = (bytes : List ℕ) → IsPlain (plain_output bytes).ending �
 abbrev pub PlainBeginnings : Type 0
 PlainBeginnings = (bytes : List ℕ) → (rest : List ℕ) × ((plain_output bytes).text ++ rest ≡ (script_output bytes).text)
 
--- so what was written by a plain script, however it ended, is told by plain_output
+-- so plain_output gives what a plain script has written, however it ended
 abbrev pub PlainScriptsWrite : Type 0
 PlainScriptsWrite = (bytes : List ℕ) (old new : Option (List ℕ)) (result : Result (Unit {0}) ScriptFault) → IsPlain (plain_output bytes).ending → WroteOf bytes old new result → Wrote (plain_output bytes) old new result

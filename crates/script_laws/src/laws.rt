@@ -3,9 +3,11 @@
 ghost use Rattle.script_laws.specs.Worked.{WorkedScript, WorkedLongerScript, WorldsCount};
 ghost use Rattle.script_laws.specs.Plain.{PlainScriptsPrint, PlainBeginnings, PlainScriptsWrite};
 
-/// What a script writes that names no message, and in which no group begins a second interval, is what one store without
-/// groups, copies and messages writes: a settling decides what waits, in the order of submission, group after group. So is
-/// what any script writes before its first line that names a message, kicks, or begins such an interval.
+/// A plain script writes what one store without groups, copies and messages writes. A plain script names no message,
+/// does not kick, and begins no second interval of a group.
+///
+/// In the one store, a settling decides what waits, in the order of submission, group after group. Any script writes
+/// what that store writes before its first line that names a message, kicks, or begins a second interval of a group.
 pub fn plain_scripts_print()
     ensures print { PlainScriptsPrint }
     ensures begin { PlainBeginnings }

@@ -69,7 +69,7 @@ digits_before ds place d low =
     let next : suc place ≡ place + 1 = omega arith in
     ap digits_text (drop-cons ds place d low) ∙ ap (λ k. digits_text (drop k ds) ++ (48 + get_or ds place d) ∷ []) next
 
--- so many digits were printed, and one more is
+-- the digits behind the first `left` were printed, and one more is
 pub printed_next : (old now next : List ℕ) (ds : List ℕ) (left d : ℕ) → 0 < left → left ≤ length ds → now ≡ old ++ digits_text (drop left ds) → next ≡ now ++ (48 + get_or ds (left - 1) d) ∷ []
     → next ≡ old ++ digits_text (drop (left - 1) ds)
 printed_next old now next ds left d some low is more =

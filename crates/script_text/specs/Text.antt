@@ -25,7 +25,7 @@ glyph b = if stands_for_itself b then b ∷ [] else escape b
 abbrev pub quoted : List ℕ → List ℕ
 quoted text = 34 ∷ (flat_map glyph text ++ 34 ∷ [])
 
--- a number in at most so many decimal digits
+-- a number in decimal digits, at most as many as the first argument
 abbrev pub numeral_within : ℕ → ℕ → List ℕ
 numeral_within zero n = []
 numeral_within (suc most) n = if nat_lt n 10 then (48 + n) ∷ [] else numeral_within most (n / 10) ++ (48 + n % 10) ∷ []

@@ -51,7 +51,7 @@ is_sound line = nat_le (length line) 8192 && list_all is_printable line
 abbrev pub words_of : List ℕ → Option (List (List ℕ))
 words_of line = if is_sound line then words_from Between line else None
 
--- so many words and no more
+-- exactly one, two, three or four words
 
 abbrev pub one_of : List (List ℕ) → Option (List ℕ)
 one_of (a ∷ []) = Some a
@@ -69,7 +69,7 @@ abbrev pub four_of : List (List ℕ) → Option (List ℕ × List ℕ × List �
 four_of (a ∷ b ∷ c ∷ d ∷ []) = Some (a, b, c, d)
 four_of ws = None
 
--- what was read, where these words are left behind it: it counts where there are none
+-- what was read, if no words are left behind it, and else `None`
 abbrev pub whole_of : {A : Type 0} → List (List ℕ) → Option A → Option A
 whole_of [] found = found
 whole_of (w ∷ ws) found = None

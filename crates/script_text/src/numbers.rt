@@ -5,7 +5,7 @@ ghost use Rattle.std.specs.Str.{all_ascii_digits};
 ghost use Rattle.script_text.specs.Numbers as spec;
 
 /// The most digits that a number may have.
-const MOST_DIGITS: usize = 10;
+const MAX_DIGITS: usize = 10;
 
 fn are_digits(word: &[u8]) -> bool
     ensures { result ≡ all_ascii_digits word.now }
@@ -22,7 +22,7 @@ fn are_digits(word: &[u8]) -> bool
 pub fn number_of(word: &str) -> Option<u32>
     ensures { result ≡ spec.number_of word.now }
 {
-    if word.len() > MOST_DIGITS || !are_digits(word.as_bytes()) {
+    if word.len() > MAX_DIGITS || !are_digits(word.as_bytes()) {
         return None;
     }
     word.parse::<u32>().ok()

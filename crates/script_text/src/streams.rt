@@ -9,7 +9,7 @@ use std::alloc::Global;
 use std::io::{Read, Write};
 
 /// The most bytes that a script may have.
-const SCRIPT_LIMIT: usize = 1_048_576;
+const MAX_SCRIPT_BYTES: usize = 1_048_576;
 
 /// The bytes that are read at a time.
 const CHUNK: usize = 4_096;
@@ -25,7 +25,7 @@ pub fn read_script<R: Read>(alloc: Global, reader: &mut R) -> Result<Vec<u8>, Sc
 {
     let mut script = Vec::new(alloc);
     let mut chunk = [0u8; CHUNK];
-    while script.len() <= SCRIPT_LIMIT {
+    while script.len() <= MAX_SCRIPT_BYTES {
         match reader.read(&mut chunk) {
             Err(_) => return Err(ScriptFault::Read),
             Ok(0) => return Ok(script),

@@ -11,7 +11,7 @@ use std::marker::Model;
 use std::str;
 
 /// The most bytes that a line may have.
-const LINE_LIMIT: usize = 8_192;
+const MAX_LINE_BYTES: usize = 8_192;
 
 /// What a text begins with: no word where one must stand, nothing, or a word and what is behind it.
 #[derive(Drop)]
@@ -177,7 +177,7 @@ impl<'a> Words<'a> {
     pub fn of(line: &'a [u8]) -> Option<Words<'a>>
         ensures { result ≡ words_of line.now }
     {
-        if line.len() > LINE_LIMIT || !are_printable(line) {
+        if line.len() > MAX_LINE_BYTES || !are_printable(line) {
             return None;
         }
         match str::from_utf8(line) {

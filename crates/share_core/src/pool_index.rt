@@ -98,8 +98,8 @@ impl<'a> PoolIndex<'a> {
         }
     }
 
-    /// Adds a ticket behind the others. Its only error is want of memory, which leaves the tickets as they were. Time goes by
-    /// its grants.
+    /// Adds a ticket behind the others. The only error is out of memory, which leaves the tickets as they were. The
+    /// time depends on its grants.
     pub fn add(&mut self, ticket: &'a Ticket) -> Result<(), OutOfMemory>
         ensures ok { OnOk result (self.new ≡ self.old ++ ticket.now.grants ∷ []) }
         ensures err { OnErr result (self.new ≡ self.old) }
@@ -121,12 +121,12 @@ impl<'a> PoolIndex<'a> {
         }
     }
 
-    /// The places from one on of the tickets that have to be looked at to see what they share with a ticket: those with a grant
-    /// for a pool that it names too, and those with a grant without a pool; where it has such a grant itself, all. No other one
-    /// shares anything with it. Places are counted from 0.
+    /// The indices, from `from` on, of the tickets that have to be checked to see what they share with a ticket. They
+    /// are those with a grant for a pool that it names too, and those with a grant without a pool. If it has such a
+    /// grant itself, they are all tickets. No other ticket shares anything with it. Indices are counted from 0.
     ///
-    /// Its only error is want of memory. Time goes by the ticket's grants and by the grants of all tickets that have to be
-    /// looked at, those before the place included.
+    /// The only error is out of memory. The time depends on the ticket's grants, and on the grants of all tickets that
+    /// have to be checked, including those before `from`.
     pub fn near(&self, ticket: &Ticket, from: usize) -> Result<Vec<usize>, OutOfMemory>
         ensures { IfOk result (λ places. AreNear ticket.now.grants self.now from places.items) }
     {

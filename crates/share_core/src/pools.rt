@@ -11,7 +11,7 @@ use crate::meetings::{namespaces_meet, pools_meet, prefixes_meet};
 use crate::targets::{common_namespace, common_object};
 use crate::touches::Touch;
 use cap_text::AllowGrant;
-use common_types::{Name, OutOfMemory, Tags, TryCopy};
+use common_types::{Name, OutOfMemory, Tags, TryClone};
 use compare_core::OwnedTarget;
 use grant_core::Path;
 use std::alloc::Global;
@@ -163,9 +163,9 @@ fn example_at(
     Ok(None)
 }
 
-/// A target of the first of the pools in which the one ticket allows a touch and the other another one, if there is such a
-/// pool. It is an object, and no listing. Its only error is want of memory, which leaves all as it is. Time goes by the pairs
-/// of grants for each pool up to that one.
+/// A target of the first of the pools in which the one ticket allows a touch and the other another one, if there is
+/// such a pool. It is an object, and no listing. The only error is out of memory, which leaves all as it is. The time
+/// depends on the pairs of grants for each pool up to that one.
 pub fn example_in(
     alloc: Global,
     ones: &Ticket,

@@ -130,9 +130,9 @@ fn examples(
     Ok(examples)
 }
 
-/// For each grant of the one ticket with each of the other, in order, that by themselves allow the one touch and the other
-/// one at a common target: their paths, and such a target, which is an object and no listing. Where there is none, the
-/// tickets share nothing. Its only error is want of memory, which leaves both as they are.
+/// The pairs of a grant of the one ticket and a grant of the other, in order, that by themselves allow the one touch
+/// and the other one at a common target. Each pair has its paths and such a target, which is an object and no listing.
+/// If there is no such pair, the tickets share nothing. The only error is out of memory, which leaves both as they are.
 pub fn sharing(
     alloc: Global,
     ones: &Ticket,

@@ -1,4 +1,4 @@
--- What is told of all readers, where it is told of those alone that were found.
+-- What is reported of all readers, where only those that were found are reported.
 use Rattle.std.proofs.Common.{◌≡◌, ℕ, zero, suc, ◌-◌, ◌<◌, ◌≤◌, ◌⊎◌, List, [], ◌∷◌, ◌++◌, Bool, true, false, ◌||◌, Option, Some, append-nil, get_or, slice_get, take, length, map, refl, sym, ap, subst, ◌∙◌, inl, inr, arith, length-append}
 use Rattle.std.proofs.Math.Seq.{take-append_seam}
 use Rattle.std.proofs.lemmas.Bool.{cases_eq, cases_lt}
@@ -43,7 +43,7 @@ place_told pools check tenants writer reader chain text fails found (inr (inl sa
 place_told pools check tenants writer reader chain text fails found (inr (inr none, empty, ends)) =
     absurd (no_empty_chain (WritesTo pools tenants) writer reader (subst (IsChain (WritesTo pools tenants) writer reader) none found.is))
 
--- a place of which nothing is told adds nothing
+-- a place of which nothing is reported adds nothing
 
 or_false : (fails : Bool) → fails ≡ (fails || false)
 or_false true = refl
@@ -52,7 +52,7 @@ or_false false = refl
 one_silent : (IsTold : ℕ → List ℕ → Bool → Type 0) (n : ℕ) (text : List ℕ) (fails : Bool) → IsTold n [] false → OfEach IsTold n text fails → OfEach IsTold (suc n) text fails
 one_silent IsTold n text fails silent before = (text, [], fails, false, before, silent, sym (append-nil text), or_false fails)
 
--- The places at which chains were found rise, and so many of them are below a number.
+-- Of the `count` places at which chains were found, exactly the first `m` are below `n`.
 record AreBelow (place_of : ℕ → ℕ) (count m n : ℕ) : Type 0 where
   pub within : m ≤ count
   pub below : (k : ℕ) → k < m → place_of k < n
@@ -96,13 +96,13 @@ elsewhere : (place_of : ℕ → ℕ) (count m n k : ℕ) → AreBelow place_of c
 elsewhere place_of count m n k one other inside (inl before) same = let low : place_of k < n = one.below k before in omega arith
 elsewhere place_of count m n k one other inside (inr past) same = let high : suc n ≤ place_of k = other.above k past inside in omega arith
 
--- what is told of those that were found is what is told at their places, and nothing is told at others
+-- what is reported of those that were found is what is reported at their places, and nothing is reported at others
 record AreSpread (IsTold FoundTold : ℕ → List ℕ → Bool → Type 0) (place_of : ℕ → ℕ) (count : ℕ) : Type 0 where
   pub rise : Rise place_of count
   pub told : (k : ℕ) (text : List ℕ) (fails : Bool) → k < count → FoundTold k text fails → IsTold (place_of k) text fails
   pub silent : (place : ℕ) → ((k : ℕ) → k < count → place_of k ≡ place → ⊥) → IsTold place [] false
 
--- what is told of the places below is that of those before the last one, and that of the last one
+-- what is reported of the places below is that of the places before the last one, then that of the last one
 told_to_last : (IsTold FoundTold : ℕ → List ℕ → Bool → Type 0) (place_of : ℕ → ℕ) (count n m : ℕ) (text : List ℕ) (fails : Bool) → AreSpread IsTold FoundTold place_of count
     → ((k : ℕ) (text : List ℕ) (fails : Bool) → AreBelow place_of count k n → OfEach FoundTold k text fails → OfEach IsTold n text fails)
     → AreBelow place_of count (suc m) (suc n) → (place_of m < n) ⊎ (n ≤ place_of m) → OfEach FoundTold (suc m) text fails → OfEach IsTold (suc n) text fails

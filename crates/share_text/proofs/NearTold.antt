@@ -1,4 +1,4 @@
--- What is told of the near ones alone is what is told of all.
+-- What is reported of the near ones alone is what is reported of all.
 use Rattle.std.proofs.Common.{◌≡◌, ◌<◌, ◌≤◌, ℕ, zero, suc, ◌+◌, ◌-◌, List, [], ◌∷◌, ◌++◌, Bool, true, false, ◌||◌, ◌⊎◌, Option, None, Some, drop, get_or, length, slice_get, slice_index, slice_index_or, leb, refl, sym, ap, subst, ◌∙◌, inl, inr, append_assoc, arith}
 use Rattle.std.specs.Prelude.{All, AllPairs, Contains}
 use Rattle.std.specs.Option.{option_map}
@@ -18,7 +18,7 @@ use Rattle.share_text.specs.declared.kind.Kind.TheVariants.{WritesWrites, Writes
 use Rattle.share_text.specs.declared.tenants.Strictness.{Strictness}
 use Rattle.share_text.specs.declared.tenants.Tenant.{Tenant}
 
--- of two who share nothing, nothing is told
+-- nothing is reported of two who share nothing
 
 pub no_share : (pools : Option (List Pool)) (kind : Kind) (ones others : Flat) → AreApart ones others → ¬ ShareWithin pools kind ones others
 no_share None kind ones others apart = (apart.anywhere (one_touch kind) (other_touch kind)).0
@@ -95,7 +95,7 @@ pub near_from : (grants : Flat) (tickets : List Flat) (from : ℕ) (places : Lis
 near_from grants tickets from places near =
     steps grants tickets from places (AllPairs-from_increasing places near.rising) (λ k d low. (near.inside k d low).0) (λ k d low. (near.inside k d low).1) near.others
 
--- what is told so far, and of the rest, is what is told of the whole
+-- what is reported so far, followed by what is reported of the rest, is what is reported of the whole
 abbrev pub ToldUpTo : (Tenant → List Tenant → List ℕ → Bool → Type 0) → List Tenant → List Tenant → ℕ → List ℕ → Bool → Type 0
 ToldUpTo IsTold whole all k text fails = (rest : List ℕ) (later : Bool) → InTurn IsTold (drop k all) rest later → InTurn IsTold whole (text ++ rest) (fails || later)
 
@@ -126,7 +126,7 @@ some_at (x ∷ xs) p inside =
     let found = get_or (x ∷ xs) p x in
     (found, slice_get-get_or (x ∷ xs) p x inside, drop_more (x ∷ xs) p x inside)
 
--- those between are told nothing
+-- nothing is reported of those between
 skipped : (IsTold : Tenant → List Tenant → List ℕ → Bool → Type 0) (whole all : List Tenant) (k n : ℕ) (text : List ℕ) (fails : Bool) → k + n ≤ length all
     → ((q : ℕ) (other : Tenant) → slice_get all q ≡ Some other → k ≤ q → q < k + n → IsTold other (drop (q + 1) all) [] false)
     → ToldUpTo IsTold whole all k text fails → ToldUpTo IsTold whole all (k + n) text fails
@@ -164,7 +164,7 @@ skip_to pools strictness one whole all k p text fails past inside apart so_far =
     (skipped (TellsPair pools strictness one) whole all k (p - k) text fails within
     (λ q other at low high. apart_told pools strictness one other (apart q other.ticket.now.grants (grants_at all q other at) low (omega (arith, past, high)))) so_far)
 
--- what is told before a place, of whom the near ones are left
+-- what is reported of those before a place; the near ones from there on are left
 pub record NearTold (pools : Option (List Pool)) (strictness : Strictness) (one : Tenant) (whole all : List Tenant) (near : List ℕ) (text : List ℕ) (fails : Bool) : Type 0 where
   pub place : ℕ
   pub steps : NearFrom one.ticket.now.grants (grants_of all) place near

@@ -1,4 +1,4 @@
--- Where what a tenant writes may come to, and what is told of it.
+-- Where the data that a tenant writes may flow, and what is reported of it.
 use Rattle.std.proofs.Common.{◌≡◌, ℕ, zero, suc, ◌+◌, ◌<◌, ◌≤◌, ◌⊎◌, ◌↔◌, List, [], ◌∷◌, ◌++◌, Bool, ◌||◌, Option, Some, append_assoc, codes, drop, get_or, slice_get, slice_index, length, map, refl, sym, ap, subst, ◌∙◌, inl, inr, add-one, arith, length-append}
 use Rattle.std.specs.List.{Contains}
 use Rattle.std.proofs.Math.Seq.{get_or-append_seam}
@@ -98,7 +98,7 @@ all_readers pools grants tenants near readers are keeps place = (
       (keeps place).1 (reads_near pools grants tenants near place h.1 (are.others place (grants_at tenants place) at (omega arith)), h.1),
 )
 
--- so many lists of places, each of those of which something holds
+-- `count` lists of places, each list of the places of which something holds
 pub record AreLists (Holds : ℕ → ℕ → Type 0) (n : ℕ) (lists : List (List ℕ)) (count : ℕ) : Type 0 where
   pub size : length lists ≡ count
   pub each : (one : ℕ) → one < count → ListsBelow (Holds one) (get_or lists one []) n

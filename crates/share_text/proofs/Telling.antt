@@ -1,4 +1,4 @@
--- What is told of tenants, one after another.
+-- What is reported of tenants, one after another.
 use Rattle.std.proofs.Common.{◌≡◌, ℕ, ◌+◌, ◌<◌, ◌≤◌, zero, suc, List, [], ◌∷◌, ◌++◌, Bool, true, false, ◌||◌, get_or, drop, length, map, refl, sym, ap, subst, ◌∙◌, inl, inr, append_assoc, arith}
 use Rattle.std.proofs.lemmas.List.{drop_all, drop_more, length-map}
 use Rattle.verdict_text.specs.declared.entity.ReadEntity.{ReadEntity}
@@ -39,7 +39,7 @@ pub all_tenants : (entities : List ReadEntity) (i : ℕ) (tenants : List Tenant)
 all_tenants entities i tenants past so_far =
     subst (AreTenants entities) (append_nil tenants) (so_far [] (subst (λ l. AreTenants l []) (sym (drop_all i entities past)) refl))
 
--- what is told so far, and of the rest, is what is told of all
+-- what is reported so far, followed by what is reported of the rest, is what is reported of all
 abbrev pub ToldSoFar : (Tenant → List Tenant → List ℕ → Bool → Type 0) → List Tenant → ℕ → List ℕ → Bool → Type 0
 ToldSoFar IsTold all i text fails = (rest : List ℕ) (later : Bool) → InTurn IsTold (drop i all) rest later → InTurn IsTold all (text ++ rest) (fails || later)
 

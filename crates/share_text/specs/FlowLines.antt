@@ -12,15 +12,15 @@ IsChainTold check tenants writer reader chain text fails =
     ((writer ≢ reader) × (chain ≢ []) × (text ≡ flow_line tenants writer reader (take (length chain - 1) chain)) × (fails ≡ check))
     ⊎ (((writer ≡ reader) ⊎ (chain ≡ [])) × (text ≡ []) × (fails ≡ false))
 
--- what is told of a chain that was found, by where it is listed
+-- what is reported of a chain that was found, by its index in the list
 abbrev pub IsFoundTold : Bool → List Tenant → ℕ → List Found → ℕ → List ℕ → Bool → Type 0
 IsFoundTold check tenants writer found index text fails =
     (one : Found) × (slice_get found index ≡ Some one) × IsChainTold check tenants writer one.end one.chain.items text fails
 
--- what is told of the chains that were found from a tenant
+-- what is reported of the chains that were found from a tenant
 abbrev pub AreChainsTold : Bool → List Tenant → ℕ → List Found → List ℕ → Bool → Type 0
 AreChainsTold check tenants writer found text fails = OfEach (IsFoundTold check tenants writer found) (length found) text fails
 
--- what is told of a tenant by the chains that steps give
+-- what is reported of a tenant by the chains that the steps give
 abbrev pub IsWriterTold : Bool → List Tenant → List (List ℕ) → ℕ → List ℕ → Bool → Type 0
 IsWriterTold check tenants steps writer text fails = (found : List Found) × AreFound steps writer found × AreChainsTold check tenants writer found text fails

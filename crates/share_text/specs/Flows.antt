@@ -1,6 +1,6 @@
 -- Statement: contracts of public calls use it.
--- What is printed of where what an entity of a file writes may come to, by others who read it and write (this project's
--- profile). Every line ends with byte 10.
+-- What is printed of where the data that an entity of a file writes may flow, through others who read it and write
+-- (this project's profile). Every line ends with byte 10.
 use Rattle.std.specs.Prelude.{ℕ, zero, suc, ◌≡◌, ◌≢◌, ◌<◌, ◌⊎◌, ◌↔◌, ◌||◌, List, [], ◌∷◌, ◌++◌, Bool, false, Option, codes, length, map, string_bytes}
 use Rattle.std.specs.List.{slice_index_or}
 use Rattle.flow_core.specs.Chains.{IsChain, IsShortest, IsStep}
@@ -41,27 +41,27 @@ abbrev pub flow_line : List Tenant → ℕ → ℕ → List ℕ → List ℕ
 flow_line tenants writer reader between =
     shown (name_at tenants writer) ++ (codes " reaches " ++ (shown (name_at tenants reader) ++ (through_words tenants (codes " through ") between ++ codes "\n")))
 
--- what is told of two different tenants: a line by a shortest chain from the one to the other, and nothing where there is no
--- chain; a check fails where there is a line
+-- what is reported of two different tenants: a line by a shortest chain from the one to the other, or nothing where no
+-- chain exists; a check fails where there is a line
 abbrev pub IsFlowTold : Option (List Pool) → Bool → List Tenant → ℕ → ℕ → List ℕ → Bool → Type 0
 IsFlowTold pools check tenants writer reader text fails =
     ((between : List ℕ) × IsShortest (WritesTo pools tenants) writer reader (between ++ reader ∷ []) × (text ≡ flow_line tenants writer reader between)
     × (fails ≡ check))
     ⊎ (((chain : List ℕ) → ¬ IsChain (WritesTo pools tenants) writer reader chain) × (text ≡ []) × (fails ≡ false))
 
--- nothing is told of a tenant and itself
+-- nothing is reported of a tenant and itself
 abbrev pub IsPlaceTold : Option (List Pool) → Bool → List Tenant → ℕ → ℕ → List ℕ → Bool → Type 0
 IsPlaceTold pools check tenants writer reader text fails =
     ((writer ≢ reader) × IsFlowTold pools check tenants writer reader text fails) ⊎ ((writer ≡ reader) × (text ≡ []) × (fails ≡ false))
 
--- what is told of each place below a number, in turn; it fails where it fails for one
+-- what is reported of each place below a number, in turn; it fails where it fails for one
 abbrev pub OfEach : (ℕ → List ℕ → Bool → Type 0) → ℕ → List ℕ → Bool → Type 0
 OfEach IsTold zero text fails = (text ≡ []) × (fails ≡ false)
 OfEach IsTold (suc place) text fails =
     (front rest : List ℕ) × (first later : Bool) × OfEach IsTold place front first × IsTold place rest later
     × (text ≡ front ++ rest) × (fails ≡ (first || later))
 
--- what is told of some tenants: of each who writes with each who reads, in the file's order
+-- what is reported of some tenants: of each who writes with each who reads, in the file's order
 abbrev pub AreReachesTold : Option (List Pool) → Bool → List Tenant → List ℕ → Bool → Type 0
 AreReachesTold pools check tenants text fails =
     OfEach (λ writer. OfEach (IsPlaceTold pools check tenants writer) (length tenants)) (length tenants) text fails

@@ -76,8 +76,8 @@ abbrev pub pair_by : Format → Kind → List ℕ → List ℕ → Target → Li
 pair_by Text kind one other target = pair_line kind one other target
 pair_by Json kind one other target = piece (pair_document kind one other target)
 
--- what is told of two tenants by a kind: nothing where there is none, and else a target at which they share so; a check fails
--- where one of them writes
+-- what is reported of two tenants by a kind: nothing where no kind is given, else a target that they share by this
+-- kind; a check fails where one of them writes
 abbrev pub IsToldBy : Option (List Pool) → Strictness → Option Kind → Tenant → Tenant → List ℕ → Bool → Type 0
 IsToldBy pools strictness None one other text fails = (text ≡ []) × (fails ≡ false)
 IsToldBy pools strictness (Some kind) one other text fails =
@@ -88,14 +88,14 @@ abbrev pub IsPairTold : Option (List Pool) → Strictness → Tenant → Tenant 
 IsPairTold pools strictness one other text fails =
     (found : Option Kind) × IsStrongest pools strictness.reads one.ticket.now.grants other.ticket.now.grants found × IsToldBy pools strictness found one other text fails
 
--- what is told of each tenant, and of those behind it, in turn; it fails where it fails for one
+-- what is reported of each tenant with those after it, in turn; it fails where it fails for one
 abbrev pub InTurn : (Tenant → List Tenant → List ℕ → Bool → Type 0) → List Tenant → List ℕ → Bool → Type 0
 InTurn IsTold [] text fails = (text ≡ []) × (fails ≡ false)
 InTurn IsTold (one ∷ others) text fails =
     (front rest : List ℕ) × (first later : Bool) × IsTold one others front first × InTurn IsTold others rest later
     × (text ≡ front ++ rest) × (fails ≡ (first || later))
 
--- what is told of a tenant with each of some others
+-- what is reported of a tenant with each of some others
 abbrev pub IsToldWith : Option (List Pool) → Strictness → Tenant → List Tenant → List ℕ → Bool → Type 0
 IsToldWith pools strictness one others text fails = InTurn (λ other behind. IsPairTold pools strictness one other) others text fails
 

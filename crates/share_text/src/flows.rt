@@ -1,4 +1,4 @@
-//! Where what an entity of a file writes may come to.
+//! Where the data that an entity of a file writes may flow.
 
 ghost use Rattle.std.specs.Prelude.{ℕ, ◌≡◌, ◌++◌, ◌<◌, ◌↔◌, map, length, codes, string_bytes, option_copied, IfOk, OnOk};
 ghost use Rattle.std.specs.List.{Contains};
@@ -105,7 +105,8 @@ fn flow_line(
     Ok(text)
 }
 
-/// What is told of two tenants, of which the one reaches the other by a chain, or not where it has no places.
+/// What is reported of two tenants, where the one reaches the other by a chain: a line with the chain. Nothing is
+/// reported where the chain is empty, or where both are the same tenant.
 fn told_chain(
     alloc: Global,
     tenants: &[Tenant<'_>],
@@ -124,7 +125,7 @@ fn told_chain(
     Ok(Printed { text, fails: check })
 }
 
-/// What is told of a tenant with each to which a chain was found.
+/// What is reported of a tenant with each tenant to which a chain was found.
 fn told_chains(
     alloc: Global,
     tenants: &[Tenant<'_>],
@@ -143,7 +144,7 @@ fn told_chains(
     Ok(printed)
 }
 
-/// What is told of each tenant, by the chains that steps give.
+/// What is reported of each tenant, by the chains that the steps give.
 fn told_writers(
     alloc: Global,
     tenants: &[Tenant<'_>],
@@ -161,21 +162,32 @@ fn told_writers(
     Ok(printed)
 }
 
-/// What the program prints of where what an entity writes may come to: for each who writes, and each other who reads, in the
-/// file's order, a line `WRITER reaches READER` where the one writes what the other reads, and else
-/// `WRITER reaches READER through MIDDLE, MIDDLE` where each of these writes what the next one reads, by as few between as can
-/// be. Who calls a method that reads or writes counts as one who reads or writes. With a check it fails where there is a line.
+/// What the program prints of where the data that an entity writes may flow.
 ///
-/// It is what may come to be known, not what does: an entity between need not write what it reads. Where pools are given, a
-/// target counts only if it is of one of them, with exactly its tags. Without them each target counts that can be.
+/// For each who writes and each other who reads, in the file's order, it prints at most one line:
+/// - `WRITER reaches READER` where the one writes what the other reads;
+/// - else `WRITER reaches READER through MIDDLE, MIDDLE` where each of these writes what the next one reads, with as
+///   few between as possible.
 ///
-/// A grant counts at the addresses of its network, and one writes what another reads if they do from some address of each.
+/// Who calls a method that reads or writes counts as one who reads or writes. With a check it fails where there is a
+/// line.
 ///
-/// An entity whose text has no rights is left out. A name's bytes outside 32 to 126 are shown as `\x` and two hexadecimal
-/// digits. The only error is want of memory, which leaves nothing. Time goes by the pairs of entities that name a common pool,
-/// or of which one has a grant without a pool, and for each by the pairs of their grants, and then for each entity by those whom
-/// it reaches, by the pairs of these of which one writes what the other reads, and by what is printed. The lines are this
-/// project's profile.
+/// A line shows what may become known, not what does: an entity between need not write what it reads. Where pools are
+/// given, a target counts only if it is of one of them, with exactly its tags. Without pools, each possible target
+/// counts.
+///
+/// A grant counts at the addresses of its network. One writes what another reads if they do from some address of each.
+///
+/// An entity whose text has no rights is left out. A name's bytes outside 32 to 126 are shown as `\x` and two
+/// hexadecimal digits. The only error is `OutOfMemory`, which leaves nothing.
+///
+/// Time grows with:
+/// - the pairs of entities that name a common pool, or of which one has a grant without a pool, and for each such pair
+///   with the pairs of their grants;
+/// - for each entity, those whom it reaches, and the pairs of these of which one writes what the other reads;
+/// - what is printed.
+///
+/// The lines are this project's profile.
 pub fn flow_entities(
     alloc: Global,
     entities: &[ReadEntity],

@@ -24,12 +24,12 @@ use std::alloc::Global;
 use verdict_core::Ticket;
 use verdict_text::{Format, Printed, ReadEntity, list_by, push_shown_text};
 
-/// How much of what entities share is told, what fails, and how it is printed.
+/// How much of what entities share is reported, what fails, and in which format it is printed.
 #[derive(Clone, Copy, Debug)]
 pub struct Strictness {
-    /// Two that read one object are told too, where neither writes what the other may touch.
+    /// Whether two that read one object are reported too, where neither writes what the other may touch.
     pub reads: bool,
-    /// It fails where one writes what another reads or writes.
+    /// Whether it fails where one writes what another reads or writes.
     pub check: bool,
     /// As lines, or as one document.
     pub format: Format,
@@ -255,7 +255,7 @@ fn pair_by(
     }
 }
 
-/// Nothing is told, which does not fail.
+/// An empty report, which does not fail.
 pub(crate) fn nothing(alloc: Global) -> Printed
     ensures text { string_bytes result.text ≡ [] }
     ensures fails { result.fails ≡ false }
@@ -266,7 +266,7 @@ pub(crate) fn nothing(alloc: Global) -> Printed
     }
 }
 
-/// What is told of two tenants that share this target so. A check fails where one of them writes.
+/// What is reported of two tenants that share this target by a kind. A check fails where one of them writes.
 fn told_at(
     alloc: Global,
     kind: Kind,
@@ -285,7 +285,7 @@ fn told_at(
     })
 }
 
-/// What is told of two tenants that share something of a kind.
+/// What is reported of two tenants that share something of a kind.
 fn told_so(
     alloc: Global,
     kind: Kind,
@@ -318,7 +318,7 @@ fn example_so(
     example_in(alloc, ones, &one, others, &other, pools)
 }
 
-/// What is told of two tenants that share something of a kind in some of the pools.
+/// What is reported of two tenants that share something of a kind in some of the pools.
 fn told_so_in(
     alloc: Global,
     kind: Kind,
@@ -336,7 +336,7 @@ fn told_so_in(
     }
 }
 
-/// What is told of two tenants that share something of a kind, in some of the pools where they are given.
+/// What is reported of two tenants that share something of a kind: in some of the pools, where pools are given.
 fn told_within(
     alloc: Global,
     kind: Kind,
@@ -354,7 +354,7 @@ fn told_within(
     }
 }
 
-/// What is told of two tenants.
+/// What is reported of two tenants.
 fn told_pair(
     alloc: Global,
     strictness: Strictness,
@@ -370,7 +370,7 @@ fn told_pair(
     }
 }
 
-/// Adds what is told behind what is printed, which fails where one of them does.
+/// Appends a report to what is printed. The whole fails where one of them does.
 pub(crate) fn push_told(printed: &mut Printed, told: &Printed) -> Result<(), OutOfMemory>
     ensures text { OnOk result (string_bytes printed.new.text ≡ string_bytes printed.old.text ++ string_bytes told.now.text) }
     ensures fails { OnOk result (printed.new.fails ≡ (printed.old.fails || told.now.fails)) }
@@ -380,8 +380,8 @@ pub(crate) fn push_told(printed: &mut Printed, told: &Printed) -> Result<(), Out
     Ok(())
 }
 
-/// What is told of a tenant with each of those from a place on, of whom the near ones are given: the others share nothing with
-/// it, so nothing is told of them.
+/// What is reported of a tenant with each of those from a place on. The near ones of these are given. The others share
+/// nothing with it, so nothing is reported of them.
 fn told_with(
     alloc: Global,
     strictness: Strictness,
@@ -416,7 +416,7 @@ pub(crate) fn index_of<'a>(
     Ok(index)
 }
 
-/// What is told of each two tenants.
+/// What is reported of each two tenants.
 fn told_each(
     alloc: Global,
     strictness: Strictness,
@@ -445,24 +445,28 @@ fn told_each(
     Ok(printed)
 }
 
-/// What the program prints of what the entities of a file share: for each two of them, once, in the file's order, that share
-/// something a line by the strongest kind, with one target that `osdgate verdict` takes, quoted for a shell: `ONE and OTHER
-/// write TARGET`, else `WRITER writes what READER reads TARGET`, else, where that is asked for, `ONE and OTHER read TARGET`.
-/// Who calls a method that reads or writes counts as one who reads or writes. With a check it fails where one writes what
-/// the other reads or writes.
+/// What the program prints of what the entities of a file share.
 ///
-/// Where pools are given, a target counts only if it is of one of them, with exactly its tags, and a line has one of the first
-/// pool in which the two share so. Without them each target counts that can be.
+/// Each two entities that share something have one line, in the file's order, by the strongest kind:
+/// - `ONE and OTHER write TARGET`;
+/// - else `WRITER writes what READER reads TARGET`;
+/// - else, where that is requested, `ONE and OTHER read TARGET`.
 ///
-/// A grant counts at the addresses of its network, and two share something if they do from some address of each.
+/// `TARGET` is one target that `osdgate verdict` takes, quoted for a shell. Who calls a method that reads or writes
+/// counts as one who reads or writes. With a check it fails where one writes what the other reads or writes.
 ///
-/// An entity whose text has no rights is left out. A name's bytes outside 32 to 126 are shown as `\x` and two hexadecimal
-/// digits. As a document it has the member `pairs`, of whose items each has `first`, `second`, `kind`, which is what the first
-/// one does and then the second one, and `example`, which is the target.
+/// Where pools are given, a target counts only if it is of one of them, with exactly its tags. A line then has a target
+/// of the first pool in which the two share by that kind. Without pools, each possible target counts.
 ///
-/// The only error is want of memory, which leaves nothing. Time goes by the pairs of entities that name a common pool, or of
-/// which one has a grant without a pool, and for each by the pairs of their grants; the pools are looked at where two grants
-/// meet. The lines are this project's profile.
+/// A grant counts at the addresses of its network. Two entities share something if they do from some address of each.
+///
+/// An entity whose text has no rights is left out. A name's bytes outside 32 to 126 are shown as `\x` and two
+/// hexadecimal digits. As a document it has the member `pairs`. Each item has `first`, `second`, `kind` and `example`.
+/// `kind` is what the first one does, then what the second one does. `example` is the target.
+///
+/// The only error is `OutOfMemory`, which leaves nothing. Time grows with the pairs of entities that name a common
+/// pool, or of which one has a grant without a pool, and for each such pair with the pairs of their grants. The pools
+/// are looked at where two grants meet. The lines are this project's profile.
 pub fn share_entities(
     alloc: Global,
     entities: &[ReadEntity],

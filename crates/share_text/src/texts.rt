@@ -205,16 +205,18 @@ pub fn share_read(
     }
 }
 
-/// What the program prints of what two capability texts share by this project's rules: for each kind, `writes writes`, `writes reads`,
-/// `reads writes` and `reads reads`, and each grant of the first text with each of the second that by themselves allow that
-/// at a common target, a line `KIND PATH PATH TARGET`, where TARGET is what `osdgate verdict` takes, quoted for a shell. Who
-/// calls a method that reads or writes counts as one who reads or writes. Where nothing is shared it is `apart`. With a check
-/// it fails where one writes what the other reads or writes.
+/// What the program prints of what two capability texts share by this project's rules.
 ///
-/// A grant counts at the addresses of its network: they share something if they do from some address of each.
+/// The kinds are `writes writes`, `writes reads`, `reads writes` and `reads reads`. For each kind, a grant of the first
+/// text and one of the second have a line `KIND PATH PATH TARGET` where by themselves they allow it at a common target.
+/// `TARGET` is what `osdgate verdict` takes, quoted for a shell. Who calls a method that reads or writes counts as one
+/// who reads or writes. Where nothing is shared, it prints `apart`. With a check it fails where one writes what the
+/// other reads or writes.
 ///
-/// A text that has no rights is refused, the first one first, which fails: `refused first FAULT`, `refused second FAULT`. The
-/// only error is want of memory, which leaves nothing. The lines are this project's profile.
+/// A grant counts at the addresses of its network. The texts share something if they do from some address of each.
+///
+/// A text that has no rights is refused, which fails: `refused first FAULT`, `refused second FAULT`. The first text is
+/// checked first. The only error is `OutOfMemory`, which leaves nothing. The lines are this project's profile.
 pub fn share_texts(
     alloc: Global,
     first: &str,

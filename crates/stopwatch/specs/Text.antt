@@ -7,7 +7,7 @@ use Rattle.std.specs.Fmt.{decimal}
 abbrev pub tenths_text : ℕ → List ℕ
 tenths_text n = decimal (n / 10) ++ (codes "." ++ decimal (n % 10))
 
--- so many spaces
+-- `n` spaces
 abbrev pub blanks : ℕ → List ℕ
 blanks n = replicate n 32
 

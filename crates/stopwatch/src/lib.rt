@@ -1,6 +1,6 @@
 //! How long work takes: runs that are timed, and tables of their times.
 //!
-//! A clock is handed in. What is measured is a `Work` of the crate above.
+//! The caller passes a clock. What is measured is a `Work` of the calling crate.
 #![tactic(auto)]
 
 mod fault;

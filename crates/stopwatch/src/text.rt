@@ -12,7 +12,7 @@ const NAME_WIDTH: usize = 48;
 /// How many bytes a number takes at least.
 const NUMBER_WIDTH: usize = 12;
 
-/// Adds so many spaces.
+/// Adds `count` spaces.
 fn push_blanks(text: &mut String, count: usize) -> Result<(), OutOfMemory>
     ensures { OnOk result (string_bytes text.new ≡ string_bytes text.old ++ blanks count) }
 {

@@ -34,7 +34,7 @@ name_of s = record { pool = s.view.pool; namespace = s.namespace; name = object_
 abbrev pub answered : Reply → Answer
 answered reply = record { reply = reply; change = Kept }
 
--- what a run of the operations comes to
+-- the answer that a run of the operations results in
 abbrev pub ran : Run → Answer
 ran (Ok done) = record { reply = Done done.0; change = Became done.1 }
 ran (Err fault) = answered (Failed fault.0 fault.1)

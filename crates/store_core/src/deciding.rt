@@ -13,7 +13,7 @@ use crate::entry::Entry;
 use crate::objects::Objects;
 use crate::reply::Reply;
 use crate::sealed::Sealed;
-use common_types::{OutOfMemory, TryCopy};
+use common_types::{OutOfMemory, TryClone};
 use object_core::{Change, Object, Op, Outcome, run_vector};
 use std::alloc::Global;
 use std::sync::Arc;
@@ -57,7 +57,7 @@ fn answer(sealed: &Sealed, reply: Reply) -> Result<Decided, OutOfMemory>
     Ok(Decided::new(entry, ObjectChange::Kept))
 }
 
-/// What operations come to on the object that a request names.
+/// What operations result in on the object that a request names.
 fn run(
     alloc: Global,
     objects: &Objects,

@@ -2,7 +2,7 @@
 
 use crate::reply::Reply;
 use crate::sealed::Sealed;
-use common_types::TryCopy;
+use common_types::TryClone;
 use std::alloc::AllocError;
 
 /// A request and the reply that was decided.
@@ -20,7 +20,7 @@ impl Drop for Entry {
     }
 }
 
-impl TryCopy for Entry {
+impl TryClone for Entry {
     fn copy(&self) -> Result<Entry, AllocError> {
         Ok(Entry {
             sealed: self.sealed.copy()?,

@@ -80,7 +80,7 @@ impl Objects {
         self.map.remove(name)
     }
 
-    /// Does to the object of a name what was decided, and gives what undoes it. Where memory is wanting, nothing changes.
+    /// Applies a decided change to the object of a name, and returns what undoes it. Out of memory changes nothing.
     pub fn change(
         &mut self,
         name: &ObjectName,
@@ -100,7 +100,7 @@ impl Objects {
         }
     }
 
-    /// Does changes, one after another. Where memory is wanting, nothing changes.
+    /// Applies changes, one after another. Out of memory changes nothing.
     pub fn change_all(&mut self, changes: Vec<NamedChange>) -> Result<(), OutOfMemory>
         ensures ok { OnOk result (self.new ≡ all_changed self.old changes.items) }
         ensures err { OnErr result (self.new ≡ self.old) }

@@ -3,7 +3,7 @@
 ghost use Rattle.std.specs.Prelude.{◌≡◌};
 ghost use Rattle.store_core.specs.Replies.{number_of};
 
-use common_types::{Items, Name, TryCopy};
+use common_types::{Items, Name, TryClone};
 use object_core::Outputs;
 use std::alloc::AllocError;
 use verdict_core::Report;
@@ -34,7 +34,7 @@ impl Drop for Reply {
     }
 }
 
-impl TryCopy for Reply {
+impl TryClone for Reply {
     fn copy(&self) -> Result<Reply, AllocError> {
         match self {
             Reply::Denied(report) => Ok(Reply::Denied(report.copy()?)),

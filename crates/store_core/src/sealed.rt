@@ -11,7 +11,7 @@ ghost use Rattle.store_core.specs.Sealing as sealing;
 use crate::id::Id;
 use crate::object_name::ObjectName;
 use crate::sealed_parts::{Parts, Task, ops_of, target_of};
-use common_types::{Name, OutOfMemory, TryCopy};
+use common_types::{Name, OutOfMemory, TryClone};
 use map_core::PoolView;
 use object_core::{NeedsFault, Op, needs_of};
 use place_core::group_of;
@@ -27,7 +27,7 @@ pub struct GroupId {
     pub number: u32,
 }
 
-impl TryCopy for GroupId {
+impl TryClone for GroupId {
     fn copy(&self) -> Result<GroupId, AllocError> {
         Ok(GroupId {
             pool: self.pool.copy()?,
@@ -61,8 +61,8 @@ impl Model for Sealed {
 impl Sealed {
     /// A vector of operations on the object of a name in a namespace of the view's pool.
     ///
-    /// It is refused as `needs_of` refuses the operations: N1 for none, N2 for more than 16, N3 for a call of an
-    /// unknown method; want of memory, N4, comes last.
+    /// The faults are those of `needs_of`: N1 for no operations, N2 for more than 16, N3 for a call of an unknown
+    /// method. Out of memory, N4, is checked last.
     pub fn vector(
         alloc: Global,
         id: Id,
@@ -231,7 +231,7 @@ impl Sealed {
     }
 }
 
-impl TryCopy for Sealed {
+impl TryClone for Sealed {
     fn copy(&self) -> Result<Sealed, AllocError> {
         Ok(Sealed {
             parts: Arc::try_clone(&self.parts)?,

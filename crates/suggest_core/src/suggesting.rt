@@ -14,7 +14,7 @@ use crate::access::access_for;
 use crate::grain::Grain;
 use crate::seen::{Seen, is_left_out, moves};
 use cap_text::{Access, AllowGrant};
-use common_types::{OutOfMemory, TryCopy};
+use common_types::{OutOfMemory, TryClone};
 use grant_core::Path;
 use std::alloc::Global;
 use verdict_core::{Calls, ClassCall, Needs, grants_allow};

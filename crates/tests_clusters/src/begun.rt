@@ -20,10 +20,10 @@ use verdict_core::Condition;
 use world_core::{Ops, WorldFault};
 
 /// How often a call is made again for which the published map gave no reading.
-pub(crate) const MOST_TRIES: u32 = 1000;
+pub(crate) const MAX_TRIES: u32 = 1000;
 
 /// How many deliveries a request needs at most, here.
-const MOST_DELIVERIES: u32 = 256;
+const MAX_DELIVERIES: u32 = 256;
 
 /// The user who opens sessions.
 pub(crate) const USER: &str = "client.a";
@@ -48,7 +48,7 @@ fn user<R: Abort>(rt: &R, alloc: Global, name: &str, osd: &str) -> UserSpec {
     }
 }
 
-// A cluster of three daemons, with a pool `data` of so many groups, size 3, min_size 2, one user, and so many passes.
+// A cluster of three daemons, one user and `passes` passes. Its pool `data` has `groups` groups, size 3, min_size 2.
 pub(crate) fn begun<R: Wait + Abort>(
     rt: &R,
     alloc: Global,
@@ -176,7 +176,7 @@ pub(crate) fn submit<R: Wait + Abort>(
     requires { IsPassOf cluster.now pass.old }
     ensures { IsPassOf cluster.now pass.new }
 {
-    for _try in 0..MOST_TRIES {
+    for _try in 0..MAX_TRIES {
         let asking = asking(rt, alloc, session, "", tick);
         let object = name_of(rt, alloc, object);
         match cluster.submit(rt, pass, asking, object, ops_of(rt, alloc, wish)) {
@@ -192,7 +192,7 @@ pub(crate) fn tell(cluster: &Cluster, monitor: &mut Monitor) -> Option<News>
     requires { IsMonitorOf cluster.now monitor.old }
     ensures { IsMonitorOf cluster.now monitor.new }
 {
-    for _try in 0..MOST_TRIES {
+    for _try in 0..MAX_TRIES {
         match monitor.tell(cluster) {
             Ok(news) => return Some(news),
             Err(TellFault::NoReader) => {}
@@ -208,7 +208,7 @@ pub(crate) fn learn(cluster: &Cluster, pass: &mut Pass, news: News) -> bool
     ensures { IsPassOf cluster.now pass.new }
 {
     let mut news = news;
-    for _try in 0..MOST_TRIES {
+    for _try in 0..MAX_TRIES {
         match pass.learn(news) {
             Ok(()) => return true,
             Err((back, _)) => news = back,
@@ -241,7 +241,7 @@ pub(crate) fn answered<R: Wait + Abort>(
     requires { IsPassOf cluster.now pass.old }
     ensures { IsPassOf cluster.now pass.new }
 {
-    for _delivery in 0..MOST_DELIVERIES {
+    for _delivery in 0..MAX_DELIVERIES {
         match cluster.work(rt, pass, &asked.group) {
             Ok(_) | Err(ClusterFault::World(WorldFault::Group(GroupFault::Unreachable))) => {}
             Err(fault) => panic!(rt; "no delivery: {fault}"),

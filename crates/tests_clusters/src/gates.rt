@@ -7,7 +7,7 @@ use cluster::{Gate, run_workers};
 use std::sync::atomic::{AtomicU64, Ordering};
 
 /// How many turns worker 0 waits at most for worker 1.
-const MOST_TURNS: u32 = 10_000_000;
+const MAX_TURNS: u32 = 10_000_000;
 
 /// How many rounds the workers have.
 const ROUNDS: u32 = 20;
@@ -20,9 +20,9 @@ struct Meeting {
 }
 
 impl Meeting {
-    // Waits until worker 1 has come, for so many turns.
+    // Waits until worker 1 has come, for at most `MAX_TURNS` turns.
     fn wait(&self) {
-        for _turn in 0..MOST_TURNS {
+        for _turn in 0..MAX_TURNS {
             if self.came.load(Ordering::SeqCst) == 1 {
                 self.seen.store(1, Ordering::SeqCst);
                 return;

@@ -4,7 +4,7 @@ ghost use Rattle.std.specs.Prelude.{All, ◌<◌};
 ghost use Rattle.cluster.specs.Asks.{IsPassOf};
 ghost use Rattle.cluster.specs.Passes.{AreSeatsOf, group_count};
 
-use crate::begun::{MOST_TRIES, begun, expect_so, name_of, open, two_passes};
+use crate::begun::{MAX_TRIES, begun, expect_so, name_of, open, two_passes};
 use cluster::{Cluster, ClusterFault, Located, LockedGroup, Pass, Seats, Worked};
 use common_types::Name;
 use entry_core::GroupId;
@@ -18,7 +18,7 @@ use turn_lock::Step;
 use verdict_core::{Calls, Needs};
 
 /// How many turns one waits at most for the other.
-const MOST_TURNS: u32 = 10_000_000;
+const MAX_TURNS: u32 = 10_000_000;
 
 /// How far the two have come: 1 once the lock is held, 2 once all was answered meanwhile.
 #[derive(Drop)]
@@ -27,9 +27,9 @@ struct Progress {
 }
 
 impl Progress {
-    // Waits until this stage has come, for so many turns: whether it has.
+    // Waits until this stage has come, for at most `MAX_TURNS` turns. Returns whether it has.
     fn has_come(&self, stage: u64) -> bool {
-        for _turn in 0..MOST_TURNS {
+        for _turn in 0..MAX_TURNS {
             if self.stage.load(Ordering::SeqCst) >= stage {
                 return true;
             }
@@ -74,7 +74,7 @@ fn view(cluster: &Cluster, pass: &mut Pass, pool: &Name) -> Result<PoolView, Clu
     requires { IsPassOf cluster.now pass.old }
     ensures { IsPassOf cluster.now pass.new }
 {
-    for _try in 0..MOST_TRIES {
+    for _try in 0..MAX_TRIES {
         match cluster.view(pass, pool) {
             Err(ClusterFault::NoReader) => {}
             seen => return seen,
@@ -94,7 +94,7 @@ fn locate(
     requires { IsPassOf cluster.now pass.old }
     ensures { IsPassOf cluster.now pass.new }
 {
-    for _try in 0..MOST_TRIES {
+    for _try in 0..MAX_TRIES {
         match cluster.locate(pass, pool, namespace, object) {
             Err(ClusterFault::NoReader) => {}
             seen => return seen,
@@ -126,7 +126,7 @@ fn look<R: Wait + Abort>(rt: &R, alloc: Global, cluster: &Cluster, pass: &mut Pa
     expect_so(rt, worked == Worked::Delivered, "a delivery");
 }
 
-// The same once the lock is held, and tells that it is answered.
+// Does what `look` does once the lock is held, and then reports that all was answered.
 fn look_meanwhile<R: Wait + Abort>(
     rt: &R,
     alloc: Global,

@@ -129,7 +129,7 @@ fn add_ones<R: Wait>(
     seat
 }
 
-// Two threads add ones, each so many times. One seat has then seen what both had, and has all numbers where both had them.
+// Two threads add ones, each `times` times. One seat has then seen what both had, and has all numbers.
 fn add_in_two_threads<R: Threads + Wait + Sync>(
     rt: &R,
     lock: &TurnLock<Tally>,
@@ -191,7 +191,7 @@ fn two_seats<R: Abort>(rt: &R, alloc: Global) -> (TurnLock<Tally>, Seat<Tally>, 
     (lock, zero, one)
 }
 
-// Ends the test where this is not the number after so many turns.
+// Ends the test unless the tally is `number` after `turns` turns.
 fn expect_tally<R: Abort>(rt: &R, found: Tally, number: u64, turns: u64) {
     assert_eq!(rt; found, Tally { number, turns });
 }

@@ -14,7 +14,7 @@ use std::sync::Wait;
 use verdict_core::Condition;
 use world_core::WorldFault;
 
-/// What a request comes to.
+/// The result that a request must have.
 #[derive(Clone, Copy)]
 enum Expected {
     Output(&'static str),
@@ -24,7 +24,7 @@ enum Expected {
     Stale,
 }
 
-/// The tick of a request, what is asked, and what it comes to.
+/// The tick of a request, what is asked, and the result that it must have.
 type Row = (u64, Wish, Expected);
 
 /// With a ticket that ends at 10, which a request at that tick does not hold any more.
@@ -47,7 +47,7 @@ fn is_expected(reply: &Reply, expected: Expected) -> bool {
     }
 }
 
-// Whether a request comes to what its row says.
+// Whether a request has the result that its row says.
 fn is_so<R: Wait + Abort>(
     rt: &R,
     alloc: Global,
@@ -66,7 +66,7 @@ fn is_so<R: Wait + Abort>(
     }
 }
 
-// Each request does.
+// Each request has the result that its row says.
 fn are_so<R: Wait + Abort>(
     rt: &R,
     alloc: Global,

@@ -1,7 +1,7 @@
 //! All targets and all that is asked for over small alphabets.
 
 use crate::pieces::{TagRow, name};
-use common_types::{Tags, TryCopy};
+use common_types::{Tags, TryClone};
 use compare_core::Registry;
 use object_core::registry;
 use std::alloc::Global;

@@ -4,7 +4,7 @@ use crate::looks::are;
 use crate::operations::{name, view};
 use crate::pieces::{expect_row, expect_so};
 use crate::sets::set;
-use common_types::{Items, TryCopy};
+use common_types::{Items, TryClone};
 use entry_core::{Id, Sealed};
 use group_messages::{IntervalSets, Party};
 use peer_core::{Body, Daemon, Message, Role, Sent};
@@ -263,7 +263,7 @@ const ALONE: &[Line] = &[
     Counts(2, 2, 0),
 ];
 
-// A request that comes to a leader of three is appended once, and answered when two have it.
+// A leader of three appends a request once, and answers it when two members have it.
 const LED: &[Line] = &[
     On(CLIENT, Sets(1, &[0, 1, 2]), QUERIES),
     On(ONE, Info(1, 0, 0, &[]), &[]),
@@ -405,7 +405,7 @@ const ASKED: &[Line] = &[
     On(ZERO, Query(2, 5, 5), &[(ZERO, Info(2, 1, 5, &[]))]),
     On(ZERO, Install(2, 5, &[]), &[(ZERO, Installed(2))]),
     Holds(&[1, 2, 3, 4, 5], 2),
-    // One that has three of them is told the rest, and one that has more is told nothing.
+    // An asker that has three of them gets the others, and one that has more gets the last one.
     On(ZERO, Query(3, 3, 3), &[(ZERO, Info(3, 2, 3, &[4, 5]))]),
     On(ZERO, Query(3, 6, 6), &[(ZERO, Info(3, 2, 4, &[5]))]),
     // What does not fit changes nothing.
@@ -520,7 +520,7 @@ fn daemons_answer_messages(rt: HostRuntime) {
     }
 }
 
-// How daemon 0 of a set of three comes to lead interval 1.
+// How daemon 0 of a set of three becomes the leader of interval 1.
 const LEADING: &[Line] = &[
     On(CLIENT, Sets(1, &[0, 1, 2]), QUERIES),
     On(ONE, Info(1, 0, 0, &[]), &[]),

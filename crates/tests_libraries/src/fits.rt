@@ -36,7 +36,7 @@ const FITS: &[(&[u32], Fit); 15] = &[
     (&[1, 2], (1, &[3, 1], false, &[1, 2])),
 ];
 
-/// What is read behind so many appends.
+/// What is read after 0, 1, 2, 3 and 4 appends.
 const READ: &[&str; 5] = &["", "a", "aa", "aaa", "aaaa"];
 
 /// The append of a letter, by its number.
@@ -63,7 +63,7 @@ fn log_of<R: Abort>(rt: &R, alloc: Global, numbers: &[u32]) -> Log {
     log
 }
 
-/// Whether a log has the requests with these numbers, and its store has performed just them. The last one is told, too.
+/// Whether a log has the requests with these numbers, and its store has performed just them. Checks the last id, too.
 fn holds<R: Abort>(rt: &R, alloc: Global, log: &Log, numbers: &[u32]) -> bool {
     let is_last = match (log.last(), numbers.last()) {
         (Some(id), Some(number)) => id.number() == *number,

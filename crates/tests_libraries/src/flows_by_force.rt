@@ -1,4 +1,4 @@
-//! Flows of small clusters, compared with the distances that stepping through each place in turn comes to.
+//! Flows of small clusters, compared with distances by the Floyd-Warshall algorithm.
 
 use crate::drawing::{draw, pick};
 use crate::pieces::{

@@ -9,7 +9,7 @@ use crate::pieces::{
 use cap_text::{CapList, parse, print};
 use compare_core::Registry;
 use grant_core::ProfileTable;
-use lint_core::{Standing, needless, tidied};
+use lint_core::{Standing, redundancy, tidied};
 use lint_text::{lint_caps, lint_entities, tidy_caps};
 use std::alloc::Global;
 use std::process::Abort;
@@ -44,8 +44,8 @@ fn denies_some<R: Abort>(
     gains(&old, new.grants(), targets, needs)
 }
 
-/// Whether each grant of a list is told needed where looking finds that it is, and else covered: one of the built-in profiles
-/// has a grant that gives all that the profile does.
+/// Whether each grant of a list is reported as needed if the search over all requests finds so, and else as covered. A
+/// built-in profile has a grant that gives all that the profile does.
 fn are_right<R: Abort>(
     rt: &R,
     alloc: Global,
@@ -70,7 +70,7 @@ fn are_right<R: Abort>(
     true
 }
 
-/// Whether looking finds what is told of a text, and that the tidied one allows the same and needs each of its grants.
+/// Whether the search confirms the report on a text, and the tidied text allows the same and needs each of its grants.
 fn is_right<R: Abort>(
     rt: &R,
     alloc: Global,
@@ -80,9 +80,9 @@ fn is_right<R: Abort>(
 ) -> bool {
     let list = parse(alloc, text).expect(rt, "a list");
     let table = ProfileTable::builtin(alloc).expect(rt, "profiles");
-    let told = needless(alloc, &table, &list).expect(rt, "memory");
+    let told = redundancy(alloc, &table, &list).expect(rt, "memory");
     let kept = tidied(alloc, &table, &list).expect(rt, "memory");
-    let left = needless(alloc, &table, &kept).expect(rt, "memory");
+    let left = redundancy(alloc, &table, &kept).expect(rt, "memory");
     let printed = print(alloc, &kept).expect(rt, "memory");
     left.iter().all(|one| matches!(one, Standing::Needed))
         && !denies_some(rt, alloc, printed.as_str(), text, targets, needs)
@@ -123,7 +123,7 @@ fn table_of_both<R: Abort>(rt: &R, alloc: Global) -> ProfileTable {
     table
 }
 
-/// Whether the first grant is needless, and covers the two others.
+/// Whether the first grant is redundant, and covers the two others.
 fn are_covered(told: &[Standing]) -> bool {
     matches!(
         told,
@@ -140,7 +140,7 @@ fn two_grants_cover_one(rt: HostRuntime) {
     let alloc = rt.alloc();
     let table = table_of_both(&rt, alloc);
     let list = parse(alloc, "profile both, allow r pool=a, allow w pool=b").expect(&rt, "a list");
-    let told = needless(alloc, &table, &list).expect(&rt, "memory");
+    let told = redundancy(alloc, &table, &list).expect(&rt, "memory");
     expect_so(&rt, are_covered(&told), "two grants that one covers");
     let kept = tidied(alloc, &table, &list).expect(&rt, "memory");
     let printed = print(alloc, &kept).expect(&rt, "memory");

@@ -6,7 +6,7 @@ use crate::operations::{Work, name, ops, view};
 use crate::pieces::{expect_row, expect_so};
 use crate::tickets::ticket_of;
 use Says::{Denies, Gives, Lists};
-use common_types::{Items, TryCopy};
+use common_types::{Items, TryClone};
 use entry_core::{Entry, Id, Log, Reply, Sealed, reply_number};
 use object_core::{NeedsFault, Op};
 use std::alloc::Global;

@@ -17,7 +17,7 @@ fn set<R: Abort>(rt: &R, alloc: Global, value: &str) -> MapCommand {
     }
 }
 
-/// A pool of so many groups.
+/// The command that creates a pool of `pg_num` groups.
 fn create<R: Abort>(rt: &R, alloc: Global, pg_num: u32) -> MapCommand {
     MapCommand::PoolCreate {
         name: name(rt, alloc, "data"),

@@ -3,7 +3,7 @@
 ghost use Rattle.std.specs.Prelude.{◌≤◌, length};
 
 use crate::pieces::{expect_so, expect_text, name};
-use common_types::{Name, TryCopy};
+use common_types::{Name, TryClone};
 use object_core::{
     Attributes, Bytes, Change, NeedsFault, Object, Op, Outcome, Outputs, needs_of, removed_is_gone,
     run_vector,
@@ -216,7 +216,7 @@ fn gives(outputs: &Outputs) -> bool {
     }
 }
 
-/// What a vector comes to that makes an object and its attribute.
+/// The outcome of a vector that makes an object and its attribute.
 fn makes<R: Abort>(rt: &R, alloc: Global) -> Outcome {
     let ops = vector(rt, alloc, "append setxattr getxattr");
     let outcome = run_vector(alloc, None, ops.as_slice()).expect(rt, "memory");

@@ -62,7 +62,7 @@ pub(crate) fn ops<R: Abort>(rt: &R, alloc: Global, work: Work) -> Vec<Op> {
     ops
 }
 
-// The pool `data` of so many groups.
+// The pool `data` of `pg_num` groups.
 pub(crate) fn view<R: Abort>(rt: &R, alloc: Global, pg_num: u32) -> PoolView
     requires { 1 ≤ pg_num }
     ensures { 1 ≤ result.pg_num }

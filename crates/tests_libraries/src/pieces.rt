@@ -14,7 +14,7 @@ pub(crate) fn name<R: Abort>(rt: &R, alloc: Global, text: &str) -> Name {
     Name::new(alloc, text).expect(rt, "memory")
 }
 
-/// The ticket that a text comes to, with the profiles that are built in.
+/// The ticket of a text that is expanded by the built-in profiles.
 pub(crate) fn ticket<R: Abort>(rt: &R, alloc: Global, text: &str, until: Option<u64>) -> Ticket {
     let table = ProfileTable::builtin(alloc).expect(rt, "profiles");
     let list = parse(alloc, text).expect(rt, "a list");

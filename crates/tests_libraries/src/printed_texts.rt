@@ -223,7 +223,7 @@ fn texts_by_ceph_come_to_rights(rt: HostRuntime) {
     }
 }
 
-/// Texts, and what they come to.
+/// Texts by this project's rules: how many grants they expand to, or the kind of their fault.
 const TICKETS: &[(&str, Result<usize, &str>); 3] = &[
     ("allow r, allow w", Ok(2)),
     ("allow", Err("spelling")),

@@ -1,4 +1,4 @@
-//! Profiles that are added, and what their uses come to. `sessions/texts/expanded.console` shows those that are built in.
+//! Profiles that are added, and what their uses expand to. `sessions/texts/expanded.console` shows the built-in ones.
 
 use crate::pieces::{expect_so, expect_text};
 use cap_text::{CapList, parse, push_allow};
@@ -6,7 +6,7 @@ use grant_core::{ExpandFault, Path, ProfileTable, expand};
 use std::alloc::Global;
 use std::process::Abort;
 
-// A list of so many uses of the profile of this name.
+// A list of `count` uses of the profile of this name.
 fn uses<R: Abort>(rt: &R, alloc: Global, name: &str, count: usize) -> String {
     let mut text = String::new(alloc);
     for _ in 0..count {
@@ -16,7 +16,7 @@ fn uses<R: Abort>(rt: &R, alloc: Global, name: &str, count: usize) -> String {
     text
 }
 
-// The paths and the grants of the tree that a text comes to.
+// The paths and the grants of the tree that a text expands to.
 fn shown<R: Abort>(rt: &R, alloc: Global, table: &ProfileTable, text: &str) -> String {
     let list = parse(alloc, text).expect(rt, "a list");
     let tree = expand(alloc, table, &list).expect(rt, "a tree");
@@ -29,7 +29,7 @@ fn shown<R: Abort>(rt: &R, alloc: Global, table: &ProfileTable, text: &str) -> S
     shown
 }
 
-// How many grants a text comes to, or the refusal.
+// How many grants a text expands to, or the fault.
 fn count<R: Abort>(rt: &R, alloc: Global, table: &ProfileTable, text: &str) -> String {
     let list = parse(alloc, text).expect(rt, "a list");
     match expand(alloc, table, &list) {
@@ -120,7 +120,7 @@ const REFUSALS: &[(&str, &str, &str); 7] = &[
     ("five", "allow r", "G2 DuplicateProfile"),
 ];
 
-// What stands behind 51 uses of a profile of five grants, and what that comes to.
+// What follows 51 uses of a profile of five grants, and how many grants that expands to, or the fault.
 const FULL: &[(&str, &str); 4] = &[
     ("", "255"),
     (", allow r", "256"),

@@ -176,7 +176,7 @@ fn are_right<R: Abort>(
     true
 }
 
-/// Whether two texts are told to share what looking finds.
+/// Whether two texts are reported to share what the search finds.
 fn is_told<R: Abort>(
     rt: &R,
     alloc: Global,

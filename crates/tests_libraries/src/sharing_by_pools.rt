@@ -123,7 +123,7 @@ fn draw_entities<R: Abort>(rt: &R, alloc: Global, row: &mut u64, count: u32) -> 
     entities
 }
 
-/// What stands behind so many blanks.
+/// What follows the first `blanks` blanks.
 fn behind_blanks(text: &str, blanks: u32) -> &str {
     let mut rest = text;
     for _ in 0..blanks {
@@ -168,7 +168,7 @@ fn lines_of_all<R: Abort>(rt: &R, alloc: Global, entities: &[Entity]) -> String 
     text
 }
 
-/// Whether what is told of some entities is what is told of each two of them.
+/// Whether the report on some entities consists of the reports on each two of them, and is not empty.
 fn is_each_pair_told<R: Abort>(rt: &R, alloc: Global, entities: &[Entity]) -> bool {
     let strictness = Strictness {
         reads: true,

@@ -43,7 +43,7 @@ fn is_first<R: Abort>(rt: &R, users: &AuthDb, name: &str) -> bool {
     }
 }
 
-/// Texts with which the user is asked for or made, and what is told.
+/// Texts with which `get_or_create` is called for the user, and its results.
 const CREATIONS: &[(&str, Result<Creation, AuthFault>); 3] = &[
     ("allow r", Ok(Creation::Made)),
     ("allow r", Ok(Creation::There)),

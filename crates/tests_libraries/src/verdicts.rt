@@ -37,7 +37,7 @@ fn plain_answer<R: Abort>(rt: &R, alloc: Global, ticket: &Ticket, tick: u64) -> 
     format!(in alloc; "deny\n{lines}").expect(rt, "memory")
 }
 
-/// The same of a ticket with an index.
+/// What a ticket with an index answers: nothing where it allows the request, else the report's text behind a word.
 fn indexed_answer<R: Abort>(rt: &R, alloc: Global, ticket: &IndexedTicket, tick: u64) -> String {
     let tags = Tags::from_vec(Vec::new(alloc));
     let asked = target(&tags);

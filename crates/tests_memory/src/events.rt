@@ -175,7 +175,7 @@ fn look(world: &World, group: &GroupId) -> u64 {
     }
 }
 
-// Whether a fault is want of memory, in whichever layer.
+// Whether a fault is out of memory, in any layer.
 fn wants_memory(fault: WorldFault) -> bool {
     matches!(
         fault,
@@ -187,7 +187,7 @@ fn wants_memory(fault: WorldFault) -> bool {
     )
 }
 
-// What an event tells, where the memory for it was refused want of memory.
+// What an event tells, or out of memory if the allocation of the event fails.
 fn told(alloc: Global, world: &mut World, step: Step) -> Result<Told, WorldFault> {
     match event(alloc, step) {
         Ok(event) => world.apply(event),

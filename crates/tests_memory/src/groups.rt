@@ -3,7 +3,7 @@
 use crate::looks::{NOTHING, mix, with_id, with_reply, with_wire};
 use crate::requests::request;
 use Step::{Append, Deliver, Kick, Lose, Move, Read, Settle};
-use common_types::{Name, OutOfMemory, TryCopy};
+use common_types::{Name, OutOfMemory, TryClone};
 use entry_core::{GroupId, Id, Reply};
 use group_core::Group;
 use object_core::NeedsFault;
@@ -11,8 +11,8 @@ use place_core::{ActingSet, DaemonSet};
 use std::alloc::Global;
 use std::test::Fail;
 
-/// What happens to a group: a request of a number, a message at a place of the wire, or a new interval with these members, all
-/// of whom are up, and daemons of which no other is.
+/// What happens to a group: a request of a number, a message at an index of the wire, or a new interval with these
+/// members. Then exactly the daemons of the second list are up, and the members are among them.
 #[derive(Clone, Copy)]
 enum Step {
     Append(u32, &'static str),

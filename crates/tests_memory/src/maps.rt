@@ -19,7 +19,7 @@ enum Command {
     Down(u8),
 }
 
-/// A command, and the epoch that it makes or the fault that it comes to.
+/// A command, and the epoch that it makes or its fault.
 type Row = (Command, Result<u32, MapFault>);
 
 const ROWS: &[Row; 13] = &[
@@ -97,7 +97,7 @@ fn is_copied(map: &ClusterMap) -> bool {
     }
 }
 
-// Whether a command comes to what its row says, at once, or after it was refused and all stayed as it was.
+// Whether a command has the result that its case says: at once, or after it was refused and all stayed as it was.
 fn is_so(alloc: Global, map: &mut ClusterMap, row: &Row) -> bool {
     let before = look(map);
     let mut told = made(alloc, map, row.0);

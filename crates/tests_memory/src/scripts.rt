@@ -1,4 +1,4 @@
-//! A script, whose end for want of memory is told with the line, and leaves the output of the lines before.
+//! A script that ends out of memory: the fault is reported with the line, and the output of the lines before stays.
 
 use script_text::ScriptFault;
 use std::alloc::Global;

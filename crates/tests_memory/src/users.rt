@@ -18,7 +18,7 @@ enum Command {
     Delete(&'static str),
 }
 
-/// A command, the fault that it comes to, and how many users there are then.
+/// A command, its fault, and how many users there are then.
 type Row = (Command, Option<AuthFault>, usize);
 
 const ROWS: &[Row; 11] = &[
@@ -89,7 +89,7 @@ fn grants(users: &AuthDb) -> Result<usize, AuthFault> {
     }
 }
 
-// Whether a command comes to what its row says, at once, or after it was refused and all stayed as it was.
+// Whether a command has the result that its case says: at once, or after it was refused and all stayed as it was.
 fn is_so(alloc: Global, users: &mut AuthDb, row: &Row) -> bool {
     let (command, wanted, wanted_count) = *row;
     let before = look(users);

@@ -55,8 +55,8 @@ fn begun_once<R: Wait>(
     start(rt, alloc, table, 3, pools, users, passes)
 }
 
-/// A cluster of three daemons, with the pool in so many groups, size 3, min_size 2, its user, and so many passes: at once, or once
-/// more where memory was refused.
+/// A cluster of three daemons, with the pool in `groups` groups, size 3, min_size 2, its user, and `passes` passes.
+/// When out of memory, it begins once more.
 pub(crate) fn begun<R: Wait>(
     rt: &R,
     alloc: Global,

@@ -33,7 +33,7 @@ enum Change {
     Wrong,
 }
 
-// Makes the change once more, which was refused, so that there is still nothing to finish.
+// Makes the refused change once more. The refusal must have left nothing to finish.
 fn changed_again<R: Wait>(rt: &R, cluster: &Cluster, monitor: &mut Monitor) -> Change
     requires { IsMonitorOf cluster.now monitor.old }
     ensures monitor { IsMonitorOf cluster.now monitor.new }
@@ -195,7 +195,7 @@ fn is_as_by_events(alloc: Global, world: &World) -> Result<bool, WorldFault> {
     Ok(look(world, groups.as_slice()) == look(&other, groups.as_slice()))
 }
 
-// The same, tried once more where memory was refused.
+// Whether the world looks as one to which the same happened. When out of memory, it looks once more.
 fn is_as_by_events_again(alloc: Global, world: &World) -> bool {
     match is_as_by_events(alloc, world) {
         Err(WorldFault::OutOfMemory) => matches!(is_as_by_events(alloc, world), Ok(true)),

@@ -88,7 +88,7 @@ fn standing<R: Wait>(rt: &R, cluster: &Cluster, pass: &mut Pass, pieces: &[Asked
     Some(count)
 }
 
-// Whether these are four pieces of session 1, one for each group, numbered from behind so many.
+// Whether these are four pieces of session 1, one for each group, numbered from `behind` + 1 on.
 fn are_pieces(asked: &[Asked], behind: u32) -> bool {
     let mut number: u32 = 0;
     for piece in asked {
@@ -128,7 +128,7 @@ fn listed<R: Wait>(
     }
 }
 
-// The same by a new pass, which opens its session.
+// What `listed` returns for a new pass, which opens its session.
 fn opened_and_listed<R: Wait>(
     rt: &R,
     alloc: Global,

@@ -12,14 +12,18 @@ use std::alloc::Global;
 use std::sync::Wait;
 use world_core::Ops;
 
-/// A call of a pass: a session is opened, the session of a number appends `a` to an object or reads it, so many messages are
-/// delivered, or its first request's answer is looked for.
+/// A call of a pass.
 #[derive(Clone, Copy)]
 pub(crate) enum Step {
+    /// A session is opened.
     Open,
+    /// The session of this number appends `a` to an object.
     Append(u32),
+    /// The session of this number reads the object.
     Read(u32),
+    /// This many messages are delivered.
     Work(u32),
+    /// The answer to the first request of the session of this number is looked for.
     Answer(u32),
 }
 

@@ -46,7 +46,7 @@ impl Gate for Count {
     }
 }
 
-// The rounds of all workers: how they ended, or `None` where another fault than want of memory came.
+// Runs the rounds of all workers. Returns how they ended, or `None` for a fault other than out of memory.
 fn run<R: Threads + Wait + Sync>(
     rt: &R,
     alloc: Global,
@@ -69,7 +69,7 @@ fn run<R: Threads + Wait + Sync>(
     (passes, ended)
 }
 
-// The same, once more where a fault came, and then none comes.
+// Calls `run`, and once more after a fault. The second run must end without one. Returns how the first run ended.
 fn run_again<R: Threads + Wait + Sync>(
     rt: &R,
     alloc: Global,

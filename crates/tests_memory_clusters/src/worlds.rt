@@ -1,4 +1,4 @@
-//! The world that a cluster's parts come to.
+//! The world that a cluster's parts make up.
 
 ghost use Rattle.std.specs.Prelude.{All, IfErr};
 ghost use Rattle.world_core.specs.Parts.{FitTogether};

@@ -1,13 +1,13 @@
 //! A driver: texts whose lines a world takes one after another.
 //!
-//! A line stands before an arrow, and behind it what it must print, as `close 2 -> ok`. Where that is more than a line, ` / `
-//! stands between two. Lines are those of scripts that are events or questions, and these besides:
+//! Each line has an arrow, and behind it what the line must print, as `close 2 -> ok`. If it must print several lines,
+//! ` / ` separates them. A line is an event or a question of a script, or one of these:
 //!
 //! - `at E T LINE`: a request by this epoch and tick. Without it a request goes by the map's epoch and tick 0.
-//! - `nothing S POOL NAMESPACE OBJECT`, `seventeen ..`: requests of so many operations.
+//! - `nothing S POOL NAMESPACE OBJECT`, `seventeen ..`: a request of no operations, and one of seventeen.
 //! - `kick POOL GROUP`: this group alone is kicked.
-//! - `settle POOL GROUP`: message 0 of this group is delivered until none is left.
-//! - `times N LINE`: a line so many times, to the first that is refused; it prints what the last one does.
+//! - `settle POOL GROUP`: message 0 of this group is delivered until no message is left.
+//! - `times N LINE`: the line `N` times, up to the first that is refused. It prints what the last one prints.
 //! - `wire POOL GROUP`, `epoch`, `audit`, `decided S.N`: what is seen of the world.
 
 ghost use Rattle.std.specs.Prelude.{◌≤◌};
@@ -124,7 +124,7 @@ pub(super) fn event_of<R: Abort>(rt: &R, alloc: Global, line: &str, epoch: u32) 
     }
 }
 
-// Carries out an event so many times, to the first that is refused, and prints what the last one does.
+// Carries out an event as often as its count says, up to the first that is refused. Prints what the last one prints.
 fn repeat<R: Abort>(rt: &R, alloc: Global, world: &mut World, words: &str, text: &mut String) {
     let (count, line) = words.split_once(' ').unwrap_or((words, ""));
     for _ in 0..number_of(rt, count) {
@@ -187,7 +187,7 @@ pub(super) fn expect_on<R: Abort>(rt: &R, alloc: Global, world: &mut World, text
     }
 }
 
-// A world of so many daemons, with the built-in profiles.
+// A world of `daemons` daemons, with the built-in profiles.
 pub(super) fn begun<R: Abort>(rt: &R, alloc: Global, daemons: u8) -> World
     requires some { 1 ≤ daemons }
     requires few { daemons ≤ 16 }
@@ -196,7 +196,7 @@ pub(super) fn begun<R: Abort>(rt: &R, alloc: Global, daemons: u8) -> World
     World::new(alloc, table, daemons).expect(rt, "a world")
 }
 
-// A new world of so many daemons takes the lines of these texts.
+// A new world of `daemons` daemons takes the lines of these texts.
 pub(super) fn expect<R: Abort>(rt: &R, alloc: Global, daemons: u8, texts: &[&str])
     requires some { 1 ≤ daemons }
     requires few { daemons ≤ 16 }

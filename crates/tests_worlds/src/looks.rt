@@ -1,7 +1,7 @@
 //! What is done to a world, and what is seen of it, as printed.
 
 use super::lines::{group_of, read};
-use common_types::TryCopy;
+use common_types::TryClone;
 use entry_core::{GroupId, Id};
 use group_messages::GroupFault;
 use script_printing::{push_answer, push_counted, push_ready, push_refused, push_told};
@@ -10,8 +10,8 @@ use std::process::Abort;
 use world_core::{Event, World, WorldFault};
 use world_script::Command;
 
-/// No group here settles by so many deliveries.
-const MOST_DELIVERIES: u64 = 10_000;
+/// Each group here settles with fewer deliveries.
+const MAX_DELIVERIES: u64 = 10_000;
 
 // Carries out an event, and prints what it tells or why it is refused.
 pub(super) fn happen<R: Abort>(rt: &R, world: &mut World, event: Event, text: &mut String) {
@@ -23,7 +23,7 @@ pub(super) fn happen<R: Abort>(rt: &R, world: &mut World, event: Event, text: &m
 
 // Delivers message 0 of a group until none is left, and prints how many were delivered.
 pub(super) fn settle<R: Abort>(rt: &R, world: &mut World, group: &GroupId, text: &mut String) {
-    for delivered in 0..MOST_DELIVERIES {
+    for delivered in 0..MAX_DELIVERIES {
         let event = Event::Deliver {
             group: group.copy().expect(rt, "memory"),
             place: 0,

@@ -18,8 +18,8 @@ enum Command {
     Delete,
 }
 
-/// What a command comes to: 0 where it is done, 1 and 2 where the user was made or was there, and else its fault; and the
-/// text that the user then has, if he is there.
+/// A command and its result: 0 if it is done, 1 if the user was made, 2 if the user was there, and else its fault. Also
+/// the text that the user then has, if there is a user.
 type Row = (Command, Result<u32, AuthFault>, Option<&'static str>);
 
 const ROWS: &[Row; 10] = &[
@@ -60,7 +60,7 @@ fn command_of(alloc: Global, command: Command) -> Result<AuthCommand, OutOfMemor
     })
 }
 
-/// The number of what is told of a command on the users.
+/// The number that stands for the result of a command on the users.
 fn number_of(told: Told) -> u32 {
     match told {
         Told::Done => 0,
@@ -82,7 +82,7 @@ fn has(users: &AuthDb, text: Option<&str>) -> bool {
     }
 }
 
-/// Whether a command comes to what its row says.
+/// Whether a command has the result that its case says.
 fn is_so(alloc: Global, users: &mut AuthDb, row: &Row) -> Result<bool, OutOfMemory> {
     let (command, wanted, text) = *row;
     let said = match change_users(users, command_of(alloc, command)?) {

@@ -26,7 +26,7 @@ spent_or_live Away = inr (λ is. cc)
 spent_or_live (Waiting t) = inr (λ is. cc)
 spent_or_live (Turn t) = inr (λ is. cc)
 
--- numbers that are shared evenly: after so many parts there is one more, and then as many are left
+-- numbers that are shared evenly: one more part is left, and the parts and the rest are still all numbers
 pub one_part_more : (all seats parts left : ℕ) → suc parts < seats → left + parts * (all / seats) ≡ all → (all / seats ≤ left) × (left - all / seats + suc parts * (all / seats) ≡ all)
 one_part_more all seats parts left few is =
     let most : suc (suc parts) * (all / seats) ≤ seats * (all / seats) = mul-le-mul_right (all / seats) few in

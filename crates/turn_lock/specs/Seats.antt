@@ -68,7 +68,7 @@ module _ {E : Type 0} where
   abbrev pub HasDrawnNone : Seated E → Type 0
   HasDrawnNone s = s.draws ≡ s.share
 
-  -- A new seat gets so many of the numbers that a seat may still draw, and has drawn none of them. That seat keeps all others
+  -- A new seat gets `part` of the numbers that a seat may still draw, and has drawn none. That seat keeps all others
   pub record GivesPart (part : ℕ) (old new given : Seated E) : Type 0 where
     pub draws : given.draws ≡ part
     pub share : given.share ≡ part
@@ -79,7 +79,7 @@ module _ {E : Type 0} where
   abbrev pub HasAllNumbers : Seated E → Type 0
   HasAllNumbers s = s.share ≡ last_word
 
-  -- the numbers of a lock, shared evenly by so many seats: the last one has what the others leave
+  -- the numbers of a lock, shared evenly by `count` seats: the last one has what the others leave
   pub record AreShared (count : ℕ) (seats : List (Seated E)) : Type 0 where
     pub others : List (Seated E)
     pub last : Seated E

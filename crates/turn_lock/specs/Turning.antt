@@ -25,7 +25,7 @@ module _ {E : Type 0} where
   total of [] = 0
   total of (v ∷ vs) = of v + total of vs
 
-  -- so many numbers all seats together may still draw
+  -- how many numbers all seats together may still draw
   abbrev pub total_draws : List (View E) → ℕ
   total_draws views = total (λ v. v.draws) views
 
@@ -92,7 +92,7 @@ module _ {E : Type 0} where
   abbrev pub first_view : View E
   first_view = record { seen = []; told = []; mine = []; draws = last_word; share = last_word; joined = []; stage = Away }
 
-  -- so many of the numbers that a seat may draw go to a new seat, which has seen what that one has
+  -- `part` of the numbers that a seat may draw go to a new seat, which has seen what that one has
   abbrev pub kept_view : ℕ → View E → View E
   kept_view part v = record v { draws = v.draws - part; share = v.share - part }
 

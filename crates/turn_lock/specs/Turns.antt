@@ -8,7 +8,7 @@ use Rattle.turn_lock.specs.declared.rule.Joined.{Joined}
 abbrev pub StartsWith : {X : Type 0} → List X → List X → Type 0
 StartsWith {X} list seen = (rest : List X) × (list ≡ seen ++ rest)
 
--- so many numbers a lock has: the last number that a word holds, which is never drawn
+-- how many numbers a lock has: the last number that a word holds, which is never drawn
 abbrev pub last_word : ℕ
 last_word = 18446744073709551615
 

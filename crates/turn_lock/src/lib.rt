@@ -17,8 +17,8 @@
 //! - A [`Step`] is what one turn does: it changes the value and answers. Its contract says which
 //!   entry the run stands for, and what the answer tells of the state that the run found. A step
 //!   that is refused stands for an idle entry, one which leaves the state as it was: a turn was
-//!   taken and nothing happened. A step that hands something over holds an `Option`, and takes it
-//!   out in `run`.
+//!   taken and nothing happened. A step that gives something away holds it in an `Option`, and
+//!   takes it out in `run`.
 //! - A [`Seat`] is the right to take turns. It has a number, by which the list tells whose entry is
 //!   whose. Clauses see a seat as the beginning of the list that it has *seen* and the entries that
 //!   are *its own*. `split` and `split_off` make a second seat that has seen as much and made nothing, `join`
@@ -32,7 +32,7 @@
 //! and `join` keep this: a seat has never seen an entry of its own number that it did not make. A
 //! seat of one lock fits no other: each call asks for a seat of its lock.
 //!
-//! `close` takes the lock, so no turn goes on any more, and hands the value out. It stands for a
+//! `close` takes the lock, so no turn goes on any more, and returns the value. It stands for a
 //! list that begins with what the seat had seen. Who wants this of every seat joins them into one
 //! first. The numbers that turns draw are shared among the seats: a seat whose share is all of them
 //! was joined with every seat that could take a turn, and then the list has no entry but theirs.
@@ -42,10 +42,12 @@
 //! That a turn comes, fairness, freedom from deadlock, time. `turn` and `close` wait, and what they
 //! promise holds if they return. A step that takes a turn of the same lock, or two threads that
 //! each take one lock inside a step of the other's, wait for ever. A step that never returns leaves
-//! the lock taken. Numbers are `u64`s, and the last one is never drawn: each seat may draw so many,
-//! and one with none left waits for ever. The seats of `new` share them evenly, `split` gives
-//! a new seat 2^32 of those of the other, or half where that is less, `split_off` as many as it is
-//! asked for, and a seat that is joined hands over what it has.
+//! the lock taken.
+//!
+//! Numbers are `u64`s, and the last one is never drawn. Each seat may draw a limited share of them,
+//! and one with none left waits for ever. The seats of `new` share all numbers evenly. `split`
+//! gives a new seat 2^32 of those of the other, or half where that is less. `split_off` gives it
+//! as many as requested. A seat that is joined gives all that it has to the other.
 //!
 //! # The atomic steps
 //!

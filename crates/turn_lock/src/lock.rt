@@ -66,9 +66,9 @@ fn wait_for_ever<R: Wait>(rt: &R)
 }
 
 impl<T: Recorded> TurnLock<T> {
-    /// A lock over the value, with so many seats, one at least. The list is empty, and no seat has
-    /// seen or made anything. The seats share all numbers that may be drawn evenly: each but the
-    /// last has so many, and the last has what is left.
+    /// A lock over the value, with `seats` seats, at least one. The list is empty, and no seat has
+    /// seen or made anything. The seats share all numbers that may be drawn evenly: all except the
+    /// last have equally many, and the last has what is left.
     ///
     /// # Errors
     ///

@@ -23,7 +23,7 @@ pub trait Recorded {
     ghost fits: { Self.State → Self.Entry → Type 0 } = { λ _ _. Unit {0} };
 }
 
-/// What one turn does, once. The turn owns it, so it may hold what it hands over, as an `Option`
+/// What one turn does, once. The turn owns it, so it may hold what it gives away, as an `Option`
 /// that `run` empties.
 pub trait Step {
     /// The value under the lock.

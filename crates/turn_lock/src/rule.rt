@@ -160,7 +160,7 @@ impl<E, N: Chosen> Split<View<E>> for Halve<N> {
     ghost right = { given_view N.number };
 }
 
-/// A seat is told what another had seen, and gets its share.
+/// A seat learns what another had seen, and gets its share.
 pub(crate) struct Tell<N> {
     chosen: PhantomData<N>,
 }

@@ -65,7 +65,7 @@ impl<T: Recorded> Turnstile<T> {
         self.table.shared.split_seat::<Halve<N>>(token)
     }
 
-    // The token of a new seat, which may draw so many of the numbers that this one may.
+    // The token of a new seat, which may draw `part` of the numbers that this one may.
     fn split_off(&self, token: &mut Token<T>, part: u64) -> Token<T>
         requires table { token.old.table_id ≡ self.now.table.shared.table_id }
         requires ready { (token.old.me.0.stage ≡ Away) × (part ≤ token.old.me.0.draws) }
@@ -75,7 +75,7 @@ impl<T: Recorded> Turnstile<T> {
         self.split_as::<Brand>(token, part)
     }
 
-    // The same, where the new seat has looked that no entry is its own.
+    // Splits as `split_off` does. The new seat has then looked, and found no entry of its own.
     pub(crate) fn split(&self, token: &mut Token<T>, part: u64) -> Token<T>
         requires table { token.old.table_id ≡ self.now.table.shared.table_id }
         requires ready { (token.old.me.0.stage ≡ Away) × (part ≤ token.old.me.0.draws) }

@@ -15,9 +15,9 @@ use Rattle.cap_grants.specs.declared.grant.Part.{Part}
 use Rattle.cap_grants.specs.declared.grant.Part.TheVariants.{Any, Is}
 use Rattle.cap_grants.specs.declared.grant.Tag.{Tag}
 use Rattle.common_types.specs.declared.tags.AppTags.{AppTags}
-use Rattle.verdict_core.specs.declared.kinds.Kind.{Kind}
-use Rattle.verdict_core.specs.declared.kinds.Named.{Named}
-use Rattle.verdict_core.specs.declared.kinds.Named.TheVariants.{Nothing, ThePool, TheTag, TheClass}
+use Rattle.verdict_core.specs.declared.kinds.IndexKey.{IndexKey}
+use Rattle.verdict_core.specs.declared.kinds.IndexBy.{IndexBy}
+use Rattle.verdict_core.specs.declared.kinds.IndexBy.TheVariants.{Nothing, ThePool, TheTag, TheClass}
 use Rattle.request_types.specs.declared.request.Needs.{Needs}
 use Rattle.request_types.specs.declared.request.ClassCall.{ClassCall}
 use Rattle.request_types.specs.Target.{Target}
@@ -28,12 +28,12 @@ use Rattle.verdict_core.specs.Verdict.{names, matches_namespace, matches_tag, ma
 
 -- ---- places and their chains
 
-pub chain_at : (kinds : List Kind) (grants : List (List ℕ × AllowGrant)) (i : ℕ) (entry : List ℕ × AllowGrant) → slice_get grants i ≡ Some entry → (i < length grants) × (get_or (chains_of kinds grants) i 0 ≡ chain_of kinds entry.1)
+pub chain_at : (kinds : List IndexKey) (grants : List (List ℕ × AllowGrant)) (i : ℕ) (entry : List ℕ × AllowGrant) → slice_get grants i ≡ Some entry → (i < length grants) × (get_or (chains_of kinds grants) i 0 ≡ chain_of kinds entry.1)
 chain_at kinds [] i entry at = absurd (cc)
 chain_at kinds (g ∷ gs) zero entry at = let same : g ≡ entry = cc in (omega arith, ap (λ e. chain_of kinds e.1) same)
 chain_at kinds (g ∷ gs) (suc i) entry at = let rest = chain_at kinds gs i entry at in (omega (arith, rest.0), rest.1)
 
-pub length-chains_of : (kinds : List Kind) (grants : List (List ℕ × AllowGrant)) → length (chains_of kinds grants) ≡ length grants
+pub length-chains_of : (kinds : List IndexKey) (grants : List (List ℕ × AllowGrant)) → length (chains_of kinds grants) ≡ length grants
 length-chains_of kinds [] = refl
 length-chains_of kinds (g ∷ gs) = ap suc (length-chains_of kinds gs)
 
@@ -49,14 +49,14 @@ same_entry grants i j a b e x y = cc
 -- ---- a walk
 
 -- before the first place of a chain nothing is of the chain
-pub none_first : (kinds : List Kind) (grants : List (List ℕ × AllowGrant)) (first next : List ℕ) (chain start : ℕ) (target : Target) (needs : Needs) (call : Option ClassCall) → chain < 257 → AreChained 0 (chains_of kinds grants) first next
+pub none_first : (kinds : List IndexKey) (grants : List (List ℕ × AllowGrant)) (first next : List ℕ) (chain start : ℕ) (target : Target) (needs : Needs) (call : Option ClassCall) → chain < 257 → AreChained 0 (chains_of kinds grants) first next
     → start ≡ get_or first chain 0 → NoneBefore kinds start grants chain target needs call
 none_first kinds grants first next chain start target needs call small c is i entry before at same =
     let here = chain_at kinds grants i entry at in
     absurd (c.first_is chain i small (omega arith) (omega arith) (omega (arith, here.0, length-chains_of kinds grants)) (here.1 ∙ same))
 
 -- so it is between a place and the next one
-pub none_next : (kinds : List Kind) (grants : List (List ℕ × AllowGrant)) (first next : List ℕ) (chain k later : ℕ) (entry : List ℕ × AllowGrant) (target : Target) (needs : Needs) (call : Option ClassCall) → AreChained 0 (chains_of kinds grants) first next
+pub none_next : (kinds : List IndexKey) (grants : List (List ℕ × AllowGrant)) (first next : List ℕ) (chain k later : ℕ) (entry : List ℕ × AllowGrant) (target : Target) (needs : Needs) (call : Option ClassCall) → AreChained 0 (chains_of kinds grants) first next
     → slice_get grants k ≡ Some entry → get_or (chains_of kinds grants) k 0 ≡ chain → gives entry.1 target needs call ≡ false → later ≡ get_or next k 0
     → NoneBefore kinds k grants chain target needs call → NoneBefore kinds later grants chain target needs call
 none_next kinds grants first next chain k later entry target needs call c at_k same_k fails is none i found before at same =
@@ -114,14 +114,14 @@ IsOfClass None number = ⊥
 IsOfClass (Some call) number = number ≡ hash call.class
 
 -- what the request names has this number
-abbrev pub IsNamed : Named → Target → Option ClassCall → ℕ → Type 0
+abbrev pub IsNamed : IndexBy → Target → Option ClassCall → ℕ → Type 0
 IsNamed Nothing target call number = number ≡ 0
 IsNamed ThePool target call number = number ≡ hash target.pool
 IsNamed TheTag target call number = HasPair target.tags number
 IsNamed TheClass target call number = IsOfClass call number
 
 -- a chain in which a request looks for grants of a kind
-pub record IsWalked (kind : Kind) (target : Target) (call : Option ClassCall) (chain : ℕ) : Type 0 where
+pub record IsWalked (kind : IndexKey) (target : Target) (call : Option ClassCall) (chain : ℕ) : Type 0 where
   pub named : ℕ
   pub front : ℕ
   pub has_front : front_hash target.object kind.front ≡ Some front
@@ -197,7 +197,7 @@ usable_and_covered g target needs None h = (h, tt)
 usable_and_covered g target needs (Some call) h = and_parts (is_usable g target needs) (covers g.access call) h
 
 -- what a grant names that gives what is asked, the request names
-named_same : (named : Named) (g : AllowGrant) (target : Target) (needs : Needs) (call : Option ClassCall) (number : ℕ) → ((needs.reads || needs.writes ≡ true) ⊎ IsSome call)
+named_same : (named : IndexBy) (g : AllowGrant) (target : Target) (needs : Needs) (call : Option ClassCall) (number : ℕ) → ((needs.reads || needs.writes ≡ true) ⊎ IsSome call)
     → names g.pool target.pool ≡ true → matches_tag g.tag target.tags ≡ true → (not needs.reads || can_read g.access) ≡ true → (not needs.writes || can_write g.access) ≡ true → IsCovered call g.access
     → named_hash named g ≡ Some number → IsNamed named target call number
 named_same Nothing g target needs call number asked pool tag r w covered is = let same : 0 ≡ number = cc in sym same
@@ -218,7 +218,7 @@ both_parts (Some number) None chain h = absurd (cc)
 both_parts (Some number) (Some first) chain h = let same : folded number first ≡ chain = cc in record { number = number; first = first; named_is = refl; front_is = refl; is = sym same }
 
 -- a grant of a kind that gives what is asked is in a chain that is walked
-pub giver_walked : (kind : Kind) (g : AllowGrant) (target : Target) (needs : Needs) (call : Option ClassCall) (chain : ℕ) → ((needs.reads || needs.writes ≡ true) ⊎ IsSome call) → chain_in kind g ≡ Some chain → gives g target needs call ≡ true
+pub giver_walked : (kind : IndexKey) (g : AllowGrant) (target : Target) (needs : Needs) (call : Option ClassCall) (chain : ℕ) → ((needs.reads || needs.writes ≡ true) ⊎ IsSome call) → chain_in kind g ≡ Some chain → gives g target needs call ≡ true
     → IsWalked kind target call chain
 unfolding chain_in
 giver_walked kind g target needs call chain asked in_it h =
@@ -240,7 +240,7 @@ giver_walked kind g target needs call chain asked in_it h =
 -- ---- a kind
 
 -- no grant of a kind gives what is asked, where none does in the chains that are walked
-pub none_of_kind : (kind : Kind) (kinds : List Kind) (grants : List (List ℕ × AllowGrant)) (target : Target) (needs : Needs) (call : Option ClassCall) → ((needs.reads || needs.writes ≡ true) ⊎ IsSome call)
+pub none_of_kind : (kind : IndexKey) (kinds : List IndexKey) (grants : List (List ℕ × AllowGrant)) (target : Target) (needs : Needs) (call : Option ClassCall) → ((needs.reads || needs.writes ≡ true) ⊎ IsSome call)
     → ((chain : ℕ) → IsWalked kind target call chain → NoneBefore kinds (length grants) grants chain target needs call) → NoneOfKind kind kinds grants target needs call
 none_of_kind kind kinds grants target needs call asked walked i entry at in_it =
     false_from_ne_true (gives entry.1 target needs call) (λ yes.
@@ -251,32 +251,32 @@ same_number : (a b : ℕ) (x y : Option ℕ) → x ≡ Some a → y ≡ Some b �
 same_number a b x y p q e = cc
 
 -- where the object is too short
-pub none_of_short : (kind : Kind) (kinds : List Kind) (grants : List (List ℕ × AllowGrant)) (target : Target) (needs : Needs) (call : Option ClassCall) → ((needs.reads || needs.writes ≡ true) ⊎ IsSome call)
+pub none_of_short : (kind : IndexKey) (kinds : List IndexKey) (grants : List (List ℕ × AllowGrant)) (target : Target) (needs : Needs) (call : Option ClassCall) → ((needs.reads || needs.writes ≡ true) ⊎ IsSome call)
     → front_hash target.object kind.front ≡ None → NoneOfKind kind kinds grants target needs call
 none_of_short kind kinds grants target needs call asked none =
     none_of_kind kind kinds grants target needs call asked (λ chain walk. let has = walk.has_front in absurd (cc))
 
-never_asked : (named : Named) (target : Target) (call : Option ClassCall) (number : ℕ) → named ≡ TheClass → call ≡ None → IsNamed named target call number → ⊥
+never_asked : (named : IndexBy) (target : Target) (call : Option ClassCall) (number : ℕ) → named ≡ TheClass → call ≡ None → IsNamed named target call number → ⊥
 never_asked named target call number by_class none h = subst (λ asked. IsOfClass asked number) none (subst (λ n. IsNamed n target call number) by_class h)
 
 -- where no class is asked for
-pub none_of_unasked : (kind : Kind) (kinds : List Kind) (grants : List (List ℕ × AllowGrant)) (target : Target) (needs : Needs) (call : Option ClassCall) → ((needs.reads || needs.writes ≡ true) ⊎ IsSome call)
+pub none_of_unasked : (kind : IndexKey) (kinds : List IndexKey) (grants : List (List ℕ × AllowGrant)) (target : Target) (needs : Needs) (call : Option ClassCall) → ((needs.reads || needs.writes ≡ true) ⊎ IsSome call)
     → kind.named ≡ TheClass → call ≡ None → NoneOfKind kind kinds grants target needs call
 none_of_unasked kind kinds grants target needs call asked by_class none =
     none_of_kind kind kinds grants target needs call asked (λ chain walk. absurd (never_asked kind.named target call walk.named by_class none walk.is_named))
 
 -- what the request names, by what it is
-pub by_nothing : (named : Named) (target : Target) (call : Option ClassCall) (number : ℕ) → named ≡ Nothing → IsNamed named target call number → number ≡ 0
+pub by_nothing : (named : IndexBy) (target : Target) (call : Option ClassCall) (number : ℕ) → named ≡ Nothing → IsNamed named target call number → number ≡ 0
 by_nothing named target call number is h = subst (λ n. IsNamed n target call number) is h
 
-pub by_pool : (named : Named) (target : Target) (call : Option ClassCall) (number : ℕ) → named ≡ ThePool → IsNamed named target call number → number ≡ hash target.pool
+pub by_pool : (named : IndexBy) (target : Target) (call : Option ClassCall) (number : ℕ) → named ≡ ThePool → IsNamed named target call number → number ≡ hash target.pool
 by_pool named target call number is h = subst (λ n. IsNamed n target call number) is h
 
-pub by_class : (named : Named) (target : Target) (call : Option ClassCall) (asked : ClassCall) (number : ℕ) → named ≡ TheClass → call ≡ Some asked → IsNamed named target call number → number ≡ hash asked.class
+pub by_class : (named : IndexBy) (target : Target) (call : Option ClassCall) (asked : ClassCall) (number : ℕ) → named ≡ TheClass → call ≡ Some asked → IsNamed named target call number → number ≡ hash asked.class
 by_class named target call asked number is some h = subst (λ o. IsOfClass o number) some (subst (λ n. IsNamed n target call number) is h)
 
 -- where the chain of what is named was walked
-pub none_of_named : (kind : Kind) (kinds : List Kind) (grants : List (List ℕ × AllowGrant)) (target : Target) (needs : Needs) (call : Option ClassCall) (named front : ℕ) → ((needs.reads || needs.writes ≡ true) ⊎ IsSome call)
+pub none_of_named : (kind : IndexKey) (kinds : List IndexKey) (grants : List (List ℕ × AllowGrant)) (target : Target) (needs : Needs) (call : Option ClassCall) (named front : ℕ) → ((needs.reads || needs.writes ≡ true) ⊎ IsSome call)
     → front_hash target.object kind.front ≡ Some front → ((number : ℕ) → IsNamed kind.named target call number → number ≡ named) → NoneBefore kinds (length grants) grants (folded named front) target needs call → NoneOfKind kind kinds grants target needs call
 none_of_named kind kinds grants target needs call named front asked has only none =
     none_of_kind kind kinds grants target needs call asked (λ chain walk.
@@ -285,7 +285,7 @@ none_of_named kind kinds grants target needs call named front asked has only non
     subst (λ k. NoneBefore kinds (length grants) grants k target needs call) (ap (λ n. folded n front) (sym numbers) ∙ ap (λ f. folded walk.named f) (sym fronts) ∙ sym walk.is) none)
 
 -- where the chains of all pairs were walked
-pub none_of_tags : (kind : Kind) (kinds : List Kind) (grants : List (List ℕ × AllowGrant)) (target : Target) (needs : Needs) (call : Option ClassCall) (front : ℕ) → ((needs.reads || needs.writes ≡ true) ⊎ IsSome call)
+pub none_of_tags : (kind : IndexKey) (kinds : List IndexKey) (grants : List (List ℕ × AllowGrant)) (target : Target) (needs : Needs) (call : Option ClassCall) (front : ℕ) → ((needs.reads || needs.writes ≡ true) ⊎ IsSome call)
     → kind.named ≡ TheTag → front_hash target.object kind.front ≡ Some front → NoneOfTags (length target.tags) target.tags front kinds grants target needs call → NoneOfKind kind kinds grants target needs call
 none_of_tags kind kinds grants target needs call front asked by_tag has none =
     none_of_kind kind kinds grants target needs call asked (λ chain walk.
@@ -295,7 +295,7 @@ none_of_tags kind kinds grants target needs call front asked by_tag has none =
     (none pair.place pair.app (slice_get_within target.tags pair.place pair.app pair.app_at) pair.app_at pair.pair_place pair.pair (slice_get_within pair.app.pairs pair.pair_place pair.pair pair.pair_at) pair.pair_at))
 
 -- tags of one application with one pair have one chain
-none_of_only_pair : (kinds : List Kind) (grants : List (List ℕ × AllowGrant)) (target : Target) (needs : Needs) (call : Option ClassCall) (application : List ℕ) (pairs : List (List ℕ × List ℕ)) (front number : ℕ)
+none_of_only_pair : (kinds : List IndexKey) (grants : List (List ℕ × AllowGrant)) (target : Target) (needs : Needs) (call : Option ClassCall) (application : List ℕ) (pairs : List (List ℕ × List ℕ)) (front number : ℕ)
     → number_of_pairs application pairs ≡ Some number → NoneBefore kinds (length grants) grants (folded number front) target needs call → NoneOfPairs (length pairs) pairs application front kinds grants target needs call
 none_of_only_pair kinds grants target needs call application [] front number only none j pair below at = absurd (omega arith)
 none_of_only_pair kinds grants target needs call application (found ∷ []) front number only none zero pair below at =
@@ -306,7 +306,7 @@ none_of_only_pair kinds grants target needs call application (found ∷ []) fron
 none_of_only_pair kinds grants target needs call application (found ∷ []) front number only none (suc j) pair below at = absurd (omega arith)
 none_of_only_pair kinds grants target needs call application (found ∷ other ∷ more) front number only none j pair below at = absurd (cc)
 
-pub none_of_only_tag : (kinds : List Kind) (grants : List (List ℕ × AllowGrant)) (target : Target) (needs : Needs) (call : Option ClassCall) (tags : List AppTags) (front number : ℕ)
+pub none_of_only_tag : (kinds : List IndexKey) (grants : List (List ℕ × AllowGrant)) (target : Target) (needs : Needs) (call : Option ClassCall) (tags : List AppTags) (front number : ℕ)
     → only_number tags ≡ Some number → NoneBefore kinds (length grants) grants (folded number front) target needs call → NoneOfTags (length tags) tags front kinds grants target needs call
 none_of_only_tag kinds grants target needs call [] front number only none j app below at = absurd (omega arith)
 none_of_only_tag kinds grants target needs call (found ∷ []) front number only none zero app below at =
@@ -323,13 +323,13 @@ none_passes p [] h = refl
 none_passes p (e ∷ es) h = rw (h 0 e refl) (none_passes p es (λ i x at. h (suc i) x at))
 
 -- the kind by which a grant is found
-record FoundBy (kinds : List Kind) (g : AllowGrant) : Type 0 where
+record FoundBy (kinds : List IndexKey) (g : AllowGrant) : Type 0 where
   place : ℕ
-  kind : Kind
+  kind : IndexKey
   at : slice_get kinds place ≡ Some kind
   in_it : chain_in kind g ≡ Some (chain_of kinds g)
 
-found_by : (kinds : List Kind) (g : AllowGrant) → (chain_of kinds g ≡ 256) ⊎ FoundBy kinds g
+found_by : (kinds : List IndexKey) (g : AllowGrant) → (chain_of kinds g ≡ 256) ⊎ FoundBy kinds g
 found_by [] g = inl refl
 found_by (kind ∷ kinds) g = first (chain_in kind g) refl (found_by kinds g)
   where
@@ -341,9 +341,9 @@ found_by (kind ∷ kinds) g = first (chain_in kind g) refl (found_by kinds g)
     first None e rest = later None e refl rest
     first (Some chain) e rest = inr (record { place = 0; kind = kind; at = refl; in_it = e ∙ ap Some (sym (ap (λ x. unwrap_or x (chain_of kinds g)) e)) })
 
--- where no grant is found by a kind that gives what is asked, nor among the others, there is none
-pub none_gives : (kinds : List Kind) (grants : List (List ℕ × AllowGrant)) (target : Target) (needs : Needs) (call : Option ClassCall)
-    → NoneBefore kinds (length grants) grants 256 target needs call → ((j : ℕ) (kind : Kind) → j < length kinds → slice_get kinds j ≡ Some kind → NoneOfKind kind kinds grants target needs call)
+-- if no grant that is found by a kind gives what is asked, and none of the others does, no grant does
+pub none_gives : (kinds : List IndexKey) (grants : List (List ℕ × AllowGrant)) (target : Target) (needs : Needs) (call : Option ClassCall)
+    → NoneBefore kinds (length grants) grants 256 target needs call → ((j : ℕ) (kind : IndexKey) → j < length kinds → slice_get kinds j ≡ Some kind → NoneOfKind kind kinds grants target needs call)
     → false ≡ list_any (λ entry. gives entry.1 target needs call) grants
 none_gives kinds grants target needs call others each =
     sym (none_passes (λ entry. gives entry.1 target needs call) grants (λ i e at. fails i e at (found_by kinds e.1)))

@@ -5,7 +5,7 @@ use Rattle.std.specs.Prelude.{◌≡◌, ◌≢◌, ℕ, ◌<◌, ◌≤◌, Lis
 use Rattle.std.specs.List.{slice_get}
 use Rattle.cap_grants.specs.declared.grant.AllowGrant.{AllowGrant}
 use Rattle.common_types.specs.declared.tags.AppTags.{AppTags}
-use Rattle.verdict_core.specs.declared.kinds.Kind.{Kind}
+use Rattle.verdict_core.specs.declared.kinds.IndexKey.{IndexKey}
 use Rattle.verdict_core.specs.Hash.{folded}
 use Rattle.verdict_core.specs.Kinds.{pair_hash, chain_in, chain_of}
 use Rattle.request_types.specs.declared.request.Needs.{Needs}
@@ -13,8 +13,8 @@ use Rattle.request_types.specs.declared.request.ClassCall.{ClassCall}
 use Rattle.request_types.specs.Target.{Target}
 use Rattle.verdict_core.specs.Verdict.{is_usable, covers}
 
--- The places from some place on are chained: `first` has the first one of each chain, and `next` the one behind each in
--- its chain, or the number of all where there is none.
+-- The places from some place on are chained. `first` has the first place of each chain. `next` has the one behind
+-- each place in its chain. Where a chain has no such place, the value is the number of all places.
 pub record AreChained (from : ℕ) (chains first next : List ℕ) : Type 0 where
   pub heads : length first ≡ 257
   pub places : length next ≡ length chains
@@ -31,17 +31,17 @@ gives g place needs None = is_usable g place needs
 gives g place needs (Some call) = is_usable g place needs && covers g.access call
 
 -- no grant of the chain before some place gives it
-abbrev pub NoneBefore : List Kind → ℕ → List (List ℕ × AllowGrant) → ℕ → Target → Needs → Option ClassCall → Type 0
+abbrev pub NoneBefore : List IndexKey → ℕ → List (List ℕ × AllowGrant) → ℕ → Target → Needs → Option ClassCall → Type 0
 NoneBefore kinds place grants chain at needs call = (i : ℕ) (entry : List ℕ × AllowGrant) → i < place → slice_get grants i ≡ Some entry → chain_of kinds entry.1 ≡ chain → gives entry.1 at needs call ≡ false
 
 -- no grant that is found by this kind gives it
-abbrev pub NoneOfKind : Kind → List Kind → List (List ℕ × AllowGrant) → Target → Needs → Option ClassCall → Type 0
+abbrev pub NoneOfKind : IndexKey → List IndexKey → List (List ℕ × AllowGrant) → Target → Needs → Option ClassCall → Type 0
 NoneOfKind kind kinds grants at needs call = (i : ℕ) (entry : List ℕ × AllowGrant) → slice_get grants i ≡ Some entry → chain_in kind entry.1 ≡ Some (chain_of kinds entry.1) → gives entry.1 at needs call ≡ false
 
--- no grant gives it that is in the chain of an application with a pair, by so many first bytes
-abbrev pub NoneOfPairs : ℕ → List (List ℕ × List ℕ) → List ℕ → ℕ → List Kind → List (List ℕ × AllowGrant) → Target → Needs → Option ClassCall → Type 0
+-- no grant gives it that is in the chain of an application with one of its first `count` pairs, by the hash `front`
+abbrev pub NoneOfPairs : ℕ → List (List ℕ × List ℕ) → List ℕ → ℕ → List IndexKey → List (List ℕ × AllowGrant) → Target → Needs → Option ClassCall → Type 0
 NoneOfPairs count pairs application front kinds grants at needs call = (j : ℕ) (pair : List ℕ × List ℕ) → j < count → slice_get pairs j ≡ Some pair → NoneBefore kinds (length grants) grants (folded (pair_hash application pair.0 pair.1) front) at needs call
 
 -- the same of all applications
-abbrev pub NoneOfTags : ℕ → List AppTags → ℕ → List Kind → List (List ℕ × AllowGrant) → Target → Needs → Option ClassCall → Type 0
+abbrev pub NoneOfTags : ℕ → List AppTags → ℕ → List IndexKey → List (List ℕ × AllowGrant) → Target → Needs → Option ClassCall → Type 0
 NoneOfTags count tags front kinds grants at needs call = (j : ℕ) (app : AppTags) → j < count → slice_get tags j ≡ Some app → NoneOfPairs (length app.pairs) app.pairs app.application front kinds grants at needs call

@@ -9,9 +9,9 @@ use Rattle.cap_grants.specs.declared.grant.Part.{Part}
 use Rattle.cap_grants.specs.declared.grant.Part.TheVariants.{Any, Is}
 use Rattle.cap_grants.specs.declared.grant.Tag.{Tag}
 use Rattle.common_types.specs.declared.tags.AppTags.{AppTags}
-use Rattle.verdict_core.specs.declared.kinds.Kind.{Kind}
-use Rattle.verdict_core.specs.declared.kinds.Named.{Named}
-use Rattle.verdict_core.specs.declared.kinds.Named.TheVariants.{Nothing, ThePool, TheTag, TheClass}
+use Rattle.verdict_core.specs.declared.kinds.IndexKey.{IndexKey}
+use Rattle.verdict_core.specs.declared.kinds.IndexBy.{IndexBy}
+use Rattle.verdict_core.specs.declared.kinds.IndexBy.TheVariants.{Nothing, ThePool, TheTag, TheClass}
 use Rattle.verdict_core.specs.Hash.{mix, hash, folded}
 
 -- of an application with a pair
@@ -45,13 +45,13 @@ class_hash (Flags flags) = None
 class_hash (Class class method) = Some (hash class)
 
 -- the number of what a grant names, if it names it
-abbrev pub named_hash : Named → AllowGrant → Option ℕ
+abbrev pub named_hash : IndexBy → AllowGrant → Option ℕ
 named_hash Nothing g = Some 0
 named_hash ThePool g = option_map hash g.pool
 named_hash TheTag g = tag_hash g.tag
 named_hash TheClass g = class_hash g.access
 
--- the number of the first bytes of a text, if it has so many
+-- the hash of the first `n` bytes of a text, or `None` if the text is shorter
 abbrev pub front_hash : List ℕ → ℕ → Option ℕ
 front_hash text n = if nat_le n (length text) then Some (hash (take n text)) else None
 
@@ -61,13 +61,13 @@ chain_by (Some named) None = None
 chain_by (Some named) (Some front) = Some (folded named front)
 
 -- the chain of a grant among those of a kind, if it has the parts
-unfoldable pub chain_in : Kind → AllowGrant → Option ℕ
+unfoldable pub chain_in : IndexKey → AllowGrant → Option ℕ
 chain_in kind g = chain_by (named_hash kind.named g) (front_hash (unwrap_or g.prefix []) kind.front)
 
 -- the chain that a grant is in: by the first kind whose parts it has, else that of the others
-abbrev pub chain_of : List Kind → AllowGrant → ℕ
+abbrev pub chain_of : List IndexKey → AllowGrant → ℕ
 chain_of [] g = 256
 chain_of (kind ∷ kinds) g = unwrap_or (chain_in kind g) (chain_of kinds g)
 
-abbrev pub chains_of : List Kind → List (List ℕ × AllowGrant) → List ℕ
+abbrev pub chains_of : List IndexKey → List (List ℕ × AllowGrant) → List ℕ
 chains_of kinds grants = map (λ entry. chain_of kinds entry.1) grants

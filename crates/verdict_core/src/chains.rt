@@ -10,8 +10,10 @@ ghost use Rattle.verdict_core.specs.Verdict.{grants_allow, is_covered, is_usable
 
 use crate::hashing::{folded, hash};
 use crate::judging;
-use crate::kinds::{Kind, NO_KIND, Named, chain_of, front_hash, kinds_of, only_number, pair_hash};
-use crate::matching::{CHAINED, allows, is_usable_at_once, is_usable_in_turn};
+use crate::kinds::{
+    IndexBy, IndexKey, NO_KIND, chain_of, front_hash, kinds_of, only_number, pair_hash,
+};
+use crate::matching::{CHAINED, allows, full_is_usable, quick_is_usable};
 use cap_text::AllowGrant;
 use common_types::{AppTags, OutOfMemory};
 use grant_core::Path;
@@ -33,7 +35,7 @@ const A_CALL: u8 = 1;
 #[derive(Debug)]
 pub(crate) struct Chains {
     /// By which parts grants are found.
-    kinds: Vec<Kind>,
+    kinds: Vec<IndexKey>,
     /// The first place of each chain, or the number of grants.
     first: Vec<u16>,
     /// Behind each place the next one of its chain, or the number of grants.
@@ -60,12 +62,12 @@ fn share_a_chain(next: &[u16]) -> bool {
 /// Whether a grant is usable, mostly by a few comparisons of words. It is a call of its own that saves no registers: where they do
 /// not tell, another one goes on in its place.
 #[inline(never)]
-fn is_usable_mostly_at_once(grant: &AllowGrant, target: &Target<'_>, needs: &Needs) -> bool
+fn quick_is_usable_mostly(grant: &AllowGrant, target: &Target<'_>, needs: &Needs) -> bool
     ensures { result ≡ is_usable grant.now target.now needs.now }
 {
-    match is_usable_at_once::<CHAINED>(grant, target, needs) {
+    match quick_is_usable::<CHAINED>(grant, target, needs) {
         Some(usable) => usable,
-        None => is_usable_in_turn(grant, target, needs),
+        None => full_is_usable(grant, target, needs),
     }
 }
 
@@ -75,7 +77,7 @@ fn gives(grant: &AllowGrant, target: &Target<'_>, needs: &Needs, call: Option<&C
     ensures { result ≡ spec.gives grant.now target.now needs.now (option_copied call.entry) }
 {
     match call {
-        None => is_usable_mostly_at_once(grant, target, needs),
+        None => quick_is_usable_mostly(grant, target, needs),
         Some(call) => allows(grant, target, needs, call),
     }
 }
@@ -98,7 +100,7 @@ impl Chains {
 
     /// The chains of these grants, by these kinds.
     fn by(
-        kinds: Vec<Kind>,
+        kinds: Vec<IndexKey>,
         alloc: Global,
         grants: &[(Path, AllowGrant)],
     ) -> Result<Chains, OutOfMemory>
@@ -223,7 +225,7 @@ impl Chains {
     #[inline(always)]
     fn kind_gives<const ASKED: u8>(
         &self,
-        kind: Kind,
+        kind: IndexKey,
         grants: &[(Path, AllowGrant)],
         target: &Target<'_>,
         needs: &Needs,
@@ -240,13 +242,13 @@ impl Chains {
             return false;
         };
         let named = match (kind.named, call) {
-            (Named::Nothing, _) => 0,
-            (Named::ThePool, _) => hash(target.pool),
-            (Named::TheTag, _) => return self.tags_give::<ASKED>(
+            (IndexBy::Nothing, _) => 0,
+            (IndexBy::ThePool, _) => hash(target.pool),
+            (IndexBy::TheTag, _) => return self.tags_give::<ASKED>(
                 grants, front, target, needs, call,
             ),
-            (Named::TheClass, Some(call)) => hash(call.class.as_str().as_bytes()),
-            (Named::TheClass, None) => return false,
+            (IndexBy::TheClass, Some(call)) => hash(call.class.as_str().as_bytes()),
+            (IndexBy::TheClass, None) => return false,
         };
         self.chain_gives::<ASKED>(grants, folded(named, front), target, needs, call)
     }

@@ -9,7 +9,7 @@ ghost use Rattle.verdict_core.specs.Verdict.{is_allowed};
 ghost use Rattle.verdict_core.specs.Verdict as spec;
 
 use crate::chains::Chains;
-use crate::matching::{FIRST, OTHERS, allows, is_usable, is_usable_at_once, is_usable_by_names};
+use crate::matching::{FIRST, OTHERS, allows, is_usable, is_usable_by_names, quick_is_usable};
 use crate::ticket::Ticket;
 use cap_text::AllowGrant;
 use grant_core::Path;
@@ -31,7 +31,7 @@ fn is_covered(
 
 /// Whether some grant is usable, by a walk that looks at tags and at names of any length.
 #[inline(never)]
-fn has_usable_at_length(grants: &[(Path, AllowGrant)], target: &Target<'_>, needs: &Needs) -> bool
+fn full_has_usable(grants: &[(Path, AllowGrant)], target: &Target<'_>, needs: &Needs) -> bool
     ensures { result ≡ list_any (λ entry. spec.is_usable entry.1 target.now needs.now) grants.now }
 {
     grants
@@ -39,18 +39,18 @@ fn has_usable_at_length(grants: &[(Path, AllowGrant)], target: &Target<'_>, need
         .any(|entry| is_usable(&entry.1, target, needs))
 }
 
-/// The same, by a walk that looks at names and tags by a few comparisons of words. Where they do not tell of a grant, another
-/// walk goes on from it, so that nothing of the grants behind is kept.
+/// Whether some grant is usable, by a walk that looks at names and tags by a few comparisons of words. If these do
+/// not decide a grant, another walk goes on from it, so that nothing of the grants behind is kept.
 #[inline(never)]
-fn has_usable_at_once(grants: &[(Path, AllowGrant)], target: &Target<'_>, needs: &Needs) -> bool
+fn quick_has_usable(grants: &[(Path, AllowGrant)], target: &Target<'_>, needs: &Needs) -> bool
     ensures { result ≡ list_any (λ entry. spec.is_usable entry.1 target.now needs.now) grants.now }
 {
     let mut rest = grants;
     while let Some((entry, others)) = rest.split_first() {
-        match is_usable_at_once::<OTHERS>(&entry.1, target, needs) {
+        match quick_is_usable::<OTHERS>(&entry.1, target, needs) {
             Some(true) => return true,
             Some(false) => rest = others,
-            None => return has_usable_at_length(rest, target, needs),
+            None => return full_has_usable(rest, target, needs),
         }
     }
     false
@@ -74,7 +74,7 @@ pub fn grants_allow(grants: &[(Path, AllowGrant)], target: &Target<'_>, needs: &
     ensures { result ≡ spec.grants_allow grants.now target.now needs.now }
 {
     if needs.calls.as_slice().is_empty() {
-        has_usable_at_once(grants, target, needs)
+        quick_has_usable(grants, target, needs)
     } else {
         are_covered(grants, target, needs)
     }
@@ -92,8 +92,8 @@ fn allow_without_calls(grants: &[(Path, AllowGrant)], target: &Target<'_>, needs
     };
     match is_usable_by_names::<FIRST>(&entry.1, target, needs) {
         Some(true) => true,
-        Some(false) => !others.is_empty() && has_usable_at_once(others, target, needs),
-        None => has_usable_at_once(grants, target, needs),
+        Some(false) => !others.is_empty() && quick_has_usable(others, target, needs),
+        None => quick_has_usable(grants, target, needs),
     }
 }
 

@@ -19,7 +19,7 @@ pub const NO_KIND: usize = 256;
 
 /// What a grant of a kind names.
 #[derive(Clone, Copy, Debug, PartialEq, Eq)]
-pub enum Named {
+pub enum IndexBy {
     Nothing,
     ThePool,
     /// The application, the key and the value of its tag.
@@ -27,10 +27,10 @@ pub enum Named {
     TheClass,
 }
 
-/// Grants that are found alike: by what they name, and by so many of the first bytes of their prefixes.
+/// Grants that are found alike: by what they name, and by the first `front` bytes of their prefixes.
 #[derive(Clone, Copy, Debug, PartialEq, Eq)]
-pub struct Kind {
-    pub named: Named,
+pub struct IndexKey {
+    pub named: IndexBy,
     pub front: usize,
 }
 
@@ -97,18 +97,18 @@ fn pool_hash(pool: &Option<Name>) -> Option<u64>
 }
 
 /// The number of what a grant names, if it names it.
-fn named_hash(named: Named, grant: &AllowGrant) -> Option<u64>
+fn named_hash(named: IndexBy, grant: &AllowGrant) -> Option<u64>
     ensures { result ≡ spec.named_hash named grant.now }
 {
     match named {
-        Named::Nothing => Some(0),
-        Named::ThePool => pool_hash(&grant.pool),
-        Named::TheTag => tag_hash(&grant.tag),
-        Named::TheClass => class_hash(&grant.access),
+        IndexBy::Nothing => Some(0),
+        IndexBy::ThePool => pool_hash(&grant.pool),
+        IndexBy::TheTag => tag_hash(&grant.tag),
+        IndexBy::TheClass => class_hash(&grant.access),
     }
 }
 
-/// The number of the first bytes of a text, if it has so many.
+/// The hash of the first `front` bytes of a text, or `None` if the text is shorter.
 #[inline(always)]
 pub fn front_hash(text: &[u8], front: usize) -> Option<u64>
     ensures { result ≡ spec.front_hash text.now front }
@@ -120,7 +120,7 @@ pub fn front_hash(text: &[u8], front: usize) -> Option<u64>
     }
 }
 
-/// The bytes of a prefix, none where there is none.
+/// The bytes of a prefix, empty if there is no prefix.
 fn bytes_of(prefix: &Option<Name>) -> &[u8]
     ensures { result.now ≡ unwrap_or prefix.now [] }
 {
@@ -132,7 +132,7 @@ fn bytes_of(prefix: &Option<Name>) -> &[u8]
 
 /// The chain of a grant among those of a kind, if it has the parts.
 #[tactic(auto, unfolding(crate::specs::Kinds::chain_in))]
-fn chain_in(kind: Kind, grant: &AllowGrant) -> Option<usize>
+fn chain_in(kind: IndexKey, grant: &AllowGrant) -> Option<usize>
     ensures value { result ≡ spec.chain_in kind grant.now }
     ensures small { ForSome result (λ chain. chain < 257) }
 {
@@ -142,7 +142,7 @@ fn chain_in(kind: Kind, grant: &AllowGrant) -> Option<usize>
 }
 
 /// The chain that a grant is in.
-pub fn chain_of(kinds: &[Kind], grant: &AllowGrant) -> usize
+pub fn chain_of(kinds: &[IndexKey], grant: &AllowGrant) -> usize
     ensures value { result ≡ spec.chain_of kinds.now grant.now }
     ensures small { result < 257 }
 {
@@ -155,14 +155,14 @@ pub fn chain_of(kinds: &[Kind], grant: &AllowGrant) -> usize
 }
 
 /// The kind of a grant by all of its parts, if it is to be found by some.
-fn kind_of(grant: &AllowGrant) -> Option<Kind> {
+fn kind_of(grant: &AllowGrant) -> Option<IndexKey> {
     let front = bytes_of(&grant.prefix).len();
     match grant {
         AllowGrant {
             access: Access::Class { .. },
             ..
-        } => Some(Kind {
-            named: Named::TheClass,
+        } => Some(IndexKey {
+            named: IndexBy::TheClass,
             front: 0,
         }),
         AllowGrant {
@@ -174,16 +174,16 @@ fn kind_of(grant: &AllowGrant) -> Option<Kind> {
                 },
             ),
             ..
-        } => Some(Kind {
-            named: Named::TheTag,
+        } => Some(IndexKey {
+            named: IndexBy::TheTag,
             front,
         }),
-        AllowGrant { pool: Some(_), .. } => Some(Kind {
-            named: Named::ThePool,
+        AllowGrant { pool: Some(_), .. } => Some(IndexKey {
+            named: IndexBy::ThePool,
             front,
         }),
-        _ if front > 0 => Some(Kind {
-            named: Named::Nothing,
+        _ if front > 0 => Some(IndexKey {
+            named: IndexBy::Nothing,
             front,
         }),
         _ => None,
@@ -191,15 +191,15 @@ fn kind_of(grant: &AllowGrant) -> Option<Kind> {
 }
 
 /// Whether a kind is among these.
-fn has(kinds: &[Kind], kind: Kind) -> bool {
+fn has(kinds: &[IndexKey], kind: IndexKey) -> bool {
     kinds.iter().any(|other| *other == kind)
 }
 
 /// Adds a kind where it is not there yet, before those with shorter fronts. Where there are many, it is that without a front.
-fn add(kinds: &mut Vec<Kind>, kind: Kind) -> Result<(), OutOfMemory> {
+fn add(kinds: &mut Vec<IndexKey>, kind: IndexKey) -> Result<(), OutOfMemory> {
     let whole = kinds.len() < MANY || has(kinds, kind);
     let front = if whole { kind.front } else { 0 };
-    let kind = Kind { front, ..kind };
+    let kind = IndexKey { front, ..kind };
     if has(kinds, kind) {
         return Ok(());
     }
@@ -212,7 +212,10 @@ fn add(kinds: &mut Vec<Kind>, kind: Kind) -> Result<(), OutOfMemory> {
 
 /// The kinds of these grants, those with longer fronts first. No verdict depends on which they are. It fails where no memory
 /// is left for the list.
-pub fn kinds_of(alloc: Global, grants: &[(Path, AllowGrant)]) -> Result<Vec<Kind>, OutOfMemory> {
+pub fn kinds_of(
+    alloc: Global,
+    grants: &[(Path, AllowGrant)],
+) -> Result<Vec<IndexKey>, OutOfMemory> {
     let mut kinds = Vec::new(alloc);
     for entry in grants {
         if let Some(kind) = kind_of(&entry.1) {

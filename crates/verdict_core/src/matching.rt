@@ -6,7 +6,7 @@ ghost use Rattle.std.specs.Option.{ForSome};
 ghost use Rattle.std.specs.Str.{bytes_eq};
 ghost use Rattle.verdict_core.specs.Verdict as spec;
 
-use crate::texts::{begins_with, begins_with_at_once, is_name_at_once, is_text, is_text_at_once};
+use crate::texts::{begins_with, is_text, quick_begins_with, quick_is_name, quick_is_text};
 use cap_text::{Access, AllowGrant, NsMatch, Part, Tag};
 use common_types::{AppTags, Name, Pairs, Tags};
 use request_types::{ClassCall, Condition, Needs, Target};
@@ -165,9 +165,10 @@ pub(crate) fn is_usable(grant: &AllowGrant, target: &Target<'_>, needs: &Needs) 
     matches(grant, target) && serves(&grant.access, needs)
 }
 
-/// The same in a call of its own, for walks on which few grants come so far. Most grants of a class are for all targets.
+/// Whether a grant is usable, in a call of its own, for walks on which few grants get this far. Most grants of a
+/// class are for all targets.
 #[inline(never)]
-pub(crate) fn is_usable_in_turn(grant: &AllowGrant, target: &Target<'_>, needs: &Needs) -> bool
+pub(crate) fn full_is_usable(grant: &AllowGrant, target: &Target<'_>, needs: &Needs) -> bool
     ensures { result ≡ spec.is_usable grant.now target.now needs.now }
 {
     let is_here = match grant {
@@ -195,34 +196,34 @@ pub(crate) const CHAINED: u8 = 2;
 
 /// `names`, if two comparisons of words tell, or before them the last byte, where it is asked for.
 #[inline(always)]
-fn names_at_once<const GRANTS: u8>(wanted: &Option<Name>, name: &[u8]) -> Option<bool>
+fn quick_names<const GRANTS: u8>(wanted: &Option<Name>, name: &[u8]) -> Option<bool>
     ensures { ForSome result (λ holds. holds ≡ spec.names wanted.now name.now) }
 {
     let Some(wanted) = wanted else {
         return Some(true);
     };
     if GRANTS == OTHERS {
-        is_name_at_once(wanted, name)
+        quick_is_name(wanted, name)
     } else {
-        is_text_at_once(wanted, name)
+        quick_is_text(wanted, name)
     }
 }
 
 /// `matches_namespace`, if two comparisons of words tell.
 #[inline(always)]
-fn matches_namespace_at_once(wanted: &Option<NsMatch>, namespace: &[u8]) -> Option<bool>
+fn quick_matches_namespace(wanted: &Option<NsMatch>, namespace: &[u8]) -> Option<bool>
     ensures { ForSome result (λ holds. holds ≡ spec.matches_namespace wanted.now namespace.now) }
 {
     match wanted {
         None => Some(true),
-        Some(NsMatch::Exact(name)) => is_text_at_once(name, namespace),
-        Some(NsMatch::Prefix(prefix)) => begins_with_at_once(namespace, prefix),
+        Some(NsMatch::Exact(name)) => quick_is_text(name, namespace),
+        Some(NsMatch::Prefix(prefix)) => quick_begins_with(namespace, prefix),
     }
 }
 
 /// `matches_prefix`, if two comparisons of words tell.
 #[inline(always)]
-fn matches_prefix_at_once(wanted: &Option<Name>, object: &[u8]) -> Option<bool>
+fn quick_matches_prefix(wanted: &Option<Name>, object: &[u8]) -> Option<bool>
     ensures { ForSome result (λ holds. holds ≡ spec.matches_prefix wanted.now object.now) }
 {
     match wanted {
@@ -231,7 +232,7 @@ fn matches_prefix_at_once(wanted: &Option<Name>, object: &[u8]) -> Option<bool>
             if object.is_empty() {
                 Some(false)
             } else {
-                begins_with_at_once(object, prefix)
+                quick_begins_with(object, prefix)
             }
         }
     }
@@ -239,43 +240,43 @@ fn matches_prefix_at_once(wanted: &Option<Name>, object: &[u8]) -> Option<bool>
 
 /// `matches_part`, if two comparisons of words tell.
 #[inline(always)]
-fn matches_part_at_once(part: &Part, text: &Name) -> Option<bool>
+fn quick_matches_part(part: &Part, text: &Name) -> Option<bool>
     ensures { ForSome result (λ holds. holds ≡ spec.matches_part part.now text.now) }
 {
     match part {
         Part::Any => Some(true),
-        Part::Is(name) => is_text_at_once(name, text.as_str().as_bytes()),
+        Part::Is(name) => quick_is_text(name, text.as_str().as_bytes()),
     }
 }
 
 /// Whether an application with this one pair agrees with a tag, if comparisons of words tell.
 #[inline(always)]
-fn matches_pair_at_once<const GRANTS: u8>(
+fn quick_matches_pair<const GRANTS: u8>(
     tag: &Tag,
     application: &Name,
     pair: &(Name, Name),
 ) -> Option<bool>
     ensures { ForSome result (λ holds. holds ≡ (bytes_eq tag.now.application application.now && spec.matches_pairs tag.now.key tag.now.value (pair.now ∷ []))) }
 {
-    let Some(value) = matches_part_at_once(&tag.value, &pair.1) else {
+    let Some(value) = quick_matches_part(&tag.value, &pair.1) else {
         return None;
     };
     if !value {
         return Some(false);
     }
-    let Some(key) = matches_part_at_once(&tag.key, &pair.0) else {
+    let Some(key) = quick_matches_part(&tag.key, &pair.0) else {
         return None;
     };
     if !key {
         return Some(false);
     }
-    is_text_at_once(&tag.application, application.as_str().as_bytes())
+    quick_is_text(&tag.application, application.as_str().as_bytes())
 }
 
 /// `matches_tag`, if comparisons of words tell: of a tag they do where the pool has one application with one pair, as
 /// a pool of CephFS has.
 #[inline(always)]
-fn matches_tag_at_once<const GRANTS: u8>(wanted: &Option<Tag>, tags: &Tags) -> Option<bool>
+fn quick_matches_tag<const GRANTS: u8>(wanted: &Option<Tag>, tags: &Tags) -> Option<bool>
     ensures { ForSome result (λ holds. holds ≡ spec.matches_tag wanted.now tags.now) }
 {
     let Some(tag) = wanted else {
@@ -287,28 +288,28 @@ fn matches_tag_at_once<const GRANTS: u8>(wanted: &Option<Tag>, tags: &Tags) -> O
     let [pair] = app.pairs.as_slice() else {
         return None;
     };
-    matches_pair_at_once::<GRANTS>(tag, &app.application, pair)
+    quick_matches_pair::<GRANTS>(tag, &app.application, pair)
 }
 
 /// Whether a grant agrees with the names of a target, if a few comparisons of words tell: they do where each name that is
 /// compared has 2 to 16 bytes.
 #[inline(always)]
-fn matches_names_at_once<const GRANTS: u8>(grant: &AllowGrant, target: &Target<'_>) -> Option<bool>
+fn quick_matches_names<const GRANTS: u8>(grant: &AllowGrant, target: &Target<'_>) -> Option<bool>
     ensures { ForSome result (λ holds. holds ≡ (spec.names grant.now.pool target.now.pool && spec.matches_namespace grant.now.namespace target.now.namespace && spec.matches_prefix grant.now.prefix target.now.object)) }
 {
-    let Some(prefix) = matches_prefix_at_once(&grant.prefix, target.object) else {
+    let Some(prefix) = quick_matches_prefix(&grant.prefix, target.object) else {
         return None;
     };
     if !prefix {
         return Some(false);
     }
-    let Some(pool) = names_at_once::<GRANTS>(&grant.pool, target.pool) else {
+    let Some(pool) = quick_names::<GRANTS>(&grant.pool, target.pool) else {
         return None;
     };
     if !pool {
         return Some(false);
     }
-    matches_namespace_at_once(&grant.namespace, target.namespace)
+    quick_matches_namespace(&grant.namespace, target.namespace)
 }
 
 /// Whether a grant without a tag is usable, if a few comparisons of words tell. It calls nothing, so that a walk by it
@@ -324,7 +325,7 @@ pub(crate) fn is_usable_by_names<const GRANTS: u8>(
     if grant.tag.is_some() {
         return None;
     }
-    let Some(names) = matches_names_at_once::<GRANTS>(grant, target) else {
+    let Some(names) = quick_matches_names::<GRANTS>(grant, target) else {
         return None;
     };
     if !names {
@@ -336,20 +337,20 @@ pub(crate) fn is_usable_by_names<const GRANTS: u8>(
 /// Whether a grant is usable, if a few comparisons of words tell: they do of a tag, too, where the pool has one
 /// application with one pair.
 #[inline(always)]
-pub(crate) fn is_usable_at_once<const GRANTS: u8>(
+pub(crate) fn quick_is_usable<const GRANTS: u8>(
     grant: &AllowGrant,
     target: &Target<'_>,
     needs: &Needs,
 ) -> Option<bool>
     ensures { ForSome result (λ usable. usable ≡ spec.is_usable grant.now target.now needs.now) }
 {
-    let Some(tag) = matches_tag_at_once::<GRANTS>(&grant.tag, target.tags) else {
+    let Some(tag) = quick_matches_tag::<GRANTS>(&grant.tag, target.tags) else {
         return None;
     };
     if !tag {
         return Some(false);
     }
-    let Some(names) = matches_names_at_once::<GRANTS>(grant, target) else {
+    let Some(names) = quick_matches_names::<GRANTS>(grant, target) else {
         return None;
     };
     if !names {
@@ -387,7 +388,7 @@ pub(crate) fn allows(
 ) -> bool
     ensures { result ≡ (spec.is_usable grant.now target.now needs.now && spec.covers grant.now.access call.now) }
 {
-    covers(&grant.access, call) && is_usable_in_turn(grant, target, needs)
+    covers(&grant.access, call) && full_is_usable(grant, target, needs)
 }
 
 /// The first call that an access does not cover, by its number.

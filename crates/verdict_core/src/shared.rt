@@ -47,7 +47,7 @@ impl SharedTicket {
         &self.ticket
     }
 
-    /// The same ticket, shared once more.
+    /// Shares the ticket once more.
     pub fn copy(&self) -> Result<SharedTicket, OutOfMemory>
         ensures { IfOk result (λ ticket. ticket ≡ self.now) }
     {

@@ -38,7 +38,7 @@ fn are_same_at_both_ends<const N: usize>(left: &[u8], right: &[u8]) -> bool
 
 /// Whether two long or very short texts are the same. It is a call of its own, so that its callers stay small.
 #[inline(never)]
-fn are_same_at_length(left: &[u8], right: &[u8]) -> bool
+fn full_are_same(left: &[u8], right: &[u8]) -> bool
     ensures { result ≡ bytes_eq left.now right.now }
 {
     left == right
@@ -47,7 +47,7 @@ fn are_same_at_length(left: &[u8], right: &[u8]) -> bool
 /// Whether two texts are the same, if two comparisons of words tell: they do where the texts differ in length, or have 2
 /// to 16 bytes, as most names have.
 #[inline(always)]
-fn are_same_at_once(left: &[u8], right: &[u8]) -> Option<bool>
+fn quick_are_same(left: &[u8], right: &[u8]) -> Option<bool>
     ensures { ForSome result (λ same. same ≡ bytes_eq left.now right.now) }
 {
     let length = left.len();
@@ -71,9 +71,9 @@ fn are_same_at_once(left: &[u8], right: &[u8]) -> Option<bool>
 fn are_same(left: &[u8], right: &[u8]) -> bool
     ensures { result ≡ bytes_eq left.now right.now }
 {
-    match are_same_at_once(left, right) {
+    match quick_are_same(left, right) {
         Some(same) => same,
-        None => are_same_at_length(left, right),
+        None => full_are_same(left, right),
     }
 }
 
@@ -85,12 +85,12 @@ pub fn is_text(name: &Name, text: &[u8]) -> bool
     are_same(name.as_str().as_bytes(), text)
 }
 
-/// The same, if two comparisons of words tell.
+/// Whether a name is this text, if two comparisons of words decide it.
 #[inline(always)]
-pub fn is_text_at_once(name: &Name, text: &[u8]) -> Option<bool>
+pub fn quick_is_text(name: &Name, text: &[u8]) -> Option<bool>
     ensures { ForSome result (λ same. same ≡ bytes_eq name.now text.now) }
 {
-    are_same_at_once(name.as_str().as_bytes(), text)
+    quick_are_same(name.as_str().as_bytes(), text)
 }
 
 /// Whether two texts differ in their length or in their last byte, as most names do that differ.
@@ -102,16 +102,16 @@ fn end_differently(left: &[u8], right: &[u8]) -> bool
     length != right.len() || (length > 0 && left[length - 1] != right[length - 1])
 }
 
-/// Whether a name is this text, if its end or two comparisons of words tell.
+/// Whether a name is this text, if its end or two comparisons of words decide it.
 #[inline(always)]
-pub fn is_name_at_once(name: &Name, text: &[u8]) -> Option<bool>
+pub fn quick_is_name(name: &Name, text: &[u8]) -> Option<bool>
     ensures { ForSome result (λ same. same ≡ bytes_eq name.now text.now) }
 {
     let name = name.as_str().as_bytes();
     if end_differently(name, text) {
         return Some(false);
     }
-    are_same_at_once(name, text)
+    quick_are_same(name, text)
 }
 
 /// Whether a text begins with a prefix.
@@ -123,14 +123,14 @@ pub fn begins_with(text: &[u8], prefix: &Name) -> bool
     prefix.len() <= text.len() && are_same(prefix, &text[..prefix.len()])
 }
 
-/// The same, if two comparisons of words tell.
+/// Whether a text begins with a prefix, if two comparisons of words decide it.
 #[inline(always)]
-pub fn begins_with_at_once(text: &[u8], prefix: &Name) -> Option<bool>
+pub fn quick_begins_with(text: &[u8], prefix: &Name) -> Option<bool>
     ensures { ForSome result (λ begins. begins ≡ starts_with nat_eq text.now prefix.now) }
 {
     let prefix = prefix.as_str().as_bytes();
     if prefix.len() > text.len() {
         return Some(false);
     }
-    are_same_at_once(prefix, &text[..prefix.len()])
+    quick_are_same(prefix, &text[..prefix.len()])
 }

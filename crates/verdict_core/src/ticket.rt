@@ -19,8 +19,8 @@ pub const MAX_GRANTS: usize = 16384;
 
 /// The grants of an entity with their paths, at most [`MAX_GRANTS`], and until when they hold.
 ///
-/// It is expired at each tick from `until` on, and never where there is none. What a tick is its user
-/// decides: this project's profile has numbers that the caller hands in.
+/// It is expired at each tick from `until` on; without `until` it never expires. Its user decides what a tick is: in
+/// this project's profile it is a number that the caller passes.
 #[derive(Debug)]
 pub struct Ticket {
     grants: Vec<(Path, AllowGrant)>,
@@ -103,7 +103,7 @@ impl Ticket {
         }
     }
 
-    /// The same ticket, with the chains of its grants, unless all are in one. Where a growth is refused, it is given back as it was.
+    /// Adds the chains of its grants, unless all are in one. If an allocation fails, it returns the ticket as it was.
     pub(crate) fn with_chains(mut self) -> Result<Ticket, (Ticket, OutOfMemory)>
         ensures made { IfOk result (λ ticket. ticket ≡ self) }
         ensures given_back { IfErr result (λ refused. refused.0 ≡ self) }

@@ -37,7 +37,7 @@ entry_line entry = printed_path entry.path ++ (codes " " ++ (shown (entry_text e
 abbrev pub unknown_line : ℕ → List ℕ
 unknown_line place = decimal place ++ codes " unknown profile, grants nothing\n"
 
--- a line for each grant that the list comes to, and for each of its grants that comes to nothing
+-- a line for each grant that the list expands to, and for each of its grants that expands to nothing
 abbrev pub ceph_text : List CephGrant → List ℕ
 ceph_text list = flat_map entry_line (ceph_flat list) ++ flat_map unknown_line (unknown_from 1 list)
 
@@ -48,7 +48,7 @@ entry_document entry =
 abbrev pub number_document : ℕ → Data
 number_document n = number (unsigned n)
 
--- the grants that the list comes to, and the numbers of its grants that come to nothing
+-- the grants that the list expands to, and the numbers of its grants that expand to nothing
 abbrev pub ceph_document : List CephGrant → Data
 ceph_document list =
     object (member (codes "grants") (array (items_of (map entry_document (ceph_flat list)))) (member (codes "unknown_profiles") (array (items_of (map number_document (unknown_from 1 list)))) no_members))

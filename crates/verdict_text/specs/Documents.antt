@@ -75,7 +75,7 @@ abbrev pub refused_text_document : TextFault → Data
 refused_text_document fault =
     object (byte_member (fault_byte fault) (member (codes "fault") (string (fault_text fault)) (verdict_members (codes "refused"))))
 
--- a verdict, or the fault for which there is none
+-- a verdict, or the fault that prevents one
 abbrev pub answer_document : Result Verdict VerdictFault → Data
 answer_document (Ok Allowed) = object (verdict_members (codes "allow"))
 answer_document (Ok (Denied report)) =
@@ -110,7 +110,7 @@ abbrev pub grant_document : List ℕ × AllowGrant → Data
 grant_document entry =
     object (member (codes "grant") (string (printed_allow entry.1)) (member (codes "path") (string (printed_path entry.0)) no_members))
 
--- the canonical form, and each grant that the list comes to
+-- the canonical form, and each grant that the list expands to
 abbrev pub explained_document : List Grant → Flat → Data
 explained_document grants ticket =
     object (member (codes "canonical") (string (printed grants)) (member (codes "grants") (array (items_of (map grant_document ticket))) no_members))

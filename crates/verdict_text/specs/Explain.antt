@@ -25,7 +25,7 @@ use Rattle.verdict_text.specs.declared.format.Format.TheVariants.{Text, Json}
 abbrev pub grant_line : List ℕ × AllowGrant → List ℕ
 grant_line entry = printed_path entry.0 ++ (codes " " ++ (printed_allow entry.1 ++ codes "\n"))
 
--- the canonical form on a line, and a line for each grant that the list comes to
+-- the canonical form on a line, and a line for each grant that the list expands to
 abbrev pub explained_text : List Grant → Flat → List ℕ
 explained_text grants ticket = printed grants ++ (codes "\n" ++ flat_map grant_line ticket)
 

@@ -96,7 +96,7 @@ abbrev pub IsCephTextReading : List ℕ → Option ℕ → Reading → Type 0
 IsCephTextReading caps until (Ok rights) = (list : List CephGrant) × texts.IsCephText caps list × IsCephListReading list until (Ok rights)
 IsCephTextReading caps until (Err fault) = IsCephFaultOf caps fault
 
--- how many grants a text has, and what they come to; or why Ceph reads none
+-- how many grants a text has, and the rights that they expand to; or why Ceph reads no grants
 abbrev pub IsCounted : List CephGrant → Result CephRights TextFault → Type 0
 IsCounted list (Ok found) = (found.count ≡ length list) × (length list ≤ 4096) × AreGrantsOf (ceph_flat list) found.rights.grants
 IsCounted list (Err fault) = fault ≡ Unread faults.TooLarge

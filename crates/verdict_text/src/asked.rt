@@ -5,7 +5,7 @@ ghost use Rattle.common_types.specs.Refused.{RefusedFirst};
 ghost use Rattle.object_core.specs.Needs.{needs_of};
 ghost use Rattle.verdict_text.specs.Asked.{are_too_many, asked_needs, calls_fault, named_fault};
 
-use common_types::{OutOfMemory, TryCopy};
+use common_types::{OutOfMemory, TryClone};
 use network_core::Address;
 use object_core::{NeedsFault, Op, needs_of};
 use std::alloc::Global;
@@ -13,7 +13,7 @@ use std::marker::Model;
 use verdict_core::{Calls, ClassCall, Needs, Target};
 
 /// How many calls a request has at most.
-const CALL_LIMIT: usize = 16;
+const MAX_CALLS: usize = 16;
 
 /// What is asked of a capability text: a request, and the tick when it comes.
 #[derive(Drop)]
@@ -28,7 +28,7 @@ pub struct Asked<'a> {
     pub stated: &'a [ClassCall],
     /// At this tick a ticket is expired that ends at it or before.
     pub tick: u64,
-    /// The client's address. If it is none, the answer is over all addresses.
+    /// The client's address. Without one, the answer is over all addresses.
     pub from: Option<Address>,
 }
 
@@ -59,7 +59,7 @@ fn needs_of_named(alloc: Global, calls: &[Op]) -> Result<Needs, NeedsFault>
 fn are_too_many(calls: &[Op], stated: &[ClassCall]) -> bool
     ensures { result ≡ are_too_many calls.now stated.now }
 {
-    stated.len() > CALL_LIMIT || calls.len() > CALL_LIMIT - stated.len()
+    stated.len() > MAX_CALLS || calls.len() > MAX_CALLS - stated.len()
 }
 
 /// The calls, and the stated ones behind them.

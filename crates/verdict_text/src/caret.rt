@@ -1,4 +1,4 @@
-//! Where the fault of a capability text stands.
+//! Where the fault of a capability text is.
 
 ghost use Rattle.std.specs.Prelude.{◌≡◌, ◌++◌, ◌&&◌, IfOk, IsTrue, OnOk, nat_le, replicate, string_bytes, take, ◌<◌};
 ghost use Rattle.verdict_text.specs.Caret.{pointed_text, shown, shown_byte};
@@ -45,7 +45,7 @@ pub fn push_shown_text(text: &mut String, more: &str) -> Result<(), OutOfMemory>
     push_shown(text, more.as_bytes())
 }
 
-/// Adds so many blanks.
+/// Adds `count` blanks.
 fn push_blanks(line: &mut Vec<u8>, count: usize) -> Result<(), OutOfMemory>
     ensures { OnOk result (line.new.items ≡ line.old.items ++ replicate count 32) }
 {
@@ -78,8 +78,8 @@ fn cut(bytes: &[u8], position: usize) -> (&[u8], &[u8])
     bytes.split_at(position.min(bytes.len()))
 }
 
-/// Shows on `err` where the first fault of a capability text stands: the text, and a caret under the fault's
-/// byte. A text without a fault shows nothing, nor does want of memory. Where a write fails, nobody is told.
+/// Shows on `err` where the first fault of a capability text is: the text, and a caret under the fault's byte.
+/// Nothing is shown for a text without a fault, or when out of memory. A failed write is not reported.
 ///
 /// The text is read again, so that no answer has to carry its fault.
 pub fn point_at_fault<W: Write>(alloc: Global, caps: &str, err: &mut W) {

@@ -1,4 +1,4 @@
-//! What a capability text comes to by Ceph's rules.
+//! What a capability text expands to by Ceph's rules.
 
 ghost use Rattle.std.specs.Prelude.{◌≡◌, ◌++◌, true, IfOk, OnOk, string_bytes, flat_map};
 ghost use Rattle.ceph_text.specs.Profiles.{ceph_flat};
@@ -74,7 +74,7 @@ fn push_unknown(text: &mut String, numbers: &[usize]) -> Result<(), OutOfMemory>
     Ok(())
 }
 
-/// A line for each grant that a list comes to, and for each of its grants that comes to nothing.
+/// A line for each grant that a list expands to, and for each of its grants that expands to nothing.
 fn ceph_lines(alloc: Global, list: &CephList, entries: &[CephEntry]) -> Result<String, OutOfMemory>
     requires { entries.now ≡ ceph_flat list.now }
     ensures { IfOk result (λ text. string_bytes text ≡ spec.ceph_text list.now) }
@@ -86,7 +86,7 @@ fn ceph_lines(alloc: Global, list: &CephList, entries: &[CephEntry]) -> Result<S
     Ok(text)
 }
 
-/// The same as a text or as a document.
+/// The expansion of a list, as a text or as a document.
 fn ceph_by(
     alloc: Global,
     list: &CephList,
@@ -136,11 +136,14 @@ fn explained(alloc: Global, list: &CephList, format: Format) -> Result<Printed, 
     }
 }
 
-/// What the program prints to explain a capability text by Ceph's rules: a line `PATH GRANT` for each grant that it comes to,
-/// with the network to which the grant is limited, and a line for each of its grants that uses a profile that Ceph does not
-/// know, which grants nothing; or `refused FAULT` where Ceph refuses the text, and then the command fails. Bytes outside 32 to
-/// 126 are shown as `\x` and two hexadecimal digits. Every line ends with a line feed. As a document it has the members
-/// `grants` and `unknown_profiles`, or `fault`, and `byte` where one is at fault.
+/// What the program prints to explain a capability text by Ceph's rules. Every line ends with a line feed.
+///
+/// - A line `PATH GRANT` for each grant that the text expands to, with the network to which the grant is limited.
+/// - A line for each grant of the text that uses a profile unknown to Ceph, which grants nothing.
+/// - Or `refused FAULT` where Ceph refuses the text. Then the command fails.
+///
+/// Bytes outside 32 to 126 are shown as `\x` and two hexadecimal digits. As a document it has the members `grants` and
+/// `unknown_profiles`, or `fault`, and `byte` where one is at fault.
 pub fn explain_ceph(alloc: Global, caps: &str, format: Format) -> Result<Printed, OutOfMemory>
     ensures { IfOk result (λ printed. IsCephExplainText format caps.now (string_bytes printed.text) printed.fails) }
 {

@@ -23,8 +23,8 @@ use serde_json::{Value, json};
 use std::alloc::Global;
 use verdict_core::Condition;
 
-/// A document on a line, as JSON without blanks; a line feed ends it. The document has no floats. An `Err` is want of memory
-/// alone.
+/// A document on a line, as JSON without blanks. A line feed ends it. The document has no floats. The only error is out
+/// of memory.
 pub fn json_line(alloc: Global, document: &Value) -> Result<String, OutOfMemory>
     requires { has_float (view document.now) ≡ false }
     ensures { IfOk result (λ text. string_bytes text ≡ json_line (view document.now)) }
@@ -34,8 +34,8 @@ pub fn json_line(alloc: Global, document: &Value) -> Result<String, OutOfMemory>
     Ok(text)
 }
 
-/// A document as a piece of a list, of which [`list_by`] is made: a comma, and the document as JSON without blanks. It has no
-/// floats. An `Err` is want of memory alone.
+/// A document as a piece of the list that [`list_by`] makes: a comma, and the document as JSON without blanks. The
+/// document has no floats. The only error is out of memory.
 pub fn piece_of(alloc: Global, document: &Value) -> Result<String, OutOfMemory>
     requires { has_float (view document.now) ≡ false }
     ensures { IfOk result (λ text. string_bytes text ≡ piece (view document.now)) }
@@ -56,8 +56,9 @@ fn without_comma(pieces: &str) -> &str
     }
 }
 
-/// The document of a list under a name, from the pieces of its items, each of which begins with a comma; as a text nothing is
-/// added. The name is written as it is, so it has no quotes and no backslash. The only error is want of memory.
+/// The document of a list under a name, from the pieces of its items. Each piece begins with a comma. As a text, it is
+/// the pieces alone. The name is written as it is, so it has no quotes and no backslash. The only error is out of
+/// memory.
 pub fn list_by(
     alloc: Global,
     name: &str,
@@ -92,8 +93,8 @@ fn list_json(alloc: Global, name: &str, pieces: &str) -> Result<String, OutOfMem
     Ok(text)
 }
 
-/// The document of some entities, from the pieces of theirs, each of which begins with a comma: [`list_by`] under the name
-/// `entities`; as a text nothing is added. An `Err` is want of memory alone.
+/// The document of some entities, from their pieces: [`list_by`] under the name `entities`. Each piece begins with a
+/// comma. As a text, it is the pieces alone. The only error is out of memory.
 pub fn entities_by(alloc: Global, pieces: String, format: Format) -> Result<String, OutOfMemory>
     ensures { IfOk result (λ text. string_bytes text ≡ spec.entities_by format (string_bytes pieces)) }
 {
@@ -194,7 +195,7 @@ fn entity_value(alloc: Global, name: &str, answer: &Answer) -> Result<Value, Out
     json!(in alloc; {"answer": answer, "entity": name})
 }
 
-/// The piece of an entity: its name and its answer, the members `answer` and `entity`. An `Err` is want of memory alone.
+/// The piece of an entity: its name and its answer, the members `answer` and `entity`. The only error is out of memory.
 pub fn entity_piece(alloc: Global, name: &str, answer: &Answer) -> Result<String, OutOfMemory>
     ensures { IfOk result (λ text. string_bytes text ≡ piece (entity_document name.now answer.now)) }
 {
@@ -222,8 +223,8 @@ fn row_value(alloc: Global, name: &str, answers: &[Answer]) -> Result<Value, Out
     json!(in alloc; {"answers": answers, "entity": name})
 }
 
-/// The piece of an entity: its name and its answers to some requests, in order, the members `answers` and `entity`. An `Err`
-/// is want of memory alone.
+/// The piece of an entity: its name and its answers to some requests, in order, the members `answers` and `entity`. The
+/// only error is out of memory.
 pub fn row_piece(alloc: Global, name: &str, answers: &[Answer]) -> Result<String, OutOfMemory>
     ensures { IfOk result (λ text. string_bytes text ≡ piece (row_document name.now answers.now)) }
 {
@@ -239,7 +240,7 @@ fn calls_value(alloc: Global, fault: NeedsFault) -> Result<Value, OutOfMemory>
     json!(in alloc; {"fault": text})
 }
 
-/// The document of calls that are refused, on a line: the member `fault`. An `Err` is want of memory alone.
+/// The document of calls that are refused, on a line: the member `fault`. The only error is out of memory.
 pub fn calls_json(alloc: Global, fault: NeedsFault) -> Result<String, OutOfMemory>
     ensures { IfOk result (λ text. string_bytes text ≡ json_line (calls_document fault)) }
 {
@@ -247,7 +248,7 @@ pub fn calls_json(alloc: Global, fault: NeedsFault) -> Result<String, OutOfMemor
     json_line(alloc, &document)
 }
 
-/// A grant that a list comes to.
+/// A grant that a list expands to.
 fn grant_value(alloc: Global, entry: &(Path, AllowGrant)) -> Result<Value, OutOfMemory>
     ensures { IfOk result (λ value. view value ≡ grant_document entry.now) }
 {
@@ -258,7 +259,7 @@ fn grant_value(alloc: Global, entry: &(Path, AllowGrant)) -> Result<Value, OutOf
     json!(in alloc; {"grant": grant, "path": path})
 }
 
-/// The grants that a list comes to.
+/// The grants that a list expands to.
 fn grants_value(alloc: Global, grants: &[(Path, AllowGrant)]) -> Result<Value, OutOfMemory>
     ensures { IfOk result (λ value. view value ≡ array (items_of (map grant_document grants.now))) }
 {
@@ -269,7 +270,7 @@ fn grants_value(alloc: Global, grants: &[(Path, AllowGrant)]) -> Result<Value, O
     Ok(Value::from(items))
 }
 
-/// The document of a list and the grants that it comes to.
+/// The document of a list and the grants that it expands to.
 fn explained_value(
     alloc: Global,
     list: &CapList,
@@ -282,7 +283,7 @@ fn explained_value(
     json!(in alloc; {"canonical": canonical, "grants": grants})
 }
 
-/// The same on a line.
+/// The document of a list and the grants that it expands to, on a line.
 pub(crate) fn explained_json(
     alloc: Global,
     list: &CapList,

@@ -15,7 +15,7 @@ use common_types::OutOfMemory;
 use serde_json::{Value, json};
 use std::alloc::Global;
 
-/// A grant that a list comes to.
+/// A grant that a list expands to.
 fn entry_value(alloc: Global, entry: &CephEntry) -> Result<Value, OutOfMemory>
     ensures { IfOk result (λ value. view value ≡ entry_document entry.now) }
 {
@@ -25,7 +25,7 @@ fn entry_value(alloc: Global, entry: &CephEntry) -> Result<Value, OutOfMemory>
     json!(in alloc; {"grant": grant, "path": path})
 }
 
-/// The grants that a list comes to.
+/// The grants that a list expands to.
 fn entries_value(alloc: Global, entries: &[CephEntry]) -> Result<Value, OutOfMemory>
     ensures { IfOk result (λ value. view value ≡ array (items_of (map entry_document entries.now))) }
 {
@@ -47,7 +47,7 @@ fn numbers_value(alloc: Global, numbers: &[usize]) -> Result<Value, OutOfMemory>
     Ok(Value::from(items))
 }
 
-/// The document of the grants that a list comes to.
+/// The document of the grants that a list expands to.
 fn ceph_value(alloc: Global, list: &CephList, entries: &[CephEntry]) -> Result<Value, OutOfMemory>
     requires { entries.now ≡ ceph_flat list.now }
     ensures { IfOk result (λ value. view value ≡ ceph_document list.now) }
@@ -58,7 +58,7 @@ fn ceph_value(alloc: Global, list: &CephList, entries: &[CephEntry]) -> Result<V
     json!(in alloc; {"grants": grants, "unknown_profiles": unknown})
 }
 
-/// The same on a line.
+/// The document of the grants that a list expands to, on a line.
 pub(crate) fn ceph_json(
     alloc: Global,
     list: &CephList,
@@ -82,7 +82,7 @@ fn fault_value(alloc: Global, fault: TextFault) -> Result<Value, OutOfMemory>
     }
 }
 
-/// The same on a line.
+/// The document of a text that grants nothing, on a line.
 pub(crate) fn fault_json(alloc: Global, fault: TextFault) -> Result<String, OutOfMemory>
     ensures { IfOk result (λ text. string_bytes text ≡ json_line (fault_document fault)) }
 {

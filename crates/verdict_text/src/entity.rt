@@ -9,7 +9,7 @@ use crate::reading::ReadText;
 #[derive(Debug)]
 pub struct Entity {
     pub name: String,
-    /// Its capability text for object stores, empty where it has none, which comes to no grants.
+    /// Its capability text for object stores, empty where it has none. The empty text expands to no grants.
     pub osd: String,
 }
 

@@ -1,4 +1,4 @@
-//! What a capability text comes to.
+//! What a capability text expands to.
 
 ghost use Rattle.std.specs.Prelude.{◌≡◌, ◌++◌, true, is_some, IfOk, OnOk, string_bytes, flat_map};
 ghost use Rattle.grant_core.specs.BuiltIn.{built_in};
@@ -36,7 +36,7 @@ fn push_grants(text: &mut String, grants: &[(Path, AllowGrant)]) -> Result<(), O
     Ok(())
 }
 
-/// The canonical form of a list on a line, and a line for each grant that it comes to.
+/// The canonical form of a list on a line, and a line for each grant that it expands to.
 fn text_of_grants(
     alloc: Global,
     list: &CapList,
@@ -50,7 +50,7 @@ fn text_of_grants(
     Ok(text)
 }
 
-/// The same as a text or as a document.
+/// The canonical form of a list and the grants that it expands to, as a text or as a document.
 fn explained_by(
     alloc: Global,
     list: &CapList,
@@ -85,7 +85,7 @@ fn spelling_by(alloc: Global, fault: CapFault, format: Format) -> Result<String,
     }
 }
 
-/// What is printed of a list: by its expansion, or by why that is refused.
+/// What is printed of a list: its expansion, or why that is refused.
 fn expanded_list(
     alloc: Global,
     profiles: &ProfileTable,
@@ -109,7 +109,7 @@ fn expanded_list(
     }
 }
 
-/// The same with the built-in profiles.
+/// What is printed of a list: its expansion with the built-in profiles, or why that is refused.
 fn explained_list(alloc: Global, list: &CapList, format: Format) -> Result<Printed, OutOfMemory>
     ensures text { IfOk result (λ printed. string_bytes printed.text ≡ list_by format (expand_refusal built_in list.now) list.now) }
     ensures fails { IfOk result (λ printed. printed.fails ≡ is_some (expand_refusal built_in list.now)) }
@@ -128,11 +128,13 @@ fn refused_text_of(alloc: Global, fault: CapFault, format: Format) -> Result<Pri
     })
 }
 
-/// What the program prints to explain a capability text: its canonical form on a line, which is empty where it
-/// spells no grants, and a line `PATH GRANT` for each grant that it comes to with the built-in profiles; or
-/// `refused FAULT` where it spells no list or cannot be expanded, and then the command fails. Every line ends
-/// with a line feed. As a document it has the members `canonical` and `grants`, or `fault`, and `byte` where one is at
-/// fault.
+/// What the program prints to explain a capability text. Every line ends with a line feed.
+///
+/// - The canonical form of the text on a line, which is empty where the text spells no grants.
+/// - A line `PATH GRANT` for each grant that the text expands to with the built-in profiles.
+/// - Or `refused FAULT` where the text spells no list or cannot be expanded. Then the command fails.
+///
+/// As a document it has the members `canonical` and `grants`, or `fault`, and `byte` where one is at fault.
 pub fn explain_text(alloc: Global, caps: &str, format: Format) -> Result<Printed, OutOfMemory>
     ensures { IfOk result (λ printed. IsExplainText format caps.now (string_bytes printed.text) printed.fails) }
 {

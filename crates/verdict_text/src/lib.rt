@@ -11,8 +11,9 @@
 //!
 //! # Costs
 //!
-//! What is told of entities is linear in them: names are found by their hash (`NamedEntities`), and the built-in profiles are
-//! made once for all texts. `pointed_text` reads a refused text a second time, so that no answer has to carry a fault.
+//! The cost of what is printed of entities is linear in their number. Names are found by their hash (`NamedEntities`),
+//! and the built-in profiles are made once for all texts. `pointed_text` reads a refused text a second time, so that no
+//! answer has to carry a fault.
 //!
 //! # Documents
 //!
@@ -22,8 +23,8 @@
 //!
 //! # Design
 //!
-//! Its contracts need no command line and no world. So it is proved, and its mutants are tried, beside the crates of the world
-//! and not behind them.
+//! Its contracts need no command line and no world. So it is proved, and its mutants are tested, in parallel with the
+//! crates of the world and not after them.
 #![tactic(auto)]
 
 mod asked;

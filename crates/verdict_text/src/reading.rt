@@ -200,7 +200,7 @@ fn read_ceph(alloc: Global, text: &str, until: Option<u64>) -> Result<Reading, O
     read_ceph_text(alloc, text, until)
 }
 
-/// A text that Ceph reads: how many grants it has, at most 4,096, and what they come to.
+/// A text that Ceph reads: how many grants it has, at most 4,096, and the rights that they expand to.
 #[derive(Debug)]
 pub struct CephRights {
     pub count: usize,
@@ -216,7 +216,7 @@ impl Drop for CephRights {
     }
 }
 
-/// How many grants a list has, and what they come to, or that these are too many.
+/// How many grants a list has, and the rights that they expand to; or the fault that these are too many.
 fn counted(alloc: Global, list: &CephList) -> Result<Result<CephRights, TextFault>, OutOfMemory>
     ensures { IfOk result (IsCounted list.now) }
 {

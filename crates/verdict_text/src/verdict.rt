@@ -54,7 +54,7 @@ pub enum VerdictFault {
     Calls(NeedsFault),
 }
 
-/// A verdict, or why there is none.
+/// A verdict, or the fault that prevents one.
 pub type Answer = Result<Verdict, VerdictFault>;
 
 impl fmt::Display for Verdict {

@@ -159,16 +159,16 @@ fn push_listed(
     }
 }
 
-/// How much is told of entities, and in which form.
+/// How much is printed of entities, and in which format.
 #[derive(Clone, Copy)]
 pub(crate) struct Telling {
-    /// Each entity and its answer, and not only those that may.
+    /// Each entity and its answer are printed, not only the entities that are allowed.
     all: bool,
     format: Format,
 }
 
-/// Adds what is told of an entity that has this answer: with `all` its name and the answer, and else its name
-/// where it may.
+/// Adds what is printed of an entity that has this answer: with `all` its name and the answer, and else its name if it
+/// is allowed.
 fn push_told(
     text: &mut String,
     alloc: Global,

@@ -12,7 +12,7 @@ use std::sync::Wait;
 use world_core::{Ops, WorldFault};
 
 /// How often a call is made again for which the published map gave no reading.
-pub(crate) const MOST_TRIES: u32 = 1000;
+pub(crate) const MAX_TRIES: u32 = 1000;
 
 /// The pool that all work on.
 pub(crate) const POOL: &str = "data";
@@ -67,7 +67,7 @@ pub(crate) fn submit_one<R: Wait>(
     requires { IsPassOf cluster.now pass.old }
     ensures { IsPassOf cluster.now pass.new }
 {
-    for _try in 0..MOST_TRIES {
+    for _try in 0..MAX_TRIES {
         let asking = asking_of(alloc, session)?;
         let object = Name::new(alloc, object)?;
         let ops = ops_of(alloc, wish)?;

@@ -12,10 +12,10 @@ use std::sync::Wait;
 use verdict_core::{Calls, Needs};
 
 /// How many names are tried for an object of a group.
-const MOST_NAMES: u32 = 1000;
+const MAX_NAMES: u32 = 1000;
 
 /// How many deliveries a request waits for at most.
-const MOST_DELIVERIES: u32 = 1000;
+const MAX_DELIVERIES: u32 = 1000;
 
 /// The objects that verdicts are asked for, in turn.
 const OBJECTS: [&str; 4] = ["c0", "c1", "c2", "c3"];
@@ -23,15 +23,15 @@ const OBJECTS: [&str; 4] = ["c0", "c1", "c2", "c3"];
 /// What each worker does.
 #[derive(Clone, Copy, Debug)]
 pub enum Load {
-    /// It asks for 50 additions of 1 to one counter as a user who may, and then for 10 appends as one who may not, and works once on the
-    /// group after each.
+    /// It asks for 50 additions of 1 to one counter as a user who is allowed to, and then for 10 appends as one who is
+    /// not. After each it works once on the group.
     Counting,
-    /// It asks for so many additions of 1 to a counter of its own. It works on the group after each until no message is left there, and
-    /// looks for the answer.
+    /// It asks for this many additions of 1 to a counter of its own. After each it works on the group until no message
+    /// is left there, and looks for the answer.
     Requests(u32),
-    /// It judges so many requests by one view.
+    /// It judges this many requests by one view.
     Verdicts(u32),
-    /// It views the pool so often.
+    /// It views the pool this many times.
     Views(u32),
 }
 
@@ -66,7 +66,7 @@ fn object_in(
     requires { IsPassOf cluster.now pass.old }
     ensures { IsPassOf cluster.now pass.new }
 {
-    for number in 0..MOST_NAMES {
+    for number in 0..MAX_NAMES {
         let object = numbered(alloc, number)?;
         if group_of(alloc, cluster, pass, object.as_str())? as usize == group {
             return Ok(object);
@@ -88,7 +88,7 @@ fn is_done<R: Wait>(
     ensures { IsPassOf cluster.now pass.new }
 {
     let asked = submit_one(rt, alloc, cluster, pass, session, object, Wish::Addition)?;
-    for _delivery in 0..MOST_DELIVERIES {
+    for _delivery in 0..MAX_DELIVERIES {
         if !deliver(rt, cluster, pass, &asked.group)? {
             break;
         }

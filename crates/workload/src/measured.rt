@@ -67,10 +67,11 @@ fn work<R: Threads + Wait + Sync>(
     sum_of(workers)
 }
 
-/// Runs a load with so many workers, one at least, each on a thread of its own, over a new cluster of three daemons and a pool of so many
-/// groups, and answers how much of what they asked for came out as it is to: requests done, verdicts that allow, views that show the pool.
+/// Runs a load with `workers` workers, at least one, over a new cluster of three daemons and a pool of `groups` groups.
+/// Each worker has a thread of its own. Returns how much of what they asked for had the expected result: requests done,
+/// verdicts that allow, views that show the pool.
 ///
-/// With `moves` a daemon goes down and comes up meanwhile, until the workers end or it was 500 times.
+/// With `moves` a daemon goes down and comes up meanwhile, until the workers end, or 500 times.
 pub fn run_load<R: Threads + Wait + Sync>(
     rt: &R,
     alloc: Global,

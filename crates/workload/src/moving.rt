@@ -11,7 +11,7 @@ use std::sync::atomic::{AtomicU64, Ordering};
 const TIMES: u32 = 20;
 
 /// How often it does at most where that goes on until something ends.
-const MOST_TIMES: u32 = 500;
+const MAX_TIMES: u32 = 500;
 
 /// The daemon that goes down and comes up.
 const DAEMON: u8 = 2;
@@ -33,7 +33,7 @@ fn change<R: Wait>(
     }
 }
 
-// Takes the daemon down and up, so many times, and tells how many changes there were.
+// Takes the daemon down and up `TIMES` times. Returns how many changes there were.
 pub(crate) fn move_often<R: Wait>(
     rt: &R,
     cluster: &Cluster,
@@ -49,7 +49,7 @@ pub(crate) fn move_often<R: Wait>(
     Ok(TIMES * 2)
 }
 
-// Takes the daemon down and up, until something ends, which is told by a number above 0, or 500 times.
+// Takes the daemon down and up until `ended` is above 0, at most `MAX_TIMES` times.
 pub(crate) fn move_until<R: Wait>(
     rt: &R,
     cluster: &Cluster,
@@ -59,7 +59,7 @@ pub(crate) fn move_until<R: Wait>(
     requires { IsMonitorOf cluster.now monitor.old × FollowsStart cluster.now monitor.old }
     ensures { IsMonitorOf cluster.now monitor.new × FollowsStart cluster.now monitor.new }
 {
-    for _time in 0..MOST_TIMES {
+    for _time in 0..MAX_TIMES {
         if ended.load(Ordering::SeqCst) > 0 {
             return Ok(());
         }

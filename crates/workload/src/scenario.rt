@@ -113,11 +113,13 @@ fn run_cluster<R: Threads + Wait + Sync>(
     }
 }
 
-/// Runs so many workers, one at least, each on a thread of its own, over a cluster of three daemons and a pool of four groups, and gives the world that
-/// they leave once every group has settled, and how many changes of the map there were.
+/// Runs `workers` workers, at least one, over a cluster of three daemons and a pool of four groups. Each worker has a
+/// thread of its own. Returns the world that they leave once every group has settled, and how many changes of the map
+/// there were.
 ///
-/// Each worker asks for 50 additions of 1 to one counter, as a user who may, and then for 10 appends, as one who may not. With
-/// `moves` a daemon goes down and comes up 20 times meanwhile; then each group settles, sends again what is unanswered, and settles.
+/// Each worker asks for 50 additions of 1 to one counter, as a user who is allowed to, and then for 10 appends, as one
+/// who is not. With `moves` a daemon goes down and comes up 20 times meanwhile. Then each group settles, sends again
+/// what is unanswered, and settles.
 pub fn world_of_workload<R: Threads + Wait + Sync>(
     rt: &R,
     alloc: Global,

@@ -30,7 +30,7 @@ fn settle_group(alloc: Global, world: &mut World, number: u32) -> Result<(), Wor
     Ok(())
 }
 
-// Settles so many groups, one after another.
+// Settles the first `groups` groups, one after another.
 pub(crate) fn settle(alloc: Global, world: &mut World, groups: u32) -> Result<(), WorldFault> {
     for number in 0..groups {
         settle_group(alloc, world, number)?;

@@ -15,7 +15,7 @@ pub struct Tally {
     pub answered: u32,
     /// How many of the answers are denials.
     pub denied: u32,
-    /// What the last addition gave, empty where there is none.
+    /// The output of the last addition, empty without one.
     pub counter: Bytes,
     /// How many changes of the map there were, where they were asked for.
     pub moves: Option<u32>,
@@ -106,7 +106,7 @@ fn count_session(world: &World, session: u32, tally: &mut Tally) -> Result<(), W
     Ok(())
 }
 
-// The tally of so many sessions, which count from 1.
+// The tally of `sessions` sessions, which count from 1.
 pub(crate) fn tally_of(
     alloc: Global,
     world: &World,

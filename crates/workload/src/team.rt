@@ -28,7 +28,7 @@ fn user(alloc: Global, name: &str, osd: &str) -> Result<UserSpec, WorkloadFault>
     })
 }
 
-// The pool, of so many groups.
+// The pool, of `groups` groups.
 fn pools(alloc: Global, groups: u32) -> Result<Vec<PoolSpec>, WorkloadFault> {
     let pool = PoolSpec {
         name: Name::new(alloc, POOL)?,
@@ -48,7 +48,7 @@ fn users(alloc: Global) -> Result<Vec<UserSpec>, WorkloadFault> {
     Ok(users)
 }
 
-// A cluster of three daemons and a pool of so many groups, with so many passes, one at least.
+// A cluster of three daemons and a pool of `groups` groups, with `passes` passes, at least one.
 pub(crate) fn begin<R: Wait>(
     rt: &R,
     alloc: Global,

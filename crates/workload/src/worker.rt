@@ -33,7 +33,7 @@ pub(crate) struct Worker {
     pub(crate) fault: Option<ClusterFault>,
 }
 
-// Asks so many times.
+// Opens a session of `user`, and asks for `wish` `times` times.
 fn ask_as<R: Wait>(
     rt: &R,
     alloc: Global,

@@ -35,7 +35,7 @@ use Rattle.world_events.specs.declared.fault.WorldFault.{WorldFault as Fault}
 use Rattle.world_events.specs.declared.fault.WorldFault.TheVariants.{Map as OfMap, Group as OfGroup}
 use Rattle.entry_core.specs.Locality.{group_for}
 use Rattle.world_front.specs.Groups.{is_same_group, is_for, groups_of}
-use Rattle.world_front.specs.Front.{Front, front_step, front_refusal, asking_refusal, is_full, requests_of, requests_in, sealed_by, if_ok}
+use Rattle.world_front.specs.ControlPlane.{ControlPlane, front_step, front_refusal, asking_refusal, is_full, requests_of, requests_in, sealed_by, if_ok}
 use Rattle.world_front.specs.declared.session.Session.{Session}
 use Rattle.world_core.specs.World.{World, Part, part, group_at, members_of, map_parts, asked_parts, parts_of, begun_group, created_by, refused_in, parts_refusal, is_accepted, world_step}
 use Rattle.world_core.specs.Holds.{events_in, group_step_alone}
@@ -54,7 +54,7 @@ use Rattle.world_core.proofs.Requests.{facts, told_one, asked_facts, moved_facts
 use Rattle.world_core.proofs.Intervals.{sized_set, members_are, intervals_after, intervals_none, HasSets, later, sets_after, sets_kept}
 pub use Rattle.world_core.specs.Sound.{IsWithin, GroupKept, WorldKept}
 
--- ---- what no group refuses
+-- ---- events that all groups accept
 
 abbrev Passes : World → Event → Type 0
 Passes w (Map command) = parts_refusal w.groups (parts_of w.front (Map command)) ≡ None
@@ -109,10 +109,10 @@ map_fit state (OsdDown d) m = moved_fit (after state (OsdDown d)) (flat_map grou
 map_fit state (OsdRestart d) m = restarted_fit d (flat_map groups_of state.pools)
 
 -- the map after an accepted command
-pub next_map : (f : Front) (c : MapCommand) → FrontKept (front_step f (Map c)) → IsMap (after (map_of f.history) c)
+pub next_map : (f : ControlPlane) (c : MapCommand) → FrontKept (front_step f (Map c)) → IsMap (after (map_of f.history) c)
 next_map f c next = record { history = later f.history c; accepted = next.accepted; is = after_push f.history.daemons f.history.commands c }
 
-parts_fit : (f : Front) (e : Event) → FrontKept (front_step f e) → Fit (parts_of f e)
+parts_fit : (f : ControlPlane) (e : Event) → FrontKept (front_step f e) → Fit (parts_of f e)
 parts_fit f (Map command) h = map_fit (map_of f.history) command (next_map f command h)
 parts_fit f (Submit ask object ops) h = asked_fit (sealed_by f (Submit ask object ops))
 parts_fit f (ListNames ask) h = asked_fit (sealed_by f (ListNames ask))
@@ -151,7 +151,7 @@ map_within state (OsdUp d) m = moved_within (after state (OsdUp d)) (flat_map gr
 map_within state (OsdDown d) m = moved_within (after state (OsdDown d)) (flat_map groups_of state.pools) m
 map_within state (OsdRestart d) m = restarted_within state.daemons d (flat_map groups_of state.pools)
 
-parts_within : (f : Front) (e : Event) → FrontKept (front_step f e) → Within (map_of f.history).daemons (parts_of f e)
+parts_within : (f : ControlPlane) (e : Event) → FrontKept (front_step f e) → Within (map_of f.history).daemons (parts_of f e)
 parts_within f (Map command) next = map_within (map_of f.history) command (next_map f command next)
 parts_within f (Submit ask object ops) next = asked_within (map_of f.history).daemons (sealed_by f (Submit ask object ops))
 parts_within f (ListNames ask) next = asked_within (map_of f.history).daemons (sealed_by f (ListNames ask))
@@ -192,7 +192,7 @@ within_run : (count : ℕ) (ps : List Part) (g : Group) → Fit ps → Within co
 within_run count [] g fit acts h = h
 within_run count (p ∷ ps) g fit acts h = within_run count ps (group_step g p.event) fit.1 acts.1 (within_step count g p.event h fit.0 acts.0)
 
-within_on : (f : Front) (e : Event) (id : GroupId) (g : Group) → FrontKept (front_step f e) → IsWithin (map_of f.history).daemons g → IsWithin (map_of f.history).daemons (run (events_in id (parts_of f e)) g)
+within_on : (f : ControlPlane) (e : Event) (id : GroupId) (g : Group) → FrontKept (front_step f e) → IsWithin (map_of f.history).daemons g → IsWithin (map_of f.history).daemons (run (events_in id (parts_of f e)) g)
 within_on f e id g next r =
     within_run (map_of f.history).daemons (filter (λ p. is_same_group id p.id) (parts_of f e)) g
     (each_filter (λ p. EventFits p.event) (λ p. is_same_group id p.id) (parts_of f e) (parts_fit f e next))
@@ -201,7 +201,7 @@ within_on f e id g next r =
 -- ---- a group that was there
 
 -- an event that leaves the map, with these new requests
-pub asking_on : (f f' : Front) (id : GroupId) (g g' : Group) (news : List Sealed) → GroupKept f id g → f'.history ≡ f.history → f'.submissions ≡ f.submissions ++ news
+pub asking_on : (f f' : ControlPlane) (id : GroupId) (g g' : Group) (news : List Sealed) → GroupKept f id g → f'.history ≡ f.history → f'.submissions ≡ f.submissions ++ news
     → facts g' ≡ record (facts g) { requests = g.requests ++ filter (is_for id) news } → IsWithin (map_of f.history).daemons g' → GroupKept f' id g'
 asking_on f f' id g g' news h history submissions now within =
     let I : History → Type 0 = λ k. InMap k id.pool h.groups in
@@ -220,12 +220,12 @@ asking_on f f' id g g' news h history submissions now within =
 no_news : (g g' : Group) → facts g' ≡ facts g → facts g' ≡ record (facts g) { requests = g.requests ++ [] }
 no_news g g' e = e ∙ ap (λ l. record (facts g) { requests = l }) (sym (append-nil g.requests))
 
-single_of : (f : Front) (id : GroupId) (ask : Ask) (r : Result (List Sealed) Fault) → ((rs : List Sealed) → r ≡ Ok rs → Requested f ask rs) → AtMostOne (filter (is_for id) (if_ok r [] (λ rs. rs)))
+single_of : (f : ControlPlane) (id : GroupId) (ask : Ask) (r : Result (List Sealed) Fault) → ((rs : List Sealed) → r ≡ Ok rs → Requested f ask rs) → AtMostOne (filter (is_for id) (if_ok r [] (λ rs. rs)))
 single_of f id ask (Err fault) made = record { one = None; is = refl }
 single_of f id ask (Ok rs) made = (made rs refl).single id
 
 -- what a command leaves of the facts
-mapped_facts : (f : Front) (id : GroupId) (g : Group) (groups : List Group) (c : MapCommand) → FrontKept f → GroupKept f id g → group_at id groups ≡ Some g → parts_refusal groups (map_parts (map_of f.history) c) ≡ None
+mapped_facts : (f : ControlPlane) (id : GroupId) (g : Group) (groups : List Group) (c : MapCommand) → FrontKept f → GroupKept f id g → group_at id groups ≡ Some g → parts_refusal groups (map_parts (map_of f.history) c) ≡ None
     → facts (run (events_in id (map_parts (map_of f.history) c)) g) ≡ record { requests = g.requests; sets = sets_after f.history id g.sets c; up = numbers_of (after (map_of f.history) c).up }
 mapped_facts f id g groups c kept h there none = by c none
   where
@@ -245,7 +245,7 @@ mapped_facts f id g groups c kept h there none = by c none
     by (OsdDown d) passed = moved_facts id g groups (after (map_of f.history) (OsdDown d)) there passed one_place
     by (OsdRestart d) passed = restarted_facts id g groups (map_of f.history) d there passed one_place ∙ ap (λ u. record { requests = g.requests; sets = sets_after f.history id g.sets (OsdRestart d); up = u }) h.up
 
-pub mapped_on : (f : Front) (id : GroupId) (g g' : Group) (c : MapCommand) → GroupKept f id g → facts g' ≡ record { requests = g.requests; sets = sets_after f.history id g.sets c; up = numbers_of (after (map_of f.history) c).up }
+pub mapped_on : (f : ControlPlane) (id : GroupId) (g g' : Group) (c : MapCommand) → GroupKept f id g → facts g' ≡ record { requests = g.requests; sets = sets_after f.history id g.sets c; up = numbers_of (after (map_of f.history) c).up }
     → IsWithin (map_of f.history).daemons g' → GroupKept (front_step f (Map c)) id g'
 unfolding requests_of requests_in
 mapped_on f id g g' c h now within =
@@ -326,7 +326,7 @@ no_size : (state : MapState) (pool : List ℕ) (number : ℕ) → size_in state.
 unfolding set_of
 no_size state pool number h = ap (option_map (acting_of pool number (numbers_of state.up))) h
 
-made_kept : (f : Front) (name : List ℕ) (pg_num size min_size : ℕ) (id : GroupId) (g : Group) → FrontKept f → FrontKept (front_step f (Map (PoolCreate name pg_num size min_size))) → CreatesWell (map_of f.history).pools name
+made_kept : (f : ControlPlane) (name : List ℕ) (pg_num size min_size : ℕ) (id : GroupId) (g : Group) → FrontKept f → FrontKept (front_step f (Map (PoolCreate name pg_num size min_size))) → CreatesWell (map_of f.history).pools name
     → IsMade (after (map_of f.history) (PoolCreate name pg_num size min_size)) min_size name pg_num id g → GroupKept (front_step f (Map (PoolCreate name pg_num size min_size))) id g
 unfolding requests_of requests_in size_in pool_in
 made_kept f name pg_num size min_size id g kept then_kept well made =
@@ -382,7 +382,7 @@ made_kept f name pg_num size min_size id g kept then_kept well made =
       });
     })
 
-new_kept : (f : Front) (e : Event) (id : GroupId) (g : Group) → FrontKept f → FrontKept (front_step f e) → Allowed f e → group_at id (created_by f e) ≡ Some g → GroupKept (front_step f e) id g
+new_kept : (f : ControlPlane) (e : Event) (id : GroupId) (g : Group) → FrontKept f → FrontKept (front_step f e) → Allowed f e → group_at id (created_by f e) ≡ Some g → GroupKept (front_step f e) id g
 new_kept f (Map (PoolCreate name pg_num size min_size)) id g kept then_kept none h =
     made_kept f name pg_num size min_size id g kept then_kept
     (creates_well (map_of f.history) (epoch_of f.history) name pg_num size min_size (wrapped_none OfMap (refusal (map_of f.history) (epoch_of f.history) (PoolCreate name pg_num size min_size)) none))
@@ -449,7 +449,7 @@ has_room n less = go (nat_lt n 16384) refl
     go true e = refl
     go false e = absurd (let most : 16384 ≤ n = grind (arith, nat_tests) in omega arith)
 
-one_passes : (f : Front) (s : Sealed) (found : Option Group) → ((g : Group) → found ≡ Some g → g.requests ≡ filter (is_for (group_for s)) f.submissions) → is_submitted (filter (is_for (group_for s)) f.submissions) s.id ≡ false
+one_passes : (f : ControlPlane) (s : Sealed) (found : Option Group) → ((g : Group) → found ≡ Some g → g.requests ≡ filter (is_for (group_for s)) f.submissions) → is_submitted (filter (is_for (group_for s)) f.submissions) s.id ≡ false
     → length (filter (is_for (group_for s)) f.submissions) < 16384 → refused_in found (group.Submit s) ≡ None
 one_passes f s None requests new less = refl
 one_passes f s (Some g) requests new less =

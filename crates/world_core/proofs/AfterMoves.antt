@@ -25,7 +25,7 @@ use Rattle.group_model.specs.Group as group
 use Rattle.world_events.specs.declared.fault.WorldFault.{WorldFault as Fault}
 use Rattle.world_events.specs.declared.event.Event.TheVariants.{Map}
 use Rattle.world_events.specs.declared.fault.WorldFault.TheVariants.{Group as OfGroup}
-use Rattle.world_front.specs.Front.{Front, front_step}
+use Rattle.world_front.specs.ControlPlane.{ControlPlane, front_step}
 use Rattle.world_front.specs.Refusing.{RefusedOrMemory}
 use Rattle.world_front.specs.Groups.{groups_of}
 use Rattle.world_core.specs.World.{members_of, begun_group}
@@ -214,19 +214,19 @@ grown_are h c groups free still are =
 
 -- ---- what a call leaves
 
-stay_are : (f f' : Front) (groups groups' : List Group) → AreGroupsOf f.history groups → f' ≡ f → groups' ≡ groups → AreGroupsOf f'.history groups'
+stay_are : (f f' : ControlPlane) (groups groups' : List Group) → AreGroupsOf f.history groups → f' ≡ f → groups' ≡ groups → AreGroupsOf f'.history groups'
 stay_are f f' groups groups' are front same =
-    let P : Front → Type 0 = λ k. AreGroupsOf k.history groups' in
+    let P : ControlPlane → Type 0 = λ k. AreGroupsOf k.history groups' in
     subst P (sym front) (subst (AreGroupsOf f.history) (sym same) are)
 
-pub after_move : {T : Type 0} (r : Result T Fault) (f f' : Front) (c : MapCommand) (groups groups' : List Group) → AreGroupsOf f.history groups → moves_groups c ≡ true
+pub after_move : {T : Type 0} (r : Result T Fault) (f f' : ControlPlane) (c : MapCommand) (groups groups' : List Group) → AreGroupsOf f.history groups → moves_groups c ≡ true
     → OnOk r (f' ≡ front_step f (Map c)) → OnOk r (groups' ≡ all_moved (move_of (map_of f.history) c) groups) → OnErr r ((f' ≡ f) × (groups' ≡ groups))
     → RefusedOrMemory (option_map OfGroup (first_refusal (move_of (map_of f.history) c) groups)) r → AreGroupsOf f'.history groups'
 after_move (Ok x) f f' c groups groups' are moves front same unchanged none =
     stay_are (front_step f (Map c)) f' (all_moved (move_of (map_of f.history) c) groups) groups' (moved_are f.history c groups moves (wrapped_none OfGroup (first_refusal (move_of (map_of f.history) c) groups) none) are) front same
 after_move (Err e) f f' c groups groups' are moves front same unchanged refused = stay_are f f' groups groups' are unchanged.0 unchanged.1
 
-pub after_growth : {T : Type 0} (r : Result T Fault) (f f' : Front) (c : MapCommand) (groups groups' : List Group) → AreGroupsOf f.history groups → refusal (map_of f.history) (epoch_of f.history) c ≡ None → moves_groups c ≡ false
+pub after_growth : {T : Type 0} (r : Result T Fault) (f f' : ControlPlane) (c : MapCommand) (groups groups' : List Group) → AreGroupsOf f.history groups → refusal (map_of f.history) (epoch_of f.history) c ≡ None → moves_groups c ≡ false
     → OnOk r (f' ≡ front_step f (Map c)) → OnOk r (groups' ≡ groups ++ made_by (map_of f.history) c) → OnErr r ((f' ≡ f) × (groups' ≡ groups)) → AreGroupsOf f'.history groups'
 after_growth (Ok x) f f' c groups groups' are free still front same unchanged =
     stay_are (front_step f (Map c)) f' (groups ++ made_by (map_of f.history) c) groups' (grown_are f.history c groups free still are) front same

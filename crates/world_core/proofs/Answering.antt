@@ -11,7 +11,7 @@ use Rattle.store_core.specs.declared.reply.Reply.{Reply}
 use Rattle.group_model.specs.Group.{Group, submitted, is_submitted, answer_of}
 use Rattle.world_events.specs.declared.fault.WorldFault.{WorldFault as Fault}
 use Rattle.world_events.specs.declared.fault.WorldFault.TheVariants.{NoRequest}
-use Rattle.world_front.specs.Front.{Front}
+use Rattle.world_front.specs.ControlPlane.{ControlPlane}
 use Rattle.world_core.specs.World.{group_at}
 use Rattle.world_core.specs.Moves.{AreGroupsOf, IsAt}
 use Rattle.world_front.specs.Groups.{place_in}
@@ -53,24 +53,24 @@ place_of_request history s h groups are =
     stands (group_for s) (map_of history).pools p.is.pool (found_in history s.view.pool s.view.pg_num p) below groups are.places
 
 -- a request that was submitted is of a group that is there
-pub submitted_for : (f : Front) (gs : List Group) (runs : List Run) (id : ℕ) (s : Sealed) (history : History) → IsKept f gs runs → history ≡ f.history
+pub submitted_for : (f : ControlPlane) (gs : List Group) (runs : List Run) (id : ℕ) (s : Sealed) (history : History) → IsKept f gs runs → history ≡ f.history
     → Some s ≡ submitted f.submissions id → IsSealedFor history s
 submitted_for f gs runs id s history h same is =
     subst (λ k. IsSealedFor k s) (sym same) (found_each (IsSealedFor f.history) f.submissions id s h.sound.kept.front.sealed (sym is))
 
 -- what its group was answered
-pub answered_by : (f : Front) (gs : List Group) (runs : List Run) (id : ℕ) (s : Sealed) (g : Group) (reply : Option Reply) → Some s ≡ submitted f.submissions id → group_at (group_for s) gs ≡ Some g
+pub answered_by : (f : ControlPlane) (gs : List Group) (runs : List Run) (id : ℕ) (s : Sealed) (g : Group) (reply : Option Reply) → Some s ≡ submitted f.submissions id → group_at (group_for s) gs ≡ Some g
     → reply ≡ answer_of g.answers id → reply ≡ answer_at (world_of f gs runs) id
 answered_by f gs runs id s g reply is there told = told ∙ sym (ap (answer_to gs id) (sym is) ∙ ap (λ o. answer_in o id) there)
 
-pub unrefused : (f : Front) (gs : List Group) (runs : List Run) (id : ℕ) (s : Sealed) → Some s ≡ submitted f.submissions id → answer_refusal (world_of f gs runs) id ≡ None
+pub unrefused : (f : ControlPlane) (gs : List Group) (runs : List Run) (id : ℕ) (s : Sealed) → Some s ≡ submitted f.submissions id → answer_refusal (world_of f gs runs) id ≡ None
 unrefused f gs runs id s is = ap (λ b. if b then None else Some NoRequest) (asked_for f.submissions id ∙ ap is_some (sym is))
 
-pub refused : (f : Front) (gs : List Group) (runs : List Run) (id : ℕ) → None ≡ submitted f.submissions id → answer_refusal (world_of f gs runs) id ≡ Some NoRequest
+pub refused : (f : ControlPlane) (gs : List Group) (runs : List Run) (id : ℕ) → None ≡ submitted f.submissions id → answer_refusal (world_of f gs runs) id ≡ Some NoRequest
 refused f gs runs id is = ap (λ b. if b then None else Some NoRequest) (asked_for f.submissions id ∙ ap is_some (sym is))
 
 -- no answer where nothing was submitted
-pub unanswered : (f : Front) (gs : List Group) (runs : List Run) (id : ℕ) (fault : Fault) → answer_refusal (world_of f gs runs) id ≡ Some fault → None ≡ answer_at (world_of f gs runs) id
+pub unanswered : (f : ControlPlane) (gs : List Group) (runs : List Run) (id : ℕ) (fault : Fault) → answer_refusal (world_of f gs runs) id ≡ Some fault → None ≡ answer_at (world_of f gs runs) id
 unanswered f gs runs id fault is = go (submitted f.submissions id) refl
   where
     go : (o : Option Sealed) → submitted f.submissions id ≡ o → None ≡ answer_to gs id o
@@ -86,7 +86,7 @@ low_number id session number most is past few =
     omega arith
 
 -- a request that was submitted has a number that another can follow
-pub follows : (f : Front) (gs : List Group) (runs : List Run) (id : ℕ) (s : Sealed) → IsKept f gs runs → submitted f.submissions id ≡ Some s → id % 4294967296 + 1 < 4294967296
+pub follows : (f : ControlPlane) (gs : List Group) (runs : List Run) (id : ℕ) (s : Sealed) → IsKept f gs runs → submitted f.submissions id ≡ Some s → id % 4294967296 + 1 < 4294967296
 follows f gs runs id s h is =
     let given : IsGiven f.sessions s.id = found_each (λ r. IsGiven f.sessions r.id) f.submissions id s h.sound.stands.front.given is in
     let most : next_at f.sessions given.session ≤ length f.submissions + 1 = h.sound.stands.front.most given.session in
@@ -94,7 +94,7 @@ follows f gs runs id s h is =
     low_number id given.session given.number (next_at f.sessions given.session) (sym (found_number f.submissions id s is) ∙ given.is) given.past (omega arith)
 
 -- and so has one that was answered
-pub answered_follows : (f : Front) (gs : List Group) (runs : List Run) (id : ℕ) (r : Reply) → IsKept f gs runs → Some r ≡ answer_at (world_of f gs runs) id → id % 4294967296 + 1 < 4294967296
+pub answered_follows : (f : ControlPlane) (gs : List Group) (runs : List Run) (id : ℕ) (r : Reply) → IsKept f gs runs → Some r ≡ answer_at (world_of f gs runs) id → id % 4294967296 + 1 < 4294967296
 answered_follows f gs runs id r h is = go (submitted f.submissions id) refl is
   where
     go : (o : Option Sealed) → submitted f.submissions id ≡ o → Some r ≡ answer_to gs id o → id % 4294967296 + 1 < 4294967296

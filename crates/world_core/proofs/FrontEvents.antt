@@ -7,7 +7,7 @@ use Rattle.world_events.specs.declared.event.Event.{Event}
 use Rattle.world_events.specs.declared.event.Told.{Told}
 use Rattle.world_events.specs.declared.fault.WorldFault.{WorldFault as Fault}
 use Rattle.world_events.specs.declared.fault.WorldFault.TheVariants.{Group as OfGroup}
-use Rattle.world_front.specs.Front.{Front, front_step, front_refusal, told_of}
+use Rattle.world_front.specs.ControlPlane.{ControlPlane, front_step, front_refusal, told_of}
 use Rattle.world_core.specs.World.{World, Part, acted, is_drop, created_by, parts_of, parts_refusal, refusal_of, world_step}
 use Rattle.world_front.specs.Refusing.{RefusedOrMemory}
 use Rattle.world_core.specs.declared.audit.Run.{Run}
@@ -17,12 +17,12 @@ use Rattle.world_core.specs.Applying.{Applies}
 use Rattle.world_core.proofs.Messages.{true_not_false, or_none, kept_on}
 
 -- an event that no group hears
-pub record IsQuiet (f : Front) (e : Event) : Type 0 where
+pub record IsQuiet (f : ControlPlane) (e : Event) : Type 0 where
   pub parts : parts_of f e ≡ []
   pub creates : created_by f e ≡ []
   pub stays : (fault : Fault) → is_drop e fault ≡ false
 
-quiet_step : (f : Front) (gs : List Group) (runs : List Run) (e : Event) → IsQuiet f e → world_step (world_of f gs runs) e ≡ world_of (front_step f e) gs runs
+quiet_step : (f : ControlPlane) (gs : List Group) (runs : List Run) (e : Event) → IsQuiet f e → world_step (world_of f gs runs) e ≡ world_of (front_step f e) gs runs
 quiet_step f gs runs e q =
     let w : World = world_of f gs runs in
     let F : List Part → List Group → World = λ ps cs. record { front = front_step f e; groups = (acted w ps).groups ++ cs; audit = (acted w ps).audit } in
@@ -32,13 +32,13 @@ quiet_refusal : (w : World) (e : Event) → IsQuiet w.front e → refusal_of w e
 quiet_refusal w e q = ap (λ ps. option_or (front_refusal w.front e) (option_map OfGroup (parts_refusal w.groups ps))) q.parts ∙ or_none (front_refusal w.front e)
 
 -- what the front did of such an event
-pub record FrontDid (f : Front) (e : Event) (r : Result Told Fault) (f' : Front) : Type 0 where
+pub record FrontDid (f : ControlPlane) (e : Event) (r : Result Told Fault) (f' : ControlPlane) : Type 0 where
   pub steps : OnOk r (f' ≡ front_step f e)
   pub tells : IfOk r (λ told. told ≡ told_of f e)
   pub refused : RefusedOrMemory (front_refusal f e) r
   pub unchanged : OnErr r (f' ≡ f)
 
-pub quiet : (f f' : Front) (gs : List Group) (runs : List Run) (e : Event) (r : Result Told Fault) → IsQuiet f e → FrontDid f e r f' → Applies (world_of f gs runs) e r (world_of f' gs runs)
+pub quiet : (f f' : ControlPlane) (gs : List Group) (runs : List Run) (e : Event) (r : Result Told Fault) → IsQuiet f e → FrontDid f e r f' → Applies (world_of f gs runs) e r (world_of f' gs runs)
 quiet f f' gs runs e (Ok told) q d = record {
   steps = λ _. ap (λ v. world_of v gs runs) d.steps ∙ sym (quiet_step f gs runs e q);
   tells = d.tells;
@@ -56,5 +56,5 @@ quiet f f' gs runs e (Err fault) q d = record {
     go (inl k) = inl k
     go (inr k) = inr (quiet_refusal (world_of f gs runs) e q ∙ k)
 
-pub quiet_kept : (f f' : Front) (gs : List Group) (runs : List Run) (e : Event) (r : Result Told Fault) → IsKept f gs runs → IsQuiet f e → FrontDid f e r f' → IsKept f' gs runs
+pub quiet_kept : (f f' : ControlPlane) (gs : List Group) (runs : List Run) (e : Event) (r : Result Told Fault) → IsKept f gs runs → IsQuiet f e → FrontDid f e r f' → IsKept f' gs runs
 quiet_kept f f' gs runs e r h q d = kept_on f f' gs gs runs runs e r h (quiet f f' gs runs e r q d) h.fit

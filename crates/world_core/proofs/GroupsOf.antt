@@ -21,7 +21,7 @@ use Rattle.map_core.specs.Refusal.{acting_refusal}
 use Rattle.group_messages.specs.declared.fault.GroupFault.{GroupFault}
 use Rattle.world_events.specs.declared.fault.WorldFault.{WorldFault as Fault}
 use Rattle.world_events.specs.declared.fault.WorldFault.TheVariants.{Map as OfMap}
-use Rattle.world_front.specs.Front.{Front, group_refusal}
+use Rattle.world_front.specs.ControlPlane.{ControlPlane, group_refusal}
 use Rattle.world_core.specs.declared.audit.Run.{Run}
 use Rattle.group_core.specs.declared.call.GroupCall.{GroupCall}
 use Rattle.world_core.specs.Inside.{world_of}
@@ -122,20 +122,20 @@ are_groups w h = record {
 
 -- ---- a group that was asked for, by the map of the front
 
-pub asked_place : (f : Front) (gs : List Group) (runs : List Run) (id : GroupId) (place : ℕ) (history : History) → IsKept f gs runs → history ≡ f.history → ((groups : List Group) → AreGroupsOf history groups → IsAt groups id place) → IsAt gs id place
+pub asked_place : (f : ControlPlane) (gs : List Group) (runs : List Run) (id : GroupId) (place : ℕ) (history : History) → IsKept f gs runs → history ≡ f.history → ((groups : List Group) → AreGroupsOf history groups → IsAt groups id place) → IsAt gs id place
 asked_place f gs runs id place history h same at = at gs (subst (λ k. AreGroupsOf k gs) (sym same) (are_groups (world_of f gs runs) h.sound))
 
-pub asked_there : (f : Front) (id : GroupId) (history : History) (refusal : Option Fault) → history ≡ f.history → refusal ≡ option_map OfMap (acting_refusal history id.pool id.number) → group_refusal f id ≡ refusal
+pub asked_there : (f : ControlPlane) (id : GroupId) (history : History) (refusal : Option Fault) → history ≡ f.history → refusal ≡ option_map OfMap (acting_refusal history id.pool id.number) → group_refusal f id ≡ refusal
 asked_there f id history refusal same is = ap (λ k. option_map OfMap (acting_refusal k id.pool id.number)) (sym same) ∙ sym is
 
-pub call_done : (f : Front) (gs : List Group) (runs : List Run) (id : GroupId) (c : GroupCall) (place : ℕ) (history : History) (r : Result (Unit {0}) GroupFault) (gs' : List Group) (runs' : List Run)
+pub call_done : (f : ControlPlane) (gs : List Group) (runs : List Run) (id : GroupId) (c : GroupCall) (place : ℕ) (history : History) (r : Result (Unit {0}) GroupFault) (gs' : List Group) (runs' : List Run)
     → IsKept f gs runs → history ≡ f.history → None ≡ option_map OfMap (acting_refusal history id.pool id.number) → ((groups : List Group) → AreGroupsOf history groups → IsAt groups id place)
     → CalledAt gs runs place (event_of c) r gs' runs' → Called f gs runs id c r gs' runs'
 call_done f gs runs id c place history r gs' runs' h same none at did =
     called f gs runs id c place r gs' runs' h.fit (asked_there f id history None same none) (asked_place f gs runs id place history h same at) did
 
 -- the group that stands at the place that was asked for
-pub asked_found : (f : Front) (gs : List Group) (runs : List Run) (id : GroupId) (place : ℕ) (history : History) (g : Group) → IsKept f gs runs → history ≡ f.history → ((groups : List Group) → AreGroupsOf history groups → IsAt groups id place)
+pub asked_found : (f : ControlPlane) (gs : List Group) (runs : List Run) (id : GroupId) (place : ℕ) (history : History) (g : Group) → IsKept f gs runs → history ≡ f.history → ((groups : List Group) → AreGroupsOf history groups → IsAt groups id place)
     → g ≡ get_or gs place g → group_at id gs ≡ Some g
 asked_found f gs runs id place history g h same at here =
     let a : IsAt gs id place = asked_place f gs runs id place history h same at in

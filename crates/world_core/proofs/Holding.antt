@@ -8,7 +8,7 @@ use Rattle.store_core.specs.declared.sealed.GroupId.{GroupId}
 use Rattle.group_model.specs.Group.{Group, run, group_step}
 use Rattle.world_events.specs.declared.event.Event.{Event}
 use Rattle.world_front.specs.Groups.{is_same_group}
-use Rattle.world_front.specs.Front.{front_step}
+use Rattle.world_front.specs.ControlPlane.{front_step}
 use Rattle.world_core.specs.World.{World, Part, group_at, act, acted, parts_of, created_by, world_step, first_world, world_after}
 use Rattle.world_core.specs.Standing.{HasNumbers}
 use Rattle.world_core.specs.Holds.{events_in, group_step_alone, group_from, Holds, WorldHolds, HoldsOn}

@@ -13,7 +13,7 @@ use Rattle.entry_core.specs.Laws.{is_denied}
 use Rattle.store_core.specs.Store.{bytes_cmp}
 use Rattle.store_core.specs.declared.reply.Reply.{Reply}
 use Rattle.store_core.specs.declared.reply.Reply.TheVariants.{Names}
-use Rattle.world_front.specs.declared.session.Pieced.{Pieced}
+use Rattle.world_front.specs.declared.session.ListRange.{ListRange}
 use Rattle.world_core.specs.Listing.{consed, all_of, joined, listing_of}
 use Rattle.world_front.specs.Joining.{names_in}
 use Rattle.world_front.specs.Joining.{with_names, with_reply, reply_of, joined_with}
@@ -41,22 +41,22 @@ with_none j = ap (λ o. unwrap_or o (Names j.names)) (same j.denial)
 -- ---- pieces
 
 -- what is left of a list from a piece on
-abbrev pub rest_of : (ℕ → Option Reply) → Pieced → ℕ → Option (List Reply)
+abbrev pub rest_of : (ℕ → Option Reply) → ListRange → ℕ → Option (List Reply)
 rest_of answer p place = all_of (map answer (range_with_len (p.first + place) (p.count - place)))
 
-rest_is : (answer : ℕ → Option Reply) (p : Pieced) (place : ℕ) → place < p.count → rest_of answer p place ≡ consed (answer (p.first + place)) (rest_of answer p (place + 1))
+rest_is : (answer : ℕ → Option Reply) (p : ListRange) (place : ℕ) → place < p.count → rest_of answer p place ≡ consed (answer (p.first + place)) (rest_of answer p (place + 1))
 rest_is answer p place less =
     let more : p.count - place ≡ suc (p.count - (place + 1)) = omega arith in
     let next : p.first + place + 1 ≡ p.first + (place + 1) = omega arith in
     ap (λ n. all_of (map answer (range_with_len (p.first + place) n))) more ∙ ap (λ k. consed (answer (p.first + place)) (all_of (map answer (range_with_len k (p.count - (place + 1)))))) next
 
-pub begins : (answer : ℕ → Option Reply) (p : Pieced) → option_map (joined_with (record { denial = None; names = [] })) (rest_of answer p 0) ≡ listing_of answer p
+pub begins : (answer : ℕ → Option Reply) (p : ListRange) → option_map (joined_with (record { denial = None; names = [] })) (rest_of answer p 0) ≡ listing_of answer p
 begins answer p =
     let from : p.first + 0 ≡ p.first = omega arith in
     let all : p.count - 0 ≡ p.count = omega arith in
     ap (λ k. option_map joined (all_of (map answer (range_with_len k (p.count - 0))))) from ∙ ap (λ n. option_map joined (all_of (map answer (range_with_len p.first n)))) all
 
-pub one_more : (answer : ℕ → Option Reply) (p : Pieced) (place : ℕ) (j : Joined) (r : Reply) → place < p.count → Some r ≡ answer (p.first + place)
+pub one_more : (answer : ℕ → Option Reply) (p : ListRange) (place : ℕ) (j : Joined) (r : Reply) → place < p.count → Some r ≡ answer (p.first + place)
     → option_map (joined_with (with_reply j r)) (rest_of answer p (place + 1)) ≡ option_map (joined_with j) (rest_of answer p place)
 one_more answer p place j r less is = sym (ap (option_map (joined_with j)) (rest_is answer p place less ∙ ap (λ o. consed o (rest_of answer p (place + 1))) (sym is)) ∙ go (rest_of answer p (place + 1)))
   where
@@ -64,11 +64,11 @@ one_more answer p place j r less is = sym (ap (option_map (joined_with j)) (rest
     go None = refl
     go (Some rs) = ap Some (sym (with_next j r rs))
 
-pub one_open : (answer : ℕ → Option Reply) (p : Pieced) (place : ℕ) (j : Joined) → place < p.count → None ≡ answer (p.first + place)
+pub one_open : (answer : ℕ → Option Reply) (p : ListRange) (place : ℕ) (j : Joined) → place < p.count → None ≡ answer (p.first + place)
     → None ≡ option_map (joined_with j) (rest_of answer p place)
 one_open answer p place j less is = sym (ap (option_map (joined_with j)) (rest_is answer p place less ∙ ap (λ o. consed o (rest_of answer p (place + 1))) (sym is)))
 
-pub ends : (answer : ℕ → Option Reply) (p : Pieced) (place : ℕ) (j : Joined) → place ≡ p.count → Some (reply_of j) ≡ option_map (joined_with j) (rest_of answer p place)
+pub ends : (answer : ℕ → Option Reply) (p : ListRange) (place : ℕ) (j : Joined) → place ≡ p.count → Some (reply_of j) ≡ option_map (joined_with j) (rest_of answer p place)
 ends answer p place j is =
     let none : p.count - place ≡ 0 = omega arith in
     sym (ap (λ n. option_map (joined_with j) (all_of (map answer (range_with_len (p.first + place) n)))) none ∙ ap Some (with_none j))

@@ -29,7 +29,7 @@ use Rattle.world_events.specs.declared.fault.WorldFault.{WorldFault as Fault}
 use Rattle.world_events.specs.declared.fault.WorldFault.TheVariants.{Map as OfMap}
 use Rattle.entry_core.specs.Locality.{group_for}
 use Rattle.world_front.specs.Groups.{is_same_group, is_for, groups_of}
-use Rattle.world_front.specs.Front.{Front, first_front, front_step, front_refusal, asking_refusal, is_full, requests_of, requests_in, if_ok}
+use Rattle.world_front.specs.ControlPlane.{ControlPlane, first_front, front_step, front_refusal, asking_refusal, is_full, requests_of, requests_in, if_ok}
 use Rattle.world_core.specs.World.{World, refusal_of, is_drop, accepts, is_accepted}
 use Rattle.world_front.proofs.Merge.{same_group}
 use Rattle.world_front.proofs.Pools.{in_later, found_in}
@@ -61,7 +61,7 @@ not_refused w e kept h = go (refusal_of w e) h
     go (Some fault) k = absurd (true_not_false (sym k ∙ kept fault))
 
 -- nothing that the front knows refuses the event
-abbrev pub Allowed : Front → Event → Type 0
+abbrev pub Allowed : ControlPlane → Event → Type 0
 Allowed f (Map command) = front_refusal f (Map command) ≡ None
 Allowed f (Submit ask object ops) = front_refusal f (Submit ask object ops) ≡ None
 Allowed f (ListNames ask) = front_refusal f (ListNames ask) ≡ None
@@ -132,13 +132,13 @@ creates_well state epoch name pg_num size min_size h =
 
 -- ---- the front
 
-pub once : (f : Front) → FrontKept f → NamedOnce (map_of f.history).pools
+pub once : (f : ControlPlane) → FrontKept f → NamedOnce (map_of f.history).pools
 once f h = named_once (map_of f.history).pools (pools_differ f.history h.accepted)
 
 pub first_kept : (table : Table) (daemons : ℕ) → FrontKept (first_front table daemons)
 first_kept table daemons = record { accepted = tt; sealed = tt; few = λ id. omega arith }
 
-same_kept : (f g : Front) → FrontKept f → g.history ≡ f.history → g.submissions ≡ f.submissions → FrontKept g
+same_kept : (f g : ControlPlane) → FrontKept f → g.history ≡ f.history → g.submissions ≡ f.submissions → FrontKept g
 same_kept f g h history submissions =
     let S : History → List Sealed → Type 0 = λ k l. Each (IsSealedFor k) l in
     let F : List Sealed → Type 0 = λ l. (id : GroupId) → length (filter (is_for id) l) ≤ 16384 in
@@ -148,7 +148,7 @@ same_kept f g h history submissions =
       few = subst F (sym submissions) h.few;
     }
 
-map_kept : (f : Front) (c : MapCommand) → FrontKept f → Allowed f (Map c) → FrontKept (front_step f (Map c))
+map_kept : (f : ControlPlane) (c : MapCommand) → FrontKept f → Allowed f (Map c) → FrontKept (front_step f (Map c))
 unfolding requests_of requests_in
 map_kept f c h none =
     let passed : refusal (map_of f.history) (epoch_of f.history) c ≡ None = wrapped_none OfMap (refusal (map_of f.history) (epoch_of f.history) c) none in
@@ -164,7 +164,7 @@ map_kept f c h none =
 
 -- ---- requests
 
-pub limits_now : (f : Front) → FrontKept f → All IsPool (map_of f.history).pools
+pub limits_now : (f : ControlPlane) → FrontKept f → All IsPool (map_of f.history).pools
 limits_now f h = limits_of f.history.daemons f.history.commands h.accepted
 
 found_limits : (test : Pool → Bool) (pools : List Pool) (p : Pool) → All IsPool pools → find test pools ≡ Some p → IsPool p
@@ -175,10 +175,10 @@ found_limits test (q ∷ qs) p all h = go (test q) h (λ k. found_limits test qs
     go true k rest = let same : q ≡ p = cc in subst IsPool same (All-head IsPool q qs all)
     go false k rest = rest k
 
-pub pool_limits : (f : Front) (name : List ℕ) (p : Pool) → FrontKept f → find (is_named name) (map_of f.history).pools ≡ Some p → IsPool p
+pub pool_limits : (f : ControlPlane) (name : List ℕ) (p : Pool) → FrontKept f → find (is_named name) (map_of f.history).pools ≡ Some p → IsPool p
 pool_limits f name p h found = found_limits (is_named name) (map_of f.history).pools p (limits_now f h) found
 
-pub asked_for : (f : Front) → FrontKept f → (rs : List Sealed) → Each (IsSealedWell f.history) rs → Each IsBelow rs → Each (IsSealedFor f.history) rs
+pub asked_for : (f : ControlPlane) → FrontKept f → (rs : List Sealed) → Each (IsSealedWell f.history) rs → Each IsBelow rs → Each (IsSealedFor f.history) rs
 asked_for f h [] well below = tt
 asked_for f h (s ∷ ss) well below =
     let p = well.0.pool in
@@ -208,12 +208,12 @@ pub not_full : (n : ℕ) → nat_le 16384 n ≡ false → n < 16384
 not_full n h = grind (arith, nat_tests)
 
 -- requests of one event that are for a group: none, or one, for which there is room
-record OneMore (f : Front) (id : GroupId) (rs : List Sealed) : Type 0 where
+record OneMore (f : ControlPlane) (id : GroupId) (rs : List Sealed) : Type 0 where
   one : Option Sealed
   is : filter (is_for id) rs ≡ option_to_list one
   room : length (option_to_list one) + length (filter (is_for id) f.submissions) ≤ 16384
 
-one_more : (f : Front) (id : GroupId) (rs : List Sealed) → FrontKept f → list_any (is_full f) rs ≡ false → AtMostOne (filter (is_for id) rs) → OneMore f id rs
+one_more : (f : ControlPlane) (id : GroupId) (rs : List Sealed) → FrontKept f → list_any (is_full f) rs ≡ false → AtMostOne (filter (is_for id) rs) → OneMore f id rs
 one_more f id rs h full single = go single.one single.is
   where
     go : (o : Option Sealed) → filter (is_for id) rs ≡ option_to_list o → OneMore f id rs
@@ -226,13 +226,13 @@ one_more f id rs h full single = go single.one single.is
         let below : length (filter (is_for id) f.submissions) < 16384 = subst (λ n. n < 16384) (counted_for id s f.submissions same) less in
         record { one = Some s; is = e; room = omega arith }
 
-asking_kept : (f g : Front) (ask : Ask) (r : Result (List Sealed) Fault) → FrontKept f → asking_refusal f r ≡ None → ((rs : List Sealed) → r ≡ Ok rs → Requested f ask rs) → g.history ≡ f.history
+asking_kept : (f g : ControlPlane) (ask : Ask) (r : Result (List Sealed) Fault) → FrontKept f → asking_refusal f r ≡ None → ((rs : List Sealed) → r ≡ Ok rs → Requested f ask rs) → g.history ≡ f.history
     → g.submissions ≡ f.submissions ++ if_ok r [] (λ rs. rs) → FrontKept g
 asking_kept f g ask (Err fault) h none made history submissions = absurd (cc)
 asking_kept f g ask (Ok rs) h none made history submissions =
     let q : Requested f ask rs = made rs refl in
     let full : list_any (is_full f) rs ≡ false = if_none (list_any (is_full f) rs) _ none in
-    let next : Front = record f { submissions = f.submissions ++ rs } in
+    let next : ControlPlane = record f { submissions = f.submissions ++ rs } in
     let kept : FrontKept next = record {
       accepted = h.accepted;
       sealed = each_join (IsSealedFor f.history) f.submissions rs h.sealed (asked_for f h rs q.sealed q.below);
@@ -247,7 +247,7 @@ asking_kept f g ask (Ok rs) h none made history submissions =
         let room : length (option_to_list m.one) + length (filter (is_for id) f.submissions) ≤ 16384 = m.room in
         omega (arith, parts, length-append (filter (is_for id) f.submissions) (option_to_list m.one))
 
-pub front_kept : (f : Front) (e : Event) → FrontKept f → Allowed f e → FrontKept (front_step f e)
+pub front_kept : (f : ControlPlane) (e : Event) → FrontKept f → Allowed f e → FrontKept (front_step f e)
 unfolding requests_of requests_in
 front_kept f (Map c) h none = map_kept f c h none
 front_kept f (Submit ask object ops) h none = asking_kept f (front_step f (Submit ask object ops)) ask (requests_of f (Submit ask object ops)) h none (λ rs is. submit_made f ask object ops rs is) refl refl
@@ -294,14 +294,14 @@ unfolding total
 all_counted ids [] h = omega arith
 all_counted ids (s ∷ ss) h = let a : length (filter (λ i. is_for i s) ids) ≡ 1 = h.0 in let b : length ss ≤ total ids ss = all_counted ids ss h.1 in omega (arith, total_more ids s ss)
 
-placed_once : (f : Front) → FrontKept f → (s : Sealed) → IsSealedFor f.history s → length (filter (λ i. is_for i s) (flat_map groups_of (map_of f.history).pools)) ≡ 1
+placed_once : (f : ControlPlane) → FrontKept f → (s : Sealed) → IsSealedFor f.history s → length (filter (λ i. is_for i s) (flat_map groups_of (map_of f.history).pools)) ≡ 1
 placed_once f h s k =
     let p = k.well.pool in
     let less : s.group < p.is.pool.pg_num = subst (λ n. s.group < n) (sym p.is.groups) k.below in
     ap length (filter_same (λ i. is_for i s) (is_same_group (group_for s)) (λ i. group_turned i (group_for s)) (flat_map groups_of (map_of f.history).pools)
     ∙ places_once (group_for s) (map_of f.history).pools p.is.pool (once f h) (found_in f.history s.view.pool s.view.pg_num p) less)
 
-all_placed : (f : Front) → FrontKept f → (ss : List Sealed) → Each (IsSealedFor f.history) ss → Each (λ s. length (filter (λ i. is_for i s) (flat_map groups_of (map_of f.history).pools)) ≡ 1) ss
+all_placed : (f : ControlPlane) → FrontKept f → (ss : List Sealed) → Each (IsSealedFor f.history) ss → Each (λ s. length (filter (λ i. is_for i s) (flat_map groups_of (map_of f.history).pools)) ≡ 1) ss
 all_placed f h [] k = tt
 all_placed f h (s ∷ ss) k = (placed_once f h s k.0, all_placed f h ss k.1)
 
@@ -314,7 +314,7 @@ few_places (p ∷ ps) all =
     omega (arith, length-append (groups_of p) (flat_map groups_of ps))
 
 -- 32 pools of 64 groups of 16,384 requests
-pub few_submissions : (f : Front) → FrontKept f → length f.submissions ≤ 33554432
+pub few_submissions : (f : ControlPlane) → FrontKept f → length f.submissions ≤ 33554432
 few_submissions f h =
     let places : List GroupId = flat_map groups_of (map_of f.history).pools in
     let a : length f.submissions ≤ total places f.submissions = all_counted places f.submissions (all_placed f h f.submissions h.sealed) in

@@ -10,7 +10,7 @@ use Rattle.world_events.specs.declared.event.Event.TheVariants.{Map}
 use Rattle.world_events.specs.declared.event.Told.{Told}
 use Rattle.world_events.specs.declared.fault.WorldFault.{WorldFault as Fault}
 use Rattle.world_events.specs.declared.fault.WorldFault.TheVariants.{Group as OfGroup}
-use Rattle.world_front.specs.Front.{Front, front_step, front_refusal, told_of}
+use Rattle.world_front.specs.ControlPlane.{ControlPlane, front_step, front_refusal, told_of}
 use Rattle.world_core.specs.World.{World, Part, acted, created_by, parts_of, parts_refusal}
 use Rattle.world_core.specs.Moves.{stepped}
 use Rattle.world_front.specs.Refusing.{RefusedOrMemory}
@@ -23,18 +23,18 @@ use Rattle.world_core.proofs.RunPlaces.{Longer, fit_on, told_on}
 use Rattle.world_core.proofs.Silent.{acted_audit, acted_groups, longer_with, map_silent, stepped_audits}
 
 -- what front and groups did of a command
-pub record MapDid (f : Front) (gs : List Group) (c : MapCommand) (r : Result Told Fault) (f' : Front) (gs' : List Group) : Type 0 where
+pub record MapDid (f : ControlPlane) (gs : List Group) (c : MapCommand) (r : Result Told Fault) (f' : ControlPlane) (gs' : List Group) : Type 0 where
   pub front : OnOk r (f' ≡ front_step f (Map c))
   pub groups : OnOk r (gs' ≡ stepped (parts_of f (Map c)) gs ++ created_by f (Map c))
   pub tells : IfOk r (λ told. told ≡ told_of f (Map c))
   pub refused : RefusedOrMemory (option_or (front_refusal f (Map c)) (option_map OfGroup (parts_refusal gs (parts_of f (Map c))))) r
   pub unchanged : OnErr r ((f' ≡ f) × (gs' ≡ gs))
 
-pub record Mapped (f : Front) (gs : List Group) (runs : List Run) (c : MapCommand) (r : Result Told Fault) (f' : Front) (gs' : List Group) : Type 0 where
+pub record Mapped (f : ControlPlane) (gs : List Group) (runs : List Run) (c : MapCommand) (r : Result Told Fault) (f' : ControlPlane) (gs' : List Group) : Type 0 where
   pub applies : Applies (world_of f gs runs) (Map c) r (world_of f' gs' runs)
   pub fit : Each (FitsAt gs') runs
 
-pub mapped : (f f' : Front) (gs gs' : List Group) (runs : List Run) (c : MapCommand) (r : Result Told Fault) → Each (FitsAt gs) runs → MapDid f gs c r f' gs' → Mapped f gs runs c r f' gs'
+pub mapped : (f f' : ControlPlane) (gs gs' : List Group) (runs : List Run) (c : MapCommand) (r : Result Told Fault) → Each (FitsAt gs) runs → MapDid f gs c r f' gs' → Mapped f gs runs c r f' gs'
 mapped f f' gs gs' runs c (Ok told) fit d =
     let w : World = world_of f gs runs in
     let parts : List Part = parts_of f (Map c) in
@@ -64,5 +64,5 @@ mapped f f' gs gs' runs c (Err fault) fit d = record {
   fit = subst (λ l. Each (FitsAt l) runs) (sym d.unchanged.1) fit;
 }
 
-pub mapped_kept : (f f' : Front) (gs gs' : List Group) (runs : List Run) (c : MapCommand) (r : Result Told Fault) → IsKept f gs runs → MapDid f gs c r f' gs' → IsKept f' gs' runs
+pub mapped_kept : (f f' : ControlPlane) (gs gs' : List Group) (runs : List Run) (c : MapCommand) (r : Result Told Fault) → IsKept f gs runs → MapDid f gs c r f' gs' → IsKept f' gs' runs
 mapped_kept f f' gs gs' runs c r h d = let m = mapped f f' gs gs' runs c r h.fit d in kept_on f f' gs gs' runs runs (Map c) r h m.applies m.fit

@@ -20,7 +20,7 @@ use Rattle.world_events.specs.declared.fault.WorldFault.TheVariants.{OutOfMemory
 use Rattle.world_events.specs.declared.event.Told.TheVariants.{Done}
 use Rattle.map_core.specs.Refusal.{acting_refusal}
 use Rattle.map_core.specs.declared.fault.MapFault.{MapFault}
-use Rattle.world_front.specs.Front.{Front, front_step, front_refusal, group_refusal, told_of, requests_of, requests_in}
+use Rattle.world_front.specs.ControlPlane.{ControlPlane, front_step, front_refusal, group_refusal, told_of, requests_of, requests_in}
 use Rattle.world_core.specs.World.{World, Part, part, group_at, at_group, act, acted, counts, is_drop, accepts, is_accepted, created_by, decided_in, part_refusal, parts_refusal, parts_of, refused_in, refusal_of, world_step}
 use Rattle.world_core.specs.Moves.{IsAt}
 use Rattle.common_types.specs.Refused.{RefusedExactly}
@@ -76,38 +76,38 @@ applied_sound old new e r h a = go (counts e r) refl
 
 pub step_of_part : (w : World) (e : Event) (id : GroupId) (ge : group.Event) → front_step w.front e ≡ w.front → parts_of w.front e ≡ part id ge ∷ [] → created_by w.front e ≡ [] → world_step w e ≡ act w (part id ge)
 step_of_part w e id ge front parts none =
-    let F : Front → List Part → List Group → World = λ f ps cs. record { front = f; groups = (acted w ps).groups ++ cs; audit = (acted w ps).audit } in
+    let F : ControlPlane → List Part → List Group → World = λ f ps cs. record { front = f; groups = (acted w ps).groups ++ cs; audit = (acted w ps).audit } in
     ap (λ f. F f (parts_of w.front e) (created_by w.front e)) front
     ∙ ap (λ ps. F w.front ps (created_by w.front e)) parts
     ∙ ap (F w.front (part id ge ∷ [])) none
     ∙ ap (λ l. record (act w (part id ge)) { groups = l }) (append-nil (act w (part id ge)).groups)
 
-call_parts : (f : Front) (id : GroupId) (c : GroupCall) → parts_of f (event_for id c) ≡ part id (event_of c) ∷ []
+call_parts : (f : ControlPlane) (id : GroupId) (c : GroupCall) → parts_of f (event_for id c) ≡ part id (event_of c) ∷ []
 call_parts f id (calls.Deliver place) = refl
 call_parts f id (calls.Lose place) = refl
 call_parts f id (calls.Repeat place) = refl
 call_parts f id calls.Kick = refl
 
-call_creates : (f : Front) (id : GroupId) (c : GroupCall) → created_by f (event_for id c) ≡ []
+call_creates : (f : ControlPlane) (id : GroupId) (c : GroupCall) → created_by f (event_for id c) ≡ []
 call_creates f id (calls.Deliver place) = refl
 call_creates f id (calls.Lose place) = refl
 call_creates f id (calls.Repeat place) = refl
 call_creates f id calls.Kick = refl
 
-call_front : (f : Front) (id : GroupId) (c : GroupCall) → front_step f (event_for id c) ≡ f
+call_front : (f : ControlPlane) (id : GroupId) (c : GroupCall) → front_step f (event_for id c) ≡ f
 unfolding requests_of requests_in
 call_front f id (calls.Deliver place) = ap (λ l. record f { submissions = l }) (append-nil f.submissions)
 call_front f id (calls.Lose place) = ap (λ l. record f { submissions = l }) (append-nil f.submissions)
 call_front f id (calls.Repeat place) = ap (λ l. record f { submissions = l }) (append-nil f.submissions)
 call_front f id calls.Kick = ap (λ l. record f { submissions = l }) (append-nil f.submissions)
 
-call_tells : (f : Front) (id : GroupId) (c : GroupCall) → Done ≡ told_of f (event_for id c)
+call_tells : (f : ControlPlane) (id : GroupId) (c : GroupCall) → Done ≡ told_of f (event_for id c)
 call_tells f id (calls.Deliver place) = refl
 call_tells f id (calls.Lose place) = refl
 call_tells f id (calls.Repeat place) = refl
 call_tells f id calls.Kick = refl
 
-call_refused : (f : Front) (id : GroupId) (c : GroupCall) → front_refusal f (event_for id c) ≡ group_refusal f id
+call_refused : (f : ControlPlane) (id : GroupId) (c : GroupCall) → front_refusal f (event_for id c) ≡ group_refusal f id
 call_refused f id (calls.Deliver place) = refl
 call_refused f id (calls.Lose place) = refl
 call_refused f id (calls.Repeat place) = refl
@@ -164,11 +164,11 @@ left id calls.Kick old fault new some is = inr (refl, is)
 
 -- ---- the world after a call
 
-pub record Called (f : Front) (gs : List Group) (runs : List Run) (id : GroupId) (c : GroupCall) (r : Result (Unit {0}) GroupFault) (gs' : List Group) (runs' : List Run) : Type 0 where
+pub record Called (f : ControlPlane) (gs : List Group) (runs : List Run) (id : GroupId) (c : GroupCall) (r : Result (Unit {0}) GroupFault) (gs' : List Group) (runs' : List Run) : Type 0 where
   pub applies : Applies (world_of f gs runs) (event_for id c) (told_call r) (world_of f gs' runs')
   pub fit : Each (FitsAt gs') runs'
 
-pub called : (f : Front) (gs : List Group) (runs : List Run) (id : GroupId) (c : GroupCall) (place : ℕ) (r : Result (Unit {0}) GroupFault) (gs' : List Group) (runs' : List Run)
+pub called : (f : ControlPlane) (gs : List Group) (runs : List Run) (id : GroupId) (c : GroupCall) (place : ℕ) (r : Result (Unit {0}) GroupFault) (gs' : List Group) (runs' : List Run)
     → Each (FitsAt gs) runs → group_refusal f id ≡ None → IsAt gs id place → CalledAt gs runs place (event_of c) r gs' runs' → Called f gs runs id c r gs' runs'
 unfolding Left
 called f gs runs id c place r gs' runs' fits none at h = by r h.steps
@@ -287,7 +287,7 @@ called_none w id c fault some =
     of_map (calls.Repeat place) (Some m) h = refl
     of_map calls.Kick (Some m) h = refl
 
--- ---- a loss is never refused for want of memory
+-- ---- a loss never runs out of memory
 
 other_than_memory : (fault : GroupFault) (o : Option Fault) → (OfGroup fault ≡ OutOfMemory) ⊎ (o ≡ Some (OfGroup fault)) → o ≡ Some (OfGroup fault)
 other_than_memory fault o (inl memory) = absurd (cc)
@@ -316,7 +316,7 @@ lost_of w e r h id k is =
     subst (λ v. RefusedExactly (refusal_of w v) r) (sym is) now
 
 -- what applied leaves of what the code keeps
-pub kept_on : (f f' : Front) (gs gs' : List Group) (runs runs' : List Run) (e : Event) (r : Result Told Fault) → IsKept f gs runs → Applies (world_of f gs runs) e r (world_of f' gs' runs') → Each (FitsAt gs') runs' → IsKept f' gs' runs'
+pub kept_on : (f f' : ControlPlane) (gs gs' : List Group) (runs runs' : List Run) (e : Event) (r : Result Told Fault) → IsKept f gs runs → Applies (world_of f gs runs) e r (world_of f' gs' runs') → Each (FitsAt gs') runs' → IsKept f' gs' runs'
 kept_on f f' gs gs' runs runs' e r h a fit = record { sound = applied_sound (world_of f gs runs) (world_of f' gs' runs') e r h.sound a; fit = fit }
 
 -- what held of the events before holds with this one

@@ -20,7 +20,7 @@ use Rattle.world_events.specs.declared.event.Told.{Told}
 use Rattle.world_events.specs.declared.fault.WorldFault.{WorldFault as Fault}
 use Rattle.world_events.specs.declared.fault.WorldFault.TheVariants.{Group as OfGroup, OutOfMemory}
 use Rattle.world_events.specs.declared.event.Event.TheVariants as events
-use Rattle.world_front.specs.Front.{Front, asking_refusal, error_of, front_refusal, front_step, is_full, requests_of, told_of, if_ok}
+use Rattle.world_front.specs.ControlPlane.{ControlPlane, asking_refusal, error_of, front_refusal, front_step, is_full, requests_of, told_of, if_ok}
 use Rattle.world_core.specs.World.{World, Part, acted, asked_parts, created_by, is_drop, parts_of, parts_refusal, refusal_of}
 use Rattle.world_front.specs.Groups.{groups_of}
 use Rattle.world_core.specs.Moves.{IsAt, stepped}
@@ -45,20 +45,20 @@ use Rattle.world_core.proofs.Standing.{step_is}
 
 -- ---- where the group of a request stands
 
-abbrev pools_of : Front → List Pool
+abbrev pools_of : ControlPlane → List Pool
 pools_of f = (map_of f.history).pools
 
 -- groups of these places
-abbrev AreAt : Front → List Group → Type 0
+abbrev AreAt : ControlPlane → List Group → Type 0
 AreAt f gs = ids_of gs ≡ flat_map groups_of (pools_of f)
 
-place_at : (f : Front) (gs : List Group) (s : Sealed) → IsSealedFor f.history s → AreAt f gs → IsAt gs (group_for s) (place_in (pools_of f) (group_for s))
+place_at : (f : ControlPlane) (gs : List Group) (s : Sealed) → IsSealedFor f.history s → AreAt f gs → IsAt gs (group_for s) (place_in (pools_of f) (group_for s))
 place_at f gs s k are =
     let p = k.well.pool in
     let less : s.group < p.is.pool.pg_num = subst (λ n. s.group < n) (sym p.is.groups) k.below in
     stands (group_for s) (pools_of f) p.is.pool (found_in f.history s.view.pool s.view.pg_num p) less gs are
 
-places_within : (f : Front) (gs : List Group) (rs : List Sealed) → Each (IsSealedFor f.history) rs → AreAt f gs → Each (λ place. place < length gs) (places_for (pools_of f) rs)
+places_within : (f : ControlPlane) (gs : List Group) (rs : List Sealed) → Each (IsSealedFor f.history) rs → AreAt f gs → Each (λ place. place < length gs) (places_for (pools_of f) rs)
 places_within f gs [] k are = tt
 places_within f gs (s ∷ ss) k are = ((place_at f gs s k.0 are).within, places_within f gs ss k.1 are)
 
@@ -73,7 +73,7 @@ le_lt n = go (nat_le 16384 n) refl (nat_lt n 16384) refl
     go true p true q = absurd (let x : 16384 ≤ n = grind (arith, nat_tests) in let y : n < 16384 = grind (arith, nat_tests) in omega arith)
     go false p false q = absurd (let x : n < 16384 = grind (arith, nat_tests) in let y : 16384 ≤ n = grind (arith, nat_tests) in omega arith)
 
-full_same : (f : Front) (gs : List Group) (runs : List Run) (s : Sealed) → IsSound (world_of f gs runs) → IsSealedFor f.history s → is_full f s ≡ is_full_at gs (place_in (pools_of f) (group_for s))
+full_same : (f : ControlPlane) (gs : List Group) (runs : List Run) (s : Sealed) → IsSound (world_of f gs runs) → IsSealedFor f.history s → is_full f s ≡ is_full_at gs (place_in (pools_of f) (group_for s))
 full_same f gs runs s h k =
     let at : IsAt gs (group_for s) (place_in (pools_of f) (group_for s)) = place_at f gs s k h.places in
     ap (nat_le 16384) (counted_for (group_for s) s f.submissions refl)
@@ -81,14 +81,14 @@ full_same f gs runs s h k =
     ∙ le_lt (length at.group.requests)
     ∙ ap (λ o. option_map_or has_all_requests o false) (sym at.there)
 
-any_same : (f : Front) (gs : List Group) (runs : List Run) (rs : List Sealed) → IsSound (world_of f gs runs) → Each (IsSealedFor f.history) rs → list_any (is_full f) rs ≡ list_any (is_full_at gs) (places_for (pools_of f) rs)
+any_same : (f : ControlPlane) (gs : List Group) (runs : List Run) (rs : List Sealed) → IsSound (world_of f gs runs) → Each (IsSealedFor f.history) rs → list_any (is_full f) rs ≡ list_any (is_full_at gs) (places_for (pools_of f) rs)
 any_same f gs runs [] h k = refl
 any_same f gs runs (s ∷ ss) h k =
     ap (λ b. b || list_any (is_full f) ss) (full_same f gs runs s h k.0) ∙ ap (λ b. is_full_at gs (place_in (pools_of f) (group_for s)) || b) (any_same f gs runs ss h k.1)
 
 -- ---- the groups after they took the requests
 
-taken_steps : (f : Front) (gs hs : List Group) (rs : List Sealed) → Each (IsSealedFor f.history) rs → AreAt f gs → TakesAll gs (places_for (pools_of f) rs) rs hs → hs ≡ stepped (asked_parts rs) gs
+taken_steps : (f : ControlPlane) (gs hs : List Group) (rs : List Sealed) → Each (IsSealedFor f.history) rs → AreAt f gs → TakesAll gs (places_for (pools_of f) rs) rs hs → hs ≡ stepped (asked_parts rs) gs
 taken_steps f gs hs [] k are h = h
 taken_steps f gs hs (s ∷ ss) k are h =
     let t = h.1 in
@@ -103,7 +103,7 @@ taken_steps f gs hs (s ∷ ss) k are h =
 -- ---- requests of an event
 
 -- an event that asks, and for which requests
-pub record AsksFor (f : Front) (e : Event) (ask : Ask) (rs : List Sealed) : Type 0 where
+pub record AsksFor (f : ControlPlane) (e : Event) (ask : Ask) (rs : List Sealed) : Type 0 where
   pub asked : requests_of f e ≡ Ok rs
   pub made : Requested f ask rs
   pub parts : parts_of f e ≡ asked_parts rs
@@ -113,7 +113,7 @@ pub record AsksFor (f : Front) (e : Event) (ask : Ask) (rs : List Sealed) : Type
   pub stays : (fault : Fault) → is_drop e fault ≡ false
   pub tells : (w : World) → FrontTells w → refusal_of w e ≡ front_refusal w.front e
 
-pub vector_asks : (f : Front) (ask : Ask) (object : List ℕ) (ops : List Op) (s : Sealed) → requests_of f (events.Submit ask object ops) ≡ Ok (s ∷ []) → AsksFor f (events.Submit ask object ops) ask (s ∷ [])
+pub vector_asks : (f : ControlPlane) (ask : Ask) (object : List ℕ) (ops : List Op) (s : Sealed) → requests_of f (events.Submit ask object ops) ≡ Ok (s ∷ []) → AsksFor f (events.Submit ask object ops) ask (s ∷ [])
 vector_asks f ask object ops s is = record {
   asked = is;
   made = submit_made f ask object ops (s ∷ []) is;
@@ -125,7 +125,7 @@ vector_asks f ask object ops s is = record {
   tells = λ w t. t.submit ask object ops;
 }
 
-pub list_asks : (f : Front) (ask : Ask) (rs : List Sealed) → requests_of f (ListNames ask) ≡ Ok rs → AsksFor f (ListNames ask) ask rs
+pub list_asks : (f : ControlPlane) (ask : Ask) (rs : List Sealed) → requests_of f (ListNames ask) ≡ Ok rs → AsksFor f (ListNames ask) ask rs
 list_asks f ask rs is = record {
   asked = is;
   made = list_made f ask rs is;
@@ -137,15 +137,15 @@ list_asks f ask rs is = record {
   tells = λ w t. t.list ask;
 }
 
-pub sealed_all : (f : Front) (gs : List Group) (runs : List Run) (e : Event) (ask : Ask) (rs : List Sealed) → IsKept f gs runs → AsksFor f e ask rs → Each (IsSealedFor f.history) rs
+pub sealed_all : (f : ControlPlane) (gs : List Group) (runs : List Run) (e : Event) (ask : Ask) (rs : List Sealed) → IsKept f gs runs → AsksFor f e ask rs → Each (IsSealedFor f.history) rs
 sealed_all f gs runs e ask rs h a = asked_for f h.sound.kept.front rs a.made.sealed a.made.below
 
-pub all_within : (f : Front) (gs : List Group) (runs : List Run) (e : Event) (ask : Ask) (rs : List Sealed) (history : History) → IsKept f gs runs → AsksFor f e ask rs → history ≡ f.history → Each (λ place. place < length gs) (places_for (map_of history).pools rs)
+pub all_within : (f : ControlPlane) (gs : List Group) (runs : List Run) (e : Event) (ask : Ask) (rs : List Sealed) (history : History) → IsKept f gs runs → AsksFor f e ask rs → history ≡ f.history → Each (λ place. place < length gs) (places_for (map_of history).pools rs)
 all_within f gs runs e ask rs history h a same =
     subst (λ k. Each (λ place. place < length gs) (places_for (map_of k).pools rs)) (sym same) (places_within f gs rs (sealed_all f gs runs e ask rs h a) h.sound.places)
 
 -- why the event is refused: as the front says
-refusal_is : (f : Front) (gs : List Group) (runs : List Run) (e : Event) (ask : Ask) (rs : List Sealed) → IsKept f gs runs → AsksFor f e ask rs
+refusal_is : (f : ControlPlane) (gs : List Group) (runs : List Run) (e : Event) (ask : Ask) (rs : List Sealed) → IsKept f gs runs → AsksFor f e ask rs
     → refusal_of (world_of f gs runs) e ≡ (if list_any (is_full_at gs) (places_for (pools_of f) rs) then Some (OfGroup group_fault.Full) else None)
 refusal_is f gs runs e ask rs h a =
     let w : World = world_of f gs runs in
@@ -156,7 +156,7 @@ refusal_is f gs runs e ask rs h a =
 -- ---- what comes of the event
 
 -- it is refused before it asks anything
-pub refused_asking : (f : Front) (gs : List Group) (runs : List Run) (e : Event) (fault : Fault) → front_refusal f e ≡ asking_refusal f (requests_of f e) → ((x : Fault) → is_drop e x ≡ false)
+pub refused_asking : (f : ControlPlane) (gs : List Group) (runs : List Run) (e : Event) (fault : Fault) → front_refusal f e ≡ asking_refusal f (requests_of f e) → ((x : Fault) → is_drop e x ≡ false)
     → RefusedOrMemory {T = Told} (error_of (requests_of f e)) (Err fault) → Applies (world_of f gs runs) e (Err fault) (world_of f gs runs)
 refused_asking f gs runs e fault refuses stays refused = record {
   steps = λ k. absurd (true_not_false (sym k ∙ stays fault));
@@ -173,8 +173,8 @@ refused_asking f gs runs e fault refuses stays refused = record {
     go (inl k) = inl k
     go (inr k) = inr (ap (λ o. option_or o (option_map OfGroup (parts_refusal gs (parts_of f e)))) (refuses ∙ asking (requests_of f e) k))
 
--- it is refused for a full group, or for want of memory
-pub refused_taking : (f : Front) (gs : List Group) (runs : List Run) (e : Event) (ask : Ask) (rs : List Sealed) (history : History) (fault : Fault) → IsKept f gs runs → AsksFor f e ask rs → history ≡ f.history
+-- it is refused because a group is full, or because memory ran out
+pub refused_taking : (f : ControlPlane) (gs : List Group) (runs : List Run) (e : Event) (ask : Ask) (rs : List Sealed) (history : History) (fault : Fault) → IsKept f gs runs → AsksFor f e ask rs → history ≡ f.history
     → (fault ≡ OutOfMemory) ⊎ ((fault ≡ OfGroup group_fault.Full) × (list_any (is_full_at gs) (places_for (map_of history).pools rs) ≡ true)) → Applies (world_of f gs runs) e (Err fault) (world_of f gs runs)
 refused_taking f gs runs e ask rs history fault h a same refused = record {
   steps = λ k. absurd (true_not_false (sym k ∙ a.stays fault));
@@ -190,11 +190,11 @@ refused_taking f gs runs e ask rs history fault h a same refused = record {
         ∙ ap (λ v. Some v) (sym k.0))
 
 -- it happened
-pub record Asked (f : Front) (gs : List Group) (runs : List Run) (e : Event) (told : Told) (f' : Front) (gs' : List Group) : Type 0 where
+pub record Asked (f : ControlPlane) (gs : List Group) (runs : List Run) (e : Event) (told : Told) (f' : ControlPlane) (gs' : List Group) : Type 0 where
   pub applies : Applies (world_of f gs runs) e (Ok told) (world_of f' gs' runs)
   pub fit : Each (FitsAt gs') runs
 
-pub asked : (f f' : Front) (gs gs' : List Group) (runs : List Run) (e : Event) (ask : Ask) (rs : List Sealed) (history : History) (told : Told) → IsKept f gs runs → AsksFor f e ask rs → history ≡ f.history
+pub asked : (f f' : ControlPlane) (gs gs' : List Group) (runs : List Run) (e : Event) (ask : Ask) (rs : List Sealed) (history : History) (told : Told) → IsKept f gs runs → AsksFor f e ask rs → history ≡ f.history
     → list_any (is_full_at gs) (places_for (map_of history).pools rs) ≡ false → TakesAll gs (places_for (map_of history).pools rs) rs gs' → f' ≡ front_step f e → told ≡ told_of f e → Asked f gs runs e told f' gs'
 asked f f' gs gs' runs e ask rs history told h a same room taken front tells =
     let w : World = world_of f gs runs in
@@ -222,7 +222,7 @@ asked f f' gs gs' runs e ask rs history told h a same room taken front tells =
     }
 
 -- memory was wanting, and all was given back
-pub asked_nothing : (f f' : Front) (gs gs' : List Group) (runs : List Run) (e : Event) → ((x : Fault) → is_drop e x ≡ false) → f' ≡ f → gs' ≡ gs → Applies (world_of f gs runs) e (Err OutOfMemory) (world_of f' gs' runs)
+pub asked_nothing : (f f' : ControlPlane) (gs gs' : List Group) (runs : List Run) (e : Event) → ((x : Fault) → is_drop e x ≡ false) → f' ≡ f → gs' ≡ gs → Applies (world_of f gs runs) e (Err OutOfMemory) (world_of f' gs' runs)
 asked_nothing f f' gs gs' runs e stays front groups = record {
   steps = λ k. absurd (true_not_false (sym k ∙ stays OutOfMemory));
   tells = tt;
@@ -231,7 +231,7 @@ asked_nothing f f' gs gs' runs e stays front groups = record {
 }
 
 -- there is room for more requests
-pub few_now : (f : Front) (gs : List Group) (runs : List Run) → IsKept f gs runs → length f.submissions < 67108864
+pub few_now : (f : ControlPlane) (gs : List Group) (runs : List Run) → IsKept f gs runs → length f.submissions < 67108864
 few_now f gs runs h = fits (length f.submissions) (few_submissions f h.sound.kept.front)
   where
     fits : (n : ℕ) → n ≤ 33554432 → n < 67108864

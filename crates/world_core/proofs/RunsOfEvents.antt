@@ -12,7 +12,7 @@ use Rattle.world_core.specs.World.{World, accepts, counts, first_world, is_accep
 use Rattle.world_core.specs.Holds.{AcceptedFrom, AreAccepted, Holds}
 use Rattle.world_front.specs.Refusing.{RefusedOrMemory}
 use Rattle.world_core.specs.Calls.{AreUnrefused, IsFirstRefused, UnrefusedFrom}
-use Rattle.world_front.specs.Front.{first_front}
+use Rattle.world_front.specs.ControlPlane.{first_front}
 use Rattle.world_core.specs.Service.{Reaches, begun}
 use Rattle.world_core.specs.Serving.{service_of, submitted_through}
 use Rattle.world_core.proofs.Holding.{world_holds}

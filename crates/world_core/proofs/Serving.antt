@@ -14,7 +14,7 @@ use Rattle.group_model_whole.proofs.Audits.{legal_rest}
 use Rattle.world_events.specs.declared.event.Event.{Event}
 use Rattle.world_events.specs.declared.event.Told.{Told}
 use Rattle.world_events.specs.declared.fault.WorldFault.{WorldFault as Fault}
-use Rattle.world_front.specs.Front.{sealed_by}
+use Rattle.world_front.specs.ControlPlane.{sealed_by}
 use Rattle.world_core.specs.World.{World, counts, is_accepted, world_step}
 use Rattle.world_core.specs.Answers.{answer_at}
 use Rattle.world_core.specs.Applying.{Applies}

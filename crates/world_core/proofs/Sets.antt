@@ -69,7 +69,7 @@ up_long state (c ∷ cs) = up_long (after state c) cs ∙ one c
     one (AppRm pool app key) = refl
     one (OsdRestart d) = refl
 
--- a daemon that is up is one of those that there are, and of sixteen
+-- a daemon that is up is one of the existing daemons, and of the sixteen
 up_within : (history : History) → IsAccepted history → (d : ℕ) → Contains (numbers_of (map_of history).up) d → d < length (take (map_of history).daemons daemons)
 up_within history accepted d h =
     let up : List ℕ = numbers_of (map_of history).up in

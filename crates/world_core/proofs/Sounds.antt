@@ -16,7 +16,7 @@ use Rattle.group_model.specs.Group.{Group, group_step}
 use Rattle.world_events.specs.declared.event.Event.{Event}
 use Rattle.world_events.specs.declared.event.Event.TheVariants.{Auth, Map, Open, Renew, Close, Submit, List as ListNames, Deliver, Lose, Repeat, Kick}
 use Rattle.world_front.specs.Groups.{is_same_group, groups_of}
-use Rattle.world_front.specs.Front.{Front, front_step, sealed_by}
+use Rattle.world_front.specs.ControlPlane.{ControlPlane, front_step, sealed_by}
 use Rattle.world_core.specs.World.{World, Part, first_world, at_group, act, acted, parts_of, begun_group, created_by, is_accepted, world_step}
 use Rattle.world_core.specs.Standing.{HasNumbers}
 use Rattle.world_core.specs.Sound.{FrontKept, HasGroups, WorldKept, IsSound}
@@ -56,7 +56,7 @@ tagged_places c name (p ∷ ps) = go (is_named name p) (tagged_places c name ps)
     go false rest = ap (λ l. groups_of p ++ l) rest
 
 -- the places of a map after a command: those before it, and then those of a new pool
-pub command_places : (state : MapState) (f : Front) (c : MapCommand) → map_of f.history ≡ state → flat_map groups_of (pools_after c state.pools) ≡ flat_map groups_of state.pools ++ ids_of (created_by f (Map c))
+pub command_places : (state : MapState) (f : ControlPlane) (c : MapCommand) → map_of f.history ≡ state → flat_map groups_of (pools_after c state.pools) ≡ flat_map groups_of state.pools ++ ids_of (created_by f (Map c))
 command_places state f (PoolCreate name pg_num size min_size) is =
     let new : Pool = created name pg_num size min_size in
     flat_map-append groups_of state.pools (new ∷ [])
@@ -68,10 +68,10 @@ command_places state f (OsdUp d) is = sym (append-nil (flat_map groups_of state.
 command_places state f (OsdDown d) is = sym (append-nil (flat_map groups_of state.pools))
 command_places state f (OsdRestart d) is = sym (append-nil (flat_map groups_of state.pools))
 
-places_of : Front → List GroupId
+places_of : ControlPlane → List GroupId
 places_of f = flat_map groups_of (map_of f.history).pools
 
-step_places : (f : Front) (e : Event) → places_of (front_step f e) ≡ places_of f ++ ids_of (created_by f e)
+step_places : (f : ControlPlane) (e : Event) → places_of (front_step f e) ≡ places_of f ++ ids_of (created_by f e)
 unfolding places_of
 step_places f (Map c) = ap (λ s. flat_map groups_of s.pools) (after_push f.history.daemons f.history.commands c) ∙ command_places (map_of f.history) f c refl
 step_places f (Auth command) = sym (append-nil (flat_map groups_of (map_of f.history).pools))
@@ -94,7 +94,7 @@ has_groups_on w e h =
 
 -- ---- worlds
 
-pub few_numbers : (f : Front) → FrontKept f → length f.submissions < 4294967296
+pub few_numbers : (f : ControlPlane) → FrontKept f → length f.submissions < 4294967296
 few_numbers f h = fits (length f.submissions) (few_submissions f h)
   where
     fits : (n : ℕ) → n ≤ 33554432 → n < 4294967296

@@ -18,7 +18,7 @@ use Rattle.group_model.specs.Group as group
 use Rattle.world_front.specs.Groups.{is_same_group, groups_of}
 use Rattle.world_core.specs.World.{Part, part, group_at, at_group, map_parts, parts_of, created_by, refused_in, part_refusal, parts_refusal}
 use Rattle.world_events.specs.declared.event.Event.TheVariants.{Map}
-use Rattle.world_front.specs.Front.{Front}
+use Rattle.world_front.specs.ControlPlane.{ControlPlane}
 use Rattle.world_core.specs.Moves.{stepped, stepped_by, moves_groups, move_of, all_moved, first_refusal}
 use Rattle.world_front.proofs.Bytes.{number_same}
 use Rattle.world_front.proofs.Merge.{group_refl}
@@ -135,7 +135,7 @@ moving_parts state (AppEnable pool app) moves = absurd (true_not_false (sym move
 moving_parts state (AppSet pool app key value) moves = absurd (true_not_false (sym moves))
 moving_parts state (AppRm pool app key) moves = absurd (true_not_false (sym moves))
 
-pub none_created : (front : Front) (c : MapCommand) → moves_groups c ≡ true → created_by front (Map c) ≡ []
+pub none_created : (front : ControlPlane) (c : MapCommand) → moves_groups c ≡ true → created_by front (Map c) ≡ []
 none_created front (OsdUp d) moves = refl
 none_created front (OsdDown d) moves = refl
 none_created front (OsdRestart d) moves = refl
@@ -145,7 +145,7 @@ none_created front (AppSet pool app key value) moves = absurd (true_not_false (s
 none_created front (AppRm pool app key) moves = absurd (true_not_false (sym moves))
 
 -- the groups of a map, after a command on a daemon
-pub stepped_moved : (front : Front) (c : MapCommand) (groups : List Group) → IsAccepted front.history → map (λ g. g.group) groups ≡ flat_map groups_of (map_of front.history).pools → moves_groups c ≡ true
+pub stepped_moved : (front : ControlPlane) (c : MapCommand) (groups : List Group) → IsAccepted front.history → map (λ g. g.group) groups ≡ flat_map groups_of (map_of front.history).pools → moves_groups c ≡ true
     → stepped (parts_of front (Map c)) groups ≡ all_moved (move_of (map_of front.history) c) groups
 stepped_moved front c groups accepted places moves =
     let event : GroupId → group.Event = move_of (map_of front.history) c in
@@ -153,7 +153,7 @@ stepped_moved front c groups accepted places moves =
     ∙ stepped_all event groups (subst Distinct (sym places) (places_distinct front.history accepted))
 
 -- why groups refuse it
-pub refusals_moved : (front : Front) (c : MapCommand) (groups : List Group) → IsAccepted front.history → map (λ g. g.group) groups ≡ flat_map groups_of (map_of front.history).pools → moves_groups c ≡ true
+pub refusals_moved : (front : ControlPlane) (c : MapCommand) (groups : List Group) → IsAccepted front.history → map (λ g. g.group) groups ≡ flat_map groups_of (map_of front.history).pools → moves_groups c ≡ true
     → parts_refusal groups (parts_of front (Map c)) ≡ first_refusal (move_of (map_of front.history) c) groups
 refusals_moved front c groups accepted places moves =
     let event : GroupId → group.Event = move_of (map_of front.history) c in

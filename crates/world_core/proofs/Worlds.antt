@@ -27,7 +27,7 @@ use Rattle.world_events.specs.declared.event.Event.TheVariants.{Auth, Map, Open,
 use Rattle.entry_core.specs.Locality.{group_for, IsPlaced}
 use Rattle.world_front.specs.Groups.{is_same_group, is_of, groups_of, group_count}
 use Rattle.world_front.specs.Merging.{part_of, IsKnown}
-use Rattle.world_front.specs.Front.{Front, sealed_by, front_step}
+use Rattle.world_front.specs.ControlPlane.{ControlPlane, sealed_by, front_step}
 use Rattle.world_core.specs.World.{World, Part, part, first_world, group_at, decided_in, act, acted, members_of, map_parts, asked_parts, parts_of, begun_group, created_by, world_step, world_after}
 use Rattle.world_core.specs.Standing.{audit_in, audit_at, IsMerged, AllSubmitted, HasNumbers}
 use Rattle.world_core.specs.Answers.{answer_in, answer_to, answer_at, IsOneList, DecidedIsOneList, AuditGrows, AnswersStand}
@@ -87,7 +87,7 @@ map_given rs state (OsdUp d) = moved_given rs (after state (OsdUp d)) (flat_map 
 map_given rs state (OsdDown d) = moved_given rs (after state (OsdDown d)) (flat_map groups_of (after state (OsdDown d)).pools)
 map_given rs state (OsdRestart d) = restarted_given rs d (flat_map groups_of state.pools)
 
-parts_given : (rs : List Sealed) (f : Front) (e : Event) → Each (IsAsked rs) (sealed_by f e) → AreGiven rs (parts_of f e)
+parts_given : (rs : List Sealed) (f : ControlPlane) (e : Event) → Each (IsAsked rs) (sealed_by f e) → AreGiven rs (parts_of f e)
 parts_given rs f (Auth command) h = tt
 parts_given rs f (Map command) h = map_given rs (map_of f.history) command
 parts_given rs f (Open entity until) h = tt
@@ -122,7 +122,7 @@ begun_new : (rs : List Sealed) (state : MapState) (min_size : ℕ) (ids : List G
 begun_new rs state min_size [] = tt
 begun_new rs state min_size (id ∷ ids) = ((record { min_size = min_size; count = state.daemons; acting = members_of state id; up = numbers_of state.up; events = []; submits = tt; is = refl }, refl, refl), begun_new rs state min_size ids)
 
-pub created_new : (rs : List Sealed) (f : Front) (e : Event) → Each (IsNew rs) (created_by f e)
+pub created_new : (rs : List Sealed) (f : ControlPlane) (e : Event) → Each (IsNew rs) (created_by f e)
 created_new rs f (Map (PoolCreate name pg_num size min_size)) =
     begun_new rs (after (map_of f.history) (PoolCreate name pg_num size min_size)) min_size (groups_of (record { name = name; pg_num = pg_num; size = size; min_size = min_size; tags = [] }))
 created_new rs f (Map (AppEnable pool app)) = tt

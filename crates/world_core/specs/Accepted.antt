@@ -11,7 +11,7 @@ use Rattle.group_model.specs.Within.{IsReachedWithin}
 use Rattle.group_model.specs.Group.{Group, last_set}
 use Rattle.world_events.specs.declared.event.Ask.{Ask}
 use Rattle.world_events.specs.declared.event.Event.TheVariants.{Submit, List as ListNames}
-use Rattle.world_front.specs.Front.{front_refusal}
+use Rattle.world_front.specs.ControlPlane.{front_refusal}
 use Rattle.world_core.specs.World.{World, group_at, refusal_of}
 use Rattle.world_front.specs.Groups.{is_for}
 

@@ -12,7 +12,7 @@ use Rattle.world_events.specs.declared.event.Told.{Told}
 use Rattle.world_events.specs.declared.event.Told.TheVariants.{Done}
 use Rattle.world_events.specs.declared.fault.WorldFault.{WorldFault as Fault}
 use Rattle.world_events.specs.declared.fault.WorldFault.TheVariants.{OutOfMemory, Group as OfGroup}
-use Rattle.world_front.specs.Front.{told_of}
+use Rattle.world_front.specs.ControlPlane.{told_of}
 use Rattle.world_core.specs.World.{World, counts, refusal_of, world_step}
 use Rattle.common_types.specs.Refused.{RefusedExactly}
 use Rattle.world_front.specs.Refusing.{RefusedOrMemory}
@@ -27,14 +27,14 @@ pub record Applies (old : World) (e : Event) (result : Result Told Fault) (new :
   pub refused : RefusedOrMemory (refusal_of old e) result
   pub unchanged : counts e result ≡ false → new ≡ old
 
--- a loss is refused for the reason that there is, and never for want of memory
+-- a loss is refused exactly for its reason, and never runs out of memory
 abbrev pub LosesExactly : World → Event → Result Told Fault → Type 0
 LosesExactly w (Lose id place) result = RefusedExactly (refusal_of w (Lose id place)) result
 LosesExactly w e result = Unit {0}
 
 -- ---- calls on one group
 
--- a fault of a group, where want of memory is the world's own
+-- the world's fault for a fault of a group; out of memory is the world's own
 abbrev pub fault_of_group : GroupFault → Fault
 fault_of_group group_fault.OutOfMemory = OutOfMemory
 fault_of_group (group_fault.NoMessage place) = OfGroup (group_fault.NoMessage place)
@@ -54,7 +54,8 @@ abbrev pub told_call : Result (Unit {0}) GroupFault → Result Told Fault
 told_call (Ok done) = Ok Done
 told_call (Err fault) = Err (fault_of_group fault)
 
--- a call on an event: it happens where nothing refuses it, and is refused for the reason that there is or for want of memory
+-- A call on an event. At `Ok` nothing refuses the event, and it happened. At `Err` it was refused for its reason, or
+-- memory ran out.
 abbrev pub StepsOrMemory : {T : Type 0} → Group → group.Event → Result T GroupFault → Group → Type 0
 StepsOrMemory old e (Ok done) new = (group.refusal_of old e ≡ None) × (new ≡ group_step old e)
 StepsOrMemory old e (Err fault) new = ((fault ≡ group_fault.OutOfMemory) × (new ≡ old)) ⊎ ((group.refusal_of old e ≡ Some fault) × (new ≡ left_by old e fault))
@@ -72,7 +73,7 @@ pub record CalledAt {T : Type 0} (groups : List Group) (runs : List Run) (place 
   pub groups_are : groups_then ≡ slice_set groups place new
   pub runs_are : runs_then ≡ runs ++ runs_from place (length old.audit) (length new.audit)
 
--- a loss is never refused for want of memory
+-- a loss never runs out of memory
 abbrev pub LosesFreely : {T : Type 0} → GroupCall → Result T GroupFault → Type 0
 LosesFreely (calls.Lose place) result = result ≡ Err group_fault.OutOfMemory → ⊥
 LosesFreely (calls.Deliver place) result = Unit {0}

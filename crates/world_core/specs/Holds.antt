@@ -9,7 +9,7 @@ use Rattle.group_model.specs.Group.{Group, run}
 use Rattle.group_model.specs.Group as group
 use Rattle.world_events.specs.declared.event.Event.{Event}
 use Rattle.world_front.specs.Groups.{is_same_group}
-use Rattle.world_front.specs.Front.{Front, first_front, front_step, front_after}
+use Rattle.world_front.specs.ControlPlane.{ControlPlane, first_front, front_step, front_after}
 use Rattle.world_core.specs.World.{World, Part, group_at, parts_of, created_by, world_after, world_step, first_world, is_accepted}
 use Rattle.world_core.specs.Standing.{HasNumbers}
 use Rattle.world_core.specs.Answers.{IsOneList}
@@ -20,11 +20,11 @@ use Rattle.world_core.specs.Answers.{IsOneList}
 abbrev pub events_in : GroupId → List Part → List group.Event
 events_in id parts = map (λ p. p.event) (filter (λ p. is_same_group id p.id) parts)
 
-abbrev pub group_step_alone : Front → GroupId → Event → Option Group → Option Group
+abbrev pub group_step_alone : ControlPlane → GroupId → Event → Option Group → Option Group
 group_step_alone front id e None = group_at id (created_by front e)
 group_step_alone front id e (Some g) = Some (run (events_in id (parts_of front e)) g)
 
-abbrev pub group_from : Front → GroupId → Option Group → List Event → Option Group
+abbrev pub group_from : ControlPlane → GroupId → Option Group → List Event → Option Group
 group_from front id found [] = found
 group_from front id found (e ∷ es) = group_from (front_step front e) id (group_step_alone front id e found) es
 

@@ -4,7 +4,7 @@ use Rattle.std.specs.Prelude.{◌-◌, List, take, drop, slice_get}
 use Rattle.std.specs.List.{flat_map}
 use Rattle.store_core.specs.declared.entry.Entry.{Entry}
 use Rattle.group_model.specs.Group.{Group}
-use Rattle.world_front.specs.Front.{Front}
+use Rattle.world_front.specs.ControlPlane.{ControlPlane}
 use Rattle.world_core.specs.World.{World}
 use Rattle.world_core.specs.Standing.{audit_in}
 use Rattle.world_core.specs.declared.audit.Run.{Run}
@@ -17,5 +17,5 @@ run_entries groups run = take (run.upto - run.from) (drop run.from (audit_in (sl
 abbrev pub entries_told : List Group → List Run → List Entry
 entries_told groups runs = flat_map (run_entries groups) runs
 
-abbrev pub world_of : Front → List Group → List Run → World
+abbrev pub world_of : ControlPlane → List Group → List Run → World
 world_of front groups runs = record { front = front; groups = groups; audit = entries_told groups runs }

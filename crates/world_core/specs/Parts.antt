@@ -5,7 +5,7 @@ use Rattle.std.specs.List.{flat_map}
 use Rattle.store_core.specs.Request.{Sealed}
 use Rattle.store_core.specs.declared.entry.Entry.{Entry}
 use Rattle.group_model.specs.Group.{Group}
-use Rattle.world_front.specs.Front.{Front}
+use Rattle.world_front.specs.ControlPlane.{ControlPlane}
 use Rattle.world_core.specs.World.{World}
 use Rattle.world_core.specs.Sound.{IsSound}
 use Rattle.world_core.specs.declared.world.parts.WorldParts.{WorldParts}
@@ -18,7 +18,7 @@ requests_of groups = flat_map (λ g. g.requests) groups
 abbrev pub decided_of : List Group → List Entry
 decided_of groups = flat_map (λ g. g.audit) groups
 
-abbrev pub front_of : WorldParts → Front
+abbrev pub front_of : WorldParts → ControlPlane
 front_of p = record { database = p.users; history = p.map; sessions = p.sessions.items; submissions = requests_of p.groups.items; lists = [] }
 
 abbrev pub put_together : WorldParts → World

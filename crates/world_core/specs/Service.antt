@@ -46,7 +46,7 @@ abbrev pub Reaches : List (List Sealed) → Service → Service → Type 0
 Reaches [] old new = old ≡ new
 Reaches (requests ∷ rest) old new = (next : Service) × Step requests old next × Reaches rest next new
 
--- ---- what this comes to
+-- ---- what follows from this
 
 -- an entry behind these ones: performed just where its ticket allows it, with the reply of the store that these make; else denied by the
 -- first failed condition of each grant, and all objects are as they were

@@ -15,7 +15,7 @@ use Rattle.group_model_whole.specs.Asked.{IsAsked}
 use Rattle.group_model.specs.Group.{Group, Event, Submit, Deliver, Lose, Repeat, NewInterval, Restart, Kick, last_set, run, start}
 use Rattle.group_model.specs.Within.{IsReachedWithin}
 use Rattle.world_front.specs.Groups.{is_for, groups_of}
-use Rattle.world_front.specs.Front.{Front}
+use Rattle.world_front.specs.ControlPlane.{ControlPlane}
 use Rattle.world_core.specs.World.{World, group_at}
 use Rattle.world_core.specs.Standing.{audit_in, IsMerged}
 use Rattle.world_front.specs.Stands.{InMap, IsSealedWell, FrontStands}
@@ -30,7 +30,7 @@ pub record IsSealedFor (history : History) (s : Sealed) : Type 0 where
   pub below : s.group < s.view.pg_num
 
 -- the map accepted each command, and no group has too many requests
-pub record FrontKept (f : Front) : Type 0 where
+pub record FrontKept (f : ControlPlane) : Type 0 where
   pub accepted : IsAccepted f.history
   pub sealed : Each (IsSealedFor f.history) f.submissions
   pub few : (id : GroupId) → length (filter (is_for id) f.submissions) ≤ 16384
@@ -62,12 +62,12 @@ pub record HasSets (h : History) (id : GroupId) (sets : List (List ℕ)) : Type 
   pub are : sets ≡ intervals_of h id.pool id.number
   pub present : set_of (map_of h) id.pool id.number ≡ Some (last_set sets)
 
--- a group of so many daemons, each of whose acting sets lay within those that were up
+-- a group of `count` daemons, each of whose acting sets was within the daemons that were up
 pub record IsWithin (count : ℕ) (g : Group) : Type 0 where
   pub is : IsReachedWithin g
   pub all : is.reached.daemons ≡ count
 
-pub record GroupKept (f : Front) (id : GroupId) (g : Group) : Type 0 where
+pub record GroupKept (f : ControlPlane) (id : GroupId) (g : Group) : Type 0 where
   pub requests : g.requests ≡ filter (is_for id) f.submissions
   pub groups : ℕ
   pub pool : InMap f.history id.pool groups
@@ -104,6 +104,6 @@ pub record FitsAt (groups : List Group) (run : Run) : Type 0 where
   pub forward : run.from ≤ run.upto
   pub within : run.upto ≤ length (audit_in (slice_get groups run.group))
 
-pub record IsKept (front : Front) (groups : List Group) (runs : List Run) : Type 0 where
+pub record IsKept (front : ControlPlane) (groups : List Group) (runs : List Run) : Type 0 where
   pub sound : IsSound (world_of front groups runs)
   pub fit : Each (FitsAt groups) runs

@@ -27,6 +27,6 @@ IsMerged w = (id : GroupId) → part_of id w.audit ≡ audit_at id w.groups
 abbrev pub AllSubmitted : World → Type 0
 AllSubmitted w = Each (λ e. IsAsked w.front.submissions e.sealed × IsPlaced (group_count w.front.history) e.sealed) w.audit
 
--- an id has room for so many numbers
+-- an id has room for the number of each submission
 abbrev pub HasNumbers : World → Type 0
 HasNumbers w = length w.front.submissions < 2 ^ 32

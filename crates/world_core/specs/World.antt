@@ -23,12 +23,12 @@ use Rattle.world_events.specs.declared.event.Event.TheVariants.{Map, Submit, Lis
 use Rattle.world_events.specs.declared.event.Told.{Told}
 use Rattle.world_events.specs.declared.fault.WorldFault.{WorldFault as Fault}
 use Rattle.world_events.specs.declared.fault.WorldFault.TheVariants.{Group as OfGroup}
-use Rattle.world_front.specs.Front.{Front, first_front, front_step, front_refusal, sealed_by}
+use Rattle.world_front.specs.ControlPlane.{ControlPlane, first_front, front_step, front_refusal, sealed_by}
 use Rattle.entry_core.specs.Locality.{group_for}
 use Rattle.world_front.specs.Groups.{is_same_group, groups_of}
 
 pub record World : Type 0 where
-  pub front : Front
+  pub front : ControlPlane
   pub groups : List Group  -- in order of creation
   pub audit : List Entry  -- the decided entries of all groups, in the order in which they were decided
 
@@ -78,7 +78,7 @@ abbrev pub asked_parts : List Sealed → List Part
 asked_parts requests = map (λ s. part (group_for s) (group.Submit s)) requests
 
 -- what an event is to the groups, in order
-abbrev pub parts_of : Front → Event → List Part
+abbrev pub parts_of : ControlPlane → Event → List Part
 parts_of front (Map command) = map_parts (map_of front.history) command
 parts_of front (Submit ask object ops) = asked_parts (sealed_by front (Submit ask object ops))
 parts_of front (ListNames ask) = asked_parts (sealed_by front (ListNames ask))
@@ -96,7 +96,7 @@ abbrev pub created_pool : MapState → Pool → List Group
 created_pool state pool = map (begun_group state pool.min_size) (groups_of pool)
 
 -- the groups that an event creates
-abbrev pub created_by : Front → Event → List Group
+abbrev pub created_by : ControlPlane → Event → List Group
 created_by front (Map (PoolCreate name pg_num size min_size)) =
     created_pool (after (map_of front.history) (PoolCreate name pg_num size min_size)) (record { name = name; pg_num = pg_num; size = size; min_size = min_size; tags = [] })
 created_by front e = []

@@ -6,7 +6,7 @@ ghost use Rattle.world_core.specs.Applying.{runs_from};
 ghost use Rattle.world_core.specs.Inside.{entries_told};
 ghost use Rattle.world_core.specs.Sound.{FitsAt};
 
-use common_types::{Items, OutOfMemory, TryCopy};
+use common_types::{Items, OutOfMemory, TryClone};
 use entry_core::Entry;
 use group_core::Group;
 use std::alloc::Global;

@@ -5,7 +5,7 @@ ghost use Rattle.map_core.specs.Map.{map_of, epoch_of, after};
 ghost use Rattle.map_core.specs.Refusal.{refusal};
 ghost use Rattle.world_events.specs.declared.event.Event.TheVariants.{Map};
 ghost use Rattle.world_events.specs.declared.fault.WorldFault.TheVariants.{OutOfMemory};
-ghost use Rattle.world_front.specs.Front.{front_step, told_of};
+ghost use Rattle.world_front.specs.ControlPlane.{front_step, told_of};
 ghost use Rattle.world_core.specs.Moves.{made_by};
 ghost use Rattle.world_core.specs.World.{begun_group};
 
@@ -15,12 +15,12 @@ use entry_core::GroupId;
 use group_core::Group;
 use map_core::{ClusterMap, MapCommand};
 use std::alloc::Global;
-use world_front::{Front, Told, WorldFault};
+use world_front::{ControlPlane, Told, WorldFault};
 
 /// Carries out a command on pools that the map does not refuse. The groups of a new pool are made first, then the map is
 /// changed, and then the groups are added. Where memory is refused, nothing changes.
 pub(crate) fn change_pools(
-    front: &mut Front,
+    front: &mut ControlPlane,
     groups: &mut Vec<Group>,
     command: MapCommand,
 ) -> Result<Told, WorldFault>

@@ -6,7 +6,7 @@ ghost use Rattle.entry_core.specs.Locality.{group_for};
 ghost use Rattle.group_model.specs.Group.{Group};
 ghost use Rattle.map_core.specs.Refusal.{acting_refusal};
 ghost use Rattle.world_events.specs.declared.fault.WorldFault.TheVariants.{Map as OfMap};
-ghost use Rattle.world_front.specs.Front.{error_of};
+ghost use Rattle.world_front.specs.ControlPlane.{error_of};
 ghost use Rattle.world_core.specs.Moves.{AreGroupsOf, IsAt};
 ghost use Rattle.world_core.specs.Sound.{IsSealedFor};
 
@@ -14,10 +14,10 @@ use entry_core::{GroupId, Sealed};
 use map_core::ClusterMap;
 use world_front::{WorldFault, groups_before, place_for};
 
-/// The place of a group among the groups of a map's pools: as many as the earlier pools have, and its number. It takes no
-/// memory, and a step for each pool up to the group's own, of which there are at most 32.
+/// The index of a group among the groups of a map's pools: the number of groups of the earlier pools, plus its
+/// number. It allocates nothing. It takes a step for each pool up to the group's own, at most 32.
 ///
-/// M9 for a pool's name that is none, M2 for a pool that is not there, M10 for a number that the pool has not.
+/// M9: the pool's name is not valid. M2: there is no such pool. M10: the pool has no group of this number.
 pub fn place_of(map: &ClusterMap, group: &GroupId) -> Result<usize, WorldFault>
     ensures refused { error_of result ≡ option_map OfMap (acting_refusal map.now group.now.pool group.now.number) }
     ensures place { IfOk result (λ place. (groups : List Group) → AreGroupsOf map.now groups → IsAt groups group.now place) }

@@ -5,7 +5,7 @@
 //!
 //! # What contracts see
 //!
-//! A world is a `Front` (users, map, sessions, submissions), its groups in order of creation, and the entries that were decided.
+//! A world is a `ControlPlane` (users, map, sessions, submissions), its groups in order of creation, and the entries that were decided.
 //! To the groups every event is a list of parts, each one event of one group (`parts_of`), so each invariant is proved once, for
 //! one part. The invariant names facts of the parts alone, and no history. The laws are functions of `world_laws` that do
 //! nothing. The READMEs of `world_front` and `world_core` have the definitions one by one.

@@ -14,7 +14,7 @@ ghost use Rattle.group_core.specs.Moves.{event_of};
 ghost use Rattle.group_messages.specs.declared.fault.GroupFault.TheVariants as group_fault;
 ghost use Rattle.world_events.specs.declared.event.Event.TheVariants.{Map};
 ghost use Rattle.world_events.specs.declared.fault.WorldFault.TheVariants.{Group as OfGroup, OutOfMemory};
-ghost use Rattle.world_front.specs.Front.{front_step, front_refusal, told_of};
+ghost use Rattle.world_front.specs.ControlPlane.{front_step, front_refusal, told_of};
 ghost use Rattle.world_core.specs.Moves.{AreGroupsOf, stepped, moves_groups, move_of, all_moved, first_refusal, prepared, all_prepared, given_up, committed};
 ghost use Rattle.world_core.specs.Moves as spec;
 ghost use Rattle.world_front.specs.Refusing.{RefusedOrMemory};
@@ -28,14 +28,14 @@ use group_core::{Group, PreparedGroup};
 use group_messages::{GroupFault, GroupMove};
 use map_core::{ClusterMap, MapCommand};
 use std::alloc::AllocError;
-use world_front::{Front, Told, WorldFault};
+use world_front::{ControlPlane, Told, WorldFault};
 
 /// Carries out a command on the map. All groups move with it, or none.
 ///
 /// It is refused as the map refuses it, then by P3 where a group that would begin an interval has 1,024, then for want of
 /// memory. A refused command leaves map and groups as they were. A command on a daemon costs a step for each group.
 pub(crate) fn apply_map(
-    front: &mut Front,
+    front: &mut ControlPlane,
     groups: &mut Vec<Group>,
     command: MapCommand,
 ) -> Result<Told, WorldFault>
@@ -70,7 +70,7 @@ fn moves_groups(command: &MapCommand) -> bool
 
 /// Carries out a command on a daemon that the map does not refuse.
 fn move_all(
-    front: &mut Front,
+    front: &mut ControlPlane,
     groups: &mut Vec<Group>,
     command: MapCommand,
 ) -> Result<Told, WorldFault>

@@ -2,7 +2,7 @@
 
 ghost use Rattle.std.specs.Prelude.{◌≡◌, ◌≤◌, ◌⊎◌, IfOk, IfErr};
 ghost use Rattle.world_core.specs.Holds.{AreAccepted, Holds};
-ghost use Rattle.world_front.specs.Front.{first_front};
+ghost use Rattle.world_front.specs.ControlPlane.{first_front};
 ghost use Rattle.world_core.specs.Service.{Reaches, begun};
 ghost use Rattle.world_core.specs.Serving.{service_of, submitted_through};
 ghost use Rattle.world_core.specs.Calls.{AreUnrefused, IsFirstRefused};

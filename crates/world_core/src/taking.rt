@@ -10,7 +10,7 @@ ghost use Rattle.map_core.specs.Map.{map_of};
 ghost use Rattle.world_events.specs.declared.fault.WorldFault.TheVariants as faults;
 ghost use Rattle.world_core.specs.Taking.{Takes, TakesAll, is_full_at, places_for};
 
-use common_types::{Items, OutOfMemory, TryCopy};
+use common_types::{Items, OutOfMemory, TryClone};
 use entry_core::Sealed;
 use group_core::Group;
 use group_messages::GroupFault;
@@ -76,13 +76,13 @@ fn take_back_at(groups: &mut Vec<Group>, place: usize)
     ensures { (before : List group.Group) (s : request.Sealed) → Takes before place s groups.old.items → groups.new.items ≡ before }
 {
     let group = &mut groups[place];
-    group.take_back();
+    group.undo_submit();
 }
 
 /// The group at each place takes a copy of its request, or all are left as they were.
 ///
-/// Each has room, and the request is new to it, so it is refused for want of memory alone.
-pub(crate) fn take_all(
+/// Each group has room, and its request is new to it, so the only fault is out of memory.
+pub(crate) fn submit_all(
     groups: &mut Vec<Group>,
     places: &[usize],
     requests: &[Sealed],
@@ -99,7 +99,7 @@ pub(crate) fn take_all(
         Ok(()) => {}
         Err(error) => return Err(error),
     }
-    match take_all(groups, &places[1..], &requests[1..]) {
+    match submit_all(groups, &places[1..], &requests[1..]) {
         Ok(()) => Ok(()),
         Err(error) => {
             take_back_at(groups, places[0]);
@@ -141,7 +141,7 @@ pub(crate) fn take_requests(
     if is_one_full(groups.as_slice(), places.as_slice()) {
         return Err(WorldFault::Group(GroupFault::Full));
     }
-    match take_all(groups, places.as_slice(), requests) {
+    match submit_all(groups, places.as_slice(), requests) {
         Ok(()) => Ok(places),
         Err(_) => Err(WorldFault::OutOfMemory),
     }

@@ -6,7 +6,7 @@ ghost use Rattle.store_core.specs.declared.sealed.GroupId.{GroupId};
 ghost use Rattle.group_model.specs.Recovery.{is_ready};
 ghost use Rattle.world_events.specs.declared.event.Event as events;
 ghost use Rattle.world_events.specs.declared.event.Event.TheVariants as happens;
-ghost use Rattle.world_front.specs.Front.{told_of, group_refusal};
+ghost use Rattle.world_front.specs.ControlPlane.{told_of, group_refusal};
 ghost use Rattle.world_core.specs.World.{first_world, world_step, refusal_of, counts, group_at};
 ghost use Rattle.world_core.specs.Holds.{Holds};
 ghost use Rattle.common_types.specs.Refused.{RefusedExactly};
@@ -34,7 +34,7 @@ use peer_core::Sent;
 use std::alloc::Global;
 use std::marker::Model;
 use std::slice;
-use world_front::{Ask, AuthCommand, Event, Front, Ops, Told, WorldFault};
+use world_front::{Ask, AuthCommand, ControlPlane, Event, Ops, Told, WorldFault};
 
 /// Users, a map, sessions and groups, with what was decided (this project's profile, over the commands of the Ceph manual
 /// and the placement groups of the RADOS paper).
@@ -42,7 +42,7 @@ use world_front::{Ask, AuthCommand, Event, Front, Ops, Told, WorldFault};
 /// Each world was made by `new` and some events. Contracts see the front, the groups in order of creation, and the decided
 /// entries of all groups in the order in which they were decided.
 pub struct World {
-    front: Front,
+    front: ControlPlane,
     groups: Vec<Group>,
     runs: Vec<Run>,
 }
@@ -78,7 +78,7 @@ impl World {
         ensures begins { IsOkAnd result (λ world. service_of world ≡ begun) }
     {
         Ok(World {
-            front: Front::new(alloc, table, daemons),
+            front: ControlPlane::new(alloc, table, daemons),
             groups: Vec::new(alloc),
             runs: Vec::new(alloc),
         })

@@ -4,7 +4,7 @@ ghost use Rattle.std.specs.Prelude.{◌≡◌, IfOk};
 
 use crate::ops::Ops;
 use auth_db::Caps;
-use common_types::{Name, OutOfMemory, TryCopy};
+use common_types::{Name, OutOfMemory, TryClone};
 use entry_core::{GroupId, Id};
 use map_core::{Epoch, MapCommand};
 

@@ -10,10 +10,11 @@ use map_core::MapFault;
 use object_core::NeedsFault;
 use std::alloc::{AllocError, AllocFailed};
 
-/// Why a call on a world is refused. Each leaves the world as it was, but for a delivery to a daemon that is down (P2), which
-/// has dropped its message.
+/// Why a call on a world is refused. A refused call leaves the world as it was.
 ///
-/// W8 is the number of no fault.
+/// Exception: a refused delivery to a daemon that is down (P2) has dropped its message.
+///
+/// No fault has the number W8.
 #[derive(Clone, Copy, Debug)]
 pub enum WorldFault {
     /// W1: there is no such session, or it is closed.

@@ -1,7 +1,7 @@
-//! What happens to a world, what is told of it, and why it is refused.
+//! What happens to a world, what a call reports of it, and why a call is refused.
 //!
-//! The requests that were submitted are kept here too, each found by its id. All of it is this project's profile, over the commands of
-//! the Ceph manual.
+//! The submitted requests are kept here too, each found by its id. All of it is this project's profile, over the
+//! commands of the Ceph manual.
 #![tactic(auto)]
 
 mod event;

@@ -4,7 +4,7 @@ ghost use Rattle.std.specs.Prelude.{◌≡◌, ◌++◌, [], ◌∷◌, None, On
 ghost use Rattle.group_model_whole.specs.Group.{submitted};
 ghost use Rattle.world_events.specs.Submitting.{AreNew};
 
-use common_types::{OutOfMemory, TryCopy};
+use common_types::{OutOfMemory, TryClone};
 use entry_core::{Id, IdHash, Sealed};
 use indexmap::IndexMap;
 use std::alloc::Global;
@@ -62,7 +62,7 @@ impl Submissions {
         Ok(())
     }
 
-    /// Keeps the first so many.
+    /// Keeps the first `count` requests.
     fn truncate(&mut self, count: usize)
         ensures { self.new ≡ take count self.old }
     {

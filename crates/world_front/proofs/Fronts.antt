@@ -19,7 +19,7 @@ use Rattle.group_model_whole.specs.Asked.{IsAsked}
 use Rattle.world_front.specs.Event.{Ask, Event, Auth, Map, Open, Renew, Close, Submit, ListNames, Deliver, Lose, Repeat, Kick, Fault, NoPool, StaleEpoch, StaleTick, BadObjectName, OfNeeds}
 use Rattle.entry_core.specs.Locality.{IsPlaced}
 pub use Rattle.world_front.specs.Stands.{IsSealedWell, FrontStands}
-use Rattle.world_front.specs.Front.{Session, Front, Asker, ◌>>=◌, need, refuse_if, lower, if_ok, session_of, session_at, opened, ticket_for, asker_of, is_object_name, is_namespace, sealed_of, vector_of, pieces_of, requests_of, requests_in, sealed_by, asks_more, asked, front_step}
+use Rattle.world_front.specs.ControlPlane.{Session, ControlPlane, Asker, ◌>>=◌, need, refuse_if, lower, if_ok, session_of, session_at, opened, ticket_for, asker_of, is_object_name, is_namespace, sealed_of, vector_of, pieces_of, requests_of, requests_in, sealed_by, asks_more, asked, front_step}
 use Rattle.world_front.proofs.Pools.{InMap, in_later, view_in, counted}
 use Rattle.world_front.proofs.Numbers.{next_in as next_of_found, next_at, open_is, IsGiven, Onward, given_later, pushed_onward, pushed_most, at_onward, at_most, at_here, NumberedFrom, asked_later, all_asked, news_given}
 
@@ -36,11 +36,11 @@ needed : {A : Type 0} (o : Option A) (fault : Fault) (a : A) → need o fault �
 needed None fault a h = absurd (cc)
 needed (Some x) fault a h = let same : x ≡ a = cc in ap (λ v. Some v) same
 
-pub record Made (f : Front) (ask : Ask) (asker : Asker) : Type 0 where
+pub record Made (f : ControlPlane) (ask : Ask) (asker : Asker) : Type 0 where
   pub session : session_of f.sessions ask.session ≡ Ok asker.session
   pub pool : InMap f.history asker.view.pool asker.view.pg_num
 
-pub asker_made : (f : Front) (ask : Ask) (asker : Asker) → asker_of f ask ≡ Ok asker → Made f ask asker
+pub asker_made : (f : ControlPlane) (ask : Ask) (asker : Asker) → asker_of f ask ≡ Ok asker → Made f ask asker
 asker_made f ask asker h =
     let view : PoolView → Type 0 = λ v. InMap f.history v.pool v.pg_num in
     let a = bind_ok (session_of f.sessions ask.session) (λ s.
@@ -77,7 +77,7 @@ single_one id s = go (is_for id s)
     go true = record { one = Some s; is = refl }
     go false = record { one = None; is = refl }
 
-pub record Requested (f : Front) (ask : Ask) (rs : List Sealed) : Type 0 where
+pub record Requested (f : ControlPlane) (ask : Ask) (rs : List Sealed) : Type 0 where
   pub session : Session
   pub open_one : session_of f.sessions ask.session ≡ Ok session
   pub numbered : NumberedFrom ask.session session.next rs
@@ -85,7 +85,7 @@ pub record Requested (f : Front) (ask : Ask) (rs : List Sealed) : Type 0 where
   pub below : Each IsBelow rs
   pub single : (id : GroupId) → AtMostOne (filter (is_for id) rs)
 
-pub submit_made : (f : Front) (ask : Ask) (object : List ℕ) (ops : List Op) (rs : List Sealed) → requests_of f (Submit ask object ops) ≡ Ok rs → Requested f ask rs
+pub submit_made : (f : ControlPlane) (ask : Ask) (object : List ℕ) (ops : List Op) (rs : List Sealed) → requests_of f (Submit ask object ops) ≡ Ok rs → Requested f ask rs
 unfolding requests_of requests_in
 submit_made f ask object ops rs h =
     let a = bind_ok (asker_of f ask) (λ asker.
@@ -117,7 +117,7 @@ piece_numbers ask asker k (suc n) =
     let e : (asker.session.next + k) + 1 ≡ asker.session.next + (k + 1) = omega arith in
     (refl, subst (λ q. NumberedFrom ask.session q (map (λ i. sealed_of ask asker Listing i i) (range_with_len (k + 1) n))) (sym e) (piece_numbers ask asker (k + 1) n))
 
-pieces_sealed : (f : Front) (ask : Ask) (asker : Asker) → InMap f.history asker.view.pool asker.view.pg_num → (k n : ℕ) → Each (IsSealedWell f.history) (map (λ i. sealed_of ask asker Listing i i) (range_with_len k n))
+pieces_sealed : (f : ControlPlane) (ask : Ask) (asker : Asker) → InMap f.history asker.view.pool asker.view.pg_num → (k n : ℕ) → Each (IsSealedWell f.history) (map (λ i. sealed_of ask asker Listing i i) (range_with_len k n))
 pieces_sealed f ask asker has k zero = tt
 pieces_sealed f ask asker has k (suc n) = (record { pool = has; hashes = tt }, pieces_sealed f ask asker has (k + 1) n)
 
@@ -130,7 +130,7 @@ pieces_single id ask asker =
     let one = one_mapped (λ i. sealed_of ask asker Listing i i) _ (one_number id asker.view.pool 0 asker.view.pg_num) in
     record { one = one.one; is = filter_map_is (is_for id) (λ i. sealed_of ask asker Listing i i) (range_with_len 0 asker.view.pg_num) ∙ one.is }
 
-pub list_made : (f : Front) (ask : Ask) (rs : List Sealed) → requests_of f (ListNames ask) ≡ Ok rs → Requested f ask rs
+pub list_made : (f : ControlPlane) (ask : Ask) (rs : List Sealed) → requests_of f (ListNames ask) ≡ Ok rs → Requested f ask rs
 unfolding requests_of requests_in
 list_made f ask rs h =
     let a = bind_ok (asker_of f ask) (λ asker.
@@ -164,7 +164,7 @@ each_both P [] ys h k = k
 each_both P (x ∷ xs) ys h k = (h.0, each_both P xs ys h.1 k)
 
 -- an event without requests
-quiet : (f : Front) (sessions : List Session) (commands : List MapCommand) (g : Front) → FrontStands f → Onward f.sessions sessions → ((n : ℕ) → next_at sessions n ≤ length f.submissions + 1)
+quiet : (f : ControlPlane) (sessions : List Session) (commands : List MapCommand) (g : ControlPlane) → FrontStands f → Onward f.sessions sessions → ((n : ℕ) → next_at sessions n ≤ length f.submissions + 1)
     → g.sessions ≡ sessions → g.submissions ≡ f.submissions ++ [] → g.history ≡ record f.history { commands = f.history.commands ++ commands } → FrontStands g
 quiet f sessions commands g h on most s u t =
     let subs : g.submissions ≡ f.submissions = u ∙ append-nil f.submissions in
@@ -187,12 +187,12 @@ same_onward : (sessions : List Session) → Onward sessions sessions
 same_onward sessions = record { onward = λ n. omega arith }
 
 -- an event with requests, or one that was to have some
-record Asks (f : Front) (ask : Ask) (r : Result (List Sealed) Fault) (g : Front) : Type 0 where
+record Asks (f : ControlPlane) (ask : Ask) (r : Result (List Sealed) Fault) (g : ControlPlane) : Type 0 where
   pub sessions : g.sessions ≡ asked f.sessions ask r
   pub submissions : g.submissions ≡ f.submissions ++ if_ok r [] (λ rs. rs)
   pub history : g.history ≡ f.history
 
-with_requests : (f : Front) (ask : Ask) (r : Result (List Sealed) Fault) (g : Front) → FrontStands f → Asks f ask r g → length g.submissions < 4294967296 → ((rs : List Sealed) → r ≡ Ok rs → Requested f ask rs)
+with_requests : (f : ControlPlane) (ask : Ask) (r : Result (List Sealed) Fault) (g : ControlPlane) → FrontStands f → Asks f ask r g → length g.submissions < 4294967296 → ((rs : List Sealed) → r ≡ Ok rs → Requested f ask rs)
     → FrontStands g × Each (IsAsked g.submissions) (if_ok r [] (λ rs. rs))
 with_requests f ask (Err fault) g h is room made =
     (quiet f f.sessions [] g h (same_onward f.sessions) h.most is.sessions is.submissions (is.history ∙ same_history f.history), tt)
@@ -224,7 +224,7 @@ with_requests f ask (Ok rs) g h is room made =
       subst W (sym is.submissions) news,
     )
 
-pub front_stands : (f : Front) (e : Event) → FrontStands f → length (front_step f e).submissions < 4294967296 → FrontStands (front_step f e) × Each (IsAsked (front_step f e).submissions) (sealed_by f e)
+pub front_stands : (f : ControlPlane) (e : Event) → FrontStands f → length (front_step f e).submissions < 4294967296 → FrontStands (front_step f e) × Each (IsAsked (front_step f e).submissions) (sealed_by f e)
 unfolding requests_of requests_in
 front_stands f (Auth command) h room = (quiet f f.sessions [] (front_step f (Auth command)) h (same_onward f.sessions) h.most refl refl (same_history f.history), tt)
 front_stands f (Map command) h room = (quiet f f.sessions (command ∷ []) (front_step f (Map command)) h (same_onward f.sessions) h.most refl refl refl, tt)

@@ -3,7 +3,7 @@ use Rattle.std.proofs.Common.{◌≡◌, ℕ, ◌≤◌, List, ◌∷◌, ◌++�
 use Rattle.object_core.specs.declared.op.Op.{Op}
 use Rattle.store_core.specs.Request.{Sealed}
 use Rattle.world_front.specs.Event.{Ask, Event, Auth, Map, Open, Renew, Close, Submit, ListNames, Deliver, Lose, Repeat, Kick, Fault}
-use Rattle.world_front.specs.Front.{Front, if_ok, sealed_by, requests_of, requests_in}
+use Rattle.world_front.specs.ControlPlane.{ControlPlane, if_ok, sealed_by, requests_of, requests_in}
 use Rattle.world_front.specs.Stands.{FrontStands, IsKept}
 use Rattle.world_front.proofs.Fronts.{Requested, submit_made, list_made}
 use Rattle.world_front.proofs.Recording.{free_in, free_new, next_few}
@@ -13,21 +13,21 @@ pub new_joined : (old xs ys : List Sealed) → AreNew old xs → AreNew (old ++ 
 new_joined old [] ys h k = subst (λ l. AreNew l ys) (append-nil old) k
 new_joined old (x ∷ xs) ys h k = (h.0, new_joined (old ++ x ∷ []) xs ys h.1 (subst (λ l. AreNew l ys) (sym (append_assoc old (x ∷ []) xs)) k))
 
-new_of : (f : Front) (rs : List Sealed) → FrontStands f → length f.submissions ≤ 33554432 → length rs ≤ 33554432 → (ask : Ask) → Requested f ask rs → AreNew f.submissions rs
+new_of : (f : ControlPlane) (rs : List Sealed) → FrontStands f → length f.submissions ≤ 33554432 → length rs ≤ 33554432 → (ask : Ask) → Requested f ask rs → AreNew f.submissions rs
 new_of f rs h few room ask q =
-    let bare : Front = record f { lists = [] } in
+    let bare : ControlPlane = record f { lists = [] } in
     let kept : IsKept bare = record { stands = record { given = h.given; most = h.most; asked = h.asked; sealed = h.sealed }; few = omega arith; begun = tt } in
     let next : q.session.next ≤ 67108929 = next_few bare ask.session q.session kept q.open_one in
     free_new f.submissions rs ask.session q.session.next (free_in bare ask.session q.session kept q.open_one) (omega arith) q.numbered
 
-submit_new : (f : Front) (ask : Ask) (object : List ℕ) (ops : List Op) → FrontStands f → length f.submissions ≤ 33554432 → length (sealed_by f (Submit ask object ops)) ≤ 33554432 → AreNew f.submissions (sealed_by f (Submit ask object ops))
+submit_new : (f : ControlPlane) (ask : Ask) (object : List ℕ) (ops : List Op) → FrontStands f → length f.submissions ≤ 33554432 → length (sealed_by f (Submit ask object ops)) ≤ 33554432 → AreNew f.submissions (sealed_by f (Submit ask object ops))
 submit_new f ask object ops h few room = go (requests_of f (Submit ask object ops)) refl room
   where
     go : (r : Result (List Sealed) Fault) → requests_of f (Submit ask object ops) ≡ r → length (if_ok r [] (λ rs. rs)) ≤ 33554432 → AreNew f.submissions (if_ok r [] (λ rs. rs))
     go (Err fault) is long = tt
     go (Ok rs) is long = new_of f rs h few long ask (submit_made f ask object ops rs is)
 
-list_new : (f : Front) (ask : Ask) → FrontStands f → length f.submissions ≤ 33554432 → length (sealed_by f (ListNames ask)) ≤ 33554432 → AreNew f.submissions (sealed_by f (ListNames ask))
+list_new : (f : ControlPlane) (ask : Ask) → FrontStands f → length f.submissions ≤ 33554432 → length (sealed_by f (ListNames ask)) ≤ 33554432 → AreNew f.submissions (sealed_by f (ListNames ask))
 list_new f ask h few room = go (requests_of f (ListNames ask)) refl room
   where
     go : (r : Result (List Sealed) Fault) → requests_of f (ListNames ask) ≡ r → length (if_ok r [] (λ rs. rs)) ≤ 33554432 → AreNew f.submissions (if_ok r [] (λ rs. rs))
@@ -35,7 +35,7 @@ list_new f ask h few room = go (requests_of f (ListNames ask)) refl room
     go (Ok rs) is long = new_of f rs h few long ask (list_made f ask rs is)
 
 -- the requests of any event
-pub event_new : (f : Front) (e : Event) → FrontStands f → length f.submissions ≤ 33554432 → length (sealed_by f e) ≤ 33554432 → AreNew f.submissions (sealed_by f e)
+pub event_new : (f : ControlPlane) (e : Event) → FrontStands f → length f.submissions ≤ 33554432 → length (sealed_by f e) ≤ 33554432 → AreNew f.submissions (sealed_by f e)
 unfolding requests_of requests_in
 event_new f (Submit ask object ops) h few room = submit_new f ask object ops h few room
 event_new f (ListNames ask) h few room = list_new f ask h few room

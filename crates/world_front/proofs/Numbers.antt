@@ -7,7 +7,7 @@ use Rattle.store_core.specs.Request.{Sealed}
 use Rattle.group_model_whole.specs.Each.{Each}
 use Rattle.group_model_whole.specs.Group.{submitted}
 use Rattle.group_model_whole.specs.Asked.{IsAsked}
-use Rattle.world_front.specs.Front.{Session, session_of, if_open, session_at, if_ok}
+use Rattle.world_front.specs.ControlPlane.{Session, session_of, if_open, session_at, if_ok}
 use Rattle.world_front.specs.Event.{Fault, NoSession}
 pub use Rattle.world_front.specs.Stands.{next_in, next_at, IsGiven}
 

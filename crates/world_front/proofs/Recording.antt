@@ -11,7 +11,7 @@ use Rattle.group_model_whole.specs.Each.{Each}
 use Rattle.group_model_whole.specs.Group.{submitted}
 use Rattle.group_model_whole.specs.Asked.{IsAsked}
 use Rattle.world_front.specs.Event.{Ask, Fault, OutOfMemory, Submit, ListNames, BadObjectName, OfNeeds}
-use Rattle.world_front.specs.Front.{error_of, ◌>>=◌, refuse_if, Front, Session, Pieced, Asker, asker_of, is_object_name, is_namespace, lower, vector_of, pieces_of, sealed_of, requests_of, requests_in, sealed_by, session_of, session_at, asks_more, asked, if_ok, listed, front_step}
+use Rattle.world_front.specs.ControlPlane.{error_of, ◌>>=◌, refuse_if, ControlPlane, Session, ListRange, Asker, asker_of, is_object_name, is_namespace, lower, vector_of, pieces_of, sealed_of, requests_of, requests_in, sealed_by, session_of, session_at, asks_more, asked, if_ok, listed, front_step}
 use Rattle.world_front.specs.Stands.{next_at, IsGiven, IsKept}
 use Rattle.world_events.specs.Submitting.{AreNew}
 use Rattle.world_front.proofs.Numbers.{next_in as next_of_found, open_is, NumberedFrom}
@@ -75,32 +75,32 @@ free_each rs (s ∷ ss) session number free room numbered = (
 )
 
 -- an open session's next number is no more than the requests and one
-pub next_few : (f : Front) (n : ℕ) (s : Session) → IsKept f → session_of f.sessions n ≡ Ok s → s.next ≤ 67108929
+pub next_few : (f : ControlPlane) (n : ℕ) (s : Session) → IsKept f → session_of f.sessions n ≡ Ok s → s.next ≤ 67108929
 next_few f n s h is =
     let a : next_at f.sessions n ≤ length f.submissions + 1 = h.stands.most n in
     let b : length f.submissions ≤ 67108928 = h.few in
     let c : next_at f.sessions n ≡ s.next = ap next_of_found (open_is f.sessions n s is) in
     omega arith
 
-pub free_in : (f : Front) (n : ℕ) (s : Session) → IsKept f → session_of f.sessions n ≡ Ok s → Free f.submissions n s.next
+pub free_in : (f : ControlPlane) (n : ℕ) (s : Session) → IsKept f → session_of f.sessions n ≡ Ok s → Free f.submissions n s.next
 free_in f n s h is =
     let next : next_at f.sessions n ≡ s.next = ap next_of_found (open_is f.sessions n s is) in
     let b : length f.submissions ≤ 67108928 = h.few in
     free_of_given f.sessions n s.next (omega arith) (λ k. let a : next_at f.sessions k ≤ length f.submissions + 1 = h.stands.most k in omega arith) f.submissions h.stands.given
 
-pub requests_new : (f : Front) (ask : Ask) (rs : List Sealed) → IsKept f → Requested f ask rs → length rs ≤ 64 → AreNew f.submissions rs
+pub requests_new : (f : ControlPlane) (ask : Ask) (rs : List Sealed) → IsKept f → Requested f ask rs → length rs ≤ 64 → AreNew f.submissions rs
 requests_new f ask rs h q few =
     let next : q.session.next ≤ 67108929 = next_few f ask.session q.session h q.open_one in
     free_new f.submissions rs ask.session q.session.next (free_in f ask.session q.session h q.open_one) (omega arith) q.numbered
 
-pub requests_fresh : (f : Front) (ask : Ask) (rs : List Sealed) → IsKept f → Requested f ask rs → length rs ≤ 64 → Each (λ r. submitted f.submissions r.id ≡ None) rs
+pub requests_fresh : (f : ControlPlane) (ask : Ask) (rs : List Sealed) → IsKept f → Requested f ask rs → length rs ≤ 64 → Each (λ r. submitted f.submissions r.id ≡ None) rs
 requests_fresh f ask rs h q few =
     let next : q.session.next ≤ 67108929 = next_few f ask.session q.session h q.open_one in
     free_each f.submissions rs ask.session q.session.next (free_in f ask.session q.session h q.open_one) (omega arith) q.numbered
 
 -- ---- what is asked for
 
-pub vector_asked : (f : Front) (ask : Ask) (asker : Asker) (object : List ℕ) (ops : List Op) (request : Sealed) → asker_of f ask ≡ Ok asker → (is_object_name object && is_namespace ask.namespace) ≡ true
+pub vector_asked : (f : ControlPlane) (ask : Ask) (asker : Asker) (object : List ℕ) (ops : List Op) (request : Sealed) → asker_of f ask ≡ Ok asker → (is_object_name object && is_namespace ask.namespace) ≡ true
     → option_map OfNeeds (needs_fault ops) ≡ None → request ≡ vector_of ask asker object ops → requests_of f (Submit ask object ops) ≡ Ok (request ∷ [])
 unfolding requests_of requests_in
 vector_asked f ask asker object ops request who names needs is =
@@ -119,7 +119,7 @@ vector_asked f ask asker object ops request who names needs is =
     go (Some fault) e = absurd (cc)
 
 -- a vector is refused as its operations are, where who asks and its names are good
-pub vector_refused : (f : Front) (ask : Ask) (asker : Asker) (object : List ℕ) (ops : List Op) (fault : Fault) → asker_of f ask ≡ Ok asker → (is_object_name object && is_namespace ask.namespace) ≡ true
+pub vector_refused : (f : ControlPlane) (ask : Ask) (asker : Asker) (object : List ℕ) (ops : List Op) (fault : Fault) → asker_of f ask ≡ Ok asker → (is_object_name object && is_namespace ask.namespace) ≡ true
     → (fault ≡ OutOfMemory) ⊎ (option_map OfNeeds (needs_fault ops) ≡ Some fault) → (fault ≡ OutOfMemory) ⊎ (error_of (requests_of f (Submit ask object ops)) ≡ Some fault)
 unfolding requests_of requests_in
 vector_refused f ask asker object ops fault who names (inl memory) = inl memory
@@ -137,7 +137,7 @@ vector_refused f ask asker object ops fault who names (inr refused) = inr (
     go None e = absurd (cc)
     go (Some needs) e = e
 
-pub list_asked : (f : Front) (ask : Ask) (asker : Asker) (requests : List Sealed) → asker_of f ask ≡ Ok asker → is_namespace ask.namespace ≡ true → requests ≡ pieces_of ask asker
+pub list_asked : (f : ControlPlane) (ask : Ask) (asker : Asker) (requests : List Sealed) → asker_of f ask ≡ Ok asker → is_namespace ask.namespace ≡ true → requests ≡ pieces_of ask asker
     → requests_of f (ListNames ask) ≡ Ok requests
 unfolding requests_of requests_in
 list_asked f ask asker requests who names is =
@@ -161,25 +161,25 @@ some_later (r ∷ rs) more id h = go (r.id == id) h (some_later rs more id)
     go true e rest = refl
     go false e rest = rest e
 
-begun_later : (rs more : List Sealed) (ls : List Pieced) → Each (λ p. is_some (submitted rs p.first) ≡ true) ls → Each (λ p. is_some (submitted (rs ++ more) p.first) ≡ true) ls
+begun_later : (rs more : List Sealed) (ls : List ListRange) → Each (λ p. is_some (submitted rs p.first) ≡ true) ls → Each (λ p. is_some (submitted (rs ++ more) p.first) ≡ true) ls
 begun_later rs more [] h = tt
 begun_later rs more (p ∷ ps) h = (some_later rs more p.first h.0, begun_later rs more ps h.1)
 
-begun_push : (rs : List Sealed) (ls : List Pieced) (new : List Sealed) → Each (λ p. is_some (submitted rs p.first) ≡ true) ls → Each (IsAsked rs) new → Each (λ p. is_some (submitted rs p.first) ≡ true) (ls ++ listed new)
+begun_push : (rs : List Sealed) (ls : List ListRange) (new : List Sealed) → Each (λ p. is_some (submitted rs p.first) ≡ true) ls → Each (IsAsked rs) new → Each (λ p. is_some (submitted rs p.first) ≡ true) (ls ++ listed new)
 begun_push rs [] [] h asked = tt
 begun_push rs [] (s ∷ ss) h asked = (ap is_some asked.0, tt)
 begun_push rs (p ∷ ps) new h asked = (h.0, begun_push rs ps new h.1 asked)
 
 -- a request that is new begins no list
-pub no_list : (rs : List Sealed) (ls : List Pieced) (id : ℕ) → Each (λ p. is_some (submitted rs p.first) ≡ true) ls → submitted rs id ≡ None → find (λ (p : Pieced). p.first == id) ls ≡ None
+pub no_list : (rs : List Sealed) (ls : List ListRange) (id : ℕ) → Each (λ p. is_some (submitted rs p.first) ≡ true) ls → submitted rs id ≡ None → find (λ (p : ListRange). p.first == id) ls ≡ None
 no_list rs [] id h none = refl
 no_list rs (p ∷ ps) id h none = go (p.first == id) refl (no_list rs ps id h.1 none)
   where
-    go : (b : Bool) → (p.first == id) ≡ b → find (λ (q : Pieced). q.first == id) ps ≡ None → cond b (Some p) (find (λ (q : Pieced). q.first == id) ps) ≡ None
+    go : (b : Bool) → (p.first == id) ≡ b → find (λ (q : ListRange). q.first == id) ps ≡ None → cond b (Some p) (find (λ (q : ListRange). q.first == id) ps) ≡ None
     go true e rest = let k : is_some (submitted rs id) ≡ true = subst (λ i. is_some (submitted rs i) ≡ true) (eqb-true p.first id e) h.0 in let l : is_some (submitted rs id) ≡ false = ap is_some none in absurd (cc)
     go false e rest = rest
 
-pub vector_kept : (f : Front) (ask : Ask) (object : List ℕ) (ops : List Op) (request : Sealed) (g : Front) → IsKept f → requests_of f (Submit ask object ops) ≡ Ok (request ∷ []) → length f.submissions < 67108864
+pub vector_kept : (f : ControlPlane) (ask : Ask) (object : List ℕ) (ops : List Op) (request : Sealed) (g : ControlPlane) → IsKept f → requests_of f (Submit ask object ops) ≡ Ok (request ∷ []) → length f.submissions < 67108864
     → g ≡ front_step f (Submit ask object ops) → IsKept g
 vector_kept f ask object ops request g h is few step =
     let new : sealed_by f (Submit ask object ops) ≡ request ∷ [] = ap (λ q. if_ok q [] (λ rs. rs)) is in
@@ -191,7 +191,7 @@ vector_kept f ask object ops request g h is few step =
       begun = begun_later f.submissions (sealed_by f (Submit ask object ops)) f.lists h.begun;
     })
 
-pub list_kept : (f : Front) (ask : Ask) (requests : List Sealed) (g : Front) → IsKept f → requests_of f (ListNames ask) ≡ Ok requests → length requests ≤ 64 → length f.submissions < 67108864
+pub list_kept : (f : ControlPlane) (ask : Ask) (requests : List Sealed) (g : ControlPlane) → IsKept f → requests_of f (ListNames ask) ≡ Ok requests → length requests ≤ 64 → length f.submissions < 67108864
     → g ≡ front_step f (ListNames ask) → IsKept g
 list_kept f ask requests g h is size few step =
     let new : sealed_by f (ListNames ask) ≡ requests = ap (λ q. if_ok q [] (λ rs. rs)) is in
@@ -203,14 +203,14 @@ list_kept f ask requests g h is size few step =
       begun = begun_push (f.submissions ++ sealed_by f (ListNames ask)) f.lists (sealed_by f (ListNames ask)) (begun_later f.submissions (sealed_by f (ListNames ask)) f.lists h.begun) after.1;
     })
 
-pub vector_step : (f : Front) (ask : Ask) (object : List ℕ) (ops : List Op) (request : Sealed) (ss : List Session) (rs : List Sealed) → requests_of f (Submit ask object ops) ≡ Ok (request ∷ [])
+pub vector_step : (f : ControlPlane) (ask : Ask) (object : List ℕ) (ops : List Op) (request : Sealed) (ss : List Session) (rs : List Sealed) → requests_of f (Submit ask object ops) ≡ Ok (request ∷ [])
     → ss ≡ session_at f.sessions ask.session (asks_more ask 1) → rs ≡ f.submissions ++ request ∷ [] → record f { sessions = ss; submissions = rs } ≡ front_step f (Submit ask object ops)
 vector_step f ask object ops request ss rs is sessions submissions =
     let s : ss ≡ asked f.sessions ask (requests_of f (Submit ask object ops)) = sessions ∙ sym (ap (asked f.sessions ask) is) in
     let r : rs ≡ f.submissions ++ sealed_by f (Submit ask object ops) = submissions ∙ sym (ap (λ q. f.submissions ++ if_ok q [] (λ l. l)) is) in
     λ i. record f { sessions = s i; submissions = r i }
 
-pub list_step : (f : Front) (ask : Ask) (requests : List Sealed) (ss : List Session) (rs : List Sealed) (ls : List Pieced) → requests_of f (ListNames ask) ≡ Ok requests
+pub list_step : (f : ControlPlane) (ask : Ask) (requests : List Sealed) (ss : List Session) (rs : List Sealed) (ls : List ListRange) → requests_of f (ListNames ask) ≡ Ok requests
     → ss ≡ session_at f.sessions ask.session (asks_more ask (length requests)) → rs ≡ f.submissions ++ requests → ls ≡ f.lists ++ listed requests
     → record f { sessions = ss; submissions = rs; lists = ls } ≡ front_step f (ListNames ask)
 list_step f ask requests ss rs ls is sessions submissions lists =
@@ -219,7 +219,7 @@ list_step f ask requests ss rs ls is sessions submissions lists =
     let l : ls ≡ f.lists ++ listed (sealed_by f (ListNames ask)) = lists ∙ sym (ap (λ q. f.lists ++ listed (if_ok q [] (λ l. l))) is) in
     λ i. record f { sessions = s i; submissions = r i; lists = l i }
 
--- the first of requests that there are
+-- where a nonempty list has new requests only, its first request is new
 pub first_fresh : (old rs : List Sealed) (x : Sealed) → Each (λ r. submitted old r.id ≡ None) rs → 1 ≤ length rs → x ≡ get_or rs 0 x → submitted old x.id ≡ None
 first_fresh old [] x h some is = absurd (omega arith)
 first_fresh old (r ∷ rs) x h some is = subst (λ (s : Sealed). submitted old s.id ≡ None) (sym is) h.0

@@ -17,7 +17,7 @@ use Rattle.map_core.specs.declared.fault.MapFault.{MapFault}
 use Rattle.map_core.specs.declared.fault.MapFault.TheVariants as map_fault
 use Rattle.world_front.specs.Event.{Made, There, Fault, OutOfMemory, OfUsers, OfMap}
 use Rattle.world_events.specs.Faults.{users_fault, fault_of_map}
-use Rattle.world_front.specs.Front.{told_creation, ticket_with, ticket_for}
+use Rattle.world_front.specs.ControlPlane.{told_creation, ticket_with, ticket_for}
 use Rattle.world_front.specs.Refusing.{RefusedOrMemory}
 use Rattle.world_front.proofs.Tickets.{tickets_are_read}
 
@@ -79,7 +79,7 @@ pub same_exit : {T : Type 0} (r : Result T Fault) (refusal : Option Fault) (faul
 same_exit (Ok x) refusal fault is why = absurd is
 same_exit (Err seen) refusal fault is why = subst (λ f. (f ≡ OutOfMemory) ⊎ (refusal ≡ Some f)) (sym is) why
 
--- an earlier refusal, or want of memory
+-- the fault is the refusal that comes first, or out of memory
 pub first_or_memory : {X : Type 0} (refusal : Option X) (memory fault : X) → fault ≡ unwrap_or refusal memory → (fault ≡ memory) ⊎ (refusal ≡ Some fault)
 first_or_memory None memory fault is = inl is
 first_or_memory (Some x) memory fault is = inr (ap (λ v. Some v) (sym is))

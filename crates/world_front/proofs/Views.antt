@@ -18,7 +18,7 @@ use Rattle.map_core.proofs.Acceptance.{all_fail, not_false}
 use Rattle.map_core.proofs.Kept.{views_are_of_pools}
 use Rattle.group_model_whole.specs.Each.{Each}
 use Rattle.world_front.specs.Event.{NoPool, OutOfMemory}
-use Rattle.world_front.specs.Front.{need, error_of}
+use Rattle.world_front.specs.ControlPlane.{need, error_of}
 use Rattle.world_front.specs.Refusing.{fault_of_view}
 use Rattle.world_front.proofs.Refused.{first_or_memory}
 

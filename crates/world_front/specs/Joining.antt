@@ -1,5 +1,5 @@
 -- Statement: contracts of public calls use it.
--- What the answers of a list's pieces come to, one after another.
+-- How the answers of a list's pieces are joined, one after another.
 use Rattle.std.specs.Prelude.{ℕ, List, [], None, Some, if◌then◌else◌, fold, unwrap_or}
 use Rattle.std.specs.List.{flat_map, find}
 use Rattle.std.specs.Option.{option_or}

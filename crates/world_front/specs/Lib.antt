@@ -3,7 +3,7 @@ pub mod Merging
 pub mod Tickets
 pub mod Event
 pub mod Sealing
-pub mod Front
+pub mod ControlPlane
 pub mod Refusing
 pub mod Asking
 pub mod Stands

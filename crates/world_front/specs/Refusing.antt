@@ -5,7 +5,7 @@ use Rattle.map_core.specs.declared.fault.MapFault.{MapFault}
 use Rattle.map_core.specs.declared.fault.MapFault.TheVariants as map_fault
 use Rattle.world_front.specs.Event.{Fault, NoPool, OutOfMemory}
 
--- accepted only where nothing refuses it, and refused by what does, or for want of memory
+-- accepted only where there is no refusal; a fault is that refusal, or out of memory
 abbrev pub RefusedOrMemory : {T : Type 0} → Option Fault → Result T Fault → Type 0
 RefusedOrMemory refusal (Ok x) = refusal ≡ None
 RefusedOrMemory refusal (Err fault) = (fault ≡ OutOfMemory) ⊎ (refusal ≡ Some fault)

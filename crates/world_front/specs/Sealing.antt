@@ -20,7 +20,7 @@ abbrev pub ◌>>=◌ : {A B E : Type 0} → Result A E → (A → Result B E) �
 Ok x >>= f = f x
 Err e >>= f = Err e
 
--- the value, or this fault where there is none
+-- the value of an option, or this fault where it is empty
 abbrev pub need : {A : Type 0} → Option A → Fault → Result A Fault
 need None fault = Err fault
 need (Some x) fault = Ok x
@@ -105,7 +105,7 @@ vector_of ask asker object ops = sealed_of ask asker (Vector object ops) (group_
 abbrev pub pieces_of : Ask → Asker → List Sealed
 pieces_of ask asker = map (λ n. sealed_of ask asker Listing n n) (range_with_len 0 asker.view.pg_num)
 
--- the requests of an event, or why there are none
+-- the requests of an event, or the fault that refuses it
 unfoldable pub requests_in : List Session → History → Event → Result (List Sealed) Fault
 requests_in sessions history (Submit ask object ops) =
     asker_in sessions history ask >>= λ asker.

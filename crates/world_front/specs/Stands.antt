@@ -8,7 +8,7 @@ use Rattle.entry_core.specs.Locality.{Hashes}
 use Rattle.group_model_whole.specs.Each.{Each}
 use Rattle.group_model_whole.specs.Group.{submitted}
 use Rattle.group_model_whole.specs.Asked.{IsAsked}
-use Rattle.world_front.specs.Front.{Session, Front, id_of}
+use Rattle.world_front.specs.ControlPlane.{Session, ControlPlane, id_of}
 
 -- ---- numbers
 
@@ -29,7 +29,7 @@ pub record IsGiven (sessions : List Session) (id : ℕ) : Type 0 where
 
 -- ---- pools
 
--- the map of a history has the pool, with so many groups
+-- the map of a history has the pool, with this number of groups
 pub record InMap (history : History) (name : List ℕ) (groups : ℕ) : Type 0 where
   pub size : ℕ
   pub min_size : ℕ
@@ -42,14 +42,14 @@ pub record IsSealedWell (history : History) (s : Sealed) : Type 0 where
 
 -- ---- fronts
 
-pub record FrontStands (f : Front) : Type 0 where
+pub record FrontStands (f : ControlPlane) : Type 0 where
   pub given : Each (λ r. IsGiven f.sessions r.id) f.submissions
   pub most : (n : ℕ) → next_at f.sessions n ≤ length f.submissions + 1
   pub asked : Each (IsAsked f.submissions) f.submissions
   pub sealed : Each (IsSealedWell f.history) f.submissions
 
 -- what a front in code keeps besides: at most 2 ^ 26 requests and the 64 of one list more, so that each number fits, and each list begins with a request
-pub record IsKept (f : Front) : Type 0 where
+pub record IsKept (f : ControlPlane) : Type 0 where
   pub stands : FrontStands f
   pub few : length f.submissions ≤ 67108928
   pub begun : Each (λ p. is_some (submitted f.submissions p.first) ≡ true) f.lists

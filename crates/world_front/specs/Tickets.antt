@@ -1,5 +1,5 @@
 -- Statement: contracts of public calls use it.
--- What a user's osd text comes to, as a function.
+-- What a user's osd text expands to, as a function.
 use Rattle.std.specs.Prelude.{◌≡◌, ℕ, List, [], Option, Some, None, Ok, Err}
 use Rattle.cap_text.specs.ReadText.{Read, read_text}
 use Rattle.cap_grants.specs.declared.grant.Grant.{Grant}

@@ -6,8 +6,8 @@ ghost use Rattle.map_core.specs.PoolLimits.{HasLimits};
 ghost use Rattle.map_core.specs.Limits.{IsAccepted};
 ghost use Rattle.map_core.specs.Map.{epoch_of, view_at};
 ghost use Rattle.world_front.specs.Event.{NoPool};
-ghost use Rattle.world_front.specs.Front.{error_of, need};
-ghost use Rattle.world_front.specs.Front as spec;
+ghost use Rattle.world_front.specs.ControlPlane.{error_of, need};
+ghost use Rattle.world_front.specs.ControlPlane as spec;
 ghost use Rattle.world_front.specs.Refusing.{RefusedOrMemory};
 ghost use Rattle.world_front.specs.Refusing as refusing;
 
@@ -24,10 +24,10 @@ pub(crate) struct Asker<'a> {
 }
 
 /// The most bytes of an object's name.
-const LONGEST_OBJECT: usize = 255;
+const MAX_OBJECT_LENGTH: usize = 255;
 
 /// The most bytes of a namespace.
-const LONGEST_NAMESPACE: usize = 64;
+const MAX_NAMESPACE_LENGTH: usize = 64;
 
 // Whether these are all bytes 33 to 126.
 fn are_printable(bytes: &[u8]) -> bool
@@ -41,7 +41,7 @@ pub(crate) fn is_object_name(name: &Name) -> bool
     ensures { result ≡ spec.is_object_name name.now }
 {
     let bytes = name.as_str().as_bytes();
-    bytes.len() >= 1 && bytes.len() <= LONGEST_OBJECT && are_printable(bytes)
+    bytes.len() >= 1 && bytes.len() <= MAX_OBJECT_LENGTH && are_printable(bytes)
 }
 
 /// Whether it is a namespace: at most 64 bytes of 33 to 126.
@@ -49,7 +49,7 @@ pub fn is_namespace(name: &Name) -> bool
     ensures { result ≡ spec.is_namespace name.now }
 {
     let bytes = name.as_str().as_bytes();
-    bytes.len() <= LONGEST_NAMESPACE && are_printable(bytes)
+    bytes.len() <= MAX_NAMESPACE_LENGTH && are_printable(bytes)
 }
 
 /// Whether an object's name and its namespace are what they may be.
@@ -73,7 +73,7 @@ pub(crate) fn view_for(map: &ClusterMap, pool: &Name, epoch: Epoch) -> Result<Po
     }
 }
 
-// Why there is no view: W2, but for want of memory.
+// Why there is no view: out of memory, or W2 for every other fault.
 fn fault_of_view(fault: MapFault) -> WorldFault
     ensures { result ≡ refusing.fault_of_view fault }
 {

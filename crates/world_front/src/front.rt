@@ -1,4 +1,4 @@
-//! Users, map, sessions, submissions and lists: what no group, message or copy has a part in.
+//! Users, map, sessions, submissions and lists: the part of a world without groups, messages and copies.
 
 ghost use Rattle.std.specs.Prelude.{◌≡◌, ◌≤◌, ◌<◌, ℕ, List, [], ◌∷◌, None, Ok, OnOk, OnErr, IfOk, length, option_copied};
 ghost use Rattle.object_core.specs.declared.op.Op as op;
@@ -6,7 +6,7 @@ ghost use Rattle.group_model_whole.specs.Each.{Each};
 ghost use Rattle.group_model_whole.specs.Group.{submitted};
 ghost use Rattle.world_front.specs.Event.{Auth, Map, Open, Renew, Close, Submit, ListNames};
 ghost use Rattle.map_core.specs.PoolLimits.{HasLimits};
-ghost use Rattle.world_front.specs.Front.{asker_of, error_of, first_front, front_refusal, front_step, requests_of, told_of, list_at};
+ghost use Rattle.world_front.specs.ControlPlane.{asker_of, error_of, first_front, front_refusal, front_step, requests_of, told_of, list_at};
 ghost use Rattle.world_front.specs.Asking.{IsOfList, IsOfVector};
 ghost use Rattle.world_front.specs.Refusing.{RefusedOrMemory};
 ghost use Rattle.world_front.specs.Stands.{IsKept};
@@ -14,7 +14,7 @@ ghost use Rattle.world_front.specs.Stands.{IsKept};
 use crate::asking::{Asker, are_names, is_namespace, view_for};
 use crate::lists::Lists;
 use crate::sealing::{seal_pieces, seal_vector};
-use crate::session::{Pieced, Session, Sessions};
+use crate::session::{ListRange, Session, Sessions};
 use crate::users::{change_users, check_user, ticket_for};
 use auth_db::AuthDb;
 use common_types::{Items, Name, OutOfMemory};
@@ -26,10 +26,10 @@ use std::marker::Model;
 use world_events::{Ask, AuthCommand, Ops, Submissions, Told, WorldFault};
 
 /// The most sessions that there may be, closed ones counted (W6).
-pub const MOST_SESSIONS: u32 = 1024;
+pub const MAX_SESSIONS: u32 = 1024;
 
 /// Users, map, sessions, submissions and lists. Contracts see it as the definitions' front.
-pub struct Front {
+pub struct ControlPlane {
     alloc: Global,
     users: AuthDb,
     map: ClusterMap,
@@ -38,9 +38,9 @@ pub struct Front {
     lists: Lists,
 }
 
-impl Drop for Front {
+impl Drop for ControlPlane {
     fn drop(self) {
-        let Front {
+        let ControlPlane {
             alloc: _,
             users: _,
             map: _,
@@ -51,20 +51,20 @@ impl Drop for Front {
     }
 }
 
-impl Model for Front {
-    ghost use Rattle.world_front.specs.Front as definition;
+impl Model for ControlPlane {
+    ghost use Rattle.world_front.specs.ControlPlane as definition;
     ghost use Rattle.world_front.specs.Stands.{IsKept};
 
-    ghost Value = { definition.Front };
+    ghost Value = { definition.ControlPlane };
 
     ghost view = { λ a. record { database = a.users; history = a.map; sessions = a.sessions; submissions = a.submissions; lists = a.lists } };
 
     ghost invariant = { λ a. IsKept (record { database = a.users; history = a.map; sessions = a.sessions; submissions = a.submissions; lists = a.lists }) };
 }
 
-impl Front {
+impl ControlPlane {
     /// No users, no pools, no sessions. All daemons, 1 to 16, are up. It takes no memory.
-    pub fn new(alloc: Global, table: ProfileTable, daemons: u8) -> Front
+    pub fn new(alloc: Global, table: ProfileTable, daemons: u8) -> ControlPlane
         requires some { 1 ≤ daemons }
         requires few { daemons ≤ 16 }
         ensures { result ≡ first_front table daemons }
@@ -73,7 +73,7 @@ impl Front {
             Ok(map) => map,
             Err(_) => unreachable!(),
         };
-        Front {
+        ControlPlane {
             alloc,
             users: AuthDb::new(alloc, table),
             map,
@@ -90,11 +90,11 @@ impl Front {
         map: ClusterMap,
         sessions: Vec<Session>,
         submissions: Submissions,
-    ) -> Front
+    ) -> ControlPlane
         requires { IsKept (record { database = users; history = map; sessions = sessions.items; submissions = submissions; lists = [] }) }
         ensures { result ≡ record { database = users; history = map; sessions = sessions.items; submissions = submissions; lists = [] } }
     {
-        Front {
+        ControlPlane {
             alloc,
             users,
             map,
@@ -108,7 +108,7 @@ impl Front {
     pub fn into_parts(self) -> (AuthDb, ClusterMap, Vec<Session>)
         ensures { (result.0 ≡ self.database) × (result.1 ≡ self.history) × (result.2.items ≡ self.sessions) }
     {
-        let Front {
+        let ControlPlane {
             alloc: _,
             users,
             map,
@@ -163,7 +163,7 @@ impl Front {
         ensures unchanged { OnErr result (self.new ≡ self.old) }
     {
         check_user(&self.users, &entity)?;
-        if self.sessions.len() >= MOST_SESSIONS as usize {
+        if self.sessions.len() >= MAX_SESSIONS as usize {
             return Err(WorldFault::Limit);
         }
         let number = self.sessions.len() as u32 + 1;
@@ -213,10 +213,10 @@ impl Front {
         Ok(Asker { session, view })
     }
 
-    /// A vector on an object, sealed with the session's ticket and the pool as the asker saw it. Nothing is submitted yet.
+    /// Seals a vector on an object with the session's ticket and the pool as the asker saw it. It submits nothing.
     ///
-    /// It is refused by the first of these that holds: W1, W4, W9, W2, W3, N1 to N3; want of memory may come before any.
-    #[tactic(auto, unfolding(crate::specs::Front::requests_of, crate::specs::Sealing::requests_in))]
+    /// It is refused by the first of these that holds: W1, W4, W9, W2, W3, N1 to N3. Out of memory may come before any.
+    #[tactic(auto, unfolding(crate::specs::ControlPlane::requests_of, crate::specs::Sealing::requests_in))]
     pub fn vector(&self, ask: &Ask, object: Name, ops: Ops) -> Result<Sealed, WorldFault>
         ensures sealed { IfOk result (λ request. requests_of self.now (Submit ask.now object ops) ≡ Ok (request ∷ [])) }
         ensures fresh { IfOk result (λ request. submitted self.now.submissions request.id ≡ None) }
@@ -231,10 +231,10 @@ impl Front {
         Ok(request)
     }
 
-    /// The pieces of a list of names, one for each group of the pool, sealed as a vector is. Nothing is submitted yet.
+    /// Seals the pieces of a list of names, one for each group of the pool, as a vector is sealed. It submits nothing.
     ///
-    /// It is refused by the first of these that holds: W1, W4, W9, W2, W3; want of memory may come before any.
-    #[tactic(auto, unfolding(crate::specs::Front::requests_of, crate::specs::Sealing::requests_in))]
+    /// It is refused by the first of these that holds: W1, W4, W9, W2, W3. Out of memory may come before any.
+    #[tactic(auto, unfolding(crate::specs::ControlPlane::requests_of, crate::specs::Sealing::requests_in))]
     pub fn pieces(&self, ask: &Ask) -> Result<Items<Sealed>, WorldFault>
         ensures asked { IfOk result (IsOfList self.now ask.now) }
         ensures sealed { IfOk result (λ requests. requests_of self.now (ListNames ask.now) ≡ Ok requests) }
@@ -249,8 +249,10 @@ impl Front {
         Ok(requests)
     }
 
-    /// Submits the request of a vector, where there are fewer than 2^26. Where memory is wanting, nothing changes.
-    #[tactic(auto, unfolding(crate::specs::Front::requests_of, crate::specs::Sealing::requests_in))]
+    /// Submits the request of a vector. It requires fewer than 2^26 submitted requests.
+    ///
+    /// Where an allocation fails, nothing changes.
+    #[tactic(auto, unfolding(crate::specs::ControlPlane::requests_of, crate::specs::Sealing::requests_in))]
     pub fn record_vector(&mut self, ask: &Ask, request: Sealed) -> Result<Told, OutOfMemory>
         requires asked { IsOfVector self.old ask.now request }
         requires few { length self.old.submissions < 67108864 }
@@ -266,8 +268,10 @@ impl Front {
         Ok(Told::Request(id))
     }
 
-    /// Submits the pieces of a list, all or none, where there are fewer than 2^26 requests. Where memory is wanting, nothing changes.
-    #[tactic(auto, unfolding(crate::specs::Front::requests_of, crate::specs::Sealing::requests_in))]
+    /// Submits the pieces of a list, all or none. It requires fewer than 2^26 submitted requests.
+    ///
+    /// Where an allocation fails, nothing changes.
+    #[tactic(auto, unfolding(crate::specs::ControlPlane::requests_of, crate::specs::Sealing::requests_in))]
     pub fn record_pieces(&mut self, ask: &Ask, requests: Items<Sealed>) -> Result<Told, OutOfMemory>
         requires asked { IsOfList self.old ask.now requests }
         requires few { length self.old.submissions < 67108864 }
@@ -277,7 +281,7 @@ impl Front {
     {
         let first = requests.as_slice()[0].id();
         let count = requests.len() as u32;
-        self.lists.push(Pieced { first, count })?;
+        self.lists.push(ListRange { first, count })?;
         if let Err(error) = self.submissions.append(requests.as_slice()) {
             self.lists.pop();
             return Err(error);
@@ -294,7 +298,7 @@ impl Front {
     }
 
     /// The list that begins with a request, if one does. It is found by hash, and takes no memory.
-    pub fn list_at(&self, first: Id) -> Option<Pieced>
+    pub fn list_at(&self, first: Id) -> Option<ListRange>
         ensures { result ≡ list_at self.now first }
     {
         self.lists.get(first)

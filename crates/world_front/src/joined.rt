@@ -4,11 +4,11 @@ ghost use Rattle.std.specs.Prelude.{◌≡◌, [], None, IfOk, OnOk};
 ghost use Rattle.world_front.specs.Joining.{reply_of, with_reply};
 
 use crate::name_set::NameSet;
-use common_types::{OutOfMemory, TryCopy};
+use common_types::{OutOfMemory, TryClone};
 use entry_core::Reply;
 use std::alloc::Global;
 
-/// What the answers of some pieces come to: the first denial, and all names.
+/// The joined answers of some pieces: the first denial, and all names.
 pub struct Joined {
     denial: Option<Reply>,
     names: NameSet,
@@ -24,7 +24,7 @@ impl Drop for Joined {
 }
 
 impl Joined {
-    /// What no answers come to. It takes no memory.
+    /// The join of no answers. It allocates nothing.
     pub fn new(alloc: Global) -> Joined
         ensures { result ≡ record { denial = None; names = [] } }
     {

@@ -3,7 +3,7 @@
 ghost use Rattle.std.specs.Prelude.{◌≡◌, ◌++◌, ◌-◌, ◌==◌, [], ◌∷◌, None, OnOk, OnErr, length, take};
 ghost use Rattle.std.specs.List.{find};
 
-use crate::session::Pieced;
+use crate::session::ListRange;
 use common_types::OutOfMemory;
 use entry_core::{Id, IdHash};
 use indexmap::IndexMap;
@@ -18,10 +18,10 @@ pub(crate) struct Lists {
 
 impl Model for Lists {
     ghost use Rattle.std.specs.Prelude.{List};
-    ghost use Rattle.world_front.specs.Front as front;
+    ghost use Rattle.world_front.specs.ControlPlane as front;
     ghost use Rattle.world_front.specs.Lists.{lists_in};
 
-    ghost Value = { List front.Pieced };
+    ghost Value = { List front.ListRange };
 
     ghost view = { λ a. lists_in a.counts.entries };
 }
@@ -37,12 +37,12 @@ impl Lists {
     }
 
     /// The list that begins with a request, if one does.
-    pub fn get(&self, first: Id) -> Option<Pieced>
+    pub fn get(&self, first: Id) -> Option<ListRange>
         ensures { result ≡ find (λ p. p.first == first) self.now }
     {
         match self.counts.get(&first) {
             None => None,
-            Some(count) => Some(Pieced {
+            Some(count) => Some(ListRange {
                 first,
                 count: *count,
             }),
@@ -50,7 +50,7 @@ impl Lists {
     }
 
     /// Adds a list that begins with a request with which none does.
-    pub fn push(&mut self, list: Pieced) -> Result<(), OutOfMemory>
+    pub fn push(&mut self, list: ListRange) -> Result<(), OutOfMemory>
         requires { find (λ p. p.first == list.first) self.old ≡ None }
         ensures ok { OnOk result (self.new ≡ self.old ++ list ∷ []) }
         ensures err { OnErr result (self.new ≡ self.old) }

@@ -6,7 +6,7 @@ ghost use Rattle.object_core.specs.Needs.{needs_fault};
 ghost use Rattle.store_core.specs.Request.{Listing, numbers};
 ghost use Rattle.world_front.specs.Event.{OfNeeds};
 ghost use Rattle.world_front.specs.Refusing.{RefusedOrMemory};
-ghost use Rattle.world_front.specs.Front.{pieces_of, sealed_of, vector_of};
+ghost use Rattle.world_front.specs.ControlPlane.{pieces_of, sealed_of, vector_of};
 
 use crate::asking::Asker;
 use crate::session::Session;
@@ -19,7 +19,7 @@ use world_events::{Ask, Ops, WorldFault};
 
 /// The request of a vector, which shares the session's ticket.
 ///
-/// It is refused as its operations are, by N1 to N3, or for want of memory.
+/// Its faults are those of its operations, N1 to N3, and out of memory.
 pub fn seal_vector(
     alloc: Global,
     ask: &Ask,
@@ -43,8 +43,9 @@ pub fn seal_vector(
     Ok(request)
 }
 
-/// The piece of a list for one group, under the number that is so many after the session's next. It shares the session's ticket, and
-/// its view is a copy.
+/// The piece of a list for one group. Its number is the session's next one plus `offset`.
+///
+/// It shares the session's ticket, and its view is a copy.
 pub fn seal_piece(
     alloc: Global,
     ask: &Ask,

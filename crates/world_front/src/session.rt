@@ -2,8 +2,8 @@
 
 ghost use Rattle.std.specs.Prelude.{◌≡◌, ◌<◌, ◌≤◌, ◌+◌, ◌++◌, ℕ, [], ◌∷◌, Ok, true, OnOk, OnErr, IfOk, length};
 ghost use Rattle.store_core.specs.Request.{numbers};
-ghost use Rattle.world_front.specs.Front.{asks_more, error_of, opened, session_at, session_of};
-ghost use Rattle.world_front.specs.Front as spec;
+ghost use Rattle.world_front.specs.ControlPlane.{asks_more, error_of, opened, session_at, session_of};
+ghost use Rattle.world_front.specs.ControlPlane as spec;
 ghost use Rattle.common_types.specs.Refused.{RefusedExactly};
 
 use common_types::{Name, OutOfMemory};
@@ -43,7 +43,7 @@ impl Drop for Session {
 
 /// The requests of one list: consecutive numbers.
 #[derive(Clone, Copy, Drop)]
-pub struct Pieced {
+pub struct ListRange {
     /// The first of them.
     pub first: Id,
     pub count: u32,
@@ -73,7 +73,7 @@ pub(crate) struct Sessions {
 
 impl Model for Sessions {
     ghost use Rattle.std.specs.Prelude.{List};
-    ghost use Rattle.world_front.specs.Front as front;
+    ghost use Rattle.world_front.specs.ControlPlane as front;
 
     ghost Value = { List front.Session };
 
@@ -164,7 +164,7 @@ impl Sessions {
         Ok(())
     }
 
-    /// The open session of the asker has asked for so many requests more. Without one, nothing changes.
+    /// Records `count` more requests of the asker in its open session. Without one, nothing changes.
     pub fn ask(&mut self, ask: &Ask, count: u32)
         requires room { (s : spec.Session) → session_of self.old ask.now.session ≡ Ok s → s.next + count < numbers }
         ensures { self.new ≡ session_at self.old ask.now.session (asks_more ask.now count) }

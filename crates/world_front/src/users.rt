@@ -6,8 +6,8 @@ ghost use Rattle.auth_db.specs.Refusals.{auth_refusal, known_refusal};
 ghost use Rattle.auth_db.specs.Refusals as refusals;
 ghost use Rattle.auth_db.specs.Users.{after, user_at, GetOrCreate, SetCaps};
 ghost use Rattle.world_front.specs.Event.{OfUsers};
-ghost use Rattle.world_front.specs.Front.{command_of, told_auth, told_creation};
-ghost use Rattle.world_front.specs.Front as spec;
+ghost use Rattle.world_front.specs.ControlPlane.{command_of, told_auth, told_creation};
+ghost use Rattle.world_front.specs.ControlPlane as spec;
 ghost use Rattle.common_types.specs.Refused.{RefusedExactly};
 ghost use Rattle.world_front.specs.Refusing.{RefusedOrMemory};
 
@@ -16,7 +16,9 @@ use common_types::Name;
 use verdict_core::SharedTicket;
 use world_events::{AuthCommand, Told, WorldFault};
 
-/// Carries out a command on the users, and tells what it came to. Where it is refused, or memory is wanting, they stay as they were.
+/// Carries out a command on the users, and reports its result.
+///
+/// Where the command is refused, or an allocation fails, the users stay as they were.
 pub fn change_users(users: &mut AuthDb, command: AuthCommand) -> Result<Told, AuthFault>
     ensures steps { OnOk result (users.new ≡ after users.old (command_of command)) }
     ensures tells { IfOk result (λ told. told ≡ told_auth users.old command) }
@@ -64,7 +66,7 @@ fn set_caps(users: &mut AuthDb, name: &str, caps: Caps) -> Result<Told, AuthFaul
     }
 }
 
-/// Refuses a user that there is not. It takes no memory.
+/// Refuses an unknown user. It allocates nothing.
 pub(crate) fn check_user(users: &AuthDb, entity: &Name) -> Result<(), WorldFault>
     ensures { RefusedExactly (option_map OfUsers (known_refusal users.now.users entity.now)) result }
 {

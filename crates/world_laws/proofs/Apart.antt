@@ -19,7 +19,7 @@ use Rattle.group_model.specs.Group as group
 use Rattle.group_messages.specs.declared.fault.GroupFault.TheVariants as group_fault
 use Rattle.world_events.specs.declared.event.Event.TheVariants.{Map}
 use Rattle.world_front.specs.Groups.{is_same_group, is_for, groups_of}
-use Rattle.world_front.specs.Front.{Front, requests_of, requests_in, front_step}
+use Rattle.world_front.specs.ControlPlane.{ControlPlane, requests_of, requests_in, front_step}
 use Rattle.world_core.specs.World.{World, group_at, members_of, created_by}
 use Rattle.world_core.specs.Moves.{moves_groups, move_of}
 use Rattle.world_events.specs.Submitting.{AreNew}
@@ -72,7 +72,7 @@ TakesTurns a (t ∷ ts) = TakesTurn a t × TakesTurns (alone_step a t) ts
 -- ---- what stands of a group alone
 
 -- a front as far as one group knows it: the map's history, and its own requests
-abbrev pub front_alone : History → List Sealed → Front
+abbrev pub front_alone : History → List Sealed → ControlPlane
 front_alone h rs = record { database = record { table = []; users = [] }; history = h; sessions = []; submissions = rs; lists = [] }
 
 pub record StandsAlone (a : Alone) : Type 0 where
@@ -85,7 +85,7 @@ pub record StandsAlone (a : Alone) : Type 0 where
   pub stands : Stands a.group.requests a.group
 
 -- what is kept of a group is of the history, and of the requests that are for it
-pub kept_by : (f f' : Front) (id : GroupId) (g : Group) → GroupKept f id g → f'.history ≡ f.history → filter (is_for id) f'.submissions ≡ filter (is_for id) f.submissions → GroupKept f' id g
+pub kept_by : (f f' : ControlPlane) (id : GroupId) (g : Group) → GroupKept f id g → f'.history ≡ f.history → filter (is_for id) f'.submissions ≡ filter (is_for id) f.submissions → GroupKept f' id g
 kept_by f f' id g h history submissions =
     let P : History → Type 0 = λ k. GroupKept (record f' { history = k }) id g in
     subst P (sym history) (record {
@@ -171,7 +171,7 @@ unfolding requests_of requests_in
 command_kept a c k t =
     let h : History = a.history in
     let g : Group = a.group in
-    let f : Front = front_alone h g.requests in
+    let f : ControlPlane = front_alone h g.requests in
     let m : IsMap (after (map_of h) c) = record { history = later h c; accepted = t.0; is = after_push h.daemons h.commands c } in
     let now = command_facts h g c k.kept.up t.1 in
     let there : GroupKept (front_step f (Map c)) g.group (moved_alone h g c) = mapped_on f g.group g (moved_alone h g c) c k.kept now (command_within h g c m k.kept.within) in

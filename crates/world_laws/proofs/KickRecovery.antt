@@ -25,7 +25,7 @@ use Rattle.world_events.specs.declared.event.Event.{Event}
 use Rattle.world_events.specs.declared.event.Event.TheVariants.{Deliver, Lose, Repeat, Kick}
 use Rattle.world_events.specs.declared.fault.WorldFault.TheVariants.{Group as OfGroup}
 use Rattle.world_front.specs.Groups.{is_same_group, is_for}
-use Rattle.world_front.specs.Front.{Front, front_step, front_refusal, group_refusal, requests_of, requests_in}
+use Rattle.world_front.specs.ControlPlane.{ControlPlane, front_step, front_refusal, group_refusal, requests_of, requests_in}
 use Rattle.world_core.specs.World.{World, part, group_at, parts_of, created_by, world_step, world_after, accepts, is_accepted, refused_in, parts_refusal}
 use Rattle.world_core.specs.Holds.{events_in, group_step_alone, AcceptedFrom}
 use Rattle.world_core.specs.Answers.{answer_in, answer_to, answer_at}
@@ -49,7 +49,7 @@ shown id (group.Submit s) = Kick id
 shown id (group.NewInterval acting up) = Kick id
 shown id (group.Restart d) = Kick id
 
-pub shown_part : (f : Front) (id : GroupId) (e : group.Event) → IsMessage e → parts_of f (shown id e) ≡ part id e ∷ []
+pub shown_part : (f : ControlPlane) (id : GroupId) (e : group.Event) → IsMessage e → parts_of f (shown id e) ≡ part id e ∷ []
 shown_part f id (group.Deliver k) h = refl
 shown_part f id (group.Lose k) h = refl
 shown_part f id (group.Repeat k) h = refl
@@ -58,10 +58,10 @@ shown_part f id (group.Submit s) h = absurd h
 shown_part f id (group.NewInterval acting up) h = absurd h
 shown_part f id (group.Restart d) h = absurd h
 
-same_front : (f g : Front) → g ≡ record f { submissions = f.submissions ++ [] } → g ≡ f
+same_front : (f g : ControlPlane) → g ≡ record f { submissions = f.submissions ++ [] } → g ≡ f
 same_front f g h = h ∙ ap (λ l. record f { submissions = l }) (append-nil f.submissions)
 
-pub shown_front : (f : Front) (id : GroupId) (e : group.Event) → IsMessage e → front_step f (shown id e) ≡ f
+pub shown_front : (f : ControlPlane) (id : GroupId) (e : group.Event) → IsMessage e → front_step f (shown id e) ≡ f
 unfolding requests_of requests_in
 shown_front f id (group.Deliver k) h = same_front f (front_step f (Deliver id k)) refl
 shown_front f id (group.Lose k) h = same_front f (front_step f (Lose id k)) refl
@@ -79,7 +79,7 @@ shown_step w id e g h there =
     ∙ ap (λ ps. Some (run (events_in id ps) g)) (shown_part w.front id e h)
     ∙ ap (λ b. Some (run (map (λ p. p.event) (cond b (part id e ∷ []) [])) g)) (group_refl id)
 
-shown_new : (f : Front) (id : GroupId) (e : group.Event) → created_by f (shown id e) ≡ []
+shown_new : (f : ControlPlane) (id : GroupId) (e : group.Event) → created_by f (shown id e) ≡ []
 shown_new f id (group.Deliver k) = refl
 shown_new f id (group.Lose k) = refl
 shown_new f id (group.Repeat k) = refl
@@ -108,7 +108,7 @@ or_none : {X : Type 0} (o : Option X) → option_or o None ≡ o
 or_none None = refl
 or_none (Some x) = refl
 
-front_says : (f : Front) (id : GroupId) (e : group.Event) → front_refusal f (shown id e) ≡ group_refusal f id
+front_says : (f : ControlPlane) (id : GroupId) (e : group.Event) → front_refusal f (shown id e) ≡ group_refusal f id
 front_says f id (group.Deliver k) = refl
 front_says f id (group.Lose k) = refl
 front_says f id (group.Repeat k) = refl

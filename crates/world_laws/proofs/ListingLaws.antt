@@ -24,8 +24,8 @@ use Rattle.world_events.specs.declared.event.Event.{Event}
 use Rattle.world_events.specs.declared.event.Event.TheVariants.{Auth, Map, Open, Renew, Close, Submit, List as ListNames, Deliver, Lose, Repeat, Kick}
 use Rattle.world_events.specs.declared.fault.WorldFault.{WorldFault as Fault}
 use Rattle.world_events.specs.declared.fault.WorldFault.TheVariants.{BadObjectName}
-use Rattle.world_front.specs.Front.{Front, Asker, ◌>>=◌, refuse_if, if_ok, asker_of, is_namespace, id_of, sealed_of, pieces_of, requests_of, requests_in, sealed_by, listed, front_step}
-use Rattle.world_front.specs.declared.session.Pieced.{Pieced}
+use Rattle.world_front.specs.ControlPlane.{ControlPlane, Asker, ◌>>=◌, refuse_if, if_ok, asker_of, is_namespace, id_of, sealed_of, pieces_of, requests_of, requests_in, sealed_by, listed, front_step}
+use Rattle.world_front.specs.declared.session.ListRange.{ListRange}
 use Rattle.world_core.specs.World.{World, world_step, first_world, world_after}
 use Rattle.world_core.specs.Standing.{HasNumbers}
 use Rattle.world_core.specs.Answers.{answer_at, IsAnswered}
@@ -46,7 +46,7 @@ use Rattle.world_core.proofs.Answering.{found_number}
 
 -- ---- the pieces of a list, as the front keeps them
 
-record Kept (f : Front) (p : Pieced) : Type 0 where
+record Kept (f : ControlPlane) (p : ListRange) : Type 0 where
   ask : Ask
   asker : Asker
   first : p.first ≡ id_of ask.session (asker.session.next + 0)
@@ -55,7 +55,7 @@ record Kept (f : Front) (p : Pieced) : Type 0 where
   pool : InMap f.history asker.view.pool asker.view.pg_num
   submitted_as : (i : ℕ) → i < p.count → submitted f.submissions (p.first + i) ≡ Some (sealed_of ask asker Listing i i)
 
-pieces_kept : (f : Front) (p : Pieced) → Kept f p → HasPieces f p
+pieces_kept : (f : ControlPlane) (p : ListRange) → Kept f p → HasPieces f p
 pieces_kept f p k = record {
   pool = k.asker.view.pool;
   namespace = k.ask.namespace;
@@ -71,13 +71,13 @@ pieces_kept f p k = record {
 }
 
 -- a front that has more requests, and more of the map's commands
-record Later (f g : Front) : Type 0 where
+record Later (f g : ControlPlane) : Type 0 where
   requests : List Sealed
   commands : List MapCommand
   submissions : g.submissions ≡ f.submissions ++ requests
   history : g.history ≡ record f.history { commands = f.history.commands ++ commands }
 
-kept_later : (f g : Front) (p : Pieced) → Later f g → Kept f p → Kept g p
+kept_later : (f g : ControlPlane) (p : ListRange) → Later f g → Kept f p → Kept g p
 kept_later f g p later k =
     let P : History → Type 0 = λ h. InMap h k.asker.view.pool k.asker.view.pg_num in
     record {
@@ -93,7 +93,7 @@ kept_later f g p later k =
 same_history : (h : History) → h ≡ record h { commands = h.commands ++ [] }
 same_history h = ap (λ l. record h { commands = l }) (sym (append-nil h.commands))
 
-one_later : (f : Front) (e : Event) → Later f (front_step f e)
+one_later : (f : ControlPlane) (e : Event) → Later f (front_step f e)
 one_later f (Map c) = record { requests = sealed_by f (Map c); commands = c ∷ []; submissions = refl; history = refl }
 one_later f (Auth command) = record { requests = sealed_by f (Auth command); commands = []; submissions = refl; history = same_history f.history }
 one_later f (Open entity until) = record { requests = sealed_by f (Open entity until); commands = []; submissions = refl; history = same_history f.history }
@@ -108,12 +108,12 @@ one_later f (Kick id) = record { requests = sealed_by f (Kick id); commands = []
 
 -- ---- a new list
 
-record IsAsker (f : Front) (ask : Ask) (rs : List Sealed) : Type 0 where
+record IsAsker (f : ControlPlane) (ask : Ask) (rs : List Sealed) : Type 0 where
   asker : Asker
   made : Made f ask asker
   are : rs ≡ pieces_of ask asker
 
-list_asker : (f : Front) (ask : Ask) (rs : List Sealed) → requests_of f (ListNames ask) ≡ Ok rs → IsAsker f ask rs
+list_asker : (f : ControlPlane) (ask : Ask) (rs : List Sealed) → requests_of f (ListNames ask) ≡ Ok rs → IsAsker f ask rs
 unfolding requests_of requests_in
 list_asker f ask rs h =
     let a = bind_ok (asker_of f ask) (λ asker.
@@ -132,13 +132,13 @@ each_at P F k (suc n) all (suc i) low = let e : (k + 1) + i ≡ k + suc i = omeg
 each_from_zero : (P : Sealed → Type 0) (F : ℕ → Sealed) (n : ℕ) → Each P (map F (range_with_len 0 n)) → (i : ℕ) → i < n → P (F i)
 each_from_zero P F n all i low = let e : 0 + i ≡ i = omega arith in subst (λ j. P (F j)) e (each_at P F 0 n all i low)
 
-listed_each : (P : Pieced → Type 0) (F : ℕ → Sealed) (n : ℕ) → (1 ≤ n → P (record { first = (F 0).id; count = n })) → Each P (listed (map F (range_with_len 0 n)))
+listed_each : (P : ListRange → Type 0) (F : ℕ → Sealed) (n : ℕ) → (1 ≤ n → P (record { first = (F 0).id; count = n })) → Each P (listed (map F (range_with_len 0 n)))
 listed_each P F zero h = tt
 listed_each P F (suc n) h =
     let long : length (map F (range_with_len 0 (suc n))) ≡ suc n = length-map-range_with_len F 0 (suc n) in
     (subst (λ c. P (record { first = (F 0).id; count = c })) (sym long) (h (omega arith)), tt)
 
-new_kept : (f g : Front) (ask : Ask) (rs : List Sealed) → Later f g → IsAsker f ask rs → Each (IsAsked g.submissions) rs → Each (Kept g) (listed rs)
+new_kept : (f g : ControlPlane) (ask : Ask) (rs : List Sealed) → Later f g → IsAsker f ask rs → Each (IsAsked g.submissions) rs → Each (Kept g) (listed rs)
 new_kept f g ask rs later k all =
     let F : ℕ → Sealed = λ i. sealed_of ask k.asker Listing i i in
     let P : List Sealed → Type 0 = λ l. Each (Kept g) (listed l) in
@@ -156,17 +156,17 @@ new_kept f g ask rs later k all =
           ap (submitted g.submissions) e ∙ each_from_zero (IsAsked g.submissions) F k.asker.view.pg_num each i low);
     }))
 
-new_lists : (f : Front) (ask : Ask) (r : Result (List Sealed) Fault) → requests_of f (ListNames ask) ≡ r → Each (IsAsked (front_step f (ListNames ask)).submissions) (if_ok r [] (λ rs. rs))
+new_lists : (f : ControlPlane) (ask : Ask) (r : Result (List Sealed) Fault) → requests_of f (ListNames ask) ≡ r → Each (IsAsked (front_step f (ListNames ask)).submissions) (if_ok r [] (λ rs. rs))
     → Each (Kept (front_step f (ListNames ask))) (listed (if_ok r [] (λ rs. rs)))
 new_lists f ask (Err fault) is all = tt
 new_lists f ask (Ok rs) is all = new_kept f (front_step f (ListNames ask)) ask rs (one_later f (ListNames ask)) (list_asker f ask rs is) all
 
 -- ---- histories
 
-abbrev Lists : Front → Type 0
+abbrev Lists : ControlPlane → Type 0
 Lists f = Each (Kept f) f.lists
 
-lists_step_kept : (f : Front) (e : Event) → FrontStands f → length (front_step f e).submissions < 4294967296 → Lists f → Lists (front_step f e)
+lists_step_kept : (f : ControlPlane) (e : Event) → FrontStands f → length (front_step f e).submissions < 4294967296 → Lists f → Lists (front_step f e)
 lists_step_kept f e stands room all = by e (each_weaker (Kept f) (Kept (front_step f e)) (λ p k. kept_later f (front_step f e) p (one_later f e) k) f.lists all) (front_stands f e stands room).1
   where
     by : (e : Event) → Each (Kept (front_step f e)) f.lists → Each (IsAsked (front_step f e).submissions) (sealed_by f e) → Lists (front_step f e)
@@ -195,7 +195,7 @@ all_kept table daemons events room = lists_through events (first_world table dae
 
 pub lists_have_pieces : ListsHavePieces
 lists_have_pieces table daemons events room =
-    let f : Front = (world_after table daemons events).front in
+    let f : ControlPlane = (world_after table daemons events).front in
     each_weaker (Kept f) (HasPieces f) (λ p k. pieces_kept f p k) f.lists (all_kept table daemons events room)
 
 -- ---- places in the audit
@@ -295,7 +295,7 @@ all_together f r base k (suc n) most few h =
     ∙ ap (λ b. consed (Some (r k)) (all_of (map f (range_with_len b n)))) e
     ∙ ap (consed (Some (r k))) (all_together f r base (k + 1) n most (omega arith) h)
 
--- the replies, and any where there is none
+-- the reply, or an arbitrary one where no reply is given
 abbrev reply_of : Option Reply → Reply
 reply_of o = unwrap_or o (Names [])
 
@@ -315,7 +315,7 @@ all_names r f n are =
 
 -- ---- the law
 
-is_listing : (w : World) (p : Pieced) → Legal w.audit → ((id : ℕ) (reply : Reply) → answer_at w id ≡ Some reply → IsAnswered w id reply) → HasPieces w.front p → IsListing w p
+is_listing : (w : World) (p : ListRange) → Legal w.audit → ((id : ℕ) (reply : Reply) → answer_at w id ≡ Some reply → IsAnswered w id reply) → HasPieces w.front p → IsListing w p
 is_listing w p legal answered has = record {
   has = has;
   named = λ i reply low is allowed. (at i reply low is).is ∙ reply_names (before_of (p.first + i) w.audit) (has.pieces i) (has.listing i low) allowed;
@@ -368,12 +368,12 @@ is_listing w p legal answered has = record {
             ∙ objects_stay has.pool has.namespace u.before u.stretch id u.keeps
 
 -- the list of a number
-list_found : (P : Pieced → Type 0) (first : ℕ) (ps : List Pieced) (p : Pieced) → Each P ps → list_find (λ q. q.first == first) ps ≡ Some p → P p × (p.first ≡ first)
+list_found : (P : ListRange → Type 0) (first : ℕ) (ps : List ListRange) (p : ListRange) → Each P ps → list_find (λ q. q.first == first) ps ≡ Some p → P p × (p.first ≡ first)
 list_found P first [] p all h = absurd (cc)
 list_found P first (q ∷ qs) p all h = go (q.first == first) refl h (λ k. list_found P first qs p all.1 k)
   where
     go : (b : Bool) → (q.first == first) ≡ b → cond b (Some q) (list_find (λ q. q.first == first) qs) ≡ Some p → (list_find (λ q. q.first == first) qs ≡ Some p → P p × (p.first ≡ first)) → P p × (p.first ≡ first)
-    go true e k rest = let same : q ≡ p = cc in (subst P same all.0, ap (λ (r : Pieced). r.first) (sym same) ∙ number_same q.first first e)
+    go true e k rest = let same : q ≡ p = cc in (subst P same all.0, ap (λ (r : ListRange). r.first) (sym same) ∙ number_same q.first first e)
     go false e k rest = rest k
 
 pub listings_are_told : ListingsAreTold

@@ -19,7 +19,7 @@ use Rattle.world_events.specs.declared.event.Event.{Event}
 use Rattle.world_events.specs.declared.event.Event.TheVariants.{Auth, Map, Open, Renew, Close, Submit, List as ListNames, Deliver, Lose, Repeat, Kick}
 use Rattle.world_events.specs.declared.fault.WorldFault.TheVariants.{Map as OfMap}
 use Rattle.world_front.specs.Groups.{is_same_group, groups_of}
-use Rattle.world_front.specs.Front.{Front, front_step, group_refusal}
+use Rattle.world_front.specs.ControlPlane.{ControlPlane, front_step, group_refusal}
 use Rattle.world_core.specs.World.{World, Part, first_world, group_at, at_group, begun_group, act, acted, parts_of, created_by, world_step, world_after}
 use Rattle.world_laws.specs.Places.{places_of, HasPlaces, EveryPlaceHasItsGroup, PlacesStay, IsPlace, HasGroup, GroupsAreFoundByPlace}
 use Rattle.world_core.proofs.Standing.{step_is}
@@ -68,7 +68,7 @@ tagged_places test c (p ∷ ps) = go (test p) (tagged_places test c ps)
     go true rest = refl
     go false rest = ap (λ l. groups_of p ++ l) rest
 
-after_places : (f : Front) (c : MapCommand) → flat_map groups_of (after (map_of f.history) c).pools ≡ places_of f.history ++ map (λ g. g.group) (created_by f (Map c))
+after_places : (f : ControlPlane) (c : MapCommand) → flat_map groups_of (after (map_of f.history) c).pools ≡ places_of f.history ++ map (λ g. g.group) (created_by f (Map c))
 after_places f (PoolCreate name pg_num size min_size) =
     let p : Pool = created name pg_num size min_size in
     one_pool_more (map_of f.history).pools p ∙ ap (λ l. places_of f.history ++ l) (sym (begun_ids (after (map_of f.history) (PoolCreate name pg_num size min_size)) min_size (groups_of p)))
@@ -80,7 +80,7 @@ after_places f (OsdDown d) = sym (append-nil (places_of f.history))
 after_places f (OsdRestart d) = sym (append-nil (places_of f.history))
 
 -- an event adds the places of the groups that it creates
-pub step_places : (f : Front) (e : Event) → places_of (front_step f e).history ≡ places_of f.history ++ map (λ g. g.group) (created_by f e)
+pub step_places : (f : ControlPlane) (e : Event) → places_of (front_step f e).history ≡ places_of f.history ++ map (λ g. g.group) (created_by f e)
 step_places f (Map c) = ap (λ (s : MapState). flat_map groups_of s.pools) (after_push f.history.daemons f.history.commands c) ∙ after_places f c
 step_places f (Auth command) = sym (append-nil (places_of f.history))
 step_places f (Open entity until) = sym (append-nil (places_of f.history))
@@ -127,7 +127,7 @@ at_place w id kept has p = go (group_at id w.groups) refl
     go None is = absurd (let clash : id ∷ [] ≡ [] = sym one ∙ none_filtered id w.groups is in cc)
     go (Some g) is = record { group = g; there = is; is = sym (group_at_is id w.groups g is) }
 
-pub of_place : (f : Front) (id : GroupId) (g : Group) → GroupKept f id g → IsPlace f.history id
+pub of_place : (f : ControlPlane) (id : GroupId) (g : Group) → GroupKept f id g → IsPlace f.history id
 of_place f id g h = record {
   pool = h.pool.is.pool;
   found = found_in f.history id.pool h.groups h.pool;
@@ -143,7 +143,7 @@ some_found : (o : Option Pool) → is_some o ≡ true → (p : Pool) × (o ≡ S
 some_found None h = absurd (cc)
 some_found (Some p) h = (p, refl)
 
-named_place : (f : Front) (id : GroupId) → group_refusal f id ≡ None → IsPlace f.history id
+named_place : (f : ControlPlane) (id : GroupId) → group_refusal f id ≡ None → IsPlace f.history id
 unfolding pool_in groups_in
 named_place f id h =
     let fails = all_fail (acting_tests (map_of f.history).pools id.pool id.number) (wrapped_none OfMap (first_of (acting_tests (map_of f.history).pools id.pool id.number)) h) in
@@ -154,7 +154,7 @@ named_place f id h =
       number = above found.0.pg_num id.number (sym (ap (λ o. nat_le (option_map_or (λ (p : Pool). p.pg_num) o 0) id.number) found.1) ∙ fails.1.1.0);
     }
 
-place_named : (f : Front) (id : GroupId) → IsAccepted f.history → IsPlace f.history id → group_refusal f id ≡ None
+place_named : (f : ControlPlane) (id : GroupId) → IsAccepted f.history → IsPlace f.history id → group_refusal f id ≡ None
 place_named f id accepted p = ap (option_map OfMap) (place_there f.history id p.pool accepted p.found p.number)
 
 pub groups_are_found_by_place : GroupsAreFoundByPlace

@@ -13,8 +13,8 @@ use Rattle.store_core.specs.declared.reply.Reply.TheVariants.{Denied, Names}
 use Rattle.group_model_whole.specs.Each.{Each}
 use Rattle.group_model.specs.Group.{submitted}
 use Rattle.world_events.specs.declared.event.Event.{Event}
-use Rattle.world_front.specs.Front.{Front, list_at}
-use Rattle.world_front.specs.declared.session.Pieced.{Pieced}
+use Rattle.world_front.specs.ControlPlane.{ControlPlane, list_at}
+use Rattle.world_front.specs.declared.session.ListRange.{ListRange}
 use Rattle.world_core.specs.World.{World, world_after}
 use Rattle.world_core.specs.Standing.{HasNumbers}
 use Rattle.world_front.specs.Groups.{group_count}
@@ -26,7 +26,7 @@ use Rattle.world_laws.specs.Pieces.{objects_of, IsPiece}
 -- ---- the pieces
 
 -- the pieces of a list: under consecutive numbers one request for each group of one pool, all of one namespace, with one ticket and tick
-pub record HasPieces (f : Front) (p : Pieced) : Type 0 where
+pub record HasPieces (f : ControlPlane) (p : ListRange) : Type 0 where
   pub pool : List ℕ
   pub namespace : List ℕ
   pub pieces : ℕ → Sealed  -- by the group's number
@@ -54,11 +54,11 @@ before_of id (e ∷ es) = if e.sealed.id == id then [] else e ∷ before_of id e
 abbrev pub names_at : List Entry → Sealed → ℕ → List (List ℕ)
 names_at audit s id = names_decided (store_of (before_of id audit)) s
 
--- what a request is told that its ticket does not allow
+-- the reply to a request that its ticket does not allow
 abbrev pub denial : Sealed → Reply
 denial s = Denied (report_of s.ticket (target_of s) (needs_for s.work) s.tick)
 
-abbrev pub IsComplete : World → Pieced → Type 0
+abbrev pub IsComplete : World → ListRange → Type 0
 IsComplete w p = (i : ℕ) → i < p.count → is_some (answer_at w (p.first + i)) ≡ true
 
 -- none of these entries, each after those before it, changes which objects the pool and namespace have
@@ -67,7 +67,7 @@ KeepsObjects pool namespace before [] = Unit {0}
 KeepsObjects pool namespace before (e ∷ es) = (objects_of (store_of (before ++ e ∷ [])) pool namespace ≡ objects_of (store_of before) pool namespace) × KeepsObjects pool namespace (before ++ e ∷ []) es
 
 -- The entries of all pieces stand within a stretch of the audit, which changes no objects of theirs
-pub record IsUnchanged (audit : List Entry) (p : Pieced) (pool namespace : List ℕ) : Type 0 where
+pub record IsUnchanged (audit : List Entry) (p : ListRange) (pool namespace : List ℕ) : Type 0 where
   pub before : List Entry
   pub stretch : List Entry
   pub behind : List Entry
@@ -75,9 +75,10 @@ pub record IsUnchanged (audit : List Entry) (p : Pieced) (pool namespace : List 
   pub within : (i : ℕ) → i < p.count → is_in (ids stretch) (p.first + i) ≡ true
   pub keeps : KeepsObjects pool namespace before stretch
 
--- What a list is told. A piece is answered the names at its place in the audit, or its denial. The list is nothing until each piece was answered; then
--- it is the denial, or the sorted names of all pieces; and where nothing between them changes which objects there are, exactly these objects
-pub record IsListing (w : World) (p : Pieced) : Type 0 where
+-- How a list is answered. A piece is answered with the names at its place in the audit, or with its denial. The list is
+-- nothing until each piece was answered. Then it is the denial, or the sorted names of all pieces. Where nothing
+-- between the pieces changes which objects exist, these are exactly the names of these objects
+pub record IsListing (w : World) (p : ListRange) : Type 0 where
   pub has : HasPieces w.front p
   pub named : (i : ℕ) (reply : Reply) → i < p.count → answer_at w (p.first + i) ≡ Some reply → is_allowed_sealed (has.pieces i) ≡ true → reply ≡ Names (names_at w.audit (has.pieces i) (p.first + i))
   pub denied : (i : ℕ) (reply : Reply) → i < p.count → answer_at w (p.first + i) ≡ Some reply → is_allowed_sealed (has.pieces i) ≡ false → reply ≡ denial (has.pieces i)
@@ -89,15 +90,15 @@ pub record IsListing (w : World) (p : Pieced) : Type 0 where
       → listing_of (answer_at w) p ≡ Some (Names (map (λ n. n.name) (objects_of (store_of u.before) has.pool has.namespace)))
 
 -- the list that is found under a number
-pub record IsListedAs (w : World) (first : ℕ) (p : Pieced) : Type 0 where
+pub record IsListedAs (w : World) (first : ℕ) (p : ListRange) : Type 0 where
   pub begins : p.first ≡ first
   pub told : listing_at w first ≡ Ok (listing_of (answer_at w) p)
   pub is : IsListing w p
 
 -- whatever happens
 abbrev pub ListingsAreTold : Type 0
-ListingsAreTold = (table : Table) (daemons : ℕ) (events : List Event) (first : ℕ) (p : Pieced) → HasNumbers (world_after table daemons events) → list_at (world_after table daemons events).front first ≡ Some p → IsListedAs (world_after table daemons events) first p
+ListingsAreTold = (table : Table) (daemons : ℕ) (events : List Event) (first : ℕ) (p : ListRange) → HasNumbers (world_after table daemons events) → list_at (world_after table daemons events).front first ≡ Some p → IsListedAs (world_after table daemons events) first p
 
 -- where each event was accepted
 abbrev pub AcceptedListings : Type 0
-AcceptedListings = (table : Table) (daemons : ℕ) (events : List Event) (first : ℕ) (p : Pieced) → AreAccepted table daemons events → list_at (world_after table daemons events).front first ≡ Some p → IsListedAs (world_after table daemons events) first p
+AcceptedListings = (table : Table) (daemons : ℕ) (events : List Event) (first : ℕ) (p : ListRange) → AreAccepted table daemons events → list_at (world_after table daemons events).front first ≡ Some p → IsListedAs (world_after table daemons events) first p

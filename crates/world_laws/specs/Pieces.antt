@@ -1,5 +1,5 @@
 -- Statement: contracts of public calls use it.
--- What the pieces of a list come to: the names of a pool's namespace.
+-- What the pieces of a list result in: the names of a pool's namespace.
 use Rattle.std.specs.Prelude.{◌≡◌, true, ◌<◌, ◌≤◌, Bool, ◌&&◌, ℕ, List, map}
 use Rattle.std.specs.List.{flat_map, filter, range_with_len}
 use Rattle.std.specs.Str.{bytes_eq}
@@ -19,7 +19,7 @@ is_there pool namespace n = bytes_eq n.pool pool && bytes_eq n.namespace namespa
 abbrev pub objects_of : Store → List ℕ → List ℕ → List ObjectName
 objects_of store pool namespace = filter (is_there pool namespace) (keys store)
 
--- the piece of a list for one group, of a pool that has so many
+-- the piece of a list for one group, of a pool that has `groups` groups
 pub record IsPiece (pool namespace : List ℕ) (groups group : ℕ) (s : Sealed) : Type 0 where
   pub pool_is : s.view.pool ≡ pool
   pub groups_is : s.view.pg_num ≡ groups

@@ -9,7 +9,7 @@ use Rattle.map_core.specs.declared.pool.Pool.{Pool}
 use Rattle.store_core.specs.declared.sealed.GroupId.{GroupId}
 use Rattle.group_model.specs.Group.{Group}
 use Rattle.world_events.specs.declared.event.Event.{Event}
-use Rattle.world_front.specs.Front.{group_refusal}
+use Rattle.world_front.specs.ControlPlane.{group_refusal}
 use Rattle.world_core.specs.World.{World, group_at, world_step, world_after}
 use Rattle.world_front.specs.Groups.{groups_of}
 use Rattle.world_core.specs.Holds.{AreAccepted}

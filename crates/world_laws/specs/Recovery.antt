@@ -1,5 +1,5 @@
 -- Statement: contracts of public calls use it.
--- Recovery by hand in a world: the messages of a group are lost, it is kicked, and what it sends is delivered until nothing is left.
+-- Manual recovery in a world: a group's messages are lost, it is kicked, and message 0 is delivered until none is left.
 use Prim.Native.Nat.{zero, suc}
 use Rattle.std.specs.Prelude.{◌≡◌, ℕ, ◌≤◌, List, [], ◌∷◌, ◌++◌, true, false, Option, None, Some, is_some, fold, map, length, replicate, slice_get}
 use Rattle.grant_core.specs.Flat.{Table}
@@ -33,7 +33,8 @@ abbrev pub if_sent : Option Sent → ℕ → ℕ
 if_sent None count = 0
 if_sent (Some m) count = count
 
--- message 0 is delivered until none is left, at most so many times: how many times that is, messages to daemons that are down counted
+-- how many times message 0 is delivered until none is left, at most the given number; messages to daemons that are down
+-- count too
 abbrev pub deliveries_of : ℕ → Group → ℕ
 deliveries_of zero g = 0
 deliveries_of (suc most) g = if_sent (slice_get g.wire 0) (suc (deliveries_of most (group_step g (group.Deliver 0))))
@@ -47,7 +48,7 @@ deliveries_left g = deliveries_of (budget g) g
 abbrev pub losses : GroupId → List ℕ → List Event
 losses id places = map (λ k. Lose id k) places
 
--- then the group is kicked, and message 0 is delivered so many times
+-- then the group is kicked, and message 0 is delivered `count` times
 abbrev pub recovery : GroupId → List ℕ → ℕ → List Event
 recovery id places count = losses id places ++ Kick id ∷ replicate count (Deliver id 0)
 

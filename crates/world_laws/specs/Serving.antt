@@ -3,7 +3,7 @@
 use Rattle.grant_core.specs.Flat.{Table}
 use Rattle.std.specs.Prelude.{◌≡◌, ℕ, List}
 use Rattle.world_events.specs.declared.event.Event.{Event}
-use Rattle.world_front.specs.Front.{first_front}
+use Rattle.world_front.specs.ControlPlane.{first_front}
 use Rattle.world_core.specs.Holds.{AreAccepted}
 use Rattle.world_core.specs.Service.{Reaches, begun, Step}
 use Rattle.world_core.specs.Serving.{service_of, submitted_through}

@@ -11,7 +11,7 @@ use Rattle.store_core.specs.Request.{Sealed}
 use Rattle.group_model.specs.Group.{submitted}
 use Rattle.world_events.specs.declared.fault.WorldFault.{WorldFault as Fault}
 use Rattle.world_events.specs.declared.fault.WorldFault.TheVariants.{NoRequest, BadObjectName, Map as OfMap}
-use Rattle.world_front.specs.Front.{Front, is_object_name, is_namespace}
+use Rattle.world_front.specs.ControlPlane.{ControlPlane, is_object_name, is_namespace}
 use Rattle.world_core.specs.World.{World}
 use Rattle.world_core.specs.Answers.{answer_at}
 use Rattle.world_core.specs.Calls.{answer_refusal}
@@ -24,12 +24,12 @@ use Rattle.world_core.proofs.Answering.{asked_for}
 abbrev name_test : Bool → Option Fault
 name_test named = if named then None else Some BadObjectName
 
-passed : (front : Front) (pool namespace object : List ℕ) → view_refusal front.history pool (epoch_of front.history) ≡ None
+passed : (front : ControlPlane) (pool namespace object : List ℕ) → view_refusal front.history pool (epoch_of front.history) ≡ None
     → locate_text front pool namespace object ≡ or_refused (name_refusal namespace object) (located front pool namespace object (view_at front.history pool (epoch_of front.history)))
 passed front pool namespace object none =
     ap (λ o. or_refused (option_or (option_map OfMap o) (name_refusal namespace object)) (located front pool namespace object (view_at front.history pool (epoch_of front.history)))) none
 
-pub located_here : (front : Front) (pool namespace object : List ℕ) (view : PoolView) (set : Option (List ℕ)) → view_refusal front.history pool (epoch_of front.history) ≡ None
+pub located_here : (front : ControlPlane) (pool namespace object : List ℕ) (view : PoolView) (set : Option (List ℕ)) → view_refusal front.history pool (epoch_of front.history) ≡ None
     → (is_object_name object && is_namespace namespace) ≡ true → view_at front.history pool (epoch_of front.history) ≡ Some view
     → set_of (map_of front.history) pool (group_of namespace object view.pg_num) ≡ set
     → located_text (group_of namespace object view.pg_num) (unwrap_or set []) ≡ locate_text front pool namespace object
@@ -40,7 +40,7 @@ located_here front pool namespace object view set none named seen is =
     ∙ ap (located front pool namespace object) seen)
 
 -- the same by the map, the epoch and the names that the program asked
-pub located_by : (front : Front) (pool namespace object : List ℕ) (history : History) (epoch : ℕ) (view : PoolView) (group : ℕ) (namespace' object' : List ℕ) (set : Option (List ℕ))
+pub located_by : (front : ControlPlane) (pool namespace object : List ℕ) (history : History) (epoch : ℕ) (view : PoolView) (group : ℕ) (namespace' object' : List ℕ) (set : Option (List ℕ))
     → history ≡ front.history → epoch ≡ epoch_of history → view_refusal history pool epoch ≡ None
     → (is_object_name object && is_namespace namespace) ≡ true → view_at history pool epoch ≡ Some view
     → group ≡ group_of namespace' object' view.pg_num → namespace' ≡ namespace → object' ≡ object → set ≡ set_of (map_of history) pool group

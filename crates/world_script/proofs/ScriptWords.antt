@@ -45,7 +45,7 @@ at_the_end all (w ∷ ws) done h end = absurd (omega (arith, end))
 behind_it : (most : ℕ) (rest ws : List Word) (o : Op) → length rest ≤ suc most → an_op rest ≡ Some (o, ws) → ops_within (suc most) rest ≡ ops_behind o ws (ops_within most)
 behind_it most rest ws o enough is = ap (λ x. ops_next x (ops_within most)) is
 
--- words that differ are told apart
+-- words that differ are not equal by `bytes_eq`
 pub differ : (a b : Word) → (a ≡ b → ⊥) → bytes_eq a b ≡ false
 differ a b other = go (bytes_eq a b) refl
   where

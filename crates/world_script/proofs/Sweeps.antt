@@ -16,7 +16,7 @@ use Rattle.group_model.proofs.Lowering.{deliver_lowers, lose_lowers}
 use Rattle.world_events.specs.declared.event.Event.{Event}
 use Rattle.world_events.specs.declared.fault.WorldFault.{WorldFault as Fault}
 use Rattle.world_events.specs.declared.fault.WorldFault.TheVariants.{OutOfMemory, Group as OfGroup}
-use Rattle.world_front.specs.Front.{group_refusal}
+use Rattle.world_front.specs.ControlPlane.{group_refusal}
 use Rattle.world_core.specs.World.{World, group_at, at_group, world_step, refusal_of, refused_in, is_drop}
 use Rattle.world_core.specs.Calls.{KeepsPromises}
 use Rattle.world_script.specs.Script.{budget_in, has_messages, events_while, emptied_within, emptied, one_if_none, unrefused, on_each}
@@ -162,7 +162,7 @@ swept_on sweep id before now next count one h some steps low told = go h.most h.
           omega (arith, now_told, parts, h.counted);
     }
 
--- what refused it, where it was not want of memory
+-- what refused it, where that was not out of memory
 pub not_memory : (fault : Fault) (refusal : Option Fault) → (fault ≡ OutOfMemory → ⊥) → (fault ≡ OutOfMemory) ⊎ (refusal ≡ Some fault) → refusal ≡ Some fault
 not_memory fault refusal other (inl memory) = absurd (other memory)
 not_memory fault refusal other (inr is) = is

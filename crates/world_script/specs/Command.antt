@@ -12,7 +12,7 @@ use Rattle.object_core.specs.declared.op.Op.{Op}
 use Rattle.object_core.specs.declared.op.Op.TheVariants as op
 use Rattle.auth_db.specs.declared.caps.Caps.{Caps}
 use Rattle.store_core.specs.declared.sealed.GroupId.{GroupId}
-use Rattle.world_front.specs.Front.{id_of}
+use Rattle.world_front.specs.ControlPlane.{id_of}
 use Rattle.world_events.specs.declared.event.AuthCommand.{AuthCommand}
 use Rattle.world_events.specs.declared.event.Event.TheVariants as happens
 use Rattle.world_events.specs.declared.event.AuthCommand.TheVariants as on_users
@@ -53,7 +53,7 @@ abbrev pub an_id : Reads ℕ
 an_id [] = None
 an_id (w ∷ ws) = said_if (option_map (λ p. id_of p.0 p.1) (pair_of w)) ws
 
--- a daemon's number; there is none from 16 on, so all from 255 on are one
+-- a daemon's number; numbers from 16 on name no daemon, so all from 255 on are read as 255
 abbrev pub a_daemon : Reads ℕ
 a_daemon ws = and_then (a_number ws) (λ daemon. said (min daemon 255))
 
@@ -172,7 +172,7 @@ abbrev pub ops_next : Option (Op × List Word) → (List Word → Option (List O
 ops_next None next = None
 ops_next (Some first) next = ops_behind first.0 first.1 next
 
--- so many operations at most, with a plus between them, up to the end
+-- at most this many operations, with a plus between them, up to the end
 abbrev pub ops_within : ℕ → List Word → Option (List Op)
 ops_within zero ws = None
 ops_within (suc most) ws = ops_next (an_op ws) (ops_within most)

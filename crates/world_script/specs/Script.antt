@@ -28,11 +28,11 @@ use Rattle.world_events.specs.declared.event.Event.{Event}
 use Rattle.world_events.specs.declared.fault.WorldFault.{WorldFault as Fault}
 use Rattle.world_events.specs.declared.fault.WorldFault.TheVariants.{NoRequest, BadObjectName, Auth as OfUsers, Map as OfMap}
 use Rattle.world_events.specs.declared.event.Event.TheVariants as happens
-use Rattle.world_front.specs.Front.{Front, told_of, is_object_name, is_namespace, group_refusal}
+use Rattle.world_front.specs.ControlPlane.{ControlPlane, told_of, is_object_name, is_namespace, group_refusal}
 use Rattle.world_core.specs.World.{World, first_world, group_at, members_of, world_step, refusal_of, is_drop}
 use Rattle.world_front.specs.Groups.{groups_of}
 use Rattle.world_core.specs.Answers.{answer_at}
-use Rattle.world_front.specs.Front.{list_at}
+use Rattle.world_front.specs.ControlPlane.{list_at}
 use Rattle.world_core.specs.Listing.{listing_of}
 use Rattle.world_script.specs.declared.command.Command.{Command}
 use Rattle.world_script.specs.declared.command.Command.TheVariants.{Osds, Happens, Submit, List as ListNames, Locate, ShowUser, ListUsers, Tick, Settle, KickAll, LoseAll, Answer, Listing, Ready}
@@ -41,13 +41,13 @@ use Rattle.script_printing.specs.Text.{id_text, told_text, refused_text, or_refu
 
 -- ---- lines, one after another
 
--- what a command does: it prints and goes on, its line is bad, or it is none of those that are told here
+-- what a command does: it prints and goes on, its line is bad, or it is a command that is not described here
 pub data Step (S : Type 0) : Type 0 where
   Goes : List ℕ → S → Step S
   IsBad : Step S
   IsOther : Step S
 
--- how a script ends: at its end, at a bad line, or at a line that is none of those that are told here
+-- how a script ends: at its end, at a bad line, or at a line with a command that is not described here
 pub data Ending : Type 0 where
   Whole : Ending
   BadAt : ℕ → Ending
@@ -73,7 +73,7 @@ onward (Goes text s) number rest = behind text (rest s)
 onward IsBad number rest = record { text = []; ending = BadAt number }
 onward IsOther number rest = record { text = []; ending = OtherAt number }
 
--- what lines write, behind so many lines
+-- what lines write, after `taken` earlier lines
 abbrev pub outputs : {S : Type 0} → (S → Command → Step S) → List (List ℕ) → ℕ → S → Output
 outputs step [] taken s = record { text = []; ending = Whole }
 outputs step (l ∷ ls) taken s = onward (line_step step s l) (taken + 1) (outputs step ls (taken + 1))
@@ -95,17 +95,17 @@ begins new step (Some s) command = kept (step s command)
 
 -- ---- what the front answers
 
-abbrev pub ask_now : Front → (tick session : ℕ) → (pool namespace : List ℕ) → Ask
+abbrev pub ask_now : ControlPlane → (tick session : ℕ) → (pool namespace : List ℕ) → Ask
 ask_now front tick session pool namespace = record { session = session; epoch = epoch_of front.history; tick = tick; pool = pool; namespace = namespace }
 
 abbrev pub place : List ℕ → ℕ → GroupId
 place pool number = record { pool = pool; number = number }
 
 -- the groups, pool after pool, by their numbers
-abbrev pub places : Front → List GroupId
+abbrev pub places : ControlPlane → List GroupId
 places front = flat_map groups_of (map_of front.history).pools
 
-abbrev pub located : Front → (pool namespace object : List ℕ) → Option PoolView → List ℕ
+abbrev pub located : ControlPlane → (pool namespace object : List ℕ) → Option PoolView → List ℕ
 located front pool namespace object None = []
 located front pool namespace object (Some view) =
     located_text (group_of namespace object view.pg_num) (members_of (map_of front.history) (place pool (group_of namespace object view.pg_num)))
@@ -113,15 +113,15 @@ located front pool namespace object (Some view) =
 abbrev pub name_refusal : (namespace object : List ℕ) → Option Fault
 name_refusal namespace object = if is_object_name object && is_namespace namespace then None else Some BadObjectName
 
-abbrev pub locate_refusal : Front → (pool namespace object : List ℕ) → Option Fault
+abbrev pub locate_refusal : ControlPlane → (pool namespace object : List ℕ) → Option Fault
 locate_refusal front pool namespace object =
     option_or (option_map OfMap (map_tests.view_refusal front.history pool (epoch_of front.history))) (name_refusal namespace object)
 
-abbrev pub locate_text : Front → (pool namespace object : List ℕ) → List ℕ
+abbrev pub locate_text : ControlPlane → (pool namespace object : List ℕ) → List ℕ
 locate_text front pool namespace object =
     or_refused (locate_refusal front pool namespace object) (located front pool namespace object (view_at front.history pool (epoch_of front.history)))
 
-abbrev pub show_text : Front → List ℕ → List ℕ
+abbrev pub show_text : ControlPlane → List ℕ → List ℕ
 show_text front name = or_refused (option_map OfUsers (known_refusal front.database.users name)) (user_shown name (user_at front.database.users name))
 
 -- ---- answers and lists, by the submissions and what they were answered
@@ -130,14 +130,14 @@ abbrev pub answer_found : Option Sealed → Option Reply → Result (Option Repl
 answer_found None answer = Err NoRequest
 answer_found (Some s) answer = Ok answer
 
-abbrev pub answer_in : Front → (ℕ → Option Reply) → ℕ → Result (Option Reply) Fault
+abbrev pub answer_in : ControlPlane → (ℕ → Option Reply) → ℕ → Result (Option Reply) Fault
 answer_in front answer id = answer_found (submitted front.submissions id) (answer id)
 
 abbrev pub listing_found : {P : Type 0} → (P → Option Reply) → Option P → Result (Option Reply) Fault
 listing_found listing None = Err NoRequest
 listing_found listing (Some p) = Ok (listing p)
 
-abbrev pub listing_in : Front → (ℕ → Option Reply) → ℕ → Result (Option Reply) Fault
+abbrev pub listing_in : ControlPlane → (ℕ → Option Reply) → ℕ → Result (Option Reply) Fault
 listing_in front answer first = listing_found (listing_of answer) (list_at front first)
 
 -- ---- events on every group

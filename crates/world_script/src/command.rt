@@ -7,7 +7,7 @@ use world_front::{Event, Ops};
 /// What a line of a script says. It is this project's profile, after Ceph's command line.
 #[derive(Drop)]
 pub enum Command {
-    /// The cluster has so many daemons, 1 to 16. It is the first command, and stands once.
+    /// The number of daemons of the cluster, 1 to 16. It is the first command, and occurs once.
     Osds(u8),
     /// An event that needs no more than the line.
     Happens(Event),

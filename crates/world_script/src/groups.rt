@@ -4,14 +4,14 @@ ghost use Rattle.std.specs.Prelude.{◌≡◌, ◌+◌, ◌++◌, ◌<◌, All, 
 ghost use Rattle.std.specs.List.{flat_map};
 ghost use Rattle.map_core.specs.Map.{map_of};
 ghost use Rattle.world_events.specs.declared.event.Event.TheVariants.{Kick};
-ghost use Rattle.world_front.specs.Front.{group_refusal};
+ghost use Rattle.world_front.specs.ControlPlane.{group_refusal};
 ghost use Rattle.world_core.specs.World.{group_at, world_step, refusal_of};
 ghost use Rattle.world_front.specs.Groups.{groups_of};
 ghost use Rattle.world_script.specs.Script as spec;
 ghost use Rattle.world_script.specs.Script.{emptied, has_messages, budget_in, kick_events, unrefused, one_if_none};
 ghost use Rattle.world_script.specs.Sweeping.{event_at, sweep_events, IsThere};
 
-use common_types::{OutOfMemory, TryCopy};
+use common_types::{OutOfMemory, TryClone};
 use entry_core::GroupId;
 use map_core::{ClusterMap, Pool};
 use script_text::Count;
@@ -126,7 +126,7 @@ pub(crate) fn sweep_groups(
     Ok(count)
 }
 
-/// Kicks a group of the map, which nothing but want of memory refuses.
+/// Kicks a group of the map. The only error is out of memory.
 fn kick_group(world: &mut World, group: &GroupId) -> Result<(), OutOfMemory>
     requires { group_refusal world.old.front group.now ≡ None }
     ensures { OnOk result (world.new ≡ world_step world.old (Kick group.now)) }

@@ -33,7 +33,7 @@ impl Model for Machine {
 }
 
 impl Machine {
-    /// A new world of so many daemons, with the built-in profiles.
+    /// A new world of `daemons` daemons, with the built-in profiles.
     fn new(alloc: Global, daemons: u8) -> Result<Machine, OutOfMemory>
         requires some { 1 ≤ daemons }
         requires few { daemons ≤ 16 }
@@ -49,7 +49,7 @@ impl Machine {
         }
     }
 
-    /// A new world of so many daemons, whose first epoch is printed.
+    /// A new world of `daemons` daemons. Adds the line of its first epoch to `text`.
     pub(crate) fn begin(
         alloc: Global,
         daemons: u8,

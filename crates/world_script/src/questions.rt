@@ -39,7 +39,7 @@ pub(crate) fn locate(
     }
 }
 
-/// Adds why the map refuses a question, or answers want of memory.
+/// Adds why the map refuses a question, or returns out of memory.
 fn refuse_map(fault: MapFault, text: &mut String) -> Result<(), OutOfMemory>
     ensures text { OnOk result (string_bytes text.new ≡ string_bytes text.old ++ refused_text (OfMap fault)) }
     ensures other { OnOk result (fault ≢ MapFault.OutOfMemory) }

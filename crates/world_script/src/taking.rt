@@ -50,7 +50,7 @@ pub(crate) fn id(words: &mut Words<'_>) -> Option<Id>
     Some(Id::new(session, number))
 }
 
-/// The next word, as the number of a daemon. All numbers from 255 on are one, since no cluster has so many.
+/// The next word, as the number of a daemon. Numbers above 255 are read as 255, since no cluster has that many daemons.
 pub(crate) fn daemon(words: &mut Words<'_>) -> Option<u8>
     ensures { Takes a_daemon words.old words.new result }
 {

@@ -10,7 +10,7 @@ use common_types::{Name, OutOfMemory};
 use script_text::Words;
 use std::alloc::Global;
 
-/// Sets a text where there is none, and says whether it did.
+/// Sets a text if it is not set yet. Returns whether it did.
 fn set_new(slot: &mut Option<Name>, text: Name) -> bool
     ensures set { result ≡ is_none slot.old }
     ensures text { slot.new ≡ if result then Some text else slot.old }

@@ -8,7 +8,7 @@ use super::steps::Step::{
 use super::steps::{Step, begun, expect, expect_from};
 use crate::operations::Work;
 use crate::pieces::expect_so;
-use common_types::TryCopy;
+use common_types::TryClone;
 use group_core::Group;
 use group_messages::GroupFault;
 use std::alloc::Global;
@@ -33,7 +33,7 @@ const TAKEN_BACK: &[Step] = &[
     Audit(&[1, 2]),
 ];
 
-// The same in a group of nobody.
+// A group of nobody takes a request back, and keeps the other one.
 const SENT_TO_NOBODY: &[Step] = &[
     Move(&[], &[0, 1, 2]),
     Wire(3),
@@ -53,7 +53,7 @@ fn a_request_taken_back(rt: HostRuntime) {
     expect_from(&rt, rt.alloc(), 2, &[0, 1, 2], SENT_TO_NOBODY);
 }
 
-// A group of nobody, to which so many requests are submitted.
+// A group of nobody, to which `count` requests are submitted.
 fn filled<R: Abort>(rt: &R, alloc: Global, count: u32) -> Group {
     let mut group = begun(rt, alloc, 1, &[]);
     for number in 0..count {

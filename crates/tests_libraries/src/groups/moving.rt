@@ -191,7 +191,7 @@ const TOO_SMALL: &[Step] = &[
     Wire(0),
 ];
 
-// How a group begins, with at least so many members and this set, and what happens.
+// A group's minimum of members, its first set, and what happens to it.
 const WAYS: [(usize, &[u8], &[Step]); 7] = [
     (2, &[0, 1, 2], FIVE_DECIDED),
     (2, &[0, 1, 2], HALF_DONE),

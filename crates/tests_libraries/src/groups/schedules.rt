@@ -8,7 +8,7 @@ use crate::pieces::expect_row;
 use crate::sets::{set, up};
 use Event::{Deliver, Lose, LoseAll, Move, Settle, Submit};
 use Party::{Client, Osd};
-use common_types::TryCopy;
+use common_types::TryClone;
 use entry_core::{Id, Reply};
 use group_core::Group;
 use group_messages::{GroupFault, Party};
@@ -45,8 +45,8 @@ fn kind_of(body: &Body) -> Kind {
     }
 }
 
-// What happens in an example. A message is named by its kind and by who gets it: it is the first such one on the wire, and
-// where there is none, the step is passed over.
+// What happens in an example. A message is named by its kind and its receiver: it is the first such message on the
+// wire. If the wire has no such message, the step is skipped.
 #[derive(Clone, Copy)]
 enum Event {
     Submit(Work),
@@ -350,7 +350,7 @@ fn played<R: Abort>(rt: &R, alloc: Global, example: Example, mishap: Mishap, at:
     stage
 }
 
-// Whether an example in which nothing goes wrong goes as it is told.
+// Whether an example in which nothing goes wrong ends as it says.
 fn goes_as_told<R: Abort>(rt: &R, alloc: Global, example: Example) -> bool {
     let stage = played(rt, alloc, example, Mishap::Lost, usize::MAX);
     stage.passed_over == 0

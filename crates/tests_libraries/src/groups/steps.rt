@@ -8,7 +8,7 @@ use crate::looks::{are, gives};
 use crate::operations::{Work, name};
 use crate::pieces::expect_row;
 use crate::sets::{set, up};
-use common_types::TryCopy;
+use common_types::TryClone;
 use entry_core::{GroupId, Id, Sealed};
 use group_core::Group;
 use group_messages::{GroupFault, Party};
@@ -128,7 +128,7 @@ fn submits_and_takes_back(group: &mut Group, request: Sealed) -> bool {
     group.keeps_promises();
     match group.submit(request) {
         Ok(()) => {
-            group.take_back();
+            group.undo_submit();
             true
         }
         Err(_) => false,

@@ -4,7 +4,7 @@ use crate::expecting::expect_text;
 use script_text::{Count, push_count};
 use std::alloc::{AllocError, Global};
 
-/// What a count is printed as after so many additions.
+/// What a count is printed as after `times` additions of one.
 fn counted(alloc: Global, times: u32) -> Result<String, AllocError> {
     let mut count = Count::new(alloc);
     for _ in 0..times {

@@ -55,7 +55,7 @@ impl Write for Narrow {
     }
 }
 
-/// How many bytes a script has that has so many, or the refusal.
+/// How many bytes are read of a script of `len` bytes, or the fault.
 fn read_len<R: Abort>(rt: &R, alloc: Global, len: usize) -> Result<usize, ScriptFault> {
     let bytes = vec![in alloc; b'#'; len].expect(rt, "memory");
     let mut reader = bytes.as_slice();

@@ -4,7 +4,7 @@ ghost use Rattle.std.specs.Prelude.{◌≡◌, ◌+◌, ◌<◌, ◌%◌, IfOk, 
 ghost use Rattle.world_core.specs.Answers.{answer_at};
 ghost use Rattle.world_core.specs.Calls.{answer_refusal};
 ghost use Rattle.store_core.specs.Request.{numbers};
-ghost use Rattle.world_front.specs.Front.{error_of};
+ghost use Rattle.world_front.specs.ControlPlane.{error_of};
 ghost use Rattle.world_core.specs.Listing.{listing_at};
 ghost use Rattle.common_types.specs.Refused.{RefusedExactly};
 ghost use Rattle.world_front.specs.Refusing.{RefusedOrMemory};
@@ -49,10 +49,10 @@ impl World {
         }
     }
 
-    /// What the list came to that begins with a request: none until each of its pieces has its answer, then the first denial, or
-    /// the names of all pieces in the order of their bytes (this project's profile).
+    /// The result of the list that begins with a request. It is `None` until each piece has its answer. Then it is
+    /// the first denial, or else the names of all pieces in the order of their bytes (this project's profile).
     ///
-    /// W5 where no list begins with this id, and W7 where memory is wanting. A step for each piece, and one insertion for each
+    /// W5: no list begins with this id. W7: out of memory. It takes a step for each piece, and one insertion for each
     /// name.
     pub fn listing(&self, first: Id) -> Result<Option<Reply>, WorldFault>
         ensures listing { IfOk result (λ reply. listing_at self.now first ≡ Ok reply) }

@@ -14,7 +14,7 @@ use common_types::OutOfMemory;
 use group_core::Group;
 use map_core::ClusterMap;
 use std::alloc::Global;
-use world_front::{Front, Session, Submissions};
+use world_front::{ControlPlane, Session, Submissions};
 
 /// What a world is put together of, as threads give it back.
 #[derive(Drop)]
@@ -55,10 +55,10 @@ fn runs_of(alloc: Global, groups: &[Group]) -> Result<Vec<Run>, OutOfMemory>
 }
 
 impl World {
-    /// A world of these parts. Its submissions are the groups' requests, and what was decided is told group by group. It has no
-    /// lists of names.
+    /// A world of these parts. Its submissions are the groups' requests, and its decided entries are those of the
+    /// groups, group by group. It has no lists of names.
     ///
-    /// Where memory is refused, the parts come back.
+    /// If an allocation fails, the parts are returned.
     pub fn of(parts: WorldParts) -> Result<World, (WorldParts, OutOfMemory)>
         requires { FitTogether parts }
         ensures made { IfOk result (λ world. world ≡ put_together parts) }
@@ -80,13 +80,14 @@ impl World {
             groups,
         } = parts;
         Ok(World {
-            front: Front::of(alloc, users, map, sessions, submissions),
+            front: ControlPlane::of(alloc, users, map, sessions, submissions),
             groups,
             runs,
         })
     }
 
-    /// The users, the map, the sessions and the groups. What was submitted and decided is told by the groups, too. It takes no memory.
+    /// The users, the map, the sessions and the groups. The groups also hold what was submitted and decided. It
+    /// allocates nothing.
     pub fn into_parts(self) -> WorldParts
         ensures front { (result.users ≡ self.front.database) × (result.map ≡ self.front.history) × (result.sessions.items ≡ self.front.sessions) }
         ensures groups { result.groups.items ≡ self.groups }

@@ -43,21 +43,21 @@ returns-in-Err-clause-first c =
     let none : start ≡ [] = nil_of start c.is_empty.result c.is_empty.ensures c.if-is_empty.true in
     rw c.fault-in-Err.ensures (told_first (finish c.tokens.state) c.in-Err.kind at c.args.text.now c.tokens.invariant.2 c.in-Err.ensures (λ e. first_end c.args.text.now c.tokens.rest.now c.tokens.behind_word c.tokens.state i.0 i.1 start at c.in-Err.kind c.look-found.ensures.start none position e))
 
-pub returns-then-len-eq-MOST_GRANTS-clause-none : goal.returns-then-len-eq-MOST_GRANTS-clause-none
-returns-then-len-eq-MOST_GRANTS-clause-none c =
+pub returns-then-len-eq-MAX_GRANTS-clause-none : goal.returns-then-len-eq-MAX_GRANTS-clause-none
+returns-then-len-eq-MAX_GRANTS-clause-none c =
     let i = c.tokens.invariant.3 in
-    let full : length c.tokens.state.done ≡ 64 = sym c.len.ensures ∙ c.if-len-eq-MOST_GRANTS.true in
-    rw c.fault-then-len-eq-MOST_GRANTS.ensures (no_list_past c.args.text.now c.tokens.rest.now c.tokens.behind_word c.tokens.state i.0 i.1 full)
+    let full : length c.tokens.state.done ≡ 64 = sym c.len.ensures ∙ c.if-len-eq-MAX_GRANTS.true in
+    rw c.fault-then-len-eq-MAX_GRANTS.ensures (no_list_past c.args.text.now c.tokens.rest.now c.tokens.behind_word c.tokens.state i.0 i.1 full)
 
-pub returns-then-len-eq-MOST_GRANTS-clause-first : goal.returns-then-len-eq-MOST_GRANTS-clause-first
-returns-then-len-eq-MOST_GRANTS-clause-first c =
+pub returns-then-len-eq-MAX_GRANTS-clause-first : goal.returns-then-len-eq-MAX_GRANTS-clause-first
+returns-then-len-eq-MAX_GRANTS-clause-first c =
     let i = c.tokens.invariant.3 in
     let start = c.look-found.result.0.now in
     let at : ℕ = length c.args.text.now - length start in
     let position : at + length start ≡ length c.args.text.now = omega (arith, c.look-found.ensures.within, c.tokens.invariant.1) in
     let some : start ≢ [] = not_nil_of start c.is_empty.result c.is_empty.ensures c.if-is_empty.false in
-    let full : length c.tokens.state.done ≡ 64 = sym c.len.ensures ∙ c.if-len-eq-MOST_GRANTS.true in
-    rw c.fault-then-len-eq-MOST_GRANTS.ensures (inr (c.tokens.invariant.2, past_found c.args.text.now c.tokens.rest.now c.tokens.behind_word c.tokens.state i.0 i.1 c.look-found.result.1 (λ n. n.0) (λ n. n.1.now) c.look-found.ensures.token start at full c.look-found.ensures.start some position))
+    let full : length c.tokens.state.done ≡ 64 = sym c.len.ensures ∙ c.if-len-eq-MAX_GRANTS.true in
+    rw c.fault-then-len-eq-MAX_GRANTS.ensures (inr (c.tokens.invariant.2, past_found c.args.text.now c.tokens.rest.now c.tokens.behind_word c.tokens.state i.0 i.1 c.look-found.result.1 (λ n. n.0) (λ n. n.1.now) c.look-found.ensures.token start at full c.look-found.ensures.start some position))
 
 pub returns-in-Err-advance-clause-none : goal.returns-in-Err-advance-clause-none
 returns-in-Err-advance-clause-none c =
@@ -72,7 +72,7 @@ returns-in-Err-advance-clause-first c =
     let start = c.look-found.result.0.now in
     let at : ℕ = length c.args.text.now - length start in
     let position : at + length start ≡ length c.args.text.now = omega (arith, c.look-found.ensures.within, c.tokens.invariant.1) in
-    rw c.fault-in-Err-advance.ensures (told_first (advance c.tokens.state c.in-Some.token) c.in-Err-advance.kind at c.args.text.now c.tokens.invariant.2 c.in-Err-advance.ensures (λ e. first_at c.args.text.now c.tokens.rest.now c.tokens.behind_word c.tokens.state i.0 i.1 c.in-Some.token c.in-Some.after.now start at c.in-Err-advance.kind (λ z. c.if-len-eq-MOST_GRANTS.false (c.len.ensures ∙ z)) c.look-found.ensures.start position one e))
+    rw c.fault-in-Err-advance.ensures (told_first (advance c.tokens.state c.in-Some.token) c.in-Err-advance.kind at c.args.text.now c.tokens.invariant.2 c.in-Err-advance.ensures (λ e. first_at c.args.text.now c.tokens.rest.now c.tokens.behind_word c.tokens.state i.0 i.1 c.in-Some.token c.in-Some.after.now start at c.in-Err-advance.kind (λ z. c.if-len-eq-MAX_GRANTS.false (c.len.ensures ∙ z)) c.look-found.ensures.start position one e))
 
 pub tokens-preserved : goal.tokens-preserved
 tokens-preserved c =
@@ -80,7 +80,7 @@ tokens-preserved c =
     let one = rw c.in-Some.is at c.look-found.ensures.token in
     let shorter = one_shorter c.tokens.behind_word c.tokens.rest.now c.in-Some.token c.in-Some.after.now one in
     let u : IsUtf8 c.in-Some.after.now = one_utf8 c.tokens.behind_word c.tokens.rest.now c.in-Some.token c.in-Some.after.now one c.tokens.invariant.0 in
-    (u, omega (arith, shorter, c.tokens.invariant.1), c.tokens.invariant.2, (i.0 ++ c.in-Some.token ∷ [], rw c.is_word-behind_word.ensures (goes_on c.args.text.now c.tokens.rest.now c.tokens.behind_word c.tokens.state i.0 i.1 c.in-Some.token c.in-Some.after.now c.advance.new.self (λ z. c.if-len-eq-MOST_GRANTS.false (c.len.ensures ∙ z)) one (rw c.in-Ok-advance.is at c.advance.ensures))))
+    (u, omega (arith, shorter, c.tokens.invariant.1), c.tokens.invariant.2, (i.0 ++ c.in-Some.token ∷ [], rw c.is_word-behind_word.ensures (goes_on c.args.text.now c.tokens.rest.now c.tokens.behind_word c.tokens.state i.0 i.1 c.in-Some.token c.in-Some.after.now c.advance.new.self (λ z. c.if-len-eq-MAX_GRANTS.false (c.len.ensures ∙ z)) one (rw c.in-Ok-advance.is at c.advance.ensures))))
 
 pub returns-in-None-clause-none : goal.returns-in-None-clause-none
 returns-in-None-clause-none c =
@@ -98,7 +98,7 @@ returns-in-None-clause-first c =
     let position : at + length start ≡ length c.args.text.now = omega (arith, c.look-found.ensures.within, c.tokens.invariant.1) in
     let some : start ≢ [] = not_nil_of start c.is_empty.result c.is_empty.ensures c.if-is_empty.false in
     let bad : IsUnreadable c.tokens.behind_word c.tokens.rest.now = (skips_some c.tokens.rest.now start c.look-found.ensures.start some, rw c.in-None.is at c.look-found.ensures.token) in
-    rw c.fault-in-None.ensures (inr (c.tokens.invariant.2, first_unread c.args.text.now c.tokens.rest.now c.tokens.behind_word c.tokens.state i.0 i.1 start at (λ z. c.if-len-eq-MOST_GRANTS.false (c.len.ensures ∙ z)) c.look-found.ensures.start position bad))
+    rw c.fault-in-None.ensures (inr (c.tokens.invariant.2, first_unread c.args.text.now c.tokens.rest.now c.tokens.behind_word c.tokens.state i.0 i.1 start at (λ z. c.if-len-eq-MAX_GRANTS.false (c.len.ensures ∙ z)) c.look-found.ensures.start position bad))
 
 pub tokens-smaller : goal.tokens-smaller
 tokens-smaller c =

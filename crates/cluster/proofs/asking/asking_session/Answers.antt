@@ -1,5 +1,5 @@
 use Rattle.std.proofs.Common.{get_or, sym, ap}
-use Rattle.world_front.specs.Front.{error_of}
+use Rattle.world_front.specs.ControlPlane.{error_of}
 use Rattle.cluster_locks.proofs.Places.{at_read}
 use Rattle.cluster.proofs.OwnSessions.{no_session, read_session}
 use Rattle.cluster.proofs.Submitting.{session_none, session_stale, session_fine}

@@ -1,6 +1,6 @@
 use Rattle.std.proofs.Common.{◌∙◌, ◌+◌, ◌<◌, sym, ap, subst, arith}
 use Rattle.std.specs.Prelude.{slice_set}
-use Rattle.world_front.specs.Front.{asks_more}
+use Rattle.world_front.specs.ControlPlane.{asks_more}
 use Rattle.world_front.specs.declared.session.Session.{Session}
 use Rattle.cluster.specs.declared.pass.OwnSession.{OwnSession}
 use Rattle.cluster.proofs.OwnSessions.{stands_at, read_at_place, read_session, next_is}

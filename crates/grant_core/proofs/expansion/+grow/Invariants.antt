@@ -4,7 +4,7 @@ use Rattle.grant_core.specs.Found.{parts_before}
 use Rattle.grant_core.specs.Tree.{below}
 use Rattle.grant_core.proofs.expansion.+grow.Given as goal
 
--- what the grants so far come to, with what those behind them come to, is all
+-- the expansion so far, followed by the expansion of the remaining grants, is the whole expansion
 abbrev pub invariant-grow-loop-i : goal.invariant-grow-loop-i
 invariant-grow-loop-i l = record {
   above : l.above.items ≡ l.fn.above.items;

@@ -7,5 +7,5 @@ returns c = record {
   nothing = ap not c.has_sought.ensures;
   dead = c.has_sought-2.ensures;
   reach = c.reach_of.ensures;
-  poolless = c.is_without_pool.ensures;
+  without_pool = c.is_without_pool.ensures;
 }

@@ -2,6 +2,6 @@ use Rattle.std.proofs.Common.{option_copied, string_bytes, take}
 use Rattle.lint_text.specs.Linted.{AreLinted}
 use Rattle.lint_text.proofs.entities.lint_entities.Given as goal
 
--- what is told of the entities so far
+-- what is printed of the entities so far
 abbrev pub invariant-loop-entity : goal.invariant-loop-entity
 invariant-loop-entity l = AreLinted (option_copied l.pools) l.check (take l.entity-index l.entities) (string_bytes l.text) l.fails

@@ -3,6 +3,6 @@ use Rattle.share_text.specs.FlowLines.{IsWriterTold}
 use Rattle.share_text.specs.Flows.{OfEach}
 use Rattle.share_text.proofs.flows.told_writers.Given as goal
 
--- what is told so far
+-- what is reported so far
 abbrev pub invariant-loop-writer : goal.invariant-loop-writer
 invariant-loop-writer l = OfEach (IsWriterTold l.check l.tenants (map (λ readers. readers.items) l.steps)) l.writer (string_bytes l.printed.text) l.printed.fails

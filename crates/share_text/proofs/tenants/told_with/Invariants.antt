@@ -2,6 +2,6 @@ use Rattle.std.proofs.Common.{drop, option_copied, string_bytes}
 use Rattle.share_text.proofs.NearTold.{NearTold}
 use Rattle.share_text.proofs.tenants.told_with.Given as goal
 
--- what is told so far, and of those from some place on, whose near ones are left, is what is told of all
+-- what is reported so far, then of those from some place on, whose near ones are left, is what is reported of all
 abbrev pub invariant-loop-place : goal.invariant-loop-place
 invariant-loop-place l = NearTold (option_copied l.pools) l.strictness l.one (drop l.from l.tenants) l.tenants (drop l.place-index l.near) (string_bytes l.printed.text) l.printed.fails

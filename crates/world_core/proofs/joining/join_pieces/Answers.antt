@@ -1,7 +1,7 @@
 use Rattle.std.proofs.Common.{◌≡◌, ◌∙◌, ◌+◌, ◌<◌, ◌≤◌, ◌%◌, ℕ, Some, arith, ap, mod-lt}
 use Rattle.std.specs.Option.{option_map}
 use Rattle.world_core.specs.Answers.{answer_at}
-use Rattle.world_front.specs.declared.session.Pieced.{Pieced}
+use Rattle.world_front.specs.declared.session.ListRange.{ListRange}
 use Rattle.world_front.specs.Joining.{joined_with}
 use Rattle.world_core.proofs.Answering.{low_next}
 use Rattle.world_core.proofs.JoinedPieces.{rest_of, begins, one_more, one_open, ends}
@@ -9,7 +9,7 @@ use Rattle.world_core.proofs.joining.join_pieces.Goals as goal
 
 pub loop-place-init : goal.loop-place-init
 loop-place-init c =
-    let list : Pieced = record { first = c.args.first; count = c.args.count } in
+    let list : ListRange = record { first = c.args.first; count = c.args.count } in
     record {
       low = from_first c.args.first;
       rest = ap (λ j. option_map (joined_with j) (rest_of (answer_at c.args.world.now) list 0)) c.new-joined.ensures ∙ begins (answer_at c.args.world.now) list;
@@ -23,13 +23,13 @@ piece_id-requires c = c.loop-place.invariant.low
 
 pub returns-in-None : goal.returns-in-None
 returns-in-None c =
-    let list : Pieced = record { first = c.args.first; count = c.args.count } in
+    let list : ListRange = record { first = c.args.first; count = c.args.count } in
     one_open (answer_at c.args.world.now) list c.loop-place.place c.loop-place.joined c.loop-place-test.true (c.in-None.ensures.reply ∙ ap (answer_at c.args.world.now) c.piece_id.ensures)
     ∙ c.loop-place.invariant.rest
 
 pub loop-place-preserved : goal.loop-place-preserved
 loop-place-preserved c =
-    let list : Pieced = record { first = c.args.first; count = c.args.count } in
+    let list : ListRange = record { first = c.args.first; count = c.args.count } in
     record {
       low = low_next c.args.first c.loop-place.place c.piece_id.result c.loop-place.invariant.low c.piece_id.ensures c.in-Some.ensures.low;
       rest = ap (λ j. option_map (joined_with j) (rest_of (answer_at c.args.world.now) list (c.loop-place.place + 1))) c.in_ok-add.ensures
@@ -39,7 +39,7 @@ loop-place-preserved c =
 
 pub returns : goal.returns
 returns c =
-    let list : Pieced = record { first = c.args.first; count = c.args.count } in
+    let list : ListRange = record { first = c.args.first; count = c.args.count } in
     let most : c.loop-place.place ≤ c.args.count = c.loop-place.auto.place-end in
     let past = c.loop-place-test.false in
     let all : c.loop-place.place ≡ c.args.count = omega arith in

@@ -1,7 +1,7 @@
 use Rattle.std.proofs.Common.{◌≡◌, ◌⊎◌, Some, sym, subst}
 use Rattle.map_core.specs.Map.{view_at}
 use Rattle.world_front.specs.Event.{NoPool, OutOfMemory}
-use Rattle.world_front.specs.Front.{error_of, need}
+use Rattle.world_front.specs.ControlPlane.{error_of, need}
 use Rattle.world_front.proofs.Views.{view_refused}
 use Rattle.world_front.proofs.asking.view_for.Goals as goal
 

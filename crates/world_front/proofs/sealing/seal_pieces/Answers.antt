@@ -2,7 +2,7 @@ use Rattle.std.proofs.Common.{◌∙◌, ◌++◌, ◌∷◌, [], List, map, sym
 use Rattle.std.specs.List.{range_with_len}
 use Rattle.std.proofs.lemmas.List.FromFn.{map-range_with_len_more}
 use Rattle.store_core.specs.Request.{Sealed, Listing}
-use Rattle.world_front.specs.Front.{Asker, sealed_of}
+use Rattle.world_front.specs.ControlPlane.{Asker, sealed_of}
 use Rattle.world_front.proofs.sealing.seal_pieces.Goals as goal
 
 pub loop-group-preserved : goal.loop-group-preserved

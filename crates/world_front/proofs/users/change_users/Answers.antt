@@ -2,7 +2,7 @@ use Rattle.std.proofs.Common.{◌∙◌, sym, ap, subst}
 use Rattle.auth_db.specs.Refusals.{auth_refusal}
 use Rattle.auth_db.specs.Refusals as refusals
 use Rattle.auth_db.specs.Users.{SetCaps}
-use Rattle.world_front.specs.Front.{command_of}
+use Rattle.world_front.specs.ControlPlane.{command_of}
 use Rattle.world_front.proofs.users.change_users.Goals as goal
 
 pub returns-in-SetCaps-clause-refused : goal.returns-in-SetCaps-clause-refused

@@ -1,7 +1,7 @@
 use Rattle.std.proofs.Common.{◌≡◌, ◌∙◌, ◌⊎◌, Some, subst, ap}
 use Rattle.auth_db.specs.Refusals.{known_refusal}
 use Rattle.auth_db.specs.declared.fault.AuthFault.TheVariants.{OutOfMemory}
-use Rattle.world_front.specs.Front.{ticket_for}
+use Rattle.world_front.specs.ControlPlane.{ticket_for}
 use Rattle.world_front.proofs.Refused.{users_exit, first_or_memory, ticket_is}
 use Rattle.world_front.proofs.users.ticket_for.Goals as goal
 

@@ -1,7 +1,7 @@
 use Rattle.std.proofs.Common.{◌≡◌, List, length, sym, subst, Some, None}
 use Rattle.std.specs.Prelude.{Vec}
 use Rattle.std.specs.Global.{Global}
-use Rattle.world_front.specs.Front.{error_of}
+use Rattle.world_front.specs.ControlPlane.{error_of}
 use Rattle.cluster.specs.declared.asking.Asked.{Asked}
 use Rattle.cluster.specs.declared.pass.OwnSession.{OwnSession}
 use Rattle.cluster.specs.Sessions.{next_of}

@@ -1,5 +1,5 @@
 use Rattle.std.proofs.Common.{arith, ◌≡◌, List, subst, Some, None}
-use Rattle.world_front.specs.Front.{error_of}
+use Rattle.world_front.specs.ControlPlane.{error_of}
 use Rattle.cluster.specs.declared.pass.OwnSession.{OwnSession}
 use Rattle.cluster.specs.Asking.{session_by, own_place}
 use Rattle.cluster.proofs.OwnSessions.{stands_at}

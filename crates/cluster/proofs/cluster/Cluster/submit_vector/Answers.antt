@@ -1,6 +1,6 @@
 use Rattle.std.proofs.Common.{◌≡◌, sym, subst, Some}
 use Rattle.store_core.specs.Request.{Sealed}
-use Rattle.world_front.specs.Front.{vector_of}
+use Rattle.world_front.specs.ControlPlane.{vector_of}
 use Rattle.world_events.specs.declared.event.Ask.{Ask}
 use Rattle.world_front.specs.declared.session.Session.{Session}
 use Rattle.cluster.specs.Sessions.{own_session}

@@ -21,5 +21,5 @@ pub returns-else-are_words : goal.returns-else-are_words
 returns-else-are_words c =
     gives_none c.args.line.now c.in-Ok.text.now (omega arith) (sym c.are_printable.ensures ∙ c.if-not-are_printable.false) c.in-Ok.ensures.cases.0 (sym c.are_words.ensures ∙ c.if-are_words.false)
 
-pub returns-then-line-gt-LINE_LIMIT : goal.returns-then-line-gt-LINE_LIMIT
-returns-then-line-gt-LINE_LIMIT c = search (tests, rules)
+pub returns-then-line-gt-MAX_LINE_BYTES : goal.returns-then-line-gt-MAX_LINE_BYTES
+returns-then-line-gt-MAX_LINE_BYTES c = search (tests, rules)

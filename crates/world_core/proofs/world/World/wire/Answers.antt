@@ -1,5 +1,5 @@
 use Rattle.std.proofs.Common.{rules, ◌≡◌, ◌<◌, Some, None, length}
-use Rattle.world_front.specs.Front.{group_refusal}
+use Rattle.world_front.specs.ControlPlane.{group_refusal}
 use Rattle.world_core.specs.World.{group_at}
 use Rattle.world_core.proofs.GroupsOf.{asked_found, asked_place, asked_there}
 use Rattle.world_core.proofs.world.World.wire.Goals as goal
