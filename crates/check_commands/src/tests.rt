@@ -90,7 +90,7 @@ const ROWS: &[Row; 9] = &[
     (
         &["osdgate", "check", "bad", "--auth", "auth"],
         "",
-        "osdgate: the rules file bad line 2: R3 NoText: expected a capability text in quotes that grants something\nnever client.web\n                ^\n",
+        "osdgate: the rules file bad line 2: U3 NoText: expected a capability text in quotes that grants something\nnever client.web\n                ^\n",
         2,
     ),
     (

@@ -86,14 +86,15 @@ fn add(contents: &mut Contents, number: usize, said: SaidLine) -> Result<(), Out
 {
     let SaidLine { text, content } = said;
     match content {
-        Content::AGroup(group) => contents.groups.push(group)?,
-        Content::ARule(rule) => contents.rules.push(RuleLine {
-            line: number,
-            text,
-            rule,
-        })?,
+        Content::AGroup(group) => Ok(contents.groups.push(group)?),
+        Content::ARule(rule) => Ok(
+            contents.rules.push(RuleLine {
+                line: number,
+                text,
+                rule,
+            })?,
+        ),
     }
-    Ok(())
 }
 
 /// Reads a line behind others, and adds what it says; or its fault, which leaves the contents unchanged.
