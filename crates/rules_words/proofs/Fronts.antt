@@ -2,6 +2,10 @@
 use Rattle.std.proofs.Common.{◌≡◌, ℕ, suc, ◌+◌, Bool, true, false, ◌&&◌, cond, List, [], ◌∷◌, length, take, drop, refl, sym, ap, ◌∙◌, arith}
 use Rattle.std.specs.List.{prefix_len, list_all}
 
+pub both_true : (a b : Bool) → (a && b) ≡ true → (a ≡ true) × (b ≡ true)
+both_true true b h = (refl, h)
+both_true false b h = absurd cc
+
 pub one_more : (n : ℕ) → 1 + n ≡ suc n
 one_more n = omega arith
 
@@ -15,7 +19,8 @@ front_passes p (x ∷ xs) =
     ] refl
 
 -- the first element behind it does not
-pub rest_fails : {X : Type 0} (p : X → Bool) (xs : List X) (b : X) (bs : List X) → drop (prefix_len p xs) xs ≡ b ∷ bs → p b ≡ false
+pub rest_fails : {X : Type 0} (p : X → Bool) (xs : List X) (b : X) (bs : List X) → drop (prefix_len p xs) xs ≡ b ∷ bs
+    → p b ≡ false
 rest_fails p [] b bs h = absurd cc
 rest_fails {X} p (x ∷ xs) b bs h =
     elim (p x) as (λ v. p x ≡ v → drop (cond v (1 + prefix_len p xs) 0) (x ∷ xs) ≡ b ∷ bs → p b ≡ false) [

@@ -15,7 +15,9 @@ use Rattle.rules_words.specs.declared.words.Word.{Word}
 -- nothing but blanks, a word with its end, or a bad one
 abbrev pub IsFirst : ℕ → List ℕ → FirstWord → Type 0
 IsFirst size text first.End = list_all is_blank text ≡ true
-IsFirst size text (first.Word word behind) = Begins size text word behind.now × (ends behind.now ≡ true) × IsAscii behind.now × (length behind.now < length text)
+IsFirst size text (first.Word word behind) =
+    Begins size text word behind.now × (ends behind.now ≡ true) × IsAscii behind.now
+    × (length behind.now < length text)
 IsFirst size text (first.Bad bad) = IsBadWord size text bad
 
 -- a text begins with this quote
@@ -34,7 +36,8 @@ IsEnded size word behind (first.Bad TooLong) = ⊥
 -- the words of the last bytes of a line, or why they have none
 abbrev pub AreWords : List ℕ → Result (Vec Word Global) BadWord → Type 0
 AreWords text (Ok words) = (rest : List ℕ) × Leads (length text) text words.items rest × (list_all is_blank rest ≡ true)
-AreWords text (Err bad) = (words : List Word) × (rest : List ℕ) × Leads (length text) text words rest × IsBadWord (length text) rest bad
+AreWords text (Err bad) =
+    (words : List Word) × (rest : List ℕ) × Leads (length text) text words rest × IsBadWord (length text) rest bad
 
 -- those of a line
 abbrev pub IsRead : List ℕ → Result CutLine BadWord → Type 0

@@ -2,3 +2,4 @@ pub mod Words
 pub mod Cutting
 pub mod Naming
 pub mod Named
+pub mod Laws

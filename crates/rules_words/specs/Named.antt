@@ -23,5 +23,6 @@ IsWhoOr groups end words (Err fault) = who_fault groups end words ≡ Some fault
 -- a group's name, and the names of its members
 abbrev pub IsGroupOr : List Group → ℕ → Word → List Word → Result Group NamesFault → Type 0
 IsGroupOr groups end name members (Ok group) =
-    (group_fault groups end name members ≡ None) × (group.name ≡ name.text.now) × (group.members.items ≡ names_of groups members)
+    (group_fault groups end name members ≡ None) × (group.name ≡ name.text.now)
+    × (group.members.items ≡ names_of groups members)
 IsGroupOr groups end name members (Err fault) = group_fault groups end name members ≡ Some fault

@@ -28,7 +28,9 @@ is_other word = is_some word.quote || not (bytes_eq word.text.now (codes "except
 
 -- a group's members, or else the name itself
 abbrev pub named : List Group → List ℕ → List (List ℕ)
-named groups name = option_map_or (λ (group : Group). group.members.items) (find (λ (group : Group). bytes_eq group.name name) groups) (name ∷ [])
+named groups name =
+    option_map_or (λ (group : Group). group.members.items)
+    (find (λ (group : Group). bytes_eq group.name name) groups) (name ∷ [])
 
 abbrev pub names_of : List Group → List Word → List (List ℕ)
 names_of groups words = flat_map (λ word. named groups word.text.now) words
@@ -40,7 +42,9 @@ excepted (word ∷ words) = words
 
 -- `NAME.. except NAME..`: groups count as their members
 abbrev pub IsWho : List Group → List Word → WhoNames → Type 0
-IsWho groups words who = (who.names.items ≡ names_of groups (front is_other words)) × (who.except.items ≡ names_of groups (excepted (rest is_other words)))
+IsWho groups words who =
+    (who.names.items ≡ names_of groups (front is_other words))
+    × (who.except.items ≡ names_of groups (excepted (rest is_other words)))
 
 -- ---- faults
 
@@ -96,7 +100,8 @@ abbrev pub who_fault : List Group → ℕ → List Word → Option NamesFault
 who_fault groups end words =
     option_or (some_fault (place end (rest is_other words)) (front is_other words))
     (option_or (except_fault end (rest is_other words))
-    (option_or (many_fault groups end (front is_other words)) (many_fault groups end (excepted (rest is_other words)))))
+    (option_or (many_fault groups end (front is_other words))
+    (many_fault groups end (excepted (rest is_other words)))))
 
 -- ---- groups
 
@@ -113,4 +118,5 @@ group_name_fault groups word =
 
 abbrev pub group_fault : List Group → ℕ → Word → List Word → Option NamesFault
 group_fault groups end name members =
-    option_or (fault_at name.at (group_name_fault groups name)) (option_or (some_fault end members) (many_fault groups end members))
+    option_or (fault_at name.at (group_name_fault groups name))
+    (option_or (some_fault end members) (many_fault groups end members))

@@ -41,13 +41,13 @@ abbrev pub ends : List ℕ → Bool
 ends [] = true
 ends (b ∷ bs) = is_blank b
 
--- a word goes on with a byte that no word may have there
+-- a word goes on with a byte that is not allowed behind it
 abbrev pub breaks : Option ℕ → List ℕ → Bool
 breaks quote [] = false
 breaks None (b ∷ bs) = is_quote b
 breaks (Some quote) (b ∷ bs) = not (is_blank b)
 
--- the last bytes of a line of so many begin with blanks and this word, behind which are others
+-- the end of a line of this size begins with blanks and this word, and these bytes are behind it
 pub record Begins (size : ℕ) (text : List ℕ) (word : Word) (behind : List ℕ) : Type 0 where
   pub blanks : List ℕ
   pub skipped : list_all is_blank blanks ≡ true
@@ -58,14 +58,18 @@ pub record Begins (size : ℕ) (text : List ℕ) (word : Word) (behind : List �
 -- these words, each with its end, and what is left behind them
 abbrev pub Leads : ℕ → List ℕ → List Word → List ℕ → Type 0
 Leads size text [] rest = text ≡ rest
-Leads size text (word ∷ words) rest = (behind : List ℕ) × Begins size text word behind × (ends behind ≡ true) × Leads size behind words rest
+Leads size text (word ∷ words) rest =
+    (behind : List ℕ) × Begins size text word behind × (ends behind ≡ true) × Leads size behind words rest
 
--- the last bytes of a line of so many begin with a word that is none
+-- the end of a line of this size begins with a word that is not valid
 abbrev pub IsBadWord : ℕ → List ℕ → BadWord → Type 0
 IsBadWord size text (OpenQuote at) =
-    (blanks inside : List ℕ) × (quote : ℕ) × (list_all is_blank blanks ≡ true) × (is_quote quote ≡ true) × (list_all (is_inside quote) inside ≡ true)
-    × (text ≡ blanks ++ quote ∷ inside) × (at + length (quote ∷ inside) ≡ size)
-IsBadWord size text (StrayQuote at) = (word : Word) × (behind : List ℕ) × Begins size text word behind × (breaks word.quote behind ≡ true) × (at + length behind ≡ size)
+    (blanks inside : List ℕ) × (quote : ℕ) × (list_all is_blank blanks ≡ true) × (is_quote quote ≡ true)
+    × (list_all (is_inside quote) inside ≡ true) × (text ≡ blanks ++ quote ∷ inside)
+    × (at + length (quote ∷ inside) ≡ size)
+IsBadWord size text (StrayQuote at) =
+    (word : Word) × (behind : List ℕ) × Begins size text word behind × (breaks word.quote behind ≡ true)
+    × (at + length behind ≡ size)
 IsBadWord size text (BadByte at) = ⊥
 IsBadWord size text TooLong = ⊥
 
@@ -75,8 +79,15 @@ IsSound line = (length line ≤ 8192) × (list_all is_plain line ≡ true)
 
 -- the words of a line, or the first fault of it
 abbrev pub IsCut : List ℕ → Result (List Word) BadWord → Type 0
-IsCut line (Ok words) = IsSound line × ((rest : List ℕ) × Leads (length line) line words rest × (list_all is_blank rest ≡ true))
+IsCut line (Ok words) =
+    IsSound line × ((rest : List ℕ) × Leads (length line) line words rest × (list_all is_blank rest ≡ true))
 IsCut line (Err TooLong) = 8192 < length line
 IsCut line (Err (BadByte at)) = (length line ≤ 8192) × (at ≡ prefix_len is_plain line) × (at < length line)
-IsCut line (Err (OpenQuote at)) = IsSound line × ((words : List Word) × (rest : List ℕ) × Leads (length line) line words rest × IsBadWord (length line) rest (OpenQuote at))
-IsCut line (Err (StrayQuote at)) = IsSound line × ((words : List Word) × (rest : List ℕ) × Leads (length line) line words rest × IsBadWord (length line) rest (StrayQuote at))
+IsCut line (Err (OpenQuote at)) =
+    IsSound line
+    × ((words : List Word) × (rest : List ℕ) × Leads (length line) line words rest
+    × IsBadWord (length line) rest (OpenQuote at))
+IsCut line (Err (StrayQuote at)) =
+    IsSound line
+    × ((words : List Word) × (rest : List ℕ) × Leads (length line) line words rest
+    × IsBadWord (length line) rest (StrayQuote at))

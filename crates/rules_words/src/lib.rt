@@ -2,16 +2,19 @@
 //!
 //! # What contracts see
 //!
-//! A line is bytes, and its words are a relation between these and a list (`specs/Words.antt`); no line has two such lists. Whom
-//! words name, and their first fault, are functions of the words and of the groups above (`specs/Naming.antt`).
+//! `specs/Words.antt` relates the bytes of a line to its words, or to its first fault. A line has one such result
+//! (`lines_are_cut_once`). `specs/Naming.antt` defines the names that words stand for and the first fault of words, as
+//! functions of the words and of the groups above them.
 //!
 //! # Costs
 //!
-//! A line is read once, and takes memory for its words. A name is looked up among the groups one by one.
+//! Reading a line takes time linear in its length, and memory for its words. A name is compared with each group.
 #![tactic(auto)]
 
+mod laws;
 mod naming;
 mod words;
 
+pub use laws::lines_are_cut_once;
 pub use naming::{Group, NameFault, NamesFault, WhoNames, group_from, quoted_from, who_from};
 pub use words::{BadWord, CutLine, Word, blanks_len, words_of};

@@ -287,9 +287,9 @@ fn names_or_fault(
     }
 }
 
-/// Whom `NAME.. except NAME..` means behind these groups, or the first fault of the words.
+/// The names that `NAME.. except NAME..` stands for, given these groups, or the first fault of the words.
 ///
-/// `end` is the position of what is behind the words: there a missing name is reported. An `Err` is out of memory.
+/// `end` is the position behind the words, where a missing name is reported. The outer `Err` is out of memory.
 pub fn who_from(
     alloc: Global,
     groups: &[Group],
@@ -337,9 +337,9 @@ fn group_name_fault(groups: &[Group], word: &Word<'_>) -> Option<NameFault>
     }
 }
 
-/// The group of a name and its members behind these groups, or the first fault of the words.
+/// The group of a name and its members, given the groups above it, or the first fault of the words.
 ///
-/// `end` is the position of what is behind the words: there a missing name is reported. An `Err` is out of memory.
+/// `end` is the position behind the words, where a missing name is reported. The outer `Err` is out of memory.
 pub fn group_from(
     alloc: Global,
     groups: &[Group],

@@ -212,7 +212,7 @@ fn all_words<'a>(
 
 /// The words of a line, or its first fault.
 ///
-/// Words are parted by spaces and tabs. A word has no quotes in it, or it is all between two quotes of one kind, `'` or `"`.
+/// Spaces and tabs separate words. A word either has no quotes, or is between two quotes of one kind, `'` or `"`.
 pub fn words_of<'a>(
     alloc: Global,
     line: &'a [u8],

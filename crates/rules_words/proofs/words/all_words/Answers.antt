@@ -11,8 +11,10 @@ loop-rest-preserved c = record {
   ascii = c.in-Word.ensures.2;
   within = omega (arith, c.in-Word.ensures.3, c.loop-rest.invariant.within);
   leads =
-      subst (λ (ws : List Word). Leads (length c.args.text.now) c.args.text.now ws c.in-Word.behind.now) (sym c.in_ok-push-in-Word.ensures.items)
-      (one_word (length c.args.text.now) c.args.text.now c.loop-rest.words.items c.loop-rest.rest.now c.in-Word.word c.in-Word.behind.now c.loop-rest.invariant.leads c.in-Word.ensures.0 c.in-Word.ensures.1);
+      subst (λ (ws : List Word). Leads (length c.args.text.now) c.args.text.now ws c.in-Word.behind.now)
+      (sym c.in_ok-push-in-Word.ensures.items)
+      (one_word (length c.args.text.now) c.args.text.now c.loop-rest.words.items c.loop-rest.rest.now c.in-Word.word
+      c.in-Word.behind.now c.loop-rest.invariant.leads c.in-Word.ensures.0 c.in-Word.ensures.1);
 }
 
 pub returns-in-End : goal.returns-in-End
