@@ -10,11 +10,11 @@ ghost use Rattle.turn_lock.specs.Turned.{Turned, Closes};
 use crate::locked_value::{Recorded, Step};
 use crate::rule::{Call, Chosen, Draw, Halve, Look, Settle, Tale, Tell, Turns, View};
 use atomic_table::{Refused, Table};
+use crossbeam_utils::Backoff;
 use std::alloc::Global;
 use std::marker::Brand;
 use std::snapshot::Snapshot;
 use std::sync::Wait;
-use std::thread;
 
 // The table's token of a seat.
 pub(crate) type Token<T> = atomic_table::Seat<Option<T>, View<<T as Recorded>::Entry>>;
@@ -168,11 +168,12 @@ impl<T: Recorded> Turnstile<T> {
         ensures seat { (token.new.table_id ≡ token.old.table_id) × (token.new.id ≡ token.old.id) }
         ensures found { Found T.state T.after T.fits (T.state self.now.table.shared.key.value ∷ []) token.old.id ticket token.old.me token.new.me }
     {
+        let backoff = Backoff::new();
         for _ in rt.forever() {
             if self.look(token, ticket) {
                 return;
             }
-            thread::yield_now();
+            backoff.snooze();
         }
         unreachable!()
     }
