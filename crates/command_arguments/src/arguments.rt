@@ -2,6 +2,7 @@
 
 use crate::audit_arguments::audit_command;
 use crate::log_arguments::{log_command, suggest_command};
+use crate::check_arguments::check_command;
 use clap::{Arg, ArgAction, ArgMatches, Command, Error};
 use std::alloc::{AllocError, Global};
 use std::convert::AsStr;
@@ -70,13 +71,13 @@ pub(crate) const POOLS_HELP: &str =
 const LINT_POOLS_HELP: &str =
     "List also grants that match none of these pools: what `ceph osd dump --format json` or `ceph osd pool ls detail --format json` prints, `-` for standard input";
 
-const SHARED_POOLS_HELP: &str =
+pub(crate) const SHARED_POOLS_HELP: &str =
     "Only what these pools have counts, each with its tags: what `ceph osd dump --format json` or `ceph osd pool ls detail --format json` prints, `-` for standard input";
 
 pub(crate) const REQUESTS_HELP: &str =
     "A file with a request a line, in the words of `osdgate verdict`, in place of the options of one request: prints a table of entities and requests; `-` for standard input";
 
-const FORMAT_HELP: &str = "The form of the answer, `text` if none is given";
+pub(crate) const FORMAT_HELP: &str = "The form of the answer, `text` if none is given";
 
 const REGISTRY_HELP: &str =
     "The class registry of requests: `all` of them, if none is given, this program's `own`, or by Ceph's rules the `known` methods of Ceph 16.2.15";
@@ -667,13 +668,14 @@ enum Kind {
     Audit,
     Log,
     Suggest,
+    Check,
     Run,
     Threads,
     Completions,
     Man,
 }
 
-const KINDS: &[Kind; 13] = &[
+const KINDS: &[Kind; 14] = &[
     Kind::Verdict,
     Kind::Explain,
     Kind::Compare,
@@ -683,6 +685,7 @@ const KINDS: &[Kind; 13] = &[
     Kind::Audit,
     Kind::Log,
     Kind::Suggest,
+    Kind::Check,
     Kind::Run,
     Kind::Threads,
     Kind::Completions,
@@ -700,6 +703,7 @@ fn command_of<'a>(alloc: Global, kind: Kind) -> Result<Command<'a>, AllocError> 
         Kind::Audit => audit_command(alloc),
         Kind::Log => log_command(alloc),
         Kind::Suggest => suggest_command(alloc),
+        Kind::Check => check_command(alloc),
         Kind::Run => run_command(alloc),
         Kind::Threads => threads_command(alloc),
         Kind::Completions => completions_command(alloc),

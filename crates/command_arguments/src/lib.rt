@@ -7,6 +7,7 @@
 mod advice;
 mod arguments;
 mod audit_arguments;
+mod check_arguments;
 mod completions;
 mod log_arguments;
 mod man_page;

@@ -7,6 +7,7 @@ use crate::checking::push_path;
 use crate::drawing::{Drawn, asked_picture};
 use crate::output_files::{Logs, OutputFiles};
 use crate::run::{Ran, RunFault, Task, run_task};
+use check_commands::run_check;
 use clap::ArgMatches;
 use command_arguments::command_words;
 use command_steps::{DONE, FOUND, TROUBLE, number_of, refuse_command, write_out};
@@ -218,6 +219,7 @@ pub fn run_command<
             None => refuse_workers(err),
         },
         Some(("audit", inner)) => run_audit(alloc, inner, files, reader, out, err),
+        Some(("check", inner)) => run_check(alloc, inner, files, reader, out, err),
         Some(("run", inner)) => run_words(alloc, inner, files, reader, out, err),
         Some((name, inner)) if is_log_command(name) => {
             run_log_command(alloc, name, inner, files, &Logs(files), reader, out, err)

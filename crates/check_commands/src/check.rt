@@ -1,0 +1,90 @@
+//! `osdgate check`.
+
+ghost use Rattle.std.specs.Prelude.{◌≤◌};
+
+use crate::arguments::{CheckArguments, CheckFormat};
+use crate::rules_file::rules_in;
+use clap::ArgMatches;
+use command_steps::{
+    Answered, NoAnswer, chosen_in, finish_answer, finish_unanswered, format_of, pools_given,
+    reader_of, with_rules_of,
+};
+use common_types::OutOfMemory;
+use gate_files::{Chosen, InputFiles};
+use rules_text::{
+    CheckedRule, RuleLine, check_json, check_junit, check_report, check_rules, some_fail,
+};
+use share_core::Pool;
+use std::alloc::Global;
+use std::io::{Read, Write};
+use verdict_text::{Printed, ReadEntity};
+
+/// The answer in the form that is asked for.
+fn rendered(
+    alloc: Global,
+    arguments: &CheckArguments<'_>,
+    entities: &[ReadEntity],
+    all: &[CheckedRule<'_>],
+) -> Result<String, OutOfMemory> {
+    match arguments.format {
+        CheckFormat::Text => check_report(alloc, entities, arguments.quiet, all),
+        CheckFormat::Json => check_json(alloc, entities, all),
+        CheckFormat::Junit => check_junit(alloc, arguments.by, entities, all),
+    }
+}
+
+/// The answer on rules: it fails where one does not hold, names nobody, or names an entity that could not be checked. The other
+/// entities that could not be checked are noted.
+fn checked(
+    alloc: Global,
+    arguments: &CheckArguments<'_>,
+    rules: &[RuleLine],
+    pools: Option<&[Pool]>,
+    chosen: &Chosen,
+) -> Result<Answered, OutOfMemory> {
+    let entities = chosen.entities();
+    let all = check_rules(alloc, pools, rules, entities)?;
+    let fails = some_fail(all.as_slice());
+    let text = rendered(alloc, arguments, entities, all.as_slice())?;
+    let mut answered = Answered::of(alloc, Printed { text, fails }).about(alloc, chosen)?;
+    answered.printed.fails = fails;
+    Ok(answered)
+}
+
+/// Which rules the entities of a file keep.
+fn check<F: InputFiles, R: Read>(
+    alloc: Global,
+    matches: &ArgMatches<'_>,
+    files: &F,
+    reader: &mut R,
+) -> Result<Answered, NoAnswer> {
+    let arguments = CheckArguments::of(matches)?;
+    let pools = pools_given(alloc, files, reader, matches)?;
+    let pools = pools.as_ref().map(Vec::as_slice);
+    let chosen = chosen_in(alloc, files, reader, matches)?;
+    let by = reader_of(alloc, matches)?;
+    let rules = rules_in(alloc, files, reader, arguments.path, chosen.entities(), &by)?;
+    let answered = checked(alloc, &arguments, rules.as_slice(), pools, &chosen)?;
+    let answered = with_rules_of(alloc, matches, answered)?;
+    Ok(answered.documented(alloc, format_of(matches))?)
+}
+
+/// `osdgate check`: which rules of a file the entities of another keep. Returns the status: 0 all hold, 1 some do not, 2 there is
+/// no answer.
+///
+/// The answer goes to `out`. Notes, and what is wrong with the arguments or the files, go to `err`.
+pub fn run_check<F: InputFiles, R: Read, O: Write, E: Write>(
+    alloc: Global,
+    matches: &ArgMatches<'_>,
+    files: &F,
+    reader: &mut R,
+    out: &mut O,
+    err: &mut E,
+) -> u8
+    ensures { result ≤ 2 }
+{
+    match check(alloc, matches, files, reader) {
+        Ok(answered) => finish_answer(&answered, out, err),
+        Err(why) => finish_unanswered(&why, out, err),
+    }
+}

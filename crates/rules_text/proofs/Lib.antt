@@ -1,0 +1,5 @@
+pub mod Checking
+pub mod NoFloats
+pub mod NextLines
+pub mod Joining
+pub mod Saying

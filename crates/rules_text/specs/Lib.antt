@@ -1,0 +1,9 @@
+pub mod Faults
+pub mod Grammar
+pub mod Said
+pub mod File
+pub mod Contents
+pub mod Checked
+pub mod Report
+pub mod Json
+pub mod Junit

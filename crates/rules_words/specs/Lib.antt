@@ -1,0 +1,5 @@
+pub mod Words
+pub mod Cutting
+pub mod Naming
+pub mod Named
+pub mod Laws
