@@ -302,7 +302,7 @@ const SHARE_HOW: &[OptionRow; 5] = &[
 ];
 
 /// The last options of `osdgate lint`.
-const LINT_HOW: &[OptionRow; 6] = &[
+const LINT_HOW: &[OptionRow; 7] = &[
     RULES,
     METHODS,
     ONLY,
@@ -313,6 +313,7 @@ const LINT_HOW: &[OptionRow; 6] = &[
         Nothing,
         "Exit with 1 if a grant is redundant or matches no pool",
     ),
+    FORMAT,
 ];
 
 /// Whether this is an option's name.
@@ -544,8 +545,8 @@ fn compare_command<'a>(alloc: Global) -> Result<Command<'a>, AllocError> {
 }
 
 /// What only the entities of a file are asked with.
-const OF_FILE: &[&str; 8] = &[
-    "auth", "pools", "only", "without", "reads", "flows", "known", "format",
+const OF_FILE: &[&str; 7] = &[
+    "auth", "pools", "only", "without", "reads", "flows", "known",
 ];
 
 /// The two texts, in whose place a file of entities may be.
@@ -561,9 +562,7 @@ fn two_texts_option<'a>(alloc: Global) -> Result<Arg<'a>, AllocError> {
 fn flows_option<'a>(alloc: Global) -> Result<Arg<'a>, AllocError> {
     let help =
         "Show instead which entities may come to know what another one writes, and through whom";
-    flag(alloc, "flows", help)
-        .conflicts_with("reads")?
-        .conflicts_with("format")
+    flag(alloc, "flows", help).conflicts_with("reads")
 }
 
 fn share_command<'a>(alloc: Global) -> Result<Command<'a>, AllocError> {
