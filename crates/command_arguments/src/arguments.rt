@@ -1,6 +1,6 @@
 //! The words that each command takes.
 
-use crate::audit_arguments::audit_command;
+use crate::audit_arguments::{audit_command, reach_command};
 use crate::log_arguments::{log_command, suggest_command};
 use clap::{Arg, ArgAction, ArgMatches, Command, Error};
 use std::alloc::{AllocError, Global};
@@ -664,6 +664,7 @@ enum Kind {
     Share,
     Lint,
     Audit,
+    Reach,
     Log,
     Suggest,
     Run,
@@ -672,7 +673,7 @@ enum Kind {
     Man,
 }
 
-const KINDS: &[Kind; 13] = &[
+const KINDS: &[Kind; 14] = &[
     Kind::Verdict,
     Kind::Explain,
     Kind::Compare,
@@ -680,6 +681,7 @@ const KINDS: &[Kind; 13] = &[
     Kind::Share,
     Kind::Lint,
     Kind::Audit,
+    Kind::Reach,
     Kind::Log,
     Kind::Suggest,
     Kind::Run,
@@ -697,6 +699,7 @@ fn command_of<'a>(alloc: Global, kind: Kind) -> Result<Command<'a>, AllocError> 
         Kind::Share => share_command(alloc),
         Kind::Lint => lint_command(alloc),
         Kind::Audit => audit_command(alloc),
+        Kind::Reach => reach_command(alloc),
         Kind::Log => log_command(alloc),
         Kind::Suggest => suggest_command(alloc),
         Kind::Run => run_command(alloc),
