@@ -253,7 +253,7 @@ const WHO: &[OptionRow; 15] = &[
     ("pool", NeededUnless("POOL", &["requests"]), "The pool"),
     (
         "object",
-        NeededUnless("OBJECT", &["requests", "list"]),
+        NeededUnless("OBJECT", &["requests", "list", "any"]),
         "The object's name",
     ),
     NAMESPACE,
@@ -476,12 +476,23 @@ fn requests_option<'a>(alloc: Global) -> Result<Arg<'a>, AllocError> {
     in_place_of(file, ONE_REQUEST)
 }
 
+/// What says where a request goes or comes from, or asks otherwise: none of it is with a request at something in a pool.
+const NOT_ANY: &[&str; 5] = &["object", "namespace", "from", "requests", "all"];
+
+/// A request at something in a pool.
+fn any_option<'a>(alloc: Global) -> Result<Arg<'a>, AllocError> {
+    let help =
+        "List who is allowed the request somewhere in the pool, at any object of any namespace from any address, each with an example";
+    in_place_of(flag(alloc, "any", help), NOT_ANY)
+}
+
 fn who_command<'a>(alloc: Global) -> Result<Command<'a>, AllocError> {
     let command = Command::new(alloc, "who")
         .about("List the entities of a file that are allowed a request")
         .after_help(WHO_EXAMPLE);
     let command = with_request(alloc, command, WHO)?;
     let command = with_arg(command, requests_option(alloc))?;
+    let command = with_arg(command, any_option(alloc))?;
     command.arg(flag(alloc, "all", "Print each entity with its answer"))
 }
 

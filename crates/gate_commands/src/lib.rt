@@ -7,6 +7,7 @@
 //! `command_line` has the commands that run worlds.
 #![tactic(auto)]
 
+mod any_request;
 mod caps;
 mod ceph_tidy;
 mod change_lines;
@@ -24,5 +25,6 @@ mod service_lines;
 mod share;
 mod verdict;
 mod who;
+mod who_any;
 
 pub use question::{run_gate, run_question};
