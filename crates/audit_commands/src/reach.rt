@@ -62,8 +62,8 @@ fn reached_in(
     Ok(Answered::of_text(alloc, text))
 }
 
-/// The answer on rights in the pools that their grants name, and in one that none of them names. It fails if a grant is for
-/// pools with a tag.
+/// The answer on rights in the pools that their grants name, and in one that none of them names. It fails if a grant is
+/// for pools with a tag.
 fn reached_by_name(
     alloc: Global,
     arguments: ReachArguments<'_>,

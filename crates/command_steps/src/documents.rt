@@ -1,4 +1,4 @@
-//! The members that every JSON document has, the entities that were not checked and the notes; and the document of a fault.
+//! The members that every JSON document has, the entities that were not checked and the notes. The document of a fault.
 
 use common_types::OutOfMemory;
 use gate_files::Unchecked;

@@ -154,8 +154,8 @@ pub(crate) fn text_pieces(
     }
 }
 
-/// Adds what is found of the grants of an entity, over every class registry and over the methods of Ceph's class table. One
-/// whose text is refused has nothing.
+/// Adds what is found of the grants of an entity, over every class registry and over the methods of Ceph's class table.
+/// One whose text is refused has nothing.
 fn push_entity(
     every: &mut Printed,
     known: &mut Printed,

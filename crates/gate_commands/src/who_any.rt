@@ -81,8 +81,8 @@ fn depends_on_tags(
     }
 }
 
-/// An answer with a line on the entities whose access depends on the pool's tags. Such an entity makes it fail, unless the
-/// choice accepts that.
+/// An answer with a line on the entities whose access depends on the pool's tags. Such an entity makes it fail, unless
+/// the choice accepts that.
 fn with_tag_names(
     alloc: Global,
     mut answered: Answered,

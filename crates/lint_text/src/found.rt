@@ -30,8 +30,8 @@ fn judged_lints(alloc: Global, judged: &Judged) -> Result<Vec<GrantLint>, OutOfM
     Ok(all)
 }
 
-/// What is found of each grant of a capability text, or why the text is refused: what [`crate::lint_caps`] prints, or by Ceph's
-/// rules [`crate::lint_ceph_caps`]. An `Err` is out of memory alone.
+/// What is found of each grant of a capability text, or why the text is refused: what [`crate::lint_caps`] prints, or by
+/// Ceph's rules [`crate::lint_ceph_caps`]. An `Err` is out of memory alone.
 pub fn found_grants(
     alloc: Global,
     rules: Rules,

@@ -75,9 +75,9 @@ fn shared_values(alloc: Global, all: &Examples) -> Result<Vec<Value>, OutOfMemor
 
 /// What the program prints of what the rights of two texts share, as a JSON document on a line.
 ///
-/// Its member `shared` has an item for each line of [`crate::share_read`]: `kind`, `first` and `second`, the paths of the two
-/// grants, and `example`, the target. With a check it fails where one writes what the other reads or writes. The only error
-/// is `OutOfMemory`, which leaves nothing. The members are this project's profile.
+/// Its member `shared` has an item for each line of [`crate::share_read`]: `kind`, `first` and `second`, the paths of
+/// the two grants, and `example`, the target. With a check it fails where one writes what the other reads or writes.
+/// The only error is `OutOfMemory`, which leaves nothing. The members are this project's profile.
 pub fn share_document(
     alloc: Global,
     ones: &Rights,
@@ -166,9 +166,9 @@ fn flow_values(
 
 /// What the program prints of where the data that an entity writes may flow, as a JSON document on a line.
 ///
-/// Its member `flows` has an item for each line of [`crate::flow_entities`]: `writer`, `reader`, and `through`, a list of the
-/// entities between them. Names are as they are. With a check it fails where there is an item. The only error is
-/// `OutOfMemory`, which leaves nothing. The members are this project's profile.
+/// Its member `flows` has an item for each line of [`crate::flow_entities`]: `writer`, `reader`, and `through`, a list
+/// of the entities between them. Names are as they are. With a check it fails where there is an item. The only error
+/// is `OutOfMemory`, which leaves nothing. The members are this project's profile.
 pub fn flow_document(
     alloc: Global,
     entities: &[ReadEntity],
