@@ -4,14 +4,14 @@ use audit_core::{Extent, cells};
 use cap_text::{AllowGrant, NsMatch};
 use clap::ArgMatches;
 use command_steps::{BadWords, NoAnswer, RequestWords, value_of};
-use common_types::{Name, OutOfMemory, TryClone};
+use common_types::{Name, OutOfMemory, Tags, TryClone};
 use compare_core::{Example, OwnedTarget};
 use compare_text::push_request;
 use grant_core::Path;
 use network_core::Address;
 use rights_core::{Rights, addresses, tickets};
 use share_core::{Pool, Touch, example_in, share_in, sharing};
-use std::alloc::Global;
+use std::alloc::{AllocError, Global};
 use std::fmt::Write;
 use std::slice::from_ref;
 use verdict_core::{Needs, Ticket, grants_allow};
@@ -63,6 +63,22 @@ fn touch_of(needs: &Needs) -> Result<Option<Touch>, OutOfMemory> {
     }
 }
 
+/// What a request asks for, whose calls are known.
+fn needs_of(alloc: Global, request: &RequestWords<'_, '_>) -> Result<Needs, OutOfMemory> {
+    match needs_asked(alloc, &request.asked(FIRST_TICK)) {
+        Ok(needs) => Ok(needs),
+        Err(_) => Err(AllocError),
+    }
+}
+
+/// A pool of a name, with these tags.
+fn pool_with(alloc: Global, name: &str, tags: &Tags) -> Result<Pool, OutOfMemory> {
+    Ok(Pool {
+        name: Name::new(alloc, name)?,
+        tags: tags.copy()?,
+    })
+}
+
 /// A namespace that a grant is for.
 fn namespace_of(alloc: Global, grant: &AllowGrant) -> Result<Name, OutOfMemory> {
     match &grant.namespace {
@@ -78,21 +94,26 @@ impl AnyRequest {
         matches: &ArgMatches<'_>,
         request: &RequestWords<'_, '_>,
     ) -> Result<AnyRequest, NoAnswer> {
-        let asked = request.asked(FIRST_TICK);
-        let Ok(needs) = needs_asked(alloc, &asked) else {
-            return Err(NoAnswer::OutOfMemory);
-        };
+        let needs = needs_of(alloc, request)?;
         let Some(touch) = touch_of(&needs)? else {
             return Err(NoAnswer::Words(BadWords::OneAny));
         };
+        let name = value_of(matches, "pool");
         Ok(AnyRequest {
-            pool: Pool {
-                name: Name::new(alloc, value_of(matches, "pool"))?,
-                tags: asked.target.tags.copy()?,
-            },
+            pool: pool_with(alloc, name, request.asked(FIRST_TICK).target.tags)?,
             touch,
             needs,
             lists: matches.get_flag("list"),
+        })
+    }
+
+    /// The listing of a namespace that a grant is for.
+    fn listing_by(&self, alloc: Global, grant: &AllowGrant) -> Result<OwnedTarget, OutOfMemory> {
+        Ok(OwnedTarget {
+            pool: self.pool.name.copy()?,
+            tags: self.pool.tags.copy()?,
+            namespace: namespace_of(alloc, grant)?,
+            object: Name::new(alloc, "")?,
         })
     }
 
@@ -102,13 +123,8 @@ impl AnyRequest {
         alloc: Global,
         ticket: &Ticket,
     ) -> Result<Option<OwnedTarget>, OutOfMemory> {
-        for (_, grant) in ticket.grants() {
-            let target = OwnedTarget {
-                pool: self.pool.name.copy()?,
-                tags: self.pool.tags.copy()?,
-                namespace: namespace_of(alloc, grant)?,
-                object: Name::new(alloc, "")?,
-            };
+        for entry in ticket.grants() {
+            let target = self.listing_by(alloc, &entry.1)?;
             if grants_allow(ticket.grants(), &target.as_target(), &self.needs) {
                 return Ok(Some(target));
             }
@@ -173,10 +189,7 @@ impl AnyRequest {
     ) -> Result<bool, OutOfMemory> {
         let live = rights.anywhere(alloc)?;
         for shared in &sharing(alloc, &live, &self.touch, &live, &self.touch)? {
-            let pool = Pool {
-                name: self.pool.name.copy()?,
-                tags: shared.target.tags.copy()?,
-            };
+            let pool = pool_with(alloc, self.pool.name.as_str(), &shared.target.tags)?;
             if self.is_allowed_in(alloc, rights, &live, &pool)? {
                 return Ok(true);
             }
@@ -193,6 +206,18 @@ impl AnyRequest {
         })
     }
 
+    /// The request at a target in words of a shell.
+    fn words(&self, alloc: Global, target: OwnedTarget) -> Result<String, OutOfMemory> {
+        let example = Example {
+            path: Path::of(alloc, &[])?,
+            target,
+            needs: self.needs()?,
+        };
+        let mut words = String::new(alloc);
+        push_request(&mut words, &example)?;
+        Ok(words)
+    }
+
     /// Adds an allowed request in words of a shell.
     pub(crate) fn push_words(
         &self,
@@ -201,13 +226,7 @@ impl AnyRequest {
         allowed: Allowed,
     ) -> Result<(), OutOfMemory> {
         let Allowed { target, from } = allowed;
-        let example = Example {
-            path: Path::of(alloc, &[])?,
-            target,
-            needs: self.needs()?,
-        };
-        let mut words = String::new(alloc);
-        push_request(&mut words, &example)?;
+        let words = self.words(alloc, target)?;
         if self.lists {
             push_listing(text, words.as_str())?;
         } else {

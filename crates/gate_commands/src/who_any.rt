@@ -8,7 +8,7 @@ use common_types::OutOfMemory;
 use gate_files::{Choice, Chosen, push_name};
 use serde_json::{Value, json};
 use std::alloc::Global;
-use verdict_text::{Format, Printed, ReadEntity, entities_by, push_shown_text};
+use verdict_text::{Format, Printed, ReadEntity, entities_by};
 
 /// Adds an entity with its example, as a line or as a piece of a list.
 fn push_entity(
@@ -19,7 +19,7 @@ fn push_entity(
     format: Format,
 ) -> Result<(), OutOfMemory> {
     if format == Format::Text {
-        push_shown_text(text, name)?;
+        push_name(text, name)?;
         text.push_str(" ")?;
         text.push_str(example)?;
         return text.push_str("\n");
