@@ -1,9 +1,10 @@
 //! The files of `osdgate audit`, read into values.
 
 use crate::arguments::AuditArguments;
+use crate::reached_pools::sorted_pools;
 use clap::ArgMatches;
 use command_steps::{NoAnswer, auth_in, or_bad_file, refuse_unmatched, text_in};
-use common_types::{OutOfMemory, TryClone};
+use common_types::OutOfMemory;
 use gate_files::{Choice, Chosen, InputFiles, Purpose, keep_chosen, pools_of};
 use share_core::Pool;
 use std::alloc::Global;
@@ -38,24 +39,6 @@ fn sorted_entities(alloc: Global, entities: &[Entity]) -> Result<Vec<Entity>, Ou
             let name = entity.name.clone()?;
             let osd = entity.osd.clone()?;
             sorted.push(Entity { name, osd })?;
-        }
-    }
-    Ok(sorted)
-}
-
-/// Copies of pools, sorted by their names.
-fn sorted_pools(alloc: Global, pools: &[Pool]) -> Result<Vec<Pool>, OutOfMemory> {
-    let mut order = Vec::with_capacity(alloc, pools.len())?;
-    for (index, pool) in pools.iter().enumerate() {
-        order.push((pool.name.as_str(), index))?;
-    }
-    order.sort()?;
-    let mut sorted = Vec::with_capacity(alloc, pools.len())?;
-    for (_, index) in &order {
-        if let Some(pool) = pools.get(*index) {
-            let name = pool.name.copy()?;
-            let tags = pool.tags.copy()?;
-            sorted.push(Pool { name, tags })?;
         }
     }
     Ok(sorted)

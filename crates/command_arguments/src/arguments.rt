@@ -1,6 +1,6 @@
 //! The words that each command takes.
 
-use crate::audit_arguments::audit_command;
+use crate::audit_arguments::{audit_command, reach_command};
 use crate::log_arguments::{log_command, suggest_command};
 use crate::check_arguments::check_command;
 use clap::{Arg, ArgAction, ArgMatches, Command, Error};
@@ -254,7 +254,7 @@ const WHO: &[OptionRow; 15] = &[
     ("pool", NeededUnless("POOL", &["requests"]), "The pool"),
     (
         "object",
-        NeededUnless("OBJECT", &["requests", "list"]),
+        NeededUnless("OBJECT", &["requests", "list", "any"]),
         "The object's name",
     ),
     NAMESPACE,
@@ -303,7 +303,7 @@ const SHARE_HOW: &[OptionRow; 5] = &[
 ];
 
 /// The last options of `osdgate lint`.
-const LINT_HOW: &[OptionRow; 6] = &[
+const LINT_HOW: &[OptionRow; 7] = &[
     RULES,
     METHODS,
     ONLY,
@@ -314,6 +314,7 @@ const LINT_HOW: &[OptionRow; 6] = &[
         Nothing,
         "Exit with 1 if a grant is redundant or matches no pool",
     ),
+    FORMAT,
 ];
 
 /// Whether this is an option's name.
@@ -476,12 +477,23 @@ fn requests_option<'a>(alloc: Global) -> Result<Arg<'a>, AllocError> {
     in_place_of(file, ONE_REQUEST)
 }
 
+/// What says where a request goes or comes from, or asks otherwise: none of it is with a request at something in a pool.
+const NOT_ANY: &[&str; 5] = &["object", "namespace", "from", "requests", "all"];
+
+/// A request at something in a pool.
+fn any_option<'a>(alloc: Global) -> Result<Arg<'a>, AllocError> {
+    let help =
+        "List who is allowed the request somewhere in the pool, at any object of any namespace from any address, each with an example";
+    in_place_of(flag(alloc, "any", help), NOT_ANY)
+}
+
 fn who_command<'a>(alloc: Global) -> Result<Command<'a>, AllocError> {
     let command = Command::new(alloc, "who")
         .about("List the entities of a file that are allowed a request")
         .after_help(WHO_EXAMPLE);
     let command = with_request(alloc, command, WHO)?;
     let command = with_arg(command, requests_option(alloc))?;
+    let command = with_arg(command, any_option(alloc))?;
     command.arg(flag(alloc, "all", "Print each entity with its answer"))
 }
 
@@ -545,8 +557,8 @@ fn compare_command<'a>(alloc: Global) -> Result<Command<'a>, AllocError> {
 }
 
 /// What only the entities of a file are asked with.
-const OF_FILE: &[&str; 8] = &[
-    "auth", "pools", "only", "without", "reads", "flows", "known", "format",
+const OF_FILE: &[&str; 7] = &[
+    "auth", "pools", "only", "without", "reads", "flows", "known",
 ];
 
 /// The two texts, in whose place a file of entities may be.
@@ -562,9 +574,7 @@ fn two_texts_option<'a>(alloc: Global) -> Result<Arg<'a>, AllocError> {
 fn flows_option<'a>(alloc: Global) -> Result<Arg<'a>, AllocError> {
     let help =
         "Show instead which entities may come to know what another one writes, and through whom";
-    flag(alloc, "flows", help)
-        .conflicts_with("reads")?
-        .conflicts_with("format")
+    flag(alloc, "flows", help).conflicts_with("reads")
 }
 
 fn share_command<'a>(alloc: Global) -> Result<Command<'a>, AllocError> {
@@ -666,6 +676,7 @@ enum Kind {
     Share,
     Lint,
     Audit,
+    Reach,
     Log,
     Suggest,
     Check,
@@ -683,6 +694,7 @@ const KINDS: &[Kind; 14] = &[
     Kind::Share,
     Kind::Lint,
     Kind::Audit,
+    Kind::Reach,
     Kind::Log,
     Kind::Suggest,
     Kind::Check,
@@ -701,6 +713,7 @@ fn command_of<'a>(alloc: Global, kind: Kind) -> Result<Command<'a>, AllocError> 
         Kind::Share => share_command(alloc),
         Kind::Lint => lint_command(alloc),
         Kind::Audit => audit_command(alloc),
+        Kind::Reach => reach_command(alloc),
         Kind::Log => log_command(alloc),
         Kind::Suggest => suggest_command(alloc),
         Kind::Check => check_command(alloc),

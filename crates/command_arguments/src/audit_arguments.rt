@@ -1,7 +1,7 @@
-//! The arguments of `osdgate audit`.
+//! The arguments of `osdgate audit` and `osdgate reach`.
 
 use crate::arguments::{
-    AUTH_HELP, ONLY, OptionRow, POOLS_HELP, RULES, Takes, WITHOUT, with_options,
+    AUTH_HELP, FORMAT, ONLY, OptionRow, POOLS_HELP, RULES, Takes, WITHOUT, operand, with_options,
 };
 use clap::Command;
 use std::alloc::{AllocError, Global};
@@ -19,6 +19,12 @@ const KNOWN_HELP: &str =
 
 const OUTPUT_HELP: &str =
     "Write the answer to this file in place of standard output; an older file stays if that fails";
+
+const REACH_EXAMPLE: &str =
+    "Example: ceph osd dump --format json > pools; ceph auth ls --format json | osdgate reach --auth - --pools pools client.web";
+
+const REACH_POOLS_HELP: &str =
+    "The pools and their tags, in place of those that the entity's text names: what `ceph osd dump --format json` or `ceph osd pool ls detail --format json` prints, `-` for standard input";
 
 /// The options of `osdgate audit`.
 const AUDIT: &[OptionRow; 8] = &[
@@ -41,4 +47,26 @@ pub(crate) fn audit_command<'a>(alloc: Global) -> Result<Command<'a>, AllocError
         .about("Show what each entity of a file reaches of each pool, as a matrix")
         .after_help(EXAMPLE);
     with_options(alloc, command, AUDIT)
+}
+
+/// The options of `osdgate reach`.
+const REACH: &[OptionRow; 4] = &[
+    ("auth", Takes::Needed("FILE"), AUTH_HELP),
+    ("pools", Takes::Value("FILE"), REACH_POOLS_HELP),
+    RULES,
+    FORMAT,
+];
+
+pub(crate) fn reach_command<'a>(alloc: Global) -> Result<Command<'a>, AllocError> {
+    let entity = operand(
+        alloc,
+        "entity",
+        "ENTITY",
+        "The entity, such as `client.web`",
+    );
+    let command = Command::new(alloc, "reach")
+        .about("Show what one entity of a file reaches of each pool, and the grants that give it")
+        .after_help(REACH_EXAMPLE);
+    let command = with_options(alloc, command, REACH)?;
+    command.arg(entity.required(true))
 }

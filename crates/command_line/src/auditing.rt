@@ -1,9 +1,9 @@
-//! `osdgate audit`, whose answer may go to a file.
+//! `osdgate audit`, whose answer may go to a file, and `osdgate reach`.
 
 ghost use Rattle.std.specs.Prelude.{◌≤◌};
 
 use crate::output_files::OutputFiles;
-use audit_commands::{audit, output_of};
+use audit_commands::{audit, output_of, reach};
 use clap::ArgMatches;
 use command_steps::{Answered, TROUBLE, finish_answer, finish_unanswered, value_of, write_out};
 use gate_files::InputFiles;
@@ -81,5 +81,22 @@ pub(crate) fn run_audit<F: InputFiles + OutputFiles, R: Read, O: Write, E: Write
         (Ok(answered), None) => finish_answer(&answered, out, err),
         (Ok(answered), Some(path)) => finish_in_file(alloc, files, path, answered, out, err),
         (Err(why), _) => finish_unanswered(&why, out, err),
+    }
+}
+
+/// Answers `osdgate reach`, and returns the status.
+pub(crate) fn run_reach<F: InputFiles, R: Read, O: Write, E: Write>(
+    alloc: Global,
+    matches: &ArgMatches<'_>,
+    files: &F,
+    reader: &mut R,
+    out: &mut O,
+    err: &mut E,
+) -> u8
+    ensures { result ≤ 2 }
+{
+    match reach(alloc, matches, files, reader) {
+        Ok(answered) => finish_answer(&answered, out, err),
+        Err(why) => finish_unanswered(&why, out, err),
     }
 }

@@ -2,7 +2,7 @@
 
 ghost use Rattle.std.specs.Prelude.{◌≤◌};
 
-use crate::auditing::run_audit;
+use crate::auditing::{run_audit, run_reach};
 use crate::checking::push_path;
 use crate::drawing::{Drawn, asked_picture};
 use crate::output_files::{Logs, OutputFiles};
@@ -220,6 +220,7 @@ pub fn run_command<
         },
         Some(("audit", inner)) => run_audit(alloc, inner, files, reader, out, err),
         Some(("check", inner)) => run_check(alloc, inner, files, reader, out, err),
+        Some(("reach", inner)) => run_reach(alloc, inner, files, reader, out, err),
         Some(("run", inner)) => run_words(alloc, inner, files, reader, out, err),
         Some((name, inner)) if is_log_command(name) => {
             run_log_command(alloc, name, inner, files, &Logs(files), reader, out, err)

@@ -1,10 +1,10 @@
-//! The members that every JSON document has: the entities that were not checked, and the notes.
+//! The members that every JSON document has, the entities that were not checked and the notes. The document of a fault.
 
 use common_types::OutOfMemory;
 use gate_files::Unchecked;
 use serde_json::{Value, json};
 use std::alloc::Global;
-use verdict_text::{TextFault, first_word};
+use verdict_text::{Printed, TextFault, first_word};
 
 /// How a line on standard error begins that is a note.
 const NOTE: &str = "osdgate: ";
@@ -52,6 +52,18 @@ pub fn notes_value(alloc: Global, lines: &str) -> Result<Value, OutOfMemory> {
         }
     }
     Ok(Value::from(items))
+}
+
+/// The document of a text that is refused, on a line: its fault, and its byte if a byte is at fault.
+pub fn refused_text(alloc: Global, fault: TextFault) -> Result<Printed, OutOfMemory> {
+    let printed = format!(in alloc; "{fault}")?;
+    let document: Value = match fault.byte() {
+        Some(byte) => json!(in alloc; {"byte": byte, "fault": printed})?,
+        None => json!(in alloc; {"fault": printed})?,
+    };
+    let mut text = document.to_string(alloc)?;
+    text.push_str("\n")?;
+    Ok(Printed { text, fails: true })
 }
 
 /// Both members, as JSON.

@@ -4,9 +4,10 @@ use crate::known::{KnownNames, choice_knowing};
 use crate::no_answer::NoAnswer;
 use crate::options::{choice_of, reader_of, value_of};
 use clap::ArgMatches;
+use common_types::OutOfMemory;
 use gate_files::{
     AuthFile, Choice, Chosen, FileFault, InputFiles, Purpose, ServiceText, auth_of, keep_chosen,
-    keep_chosen_services, pools_of, read_text, unmatched_line,
+    keep_chosen_services, pools_of, push_name, read_text, unmatched_line,
 };
 use share_core::Pool;
 use std::alloc::Global;
@@ -47,6 +48,28 @@ pub fn auth_in<F: InputFiles, R: Read>(
 ) -> Result<AuthFile, NoAnswer> {
     let text = text_in(alloc, files, reader, purpose, path)?;
     or_bad_file(alloc, purpose, path, auth_of(alloc, text.as_str()))
+}
+
+/// That a file lacks an entity.
+fn lacking_line(alloc: Global, name: &str) -> Result<String, OutOfMemory> {
+    let mut line = String::from_str(alloc, "the file has no entity ")?;
+    push_name(&mut line, name)?;
+    Ok(line)
+}
+
+/// The text for object stores of an entity of a file.
+pub fn caps_of<F: InputFiles, R: Read>(
+    alloc: Global,
+    files: &F,
+    reader: &mut R,
+    path: &str,
+    name: &str,
+) -> Result<String, NoAnswer> {
+    let file = auth_in(alloc, files, reader, Purpose::Entities, path)?;
+    match file.entities.iter().find(|it| it.name.as_str() == name) {
+        Some(entity) => Ok(entity.osd.clone()?),
+        None => Err(NoAnswer::Told(lacking_line(alloc, name)?)),
+    }
 }
 
 /// The pools of the file of `--pools`, if it is given.

@@ -25,12 +25,12 @@ pub use answered::{Answered, with_line};
 pub use bad_words::{BadWords, NoRequest};
 pub use by_rules::{rules_note, with_rules_of};
 pub use calls::CallRules;
-pub use documents::notes_value;
+pub use documents::{notes_value, refused_text};
 pub use finishing::{
     DONE, FOUND, TROUBLE, finish_answer, finish_unanswered, refuse_command, refuse_words, write_out,
 };
 pub use inputs::{
-    ChosenFile, auth_in, chosen_by, chosen_file_in, chosen_in, or_bad_file, pools_given,
+    ChosenFile, auth_in, caps_of, chosen_by, chosen_file_in, chosen_in, or_bad_file, pools_given,
     refuse_unmatched, text_in,
 };
 pub use known::{KnownNames, choice_knowing};

@@ -110,13 +110,13 @@ fn push_found(
 }
 
 /// Whether a check fails by a grant.
-fn is_mistake(found: &GrantLint) -> bool {
+pub(crate) fn is_mistake(found: &GrantLint) -> bool {
     let is_redundant = !matches!(found.standing, Standing::Needed);
     found.nothing || found.dead || is_redundant || found.without_pool
 }
 
 /// What is found of each grant over the methods that count.
-fn known_lints(
+pub(crate) fn known_lints(
     alloc: Global,
     how: KnownLint<'_, '_>,
     rights: &Rights,

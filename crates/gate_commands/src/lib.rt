@@ -7,20 +7,24 @@
 //! `command_line` has the commands that run worlds.
 #![tactic(auto)]
 
+mod any_request;
 mod caps;
 mod ceph_tidy;
 mod change_lines;
 mod compare;
+mod documents;
 mod explain;
 mod known_changes;
 mod known_lint;
 mod limited;
 mod lint;
+mod lint_document;
 mod notes;
 mod question;
 mod service_lines;
 mod share;
 mod verdict;
 mod who;
+mod who_any;
 
 pub use question::{run_gate, run_question};

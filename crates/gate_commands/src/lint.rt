@@ -1,33 +1,37 @@
 //! `osdgate lint`.
 
 use crate::ceph_tidy::tidy_ceph;
+use crate::documents::tidied_answer;
 use crate::known_changes::has_class;
 use crate::known_lint::{KnownLint, known_lines};
+use crate::lint_document::{entities_document, entity_pieces, text_document, text_pieces};
 use crate::service_lines::push_raising;
 use clap::ArgMatches;
 use command_steps::{
-    Answered, BadWords, ChosenFile, Methods, NoAnswer, chosen_file_in, fault_note, known_calls,
-    methods_line, methods_of, pools_given, reader_of, rules_of, value_of,
+    Answered, BadWords, ChosenFile, Methods, NoAnswer, chosen_file_in, fault_note, format_of,
+    known_calls, methods_line, methods_of, pools_given, reader_of, refused_text, rules_of,
+    value_of,
 };
 use common_types::OutOfMemory;
-use gate_files::{InputFiles, Screen};
+use gate_files::{InputFiles, Screen, ServiceText};
 use lint_core::Pool;
 use lint_text::{lint_caps, lint_ceph_caps, lint_ceph_entities, lint_entities, tidy_caps};
 use std::alloc::Global;
 use std::io::Read;
 use verdict_text::{
-    CephRights, Entity, Printed, ReadText, Reader, Rules, push_shown_text, read_ceph_rights,
+    CephRights, Entity, Format, Printed, ReadText, Reader, Rules, push_shown_text, read_ceph_rights,
 };
 
 /// What is asked of a text or of entities.
 #[derive(Clone, Copy)]
-struct LintArguments<'p> {
+pub(crate) struct LintArguments<'p> {
     /// The text without redundant grants is printed.
     tidy: bool,
     /// A redundant grant fails, and so does one that matches no pool.
-    check: bool,
-    methods: Methods,
-    pools: Option<&'p [Pool]>,
+    pub(crate) check: bool,
+    pub(crate) methods: Methods,
+    pub(crate) pools: Option<&'p [Pool]>,
+    format: Format,
 }
 
 impl<'p> LintArguments<'p> {
@@ -41,6 +45,7 @@ impl<'p> LintArguments<'p> {
             check: matches.get_flag("check"),
             methods: methods_of(matches)?,
             pools,
+            format: format_of(matches),
         })
     }
 }
@@ -55,9 +60,9 @@ fn refuse_two_inputs(matches: &ArgMatches<'_>) -> Result<(), BadWords> {
 
 /// What is printed over every class registry, and over the methods of Ceph's class table where these matter.
 #[derive(Drop)]
-struct Linted {
-    every: Printed,
-    known: Option<Printed>,
+pub(crate) struct Linted {
+    pub(crate) every: Printed,
+    pub(crate) known: Option<Printed>,
 }
 
 impl Linted {
@@ -184,14 +189,14 @@ fn known_entity(
 }
 
 /// Adds what is printed behind what is there.
-fn push_printed(all: &mut Printed, printed: &Printed) -> Result<(), OutOfMemory> {
+pub(crate) fn push_printed(all: &mut Printed, printed: &Printed) -> Result<(), OutOfMemory> {
     all.text.push_str(printed.text.as_str())?;
     all.fails = all.fails || printed.fails;
     Ok(())
 }
 
 /// Nothing, which does not fail.
-fn nothing(alloc: Global) -> Printed {
+pub(crate) fn nothing(alloc: Global) -> Printed {
     Printed {
         text: String::new(alloc),
         fails: false,
@@ -249,6 +254,27 @@ fn entities_answer(
     }
 }
 
+/// The document of a text: of its redundant grants, or of the text without them.
+fn document_answer(
+    alloc: Global,
+    rules: Rules,
+    caps: &str,
+    arguments: LintArguments<'_>,
+) -> Result<Answered, OutOfMemory> {
+    match text_pieces(alloc, rules, caps, arguments)? {
+        Err(fault) => Ok(Answered::of(alloc, refused_text(alloc, fault)?)),
+        Ok(_) if arguments.tidy => {
+            let answered = text_answer(alloc, rules, caps, arguments)?;
+            tidied_answer(alloc, answered)
+        }
+        Ok(linted) => {
+            let mut answered = linted.answered(alloc, arguments.methods)?;
+            answered.printed.text = text_document(alloc, answered.printed.text.as_str())?;
+            Ok(answered)
+        }
+    }
+}
+
 /// The redundant grants of a text, or the text without them.
 fn linted_text(
     alloc: Global,
@@ -258,9 +284,41 @@ fn linted_text(
     screen: Screen,
 ) -> Result<Answered, OutOfMemory> {
     let text = ReadText::of(alloc, rules, String::from_str(alloc, caps)?, None)?;
-    text_answer(alloc, rules.rules(), caps, arguments)?
+    let answered = match arguments.format {
+        Format::Text => text_answer(alloc, rules.rules(), caps, arguments)?,
+        Format::Json => document_answer(alloc, rules.rules(), caps, arguments)?,
+    };
+    answered
         .with_note(fault_note(alloc, &text, screen))?
         .about_text(text)
+}
+
+/// The document of entities: their redundant grants, and what their monitor texts give.
+fn entities_document_answer(
+    alloc: Global,
+    rules: Rules,
+    entities: &[Entity],
+    services: &[ServiceText],
+    arguments: LintArguments<'_>,
+) -> Result<Answered, OutOfMemory> {
+    let linted = entity_pieces(alloc, rules, entities, arguments)?;
+    let mut answered = linted.answered(alloc, arguments.methods)?;
+    let pieces = answered.printed.text.as_str();
+    answered.printed.text = entities_document(alloc, pieces, services)?;
+    Ok(answered)
+}
+
+/// The lines of entities: their redundant grants, and what their monitor texts give.
+fn entities_lines(
+    alloc: Global,
+    rules: Rules,
+    entities: &[Entity],
+    services: &[ServiceText],
+    arguments: LintArguments<'_>,
+) -> Result<Answered, OutOfMemory> {
+    let mut answered = entities_answer(alloc, rules, entities, arguments)?;
+    push_raising(&mut answered.printed.text, services)?;
+    Ok(answered)
 }
 
 /// The redundant grants of entities, and those whose monitor texts let them change capabilities.
@@ -271,8 +329,11 @@ fn linted_entities(
     arguments: LintArguments<'_>,
 ) -> Result<Answered, OutOfMemory> {
     let entities = file.chosen.unread(alloc)?;
-    let mut answered = entities_answer(alloc, rules, entities.as_slice(), arguments)?;
-    push_raising(&mut answered.printed.text, file.services.as_slice())?;
+    let (entities, services) = (entities.as_slice(), file.services.as_slice());
+    let answered = match arguments.format {
+        Format::Text => entities_lines(alloc, rules, entities, services, arguments)?,
+        Format::Json => entities_document_answer(alloc, rules, entities, services, arguments)?,
+    };
     answered.about(alloc, &file.chosen)
 }
 

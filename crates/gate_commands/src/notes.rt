@@ -14,7 +14,7 @@ use verdict_text::{Answer, Asked, ReadEntity, Verdict, answer_of, needs_asked};
 pub(crate) const FIRST_TICK: u64 = 0;
 
 /// The note where a grant is for pools with a tag, and nothing says which tags the pool has.
-const TAGS_NEEDED: &str = "access depends on the pool's tags, give --pools or --tag";
+pub(crate) const TAGS_NEEDED: &str = "access depends on the pool's tags, give --pools or --tag";
 
 /// Whether the class registry lacks the method of a call.
 fn is_unknown(alloc: Global, word: &str) -> Result<bool, OutOfMemory> {

@@ -1,5 +1,6 @@
 //! `osdgate share`.
 
+use crate::documents::refused_side;
 use crate::limited::limited_entities;
 use clap::ArgMatches;
 use command_steps::{
@@ -9,11 +10,13 @@ use command_steps::{
 use common_types::OutOfMemory;
 use gate_files::{Chosen, InputFiles, Screen};
 use share_core::Pool;
-use share_text::{Strictness, flow_entities, share_entities, share_read};
+use share_text::{
+    Strictness, flow_document, flow_entities, share_document, share_entities, share_read,
+};
 use std::alloc::Global;
 use std::io::Read;
 use verdict_core::ClassCall;
-use verdict_text::{Printed, ReadEntity, ReadText, Reader, Reading, Rules};
+use verdict_text::{Format, Printed, ReadEntity, ReadText, Reader, Reading, Rules};
 
 /// What is asked of the entities of a file.
 #[derive(Clone, Copy)]
@@ -21,7 +24,15 @@ enum Question {
     /// What each two of them both reach.
     Shared(Strictness),
     /// Where what each of them writes may flow to. With a check a line fails.
-    Flows { check: bool },
+    Flows { check: bool, format: Format },
+}
+
+/// How two texts are looked at.
+#[derive(Clone, Copy)]
+struct TextsHow {
+    check: bool,
+    format: Format,
+    methods: Methods,
 }
 
 /// The two texts of the arguments.
@@ -38,13 +49,14 @@ fn question_of(matches: &ArgMatches<'_>) -> Result<Question, BadWords> {
         return Err(BadWords::OneInput);
     }
     let check = matches.get_flag("check");
+    let format = format_of(matches);
     if matches.get_flag("flows") {
-        return Ok(Question::Flows { check });
+        return Ok(Question::Flows { check, format });
     }
     Ok(Question::Shared(Strictness {
         reads: matches.get_flag("reads"),
         check,
-        format: format_of(matches),
+        format,
     }))
 }
 
@@ -65,17 +77,34 @@ fn limited_reading(
     }
 }
 
+/// What is printed of two texts that were read, as lines or as a document.
+fn printed_texts(
+    alloc: Global,
+    first: &Reading,
+    second: &Reading,
+    how: TextsHow,
+) -> Result<Printed, OutOfMemory> {
+    if how.format == Format::Text {
+        return share_read(alloc, first, second, how.check);
+    }
+    match (first, second) {
+        (Ok(ones), Ok(others)) => share_document(alloc, ones, others, how.check),
+        (Err(fault), _) => refused_side(alloc, "first", *fault),
+        (_, Err(fault)) => refused_side(alloc, "second", *fault),
+    }
+}
+
 /// What is printed of two texts where requests call the methods of Ceph's class table alone.
 fn known_texts(
     alloc: Global,
     first: &Reading,
     second: &Reading,
-    check: bool,
+    how: TextsHow,
 ) -> Result<Printed, OutOfMemory> {
     let calls = known_calls(alloc)?;
     let first = limited_reading(alloc, first, calls.as_slice())?;
     let second = limited_reading(alloc, second, calls.as_slice())?;
-    share_read(alloc, &first, &second, check)
+    printed_texts(alloc, &first, &second, how)
 }
 
 /// Of what is printed over every registry and over the methods of Ceph's class table, that which is asked for, with a line on
@@ -101,18 +130,17 @@ fn shared_texts(
     alloc: Global,
     rules: &Reader,
     texts: (&str, &str),
-    check: bool,
-    methods: Methods,
+    how: TextsHow,
     screen: Screen,
 ) -> Result<Answered, OutOfMemory> {
     let first = read_text(alloc, rules, texts.0)?;
     let second = read_text(alloc, rules, texts.1)?;
-    let every = share_read(alloc, first.read(), second.read(), check)?;
+    let every = printed_texts(alloc, first.read(), second.read(), how)?;
     let answered = match rules.rules() {
         Rules::Project => Answered::of(alloc, every),
         Rules::Ceph => {
-            let known = known_texts(alloc, first.read(), second.read(), check)?;
-            by_methods(alloc, methods, every, known)?
+            let known = known_texts(alloc, first.read(), second.read(), how)?;
+            by_methods(alloc, how.methods, every, known)?
         }
     };
     answered
@@ -129,7 +157,10 @@ fn printed_entities(
     question: Question,
 ) -> Result<Printed, OutOfMemory> {
     match question {
-        Question::Flows { check } => flow_entities(alloc, entities, pools, check),
+        Question::Flows { check, format } => match format {
+            Format::Text => flow_entities(alloc, entities, pools, check),
+            Format::Json => flow_document(alloc, entities, pools, check),
+        },
         Question::Shared(strictness) => share_entities(alloc, entities, strictness, pools),
     }
 }
@@ -184,9 +215,11 @@ pub(crate) fn share<F: InputFiles, R: Read>(
         return shared_file(alloc, matches, files, reader);
     };
     let texts = two_texts(texts)?;
-    let methods = methods_of(matches)?;
+    let how = TextsHow {
+        check: matches.get_flag("check"),
+        format: format_of(matches),
+        methods: methods_of(matches)?,
+    };
     let rules = reader_of(alloc, matches)?;
-    let check = matches.get_flag("check");
-    let screen = files.screen();
-    Ok(shared_texts(alloc, &rules, texts, check, methods, screen)?)
+    Ok(shared_texts(alloc, &rules, texts, how, files.screen())?)
 }

@@ -1,6 +1,8 @@
 //! `osdgate who`.
 
+use crate::any_request::AnyRequest;
 use crate::notes::{FIRST_TICK, calls_line, refuses_calls, request_lines, with_unknown_tags};
+use crate::who_any::answer_any;
 use clap::ArgMatches;
 use command_steps::{
     Answered, BadWords, CallRules, KnownNames, LineRequest, NoAnswer, RequestWords, choice_knowing,
@@ -16,13 +18,13 @@ use who_text::{who_table, who_text};
 
 /// What the arguments say, except the request.
 #[derive(Clone, Copy)]
-struct WhoArguments<'m> {
+pub(crate) struct WhoArguments<'m> {
     /// The file of requests, if one is given.
     requests: Option<&'m str>,
-    choice: Choice<'m>,
+    pub(crate) choice: Choice<'m>,
     /// Each entity is printed with its answer.
     all: bool,
-    format: Format,
+    pub(crate) format: Format,
     /// Where calls are looked up.
     calls: CallRules<'m>,
 }
@@ -164,6 +166,25 @@ fn who_one<F: InputFiles, R: Read>(
     Ok(answer_one(alloc, arguments, &request, &chosen)?)
 }
 
+/// Who is allowed the request of the arguments at something in its pool. Calls that are refused are asked of nobody.
+fn who_any<F: InputFiles, R: Read>(
+    alloc: Global,
+    matches: &ArgMatches<'_>,
+    arguments: &WhoArguments<'_>,
+    pools: Option<&[Pool]>,
+    files: &F,
+    reader: &mut R,
+) -> Result<Answered, NoAnswer> {
+    let request = RequestWords::of(alloc, matches, pools, arguments.calls)?;
+    if refuses_calls(alloc, &request.asked(FIRST_TICK))? {
+        let chosen = chosen_by(alloc, files, reader, matches, arguments.choice)?;
+        return Ok(answer_one(alloc, arguments, &request, &chosen)?);
+    }
+    let asked = AnyRequest::of(alloc, matches, &request)?;
+    let chosen = chosen_by(alloc, files, reader, matches, arguments.choice)?;
+    Ok(answer_any(alloc, arguments, &request, &asked, &chosen)?)
+}
+
 /// Who is allowed each request of a file. The file of entities is read first.
 fn who_each<F: InputFiles, R: Read>(
     alloc: Global,
@@ -194,6 +215,9 @@ pub(crate) fn who<F: InputFiles, R: Read>(
     let pools = pools_given(alloc, files, reader, matches)?;
     let pools = pools.as_ref().map(Vec::as_slice);
     match arguments.requests {
+        None if matches.get_flag("any") => {
+            who_any(alloc, matches, &arguments, pools, files, reader)
+        }
         None => who_one(alloc, matches, &arguments, pools, files, reader),
         Some(path) => who_each(alloc, matches, &arguments, path, pools, files, reader),
     }

@@ -98,7 +98,7 @@ fn has_mistake(all: &[GrantLint]) -> bool
 }
 
 /// What is found of the grants of a text, or why Ceph reads none. An `Err` is out of memory alone.
-fn found_of(
+pub(crate) fn found_of(
     alloc: Global,
     caps: &str,
     pools: Option<&[Pool]>,

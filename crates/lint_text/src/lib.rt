@@ -15,10 +15,12 @@
 
 mod ceph;
 mod entities;
+mod found;
 mod lines;
 mod reading;
 mod texts;
 
 pub use ceph::{lint_ceph_caps, lint_ceph_entities};
 pub use entities::lint_entities;
+pub use found::found_grants;
 pub use texts::{lint_caps, tidy_caps};

@@ -27,7 +27,7 @@ pub(crate) fn push_standing(
 }
 
 /// Whether a grant names neither a pool nor a tag.
-fn is_everywhere(grant: &Grant) -> bool
+pub(crate) fn is_everywhere(grant: &Grant) -> bool
     ensures { result ≡ spec.is_everywhere grant.now }
 {
     match grant {

@@ -42,7 +42,7 @@ fn readers_of(
 }
 
 /// For each tenant the places of those that read what it writes.
-fn steps_of(
+pub(crate) fn steps_of(
     alloc: Global,
     tenants: &[Tenant<'_>],
     pools: Option<&[Pool]>,

@@ -23,6 +23,7 @@
 //! chains, and none for the other tenants.
 #![tactic(auto)]
 
+mod documents;
 mod flows;
 mod kind;
 mod laws;
@@ -30,6 +31,7 @@ mod live;
 mod tenants;
 mod texts;
 
+pub use documents::{flow_document, share_document};
 pub use flows::flow_entities;
 pub use laws::shares_are_from_addresses;
 pub use tenants::{Strictness, share_entities};

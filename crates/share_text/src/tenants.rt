@@ -199,7 +199,7 @@ fn pair_line(
 }
 
 /// The words of a target.
-fn words_of(alloc: Global, target: &OwnedTarget) -> Result<String, OutOfMemory>
+pub(crate) fn words_of(alloc: Global, target: &OwnedTarget) -> Result<String, OutOfMemory>
     ensures { IfOk result (λ text. string_bytes text ≡ target_words target.now) }
 {
     let mut text = String::new(alloc);

@@ -19,10 +19,10 @@ use verdict_text::{Printed, Reader, Reading, Rules, TextFault};
 
 /// The examples of each kind.
 pub(crate) struct Examples {
-    writes_writes: Vec<Shared>,
-    writes_reads: Vec<Shared>,
-    reads_writes: Vec<Shared>,
-    reads_reads: Vec<Shared>,
+    pub(crate) writes_writes: Vec<Shared>,
+    pub(crate) writes_reads: Vec<Shared>,
+    pub(crate) reads_writes: Vec<Shared>,
+    pub(crate) reads_reads: Vec<Shared>,
 }
 
 impl Drop for Examples {
@@ -51,7 +51,11 @@ pub(crate) fn examples_of(
 }
 
 /// The examples of each kind.
-fn all_examples(alloc: Global, ones: &Ticket, others: &Ticket) -> Result<Examples, OutOfMemory>
+pub(crate) fn all_examples(
+    alloc: Global,
+    ones: &Ticket,
+    others: &Ticket,
+) -> Result<Examples, OutOfMemory>
     ensures { IfOk result (λ all. AreAllExamples ones.now.grants others.now.grants all) }
 {
     let writes_writes = examples_of(alloc, Kind::WritesWrites, ones, others)?;
@@ -123,7 +127,7 @@ fn or_apart(alloc: Global, lines: String) -> Result<String, OutOfMemory>
 }
 
 /// Whether a check was asked for, and there is an example of one who writes.
-fn fails_check(check: bool, all: &Examples) -> bool
+pub(crate) fn fails_check(check: bool, all: &Examples) -> bool
     ensures { result ≡ (check && spec.is_any_written all.now) }
 {
     let is_written = !all.writes_writes.is_empty()

@@ -1,0 +1,123 @@
+//! `osdgate who --any`: who is allowed a request at something in a pool.
+
+use crate::any_request::AnyRequest;
+use crate::notes::{TAGS_NEEDED, tags_line};
+use crate::who::WhoArguments;
+use command_steps::{Answered, RequestWords};
+use common_types::OutOfMemory;
+use gate_files::{Choice, Chosen, push_name};
+use serde_json::{Value, json};
+use std::alloc::Global;
+use verdict_text::{Format, Printed, ReadEntity, entities_by};
+
+/// Adds an entity with its example, as a line or as a piece of a list.
+fn push_entity(
+    text: &mut String,
+    alloc: Global,
+    name: &str,
+    example: &str,
+    format: Format,
+) -> Result<(), OutOfMemory> {
+    if format == Format::Text {
+        push_name(text, name)?;
+        text.push_str(" ")?;
+        text.push_str(example)?;
+        return text.push_str("\n");
+    }
+    let document: Value = json!(in alloc; {"entity": name, "example": example})?;
+    text.push_str(",")?;
+    text.push_str(document.to_string(alloc)?.as_str())
+}
+
+/// Adds an entity that is allowed the request at something.
+fn push_allowed(
+    text: &mut String,
+    alloc: Global,
+    asked: &AnyRequest,
+    entity: &ReadEntity,
+    format: Format,
+) -> Result<(), OutOfMemory> {
+    let Ok(rights) = entity.osd.read() else {
+        return Ok(());
+    };
+    match asked.allowed_by(alloc, rights)? {
+        None => Ok(()),
+        Some(allowed) => {
+            let mut example = String::new(alloc);
+            asked.push_words(&mut example, alloc, allowed)?;
+            push_entity(text, alloc, entity.name.as_str(), example.as_str(), format)
+        }
+    }
+}
+
+/// What is printed of the entities that are allowed the request at something.
+fn printed(
+    alloc: Global,
+    asked: &AnyRequest,
+    chosen: &Chosen,
+    format: Format,
+) -> Result<Printed, OutOfMemory> {
+    let mut text = String::new(alloc);
+    for entity in chosen.entities() {
+        push_allowed(&mut text, alloc, asked, entity, format)?;
+    }
+    Ok(Printed {
+        text: entities_by(alloc, text, format)?,
+        fails: false,
+    })
+}
+
+/// Whether an entity is allowed the request only in a pool with other tags. A text without the word has no such grant.
+fn depends_on_tags(
+    alloc: Global,
+    asked: &AnyRequest,
+    entity: &ReadEntity,
+) -> Result<bool, OutOfMemory> {
+    match entity.osd.read() {
+        Ok(rights) if entity.osd.text().contains("tag") => {
+            Ok(asked.allowed_by(alloc, rights)?.is_none() && asked.depends_on_tags(alloc, rights)?)
+        }
+        _ => Ok(false),
+    }
+}
+
+/// An answer with a line on the entities whose access depends on the pool's tags. Such an entity makes it fail, unless
+/// the choice accepts that.
+fn with_tag_names(
+    alloc: Global,
+    mut answered: Answered,
+    asked: &AnyRequest,
+    chosen: &Chosen,
+    choice: Choice<'_>,
+) -> Result<Answered, OutOfMemory> {
+    let mut names = String::new(alloc);
+    for entity in chosen.entities() {
+        if depends_on_tags(alloc, asked, entity)? {
+            names.push_str(if names.is_empty() { "" } else { ", " })?;
+            push_name(&mut names, entity.name.as_str())?;
+            let accepted = choice.accepts(entity.name.as_str());
+            answered.printed.fails = answered.printed.fails || !accepted;
+        }
+    }
+    if names.is_empty() {
+        return Ok(answered);
+    }
+    answered.with_note(format!(in alloc; "osdgate: {TAGS_NEEDED}: {names}\n"))
+}
+
+/// Who is allowed the request at something, with one example each.
+pub(crate) fn answer_any(
+    alloc: Global,
+    arguments: &WhoArguments<'_>,
+    request: &RequestWords<'_, '_>,
+    asked: &AnyRequest,
+    chosen: &Chosen,
+) -> Result<Answered, OutOfMemory> {
+    let printed = printed(alloc, asked, chosen, arguments.format)?;
+    let note = tags_line(alloc, request)?;
+    let answered = Answered::noted(alloc, printed, note).about(alloc, chosen)?;
+    if request.knows_tags() {
+        return Ok(answered);
+    }
+    with_tag_names(alloc, answered, asked, chosen, arguments.choice)
+}
