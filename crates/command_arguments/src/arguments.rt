@@ -1,8 +1,8 @@
 //! The words that each command takes.
 
 use crate::audit_arguments::{audit_command, reach_command};
-use crate::log_arguments::{log_command, suggest_command};
 use crate::check_arguments::check_command;
+use crate::log_arguments::{log_command, suggest_command};
 use clap::{Arg, ArgAction, ArgMatches, Command, Error};
 use std::alloc::{AllocError, Global};
 use std::convert::AsStr;
@@ -312,7 +312,7 @@ const LINT_HOW: &[OptionRow; 7] = &[
     (
         "check",
         Nothing,
-        "Exit with 1 if a grant is redundant or matches no pool",
+        "Exit with 1 if a grant is redundant, matches no pool or no address, or uses an unknown profile",
     ),
     FORMAT,
 ];

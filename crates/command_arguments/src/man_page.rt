@@ -40,7 +40,7 @@ is given.
 Something was found: a capability text or the calls are refused; a check finds what it is for; an entity could not be checked,
 or access depends on tags that are not known, unless
 .B \\-\\-known
-is given; a script has a bad line; or the workers met a fault.
+is given; a suggestion widens a text; a rule fails or names nobody; a script has a bad line; or workers met a fault.
 .TP
 .B 2
 There is no answer: the words are no command line, a file cannot be read or is not what it is read for, memory is out, or
