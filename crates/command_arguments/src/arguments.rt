@@ -686,7 +686,7 @@ enum Kind {
     Man,
 }
 
-const KINDS: &[Kind; 14] = &[
+const KINDS: &[Kind; 15] = &[
     Kind::Verdict,
     Kind::Explain,
     Kind::Compare,
