@@ -1,6 +1,6 @@
-//! The command in each of its forms, on files of the tests.
+//! The commands, `audit` in each of its forms, on files of the tests.
 
-use crate::{audit, output_of};
+use crate::{audit, output_of, reach};
 use command_arguments::command_words;
 use command_steps::NoAnswer;
 use gate_files::InputFiles;
@@ -75,5 +75,31 @@ fn each_form_has_its_rows(rt: HostRuntime) -> Result<(), Fail> {
         "data-p=\"1 \"",
     ];
     assert!(rt; has_parts(alloc, "html", &rows), "html");
+    Ok(())
+}
+
+/// What `reach` prints of an entity, and whether it fails; nothing where there is no answer.
+fn reached(alloc: Global, entity: &str) -> Option<(String, bool)> {
+    let words = [
+        "osdgate", "reach", "--auth", "auth", "--pools", "pools", entity,
+    ];
+    let matches = command_words(alloc, &words).ok()?;
+    let (_, inner) = matches.subcommand()?;
+    let files = TestFiles { alloc };
+    let mut input: &[u8] = b"";
+    let answered: Result<_, NoAnswer> = reach(alloc, inner, &files, &mut input);
+    let answered = answered.ok()?;
+    let text = answered.printed.text.clone().ok()?;
+    Some((text, answered.printed.fails))
+}
+
+#[test]
+fn one_entity_has_a_line_for_each_pool(rt: HostRuntime) -> Result<(), Fail> {
+    let lines = "logs -\nweb rwl\n  2 allow rw pool=web\n";
+    let is_right = match reached(rt.alloc(), "client.<b>") {
+        Some((text, false)) => text.as_str() == lines,
+        _ => false,
+    };
+    assert!(rt; is_right, "lines");
     Ok(())
 }
