@@ -147,7 +147,7 @@ fn is_not_led_by_names(rt: HostRuntime) -> Result<(), Fail> {
     push_group(&mut log, "2026-11-30T04:23:06.533+0000", HOSTILE_DENIED)?;
     let reading = read_log(alloc, log.as_bytes(), 64)?;
     assert_eq!(rt; reading.requests().len(), 1);
-    let request = &reading.requests()[0];
+    let request = reading.requests().first().expect(&rt, "it is counted");
     assert!(rt; !request.decided.allowed);
     let mut text = String::new(alloc);
     push_words(&mut text, alloc, &request.decided)?;
