@@ -14,7 +14,7 @@ use verdict_text::{Answer, Asked, ReadEntity, Verdict, answer_of, needs_asked};
 pub(crate) const FIRST_TICK: u64 = 0;
 
 /// The note where a grant is for pools with a tag, and nothing says which tags the pool has.
-pub(crate) const TAGS_NEEDED: &str = "access depends on the pool's tags, give --pools or --tag";
+const TAGS_NEEDED: &str = "access depends on the pool's tags, give --pools or --tag";
 
 /// Whether the class registry lacks the method of a call.
 fn is_unknown(alloc: Global, word: &str) -> Result<bool, OutOfMemory> {
@@ -133,11 +133,11 @@ fn depends_on_tags(
 
 /// The entities whose access depends on a pool's tags that are not known.
 #[derive(Drop)]
-struct TagNames {
+pub(crate) struct TagNames {
     /// Their names, with commas between them.
-    names: String,
+    pub(crate) names: String,
     /// That is not accepted of one of them.
-    fails: bool,
+    pub(crate) fails: bool,
 }
 
 /// The entities that are denied by a grant for pools with a tag.
@@ -159,11 +159,27 @@ fn tag_names(
     Ok(TagNames { names, fails })
 }
 
+/// An answer with a line on entities whose access depends on tags, behind what names the request. It fails if that is not
+/// accepted of one of them.
+pub(crate) fn with_tag_names(
+    alloc: Global,
+    mut answered: Answered,
+    found: TagNames,
+    before: &str,
+) -> Result<Answered, OutOfMemory> {
+    if found.names.is_empty() {
+        return Ok(answered);
+    }
+    answered.printed.fails = answered.printed.fails || found.fails;
+    let names = found.names.as_str();
+    answered.with_note(format!(in alloc; "osdgate: {before}{TAGS_NEEDED}: {names}\n"))
+}
+
 /// An answer with a line on the entities whose access depends on tags that the request does not know, behind what names the
 /// request. Such an entity makes it fail, unless the choice accepts that.
 pub(crate) fn with_unknown_tags(
     alloc: Global,
-    mut answered: Answered,
+    answered: Answered,
     chosen: &Chosen,
     choice: Choice<'_>,
     request: &RequestWords<'_, '_>,
@@ -173,12 +189,7 @@ pub(crate) fn with_unknown_tags(
         return Ok(answered);
     }
     let found = tag_names(alloc, chosen, choice, &request.asked(FIRST_TICK))?;
-    if found.names.is_empty() {
-        return Ok(answered);
-    }
-    answered.printed.fails = answered.printed.fails || found.fails;
-    let names = found.names.as_str();
-    answered.with_note(format!(in alloc; "osdgate: {before}{TAGS_NEEDED}: {names}\n"))
+    with_tag_names(alloc, answered, found, before)
 }
 
 /// The line on a verdict that depends on tags that the request does not know.

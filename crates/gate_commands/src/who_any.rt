@@ -1,7 +1,7 @@
 //! `osdgate who --any`: who is allowed a request at something in a pool.
 
 use crate::any_request::AnyRequest;
-use crate::notes::{TAGS_NEEDED, tags_line};
+use crate::notes::{TagNames, tags_line, with_tag_names};
 use crate::who::WhoArguments;
 use command_steps::{Answered, RequestWords};
 use common_types::OutOfMemory;
@@ -81,28 +81,23 @@ fn depends_on_tags(
     }
 }
 
-/// An answer with a line on the entities whose access depends on the pool's tags. Such an entity makes it fail, unless
-/// the choice accepts that.
-fn with_tag_names(
+/// The names of the entities whose access depends on the pool's tags.
+fn tag_names(
     alloc: Global,
-    mut answered: Answered,
     asked: &AnyRequest,
     chosen: &Chosen,
     choice: Choice<'_>,
-) -> Result<Answered, OutOfMemory> {
+) -> Result<TagNames, OutOfMemory> {
     let mut names = String::new(alloc);
+    let mut fails = false;
     for entity in chosen.entities() {
         if depends_on_tags(alloc, asked, entity)? {
             names.push_str(if names.is_empty() { "" } else { ", " })?;
             push_name(&mut names, entity.name.as_str())?;
-            let accepted = choice.accepts(entity.name.as_str());
-            answered.printed.fails = answered.printed.fails || !accepted;
+            fails = fails || !choice.accepts(entity.name.as_str());
         }
     }
-    if names.is_empty() {
-        return Ok(answered);
-    }
-    answered.with_note(format!(in alloc; "osdgate: {TAGS_NEEDED}: {names}\n"))
+    Ok(TagNames { names, fails })
 }
 
 /// Who is allowed the request at something, with one example each.
@@ -119,5 +114,6 @@ pub(crate) fn answer_any(
     if request.knows_tags() {
         return Ok(answered);
     }
-    with_tag_names(alloc, answered, asked, chosen, arguments.choice)
+    let found = tag_names(alloc, asked, chosen, arguments.choice)?;
+    with_tag_names(alloc, answered, found, "")
 }
