@@ -1,5 +1,5 @@
 use Rattle.std.proofs.Common.{◌≡◌, inl, take, refl, sym, subst}
-use Rattle.std.proofs.lemmas.List.{submit_all}
+use Rattle.std.proofs.lemmas.List.{take_all}
 use Rattle.world_core.proofs.RunsOfEvents.{IsAfter, after_answer, after_none, run_serves, stops, stops_at}
 use Rattle.world_core.specs.Calls.{IsFirstRefused}
 use Rattle.world_events.specs.declared.fault.WorldFault.TheVariants.{OutOfMemory}
@@ -15,7 +15,7 @@ loop-place-preserved c =
 
 pub returns : goal.returns
 returns c =
-    let all : take c.loop-place.place c.args.events.now ≡ c.args.events.now = submit_all c.loop-place.place c.args.events.now c.loop-place-test.false in
+    let all : take c.loop-place.place c.args.events.now ≡ c.args.events.now = take_all c.loop-place.place c.args.events.now c.loop-place-test.false in
     let h : IsAfter c.args.table c.args.daemons c.args.events.now c.loop-place.world = subst (λ l. IsAfter c.args.table c.args.daemons l c.loop-place.world) all c.loop-place.invariant in
     record { holds = h.holds; accepted = h.accepted; unrefused = h.unrefused; serves = run_serves c.args.table c.args.daemons c.args.events.now c.loop-place.world h; refused = tt }
 
