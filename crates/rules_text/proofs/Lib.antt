@@ -3,3 +3,4 @@ pub mod NoFloats
 pub mod NextLines
 pub mod Joining
 pub mod Saying
+pub mod Written

@@ -1,9 +1,9 @@
 -- A line, and what it makes of the lines behind it.
-use Rattle.std.proofs.Common.{◌≡◌, ℕ, ◌+◌, List, [], ◌∷◌, ◌++◌, Bool, true, false, if◌then◌else◌, Option, None, Some, Result, Ok, Err, refl, ap, sym, subst}
+use Rattle.std.proofs.Common.{◌≡◌, ℕ, ◌+◌, List, [], ◌∷◌, ◌++◌, Bool, true, false, Option, None, Some, Result, Ok, Err, refl, ap, sym, subst}
 use Rattle.verdict_text.specs.declared.entity.ReadEntity.{ReadEntity}
 use Rattle.verdict_text.specs.declared.reading.Rules.{Rules}
 use Rattle.rules_text.specs.Contents.{AddsContent}
-use Rattle.rules_text.specs.File.{AreLines, IsSaying, bad_rule, is_note, limit}
+use Rattle.rules_text.specs.File.{AreLines, ByTest, IsSaying, bad_rule, is_note, limit}
 use Rattle.rules_text.specs.Grammar.{IsLine, at}
 use Rattle.rules_text.specs.declared.content.Content.{Content}
 use Rattle.rules_text.specs.declared.content.Content.TheVariants.{AGroup, ARule}
@@ -19,8 +19,8 @@ pub note_next : (by : Rules) (entities : List ReadEntity) (number : ℕ) (groups
     → (lines : List (List ℕ)) (result : Result (List RuleLine) BadRule) → AreLines by entities (number + 1) groups rules lines result
     → AreLines by entities number groups rules (text ∷ lines) result
 note_next by entities number groups rules text note lines result h =
-    subst (λ (b : Bool). if b then AreLines by entities (number + 1) groups rules lines result
-    else IsSaying by entities (λ groups rules. AreLines by entities (number + 1) groups rules lines result) number groups rules text (limit number rules) result) (sym note) h
+    subst (λ (b : Bool). ByTest b (AreLines by entities (number + 1) groups rules lines result)
+    (IsSaying by entities (λ groups rules. AreLines by entities (number + 1) groups rules lines result) number groups rules text (limit number rules) result)) (sym note) h
 
 -- a line that is no note
 saying : (by : Rules) (entities : List ReadEntity) (number : ℕ) (groups : List Group) (rules : List RuleLine) (text : List ℕ) (fault : Option RuleFault) (lines : List (List ℕ))
@@ -28,8 +28,8 @@ saying : (by : Rules) (entities : List ReadEntity) (number : ℕ) (groups : List
     → IsSaying by entities (λ groups rules. AreLines by entities (number + 1) groups rules lines result) number groups rules text fault result
     → AreLines by entities number groups rules (text ∷ lines) result
 saying by entities number groups rules text fault lines result says limited h =
-    subst (λ (b : Bool). if b then AreLines by entities (number + 1) groups rules lines result
-    else IsSaying by entities (λ groups rules. AreLines by entities (number + 1) groups rules lines result) number groups rules text (limit number rules) result) (sym says)
+    subst (λ (b : Bool). ByTest b (AreLines by entities (number + 1) groups rules lines result)
+    (IsSaying by entities (λ groups rules. AreLines by entities (number + 1) groups rules lines result) number groups rules text (limit number rules) result)) (sym says)
     (subst (λ (o : Option RuleFault). IsSaying by entities (λ groups rules. AreLines by entities (number + 1) groups rules lines result) number groups rules text o result) (sym limited) h)
 
 -- a line behind the last that is read
