@@ -102,7 +102,9 @@ fn push_case_head(text: &mut String, line: &RuleLine) -> Result<(), OutOfMemory>
     ensures { OnOk result (string_bytes text.new ≡ string_bytes text.old ++ spec.case_head line.now) }
 {
     let number = line.line;
-    write!(text, "<testcase classname=\"rules\" name=\"{number} ")?;
+    text.push_str("<testcase classname=\"rules\" name=\"")?;
+    write!(text, "{number}")?;
+    text.push_str(" ")?;
     push_escaped(text, line.text.as_str())?;
     text.push_str("\">\n")
 }
