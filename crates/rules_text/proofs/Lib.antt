@@ -1,5 +1,5 @@
 pub mod Checking
 pub mod NoFloats
-pub mod NextLines
 pub mod Joining
 pub mod Saying
+pub mod Written

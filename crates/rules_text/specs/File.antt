@@ -1,6 +1,6 @@
 -- Statement: contracts of public calls use it.
 -- A file of rules: its rules, or the first line that has a fault (this project's profile). Lines count from 1.
-use Rattle.std.specs.Prelude.{ℕ, ◌≡◌, ◌+◌, ◌==◌, nat_lt, nat_le, Bool, true, List, [], ◌∷◌, ◌++◌, Option, None, Some, Result, Ok, Err, length, drop, if◌then◌else◌}
+use Rattle.std.specs.Prelude.{ℕ, ◌≡◌, ◌+◌, ◌==◌, nat_lt, nat_le, Bool, true, false, List, [], ◌∷◌, ◌++◌, Option, None, Some, Result, Ok, Err, length, drop, if◌then◌else◌}
 use Rattle.std.specs.List.{prefix_len}
 use Rattle.script_text.specs.Lines.{script_lines}
 use Rattle.verdict_text.specs.declared.entity.ReadEntity.{ReadEntity}
@@ -31,6 +31,11 @@ limit number rules = if nat_lt 65536 number then Some TooManyLines else if nat_l
 abbrev pub bad_rule : ℕ → LineFault → BadRule
 bad_rule number why = record { line = number; at = why.at; fault = why.fault }
 
+-- the first of two facts where a test passes, and else the second
+abbrev pub ByTest : Bool → Type 0 → Type 0 → Type 0
+ByTest true passed failed = passed
+ByTest false passed failed = failed
+
 -- what is read of a line, and how it goes on behind these groups and rules
 abbrev pub GoesOn : (List Group → List RuleLine → Type 0) → ℕ → List Group → List RuleLine → List ℕ → Result Content LineFault → Result (List RuleLine) BadRule → Type 0
 GoesOn next number groups rules line (Err why) result = result ≡ Err (bad_rule number why)
@@ -47,8 +52,8 @@ IsSaying by entities next number groups rules line None result =
 abbrev pub AreLines : Rules → List ReadEntity → ℕ → List Group → List RuleLine → List (List ℕ) → Result (List RuleLine) BadRule → Type 0
 AreLines by entities number groups rules [] result = result ≡ Ok rules
 AreLines by entities number groups rules (line ∷ lines) result =
-    if is_note line then AreLines by entities (number + 1) groups rules lines result
-    else IsSaying by entities (λ groups rules. AreLines by entities (number + 1) groups rules lines result) number groups rules line (limit number rules) result
+    ByTest (is_note line) (AreLines by entities (number + 1) groups rules lines result)
+    (IsSaying by entities (λ groups rules. AreLines by entities (number + 1) groups rules lines result) number groups rules line (limit number rules) result)
 
 -- the rules of a file, or its first fault
 abbrev pub IsFile : Rules → List ReadEntity → List ℕ → Result (List RuleLine) BadRule → Type 0

@@ -35,17 +35,23 @@ outcome_body entities line Nobody = failure (codes "names nobody") []
 outcome_body entities line Kept = []
 outcome_body entities line (Broken founds) = failure (codes "fails") (found_lines entities line.rule founds.items)
 
--- a rule: its line and its text are the name
-abbrev pub case_of : List ReadEntity → CheckedRule → List ℕ
-case_of entities one =
-    codes "<testcase classname=\"rules\" name=\"" ++ (decimal one.line.now.line ++ (codes " " ++ (escaped one.line.now.text ++ (codes "\">\n"
-    ++ (outcome_body entities one.line.now one.outcome ++ codes "</testcase>\n")))))
+-- the first line of a rule: its line in the file and its text are the name
+abbrev pub case_head : RuleLine → List ℕ
+case_head line = codes "<testcase classname=\"rules\" name=\"" ++ (decimal line.line ++ (codes " " ++ (escaped line.text ++ codes "\">\n")))
 
--- by which rules capability texts are read, how many rules there are, and how many of them fail
+abbrev pub case_of : List ReadEntity → CheckedRule → List ℕ
+case_of entities one = case_head one.line.now ++ (outcome_body entities one.line.now one.outcome ++ codes "</testcase>\n")
+
+-- by which rules capability texts are read
+abbrev pub suite : Rules → List ℕ
+suite by = codes "<?xml version=\"1.0\" encoding=\"UTF-8\"?>\n<testsuites>\n" ++ (codes "<testsuite name=\"osdgate check --rules " ++ rules_word by)
+
+-- how many rules there are, and how many of them fail
+abbrev pub counts : List CheckedRule → List ℕ
+counts all = codes "\" tests=\"" ++ (decimal (length all) ++ (codes "\" failures=\"" ++ (decimal (length all - kept all) ++ codes "\">\n")))
+
 abbrev pub head : Rules → List CheckedRule → List ℕ
-head by all =
-    codes "<?xml version=\"1.0\" encoding=\"UTF-8\"?>\n<testsuites>\n<testsuite name=\"osdgate check --rules " ++ (rules_word by ++ (codes "\" tests=\"" ++ (decimal (length all)
-    ++ (codes "\" failures=\"" ++ (decimal (length all - kept all) ++ codes "\">\n")))))
+head by all = suite by ++ counts all
 
 abbrev pub document : Rules → List ReadEntity → List CheckedRule → List ℕ
 document by entities all = head by all ++ (flat_map (case_of entities) all ++ codes "</testsuite>\n</testsuites>\n")

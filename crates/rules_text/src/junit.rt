@@ -97,6 +97,18 @@ fn push_outcome(
     }
 }
 
+/// Adds the first line of a rule.
+fn push_case_head(text: &mut String, line: &RuleLine) -> Result<(), OutOfMemory>
+    ensures { OnOk result (string_bytes text.new ≡ string_bytes text.old ++ spec.case_head line.now) }
+{
+    let number = line.line;
+    text.push_str("<testcase classname=\"rules\" name=\"")?;
+    write!(text, "{number}")?;
+    text.push_str(" ")?;
+    push_escaped(text, line.text.as_str())?;
+    text.push_str("\">\n")
+}
+
 /// Adds the case of a rule.
 fn push_case(
     text: &mut String,
@@ -106,10 +118,7 @@ fn push_case(
 ) -> Result<(), OutOfMemory>
     ensures { OnOk result (string_bytes text.new ≡ string_bytes text.old ++ spec.case_of entities.now one.now) }
 {
-    let number = one.line.line;
-    write!(text, "<testcase classname=\"rules\" name=\"{number} ")?;
-    push_escaped(text, one.line.text.as_str())?;
-    text.push_str("\">\n")?;
+    push_case_head(text, one.line)?;
     push_outcome(text, alloc, entities, one.line, &one.outcome)?;
     text.push_str("</testcase>\n")
 }
@@ -128,15 +137,29 @@ fn push_cases(
     Ok(())
 }
 
-fn push_head(text: &mut String, by: Rules, all: &[CheckedRule<'_>]) -> Result<(), OutOfMemory>
-    ensures { OnOk result (string_bytes text.new ≡ string_bytes text.old ++ spec.head by all.now) }
+/// Adds the beginning of the test suite, which says by which rules capability texts are read.
+fn push_suite(text: &mut String, by: Rules) -> Result<(), OutOfMemory>
+    ensures { OnOk result (string_bytes text.new ≡ string_bytes text.old ++ spec.suite by) }
 {
     text.push_str("<?xml version=\"1.0\" encoding=\"UTF-8\"?>\n<testsuites>\n")?;
     text.push_str("<testsuite name=\"osdgate check --rules ")?;
-    text.push_str(rules_word(by))?;
+    text.push_str(rules_word(by))
+}
+
+/// Adds how many rules there are, and how many of them fail.
+fn push_counts(text: &mut String, all: &[CheckedRule<'_>]) -> Result<(), OutOfMemory>
+    ensures { OnOk result (string_bytes text.new ≡ string_bytes text.old ++ spec.counts all.now) }
+{
     let count = all.len();
     let failed = count.saturating_sub(kept_count(all));
     write!(text, "\" tests=\"{count}\" failures=\"{failed}\">\n")
+}
+
+fn push_head(text: &mut String, by: Rules, all: &[CheckedRule<'_>]) -> Result<(), OutOfMemory>
+    ensures { OnOk result (string_bytes text.new ≡ string_bytes text.old ++ spec.head by all.now) }
+{
+    push_suite(text, by)?;
+    push_counts(text, all)
 }
 
 /// Checked rules as a JUnit document: a test suite, whose name says by which rules capability texts are read, with a case for
