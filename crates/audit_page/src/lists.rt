@@ -84,7 +84,7 @@ fn push_unwritten(
             push_item(&mut items, pool.name.as_str())?;
         }
     }
-    let title = "Pools in which no checked entity may write or call";
+    let title = "Pools where no checked entity may write or call";
     push_list(text, title, items.as_str())
 }
 

@@ -95,7 +95,7 @@ abbrev pub lists : List ReadEntity → List Pool → List Reached → List ℕ
 lists entities pools all =
     section (codes "Not checked, so that they may reach more") (unread_lines entities)
     ++ (section (codes "Entities that reach every pool") (everywhere_lines all)
-    ++ (section (codes "Pools in which no checked entity may write or call") (unwritten_lines all 0 pools)
+    ++ (section (codes "Pools where no checked entity may write or call") (unwritten_lines all 0 pools)
     ++ section (codes "Rows of several entities") (member_lines all)))
 
 -- what is printed

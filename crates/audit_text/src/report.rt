@@ -250,7 +250,7 @@ fn push_lists(
     let unwritten = unwritten_lines(alloc, all, pools)?;
     push_section(
         text,
-        "Pools in which no checked entity may write or call",
+        "Pools where no checked entity may write or call",
         unwritten.as_str(),
     )?;
     let members = member_lines(alloc, all)?;

@@ -40,7 +40,7 @@ became Gone = codes "gone"
 -- the line of an entity of which a text has no grants here: the number of the fault, and what became of the text
 abbrev pub unjudged_line : List ℕ → Presence → TextFault → List ℕ
 unjudged_line name presence fault =
-    shown name ++ (codes " not judged: " ++ (fault_number fault ++ (codes ", " ++ (became presence ++ codes "\n"))))
+    shown name ++ (codes " not checked: " ++ (fault_number fault ++ (codes ", " ++ (became presence ++ codes "\n"))))
 
 -- the same as a piece of a document
 abbrev pub change_document : List ℕ → List ℕ → List AddressedExample → List AddressedExample → Data

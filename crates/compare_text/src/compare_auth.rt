@@ -100,7 +100,7 @@ fn unjudged_line(
 {
     let mut text = String::new(alloc);
     push_shown_text(&mut text, name)?;
-    text.push_str(" not judged: ")?;
+    text.push_str(" not checked: ")?;
     push_fault_number(&mut text, alloc, fault)?;
     text.push_str(", ")?;
     text.push_str(became(presence))?;
@@ -414,7 +414,7 @@ fn lists_told(
 ///
 /// An entity that both lists have with the same rights has no line. If its texts are the same, byte for byte, it has
 /// no line either, even if they would be refused: they are not read. Every other text is read
-/// once. Where it is refused, the entity's line is `ENTITY not judged: NUMBER, text changed` (or `new` or `gone`), by the number
+/// once. Where it is refused, the entity's line is `ENTITY not checked: NUMBER, text changed` (or `new` or `gone`), by the number
 /// of the first fault. Then the command fails. With a check it also fails where an entity's new text allows something
 /// that its old one denies.
 ///

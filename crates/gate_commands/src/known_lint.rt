@@ -79,8 +79,8 @@ fn push_live(
 ) -> Result<(), OutOfMemory> {
     match found.standing {
         Standing::Needed => (),
-        Standing::Needless => write!(text, "{before}{number} needless\n")?,
-        Standing::Covered(cover) => write!(text, "{before}{number} needless, by {cover}\n")?,
+        Standing::Needless => write!(text, "{before}{number} redundant\n")?,
+        Standing::Covered(cover) => write!(text, "{before}{number} redundant, by {cover}\n")?,
     }
     match found.reach {
         Reach::Bounded => (),

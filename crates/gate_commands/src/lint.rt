@@ -84,7 +84,7 @@ impl Linted {
 fn or_nothing(alloc: Global, printed: Printed) -> Result<Printed, OutOfMemory> {
     if printed.text.is_empty() {
         return Ok(Printed {
-            text: String::from_str(alloc, "nothing needless\n")?,
+            text: String::from_str(alloc, "nothing redundant\n")?,
             fails: printed.fails,
         });
     }

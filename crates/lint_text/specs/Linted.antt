@@ -23,8 +23,8 @@ use Rattle.verdict_text.specs.declared.entity.Entity.{Entity}
 -- the line of a grant's number, behind what stands before it; a grant that is needed has none
 abbrev pub standing_line : List ℕ → ℕ → Standing → List ℕ
 standing_line before number Needed = []
-standing_line before number Needless = before ++ (decimal number ++ codes " needless\n")
-standing_line before number (Covered cover) = before ++ (decimal number ++ (codes " needless, by " ++ (decimal cover ++ codes "\n")))
+standing_line before number Needless = before ++ (decimal number ++ codes " redundant\n")
+standing_line before number (Covered cover) = before ++ (decimal number ++ (codes " redundant, by " ++ (decimal cover ++ codes "\n")))
 
 -- the grant names neither a pool nor a tag
 abbrev pub is_everywhere : Grant → Bool
@@ -72,7 +72,7 @@ pub record IsRefusal (caps text : List ℕ) (fails : Bool) : Type 0 where
 
 -- nothing stands there
 abbrev pub or_nothing : List ℕ → List ℕ
-or_nothing lines = if length lines == 0 then codes "nothing needless\n" else lines
+or_nothing lines = if length lines == 0 then codes "nothing redundant\n" else lines
 
 -- The lines of each grant of a text. With a check it fails if some grant is redundant or matches no pool.
 pub record IsLinted (pools : Option (List Pool)) (check : Bool) (caps text : List ℕ) (fails : Bool) : Type 0 where

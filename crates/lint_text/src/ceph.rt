@@ -122,7 +122,7 @@ fn linted(alloc: Global, all: &[GrantLint], check: bool) -> Result<Printed, OutO
     let mut text = String::new(alloc);
     push_all(&mut text, "", all)?;
     if text.is_empty() {
-        text.push_str("nothing needless\n")?;
+        text.push_str("nothing redundant\n")?;
     }
     Ok(Printed {
         text,
@@ -134,14 +134,14 @@ fn linted(alloc: Global, all: &[GrantLint], check: bool) -> Result<Printed, OutO
 ///
 /// Each grant has these lines, with its number `N`, counted from 1:
 ///
-/// - `N needless` or `N needless, by M`, as [`crate::lint_caps`] prints them;
+/// - `N redundant` or `N redundant, by M`, as [`crate::lint_caps`] prints them;
 /// - `N every pool`, if some grant that it expands to names neither a pool nor a tag, or `N every pool, by prefix`, if
 ///   all such grants have a prefix of objects;
 /// - `N matches no pool`, if pools are given and none matches;
 /// - `N unknown profile, grants nothing` alone, if it uses an unknown profile;
 /// - `N network matches no address` alone, if its network matches no address.
 ///
-/// If no grant has a line, it prints `nothing needless`. With a check it fails if some grant has a line other than
+/// If no grant has a line, it prints `nothing redundant`. With a check it fails if some grant has a line other than
 /// those on every pool. A text that Ceph refuses prints `refused FAULT`, which fails.
 pub fn lint_ceph_caps(
     alloc: Global,

@@ -21,8 +21,8 @@ pub(crate) fn push_standing(
 {
     match standing {
         Standing::Needed => Ok(()),
-        Standing::Needless => write!(text, "{before}{number} needless\n"),
-        Standing::Covered(cover) => write!(text, "{before}{number} needless, by {cover}\n"),
+        Standing::Needless => write!(text, "{before}{number} redundant\n"),
+        Standing::Covered(cover) => write!(text, "{before}{number} redundant, by {cover}\n"),
     }
 }
 

@@ -41,7 +41,7 @@ fn linted(alloc: Global, judged: &Judged, check: bool) -> Result<Printed, OutOfM
         &judged.without,
     )?;
     if text.is_empty() {
-        text.push_str("nothing needless\n")?;
+        text.push_str("nothing redundant\n")?;
     }
     let fails = check && is_mistaken(&judged.standings, &judged.without);
     Ok(Printed { text, fails })
@@ -51,12 +51,12 @@ fn linted(alloc: Global, judged: &Judged, check: bool) -> Result<Printed, OutOfM
 ///
 /// Each grant has these lines, with its number `N`, counted from 1:
 ///
-/// - `N needless`, if the text without it allows the same, or `N needless, by M`, if also the grant M is the first
+/// - `N redundant`, if the text without it allows the same, or `N redundant, by M`, if also the grant M is the first
 ///   other one that alone allows all that it allows;
 /// - `N every pool`, if it names neither a pool nor a tag;
 /// - `N matches no pool`, if pools are given and it matches none of them by its name and tags.
 ///
-/// If no grant has a line, it prints `nothing needless`. With a check it fails if a grant is redundant or matches no
+/// If no grant has a line, it prints `nothing redundant`. With a check it fails if a grant is redundant or matches no
 /// pool. A text that has no grants prints `refused FAULT`, which fails.
 pub fn lint_caps(
     alloc: Global,

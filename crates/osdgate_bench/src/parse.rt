@@ -3,6 +3,7 @@
 use crate::fault::Fault;
 use crate::grants::pools;
 use cap_text::{CapFault, FaultKind, parse};
+use ceph_text::{CephFault, read};
 use common_types::OutOfMemory;
 use std::alloc::{AllocError, Global};
 use std::time::Clock;
@@ -25,6 +26,27 @@ impl Work for Parse {
                     ..
                 },
             ) => Err(AllocError),
+            Err(_) => Ok(false),
+        }
+    }
+
+    fn size(&self) -> u64 {
+        1
+    }
+}
+
+/// A text, which is read by Ceph's rules. The list is dropped.
+#[derive(Drop)]
+struct ReadCeph {
+    alloc: Global,
+    text: String,
+}
+
+impl Work for ReadCeph {
+    fn once(&self, _turn: usize) -> Result<bool, OutOfMemory> {
+        match read(self.alloc, self.text.as_str()) {
+            Ok(list) => Ok(!list.grants().is_empty()),
+            Err(CephFault::OutOfMemory) => Err(AllocError),
             Err(_) => Ok(false),
         }
     }
@@ -86,5 +108,10 @@ pub(crate) fn add_parses<C: Clock>(table: &mut Table<'_, C>, name: &str) -> Resu
         let text = kind.text(alloc, name)?;
         table.row(kind.name(), &Parse { alloc, text })?;
     }
+    let text = pools(alloc, name, 64, "")?;
+    table.row(
+        "read by Ceph's rules, 64 grants with pools",
+        &ReadCeph { alloc, text },
+    )?;
     Ok(())
 }

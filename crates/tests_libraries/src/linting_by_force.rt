@@ -153,15 +153,15 @@ const CAPS: &str = "allow rw, allow r pool=data";
 fn lines_are_printed(rt: HostRuntime) {
     let alloc = rt.alloc();
     let linted = lint_caps(alloc, CAPS, None, true).expect(&rt, "memory");
-    expect_printed(&rt, &linted, "1 every pool\n2 needless, by 1\n", true);
+    expect_printed(&rt, &linted, "1 every pool\n2 redundant, by 1\n", true);
     let tidied = tidy_caps(alloc, CAPS, false).expect(&rt, "memory");
     expect_printed(&rt, &tidied, "allow rw\n", false);
     let pools = pools_of(&rt, alloc, &[("logs", &[])]);
     let linted = lint_caps(alloc, CAPS, Some(&pools), true).expect(&rt, "memory");
-    let lines = "1 every pool\n2 needless, by 1\n2 matches no pool\n";
+    let lines = "1 every pool\n2 redundant, by 1\n2 matches no pool\n";
     expect_printed(&rt, &linted, lines, true);
     let entities = entities_of(&rt, alloc, &[("client.a", CAPS)]);
     let linted = lint_entities(alloc, &entities, None, true).expect(&rt, "memory");
-    let lines = "client.a 1 every pool\nclient.a 2 needless, by 1\n";
+    let lines = "client.a 1 every pool\nclient.a 2 redundant, by 1\n";
     expect_printed(&rt, &linted, lines, true);
 }
