@@ -8,7 +8,7 @@ mod arguments;
 mod auditing;
 mod findings;
 mod inputs;
-mod reach;
+mod reach_command;
 mod reach_text;
 mod reached_pools;
 mod rendering;
@@ -17,4 +17,4 @@ mod tests;
 
 pub use arguments::output_of;
 pub use auditing::audit;
-pub use reach::reach;
+pub use reach_command::reach;
