@@ -85,11 +85,21 @@ fn pool_names(alloc: Global, rights: &Rights) -> Result<Vec<&str>, OutOfMemory> 
     Ok(names)
 }
 
+/// Whether a name is among these.
+fn is_among(names: &[&str], name: &str) -> bool {
+    for one in names {
+        if *one == name {
+            return true;
+        }
+    }
+    false
+}
+
 /// A name that none of these is: `<any>`, or with more behind it.
 fn other_name(alloc: Global, names: &[&str]) -> Result<String, OutOfMemory> {
     let mut name = String::from_str(alloc, ANY)?;
     for _ in 0..names.len() {
-        if !names.contains(&name.as_str()) {
+        if !is_among(names, name.as_str()) {
             break;
         }
         name.push_str(">")?;
