@@ -130,6 +130,21 @@ public:
             applications.size(), calls.empty() ? detail::no_calls : calls.data(), calls.size()));
     }
 
+    /// The answers to requests without class calls, for pools without application tags, in their order; nothing for an empty handle.
+    /// It calls the library once, so it is the fastest way to many verdicts.
+    [[nodiscard]] std::optional<std::vector<Answer>> judge_all(const std::vector<Request> &requests)
+    {
+        // One place more, so that no pointer is null.
+        std::vector<sig_request> asked(requests.size() + 1, detail::request(Request{}));
+        std::vector<std::uint8_t> found(asked.size());
+        std::transform(requests.begin(), requests.end(), asked.begin(), detail::request);
+        if (sig_judge_all(&handle, asked.data(), requests.size(), found.data(), requests.size()) != SIG_OK)
+            return std::nullopt;
+        std::vector<Answer> answers(requests.size());
+        std::transform(found.begin(), found.end() - 1, answers.begin(), [](std::uint8_t each) { return static_cast<Answer>(each); });
+        return answers;
+    }
+
     /// Why a request is denied, a line for each grant, or an allowed and a denied address if it depends on the address; else nothing.
     [[nodiscard]] std::optional<std::string> report(const Request &request, const std::vector<sig_application> &applications = {},
         const std::vector<sig_call> &calls = {})

@@ -61,11 +61,14 @@ class Request:
         self.values = {b"--pool": b"", b"--namespace": b"", b"--object": b"", b"--from": b"", b"--until": None, b"--tick": b"0"}
         self.values.update({b"--caps": None, b"--rules": DEFAULT_RULES})
         self.flags, self.tags, self.calls = set(), {}, []
+        self.is_looked_up = False
         words = list(words)
         while words:
             self.take(words.pop(0), words)
         if self.values[b"--caps"] is None:
             raise ValueError("no text")
+        if self.is_looked_up and self.values[b"--rules"] == b"ceph":
+            raise ValueError("Ceph's class table says whether the class is listed, and the library has none")
 
     def take(self, word, rest):
         if word in self.values:
@@ -85,6 +88,7 @@ class Request:
         elif word == b"--call":
             name, flags, *listed = rest.pop(0).split(b":")
             self.calls.append((name, (int(b"r" in flags), int(b"w" in flags), int(bool(listed)))))
+            self.is_looked_up |= not listed
         elif word.decode(errors="replace") in REGISTRY:
             self.calls.append((word, REGISTRY[word.decode()]))
         else:

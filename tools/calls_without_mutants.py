@@ -1,12 +1,14 @@
 #!/usr/bin/env python3
-"""Lists public calls that no mutant of their crate breaks: tools/calls_without_mutants.py [--rows FROM-TO] [CRATE ..].
+"""Lists public calls that no mutant of their crate breaks: tools/calls_without_mutants.py [--write] [--rows FROM-TO] [CRATE ..].
 
 A public call is a `pub fn` with an `ensures` clause, which `src/lib.rt` exports or which is a method of a type that it exports.
 A mutant, crates/NAME/must-fail/*.edit, breaks the function whose body it edits and each function of the crate that calls it, by
 name. So the list is of calls that reach no edited body. A law, a function with an empty body, has no mutant and is not listed. Nor
-is `copy`, nor a reader whose body is one expression without a branch, a loop or a call of the crate's own: its clause is its body.
+is `copy`, nor a reader or maker of a value: its body is one expression, perhaps behind one `let`, without a branch, a loop or a
+comparison, and of the crate's own functions it calls such ones alone. Its clause is its body.
 Calls are told apart by their names alone, so a call that shares its name with an edited function may be missed. --rows takes the
-rows of crates.txt. It prints a line a crate and, below it, a line a call with its clauses, and exits with 0.
+rows of crates.txt. It prints a line a crate and, below it, a line a call with its clauses, and exits with 0. --write puts the list of
+all crates into docs/design/PROVED.md, in place of printing it.
 """
 import argparse
 import glob
@@ -16,9 +18,14 @@ import re
 import check_rows
 
 TOP = os.path.dirname(os.path.dirname(os.path.realpath(__file__)))
+PAGE = f"{TOP}/docs/design/PROVED.md"
+# Its list, between the two lines that mark it.
+LISTED = re.compile(r"(?<=<!-- begin list, written by tools/calls_without_mutants.py --write -->\n).*?(?=<!-- end -->)", re.S)
 HEAD = re.compile(r"^(?P<pad> *)(?P<public>pub(?P<within>\([a-z ]+\))? )?(?:const )?fn (?P<name>\w+)", re.M)
-BRANCH = re.compile(r"\b(if|match|for|while|loop|else)\b|\?")
+BRANCH = re.compile(r"\b(if|match|for|while|loop|else)\b|&&|\|\||[=!<>]=| [<>] ")
 CLAUSE = re.compile(r"^ *ensures(?: (\w+))? \{", re.M)
+TYPE = re.compile(r"^(?:pub(?:\([a-z]+\))? )?(?:struct|enum|trait) (\w+)", re.M)
+CALL = re.compile(r"(?:\b(\w+)::)?\b([a-z_]\w*)(?:::<[^>()]*>)?\(")
 
 
 def functions(text):
@@ -54,24 +61,43 @@ def exported(crate):
     return set(re.findall(r"\w+", " ".join(re.findall(r"^pub use ([^;]+);", text, re.M)))) | set(re.findall(r"^pub mod (\w+);", text, re.M))
 
 
+def is_plain(body):
+    """Whether a body is one expression, perhaps behind one `let`, without a branch, a loop or a comparison."""
+    return not BRANCH.search(body) and body.count(";") <= 1 and len("".join(body.split())) <= 160
+
+
+def called(body, types):
+    """The names of the functions that a body calls, but those of a type that is not the crate's own."""
+    return {name for of, name in CALL.findall(body) if not of[:1].isupper() or of == "Self" or of in types}
+
+
+def readers(bodies, calls):
+    """The functions that only read or make a value: their bodies are plain, and call no others."""
+    found = {name for name, texts in bodies.items() if all(is_plain(it) for it in texts)}
+    while True:
+        left = {name for name in found if calls[name] <= found}
+        if left == found:
+            return found
+        found = left
+
+
 def unbroken(crate):
     """The public calls of a crate that reach no edited body, with their clauses."""
     cuts, doors = edited(crate), exported(crate)
-    bodies, broken, public = {}, set(), {}
+    bodies, broken, public, types = {}, set(), {}, set()
     for path in sorted(glob.glob(f"{TOP}/crates/{crate}/src/**/*.rt", recursive=True)):
         text = open(path, encoding="utf-8").read().split("#[cfg(test)]")[0]
         file = os.path.relpath(path, f"{TOP}/crates/{crate}")
-        types = set(re.findall(r"^impl(?:<[^>]*>)? (\w+)", text, re.M))
-        shown = types & doors
+        types.update(TYPE.findall(text))
+        shown = set(re.findall(r"^impl(?:<[^>]*>)? (\w+)", text, re.M)) & doors
         for name, is_public, clauses, body in functions(text):
             bodies.setdefault(name, []).append(body)
             if any(old.strip() in body for old in cuts.get(file, [])):
                 broken.add(name)
-            plain = not BRANCH.search(body) and len(body.strip().splitlines()) <= 4
             if is_public and clauses and body.strip() and (name in doors or shown or os.path.basename(file)[:-3] in doors):
-                public[f"{file[4:-3]}::{name}"] = (name, clauses, plain)
-    calls = {name: {it for it in re.findall(r"\b([a-z_]\w*)\(", " ".join(texts)) if it in bodies and it != name} for name, texts in bodies.items()}
-    reaching = set(broken)
+                public[f"{file[4:-3]}::{name}"] = (name, clauses)
+    calls = {name: called(" ".join(texts), types) & bodies.keys() - {name} for name, texts in bodies.items()}
+    reaching, reading = set(broken), readers(bodies, calls)
     while True:
         more = {name for name, uses in calls.items() if name not in reaching and uses & reaching}
         if not more:
@@ -79,25 +105,46 @@ def unbroken(crate):
         reaching |= more
     return {
         label: clauses
-        for label, (name, clauses, plain) in public.items()
-        if name not in reaching and name != "copy" and not (plain and not calls[name])
+        for label, (name, clauses) in public.items()
+        if name not in reaching | reading and name != "copy"
     }, len(public)
+
+
+def libraries(first, last, names):
+    """The libraries of these rows, or those of them that are named, each with its unbroken calls and the number of its public calls."""
+    for crate, (row, _, _) in check_rows.rows(check_rows.read("crates.txt")).items():
+        is_wanted = first <= row <= last and (not names or crate in names) and not crate.startswith("tests_")
+        if is_wanted and os.path.isfile(f"{TOP}/crates/{crate}/src/lib.rt"):
+            left, count = unbroken(crate)
+            if count:
+                yield crate, left, count
+
+
+def write(found):
+    """Puts the list into its page."""
+    public = sum(count for _, _, count in found)
+    rows = [f"| `{crate}` | {', '.join(f'`{it}`' for it in left)} |\n" for crate, left, _ in found if left]
+    head = f"Of {public} public calls, {sum(len(left) for _, left, _ in found)} in {len(rows)} crates:\n\n| Crate | Calls |\n|---|---|\n"
+    with open(PAGE, encoding="utf-8") as it:
+        page = it.read()
+    if not LISTED.search(page):
+        raise SystemExit(f"{PAGE} has no place for the list")
+    with open(PAGE, "w", encoding="utf-8") as it:
+        it.write(LISTED.sub(lambda _: head + "".join(rows), page))
 
 
 def main():
     options = argparse.ArgumentParser(description=__doc__.split("\n\n")[0])
+    options.add_argument("--write", action="store_true")
     options.add_argument("--rows", default="0-7")
     options.add_argument("crates", nargs="*")
     given = options.parse_args()
+    if given.write:
+        write([*libraries(0, 7, ())])
+        return
     first, last = (int(it) for it in given.rows.split("-"))
-    for crate, (row, _, _) in check_rows.rows(check_rows.read("crates.txt")).items():
-        if given.crates and crate not in given.crates or not first <= row <= last:
-            continue
-        if crate.startswith("tests_") or not os.path.isfile(f"{TOP}/crates/{crate}/src/lib.rt"):
-            continue
-        left, count = unbroken(crate)
-        if count:
-            print(f"{crate}: {count} public calls, {len(left)} without a mutant")
+    for crate, left, count in libraries(first, last, given.crates):
+        print(f"{crate}: {count} public calls, {len(left)} without a mutant")
         for label, clauses in left.items():
             print(f"  {label} ({', '.join(clauses)})")
 

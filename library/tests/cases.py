@@ -2,7 +2,7 @@
 """Asks the verdicts of the sessions by the Python package, and a few more calls of it. Cases come on standard input."""
 import sys
 
-from sigmuyap import AddressNeeded, Call, Line, Refused, Rules, Ticket, version
+from sigmuyap import AddressNeeded, Call, Line, Refused, Request, Rules, Ticket, version
 
 
 class Fields:
@@ -44,6 +44,9 @@ def check_case(fields):
         check_raises(AddressNeeded, lambda: ticket.report(**asked))
         return
     assert ticket.allows(**asked) == (expected == 1), "verdict"
+    if not tags and not calls:
+        request = Request(pool, namespace, name, reads, writes, tick, address)
+        assert ticket.allows_all([request, request]) == [expected == 1] * 2, "verdicts"
     lines = ticket.report(**asked)
     if expected == 1:
         assert lines is None, "report"
@@ -68,6 +71,10 @@ def check_calls():
     assert near.report(read=True, address="11.1.2.3") == [Line("1", "network")]
     check_raises(ValueError, lambda: near.allows(read=True, address="10.1.2.3:6789"))
     check_raises(AddressNeeded, lambda: near.allows(read=True))
+    requests = [Request(read=True, address=address) for address in ("10.1.2.3", "11.1.2.3", b"::ffff:10.1.2.3")]
+    assert near.allows_all(requests) == [True, False, False] and near.allows_all([]) == []
+    check_raises(AddressNeeded, lambda: near.allows_all([*requests, Request(read=True)]))
+    check_raises(ValueError, lambda: ticket.allows_all(requests))
     check_raises(Refused, lambda: Ticket("allow r pool=", rules=Rules.CEPH))
     assert near.gain_over(Ticket("allow w", rules=Rules.CEPH)).endswith("--read --from 10.0.0.0")
 

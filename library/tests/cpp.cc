@@ -54,6 +54,12 @@ int main()
     check(ticket.allows(request), "an address");
     request.from = "10.1.2.3/8";
     check(ticket.judge(request) == Answer::BadAddress && !ticket.report(request).has_value(), "no address at all");
+    sigmuyap::Request near = request, far = request;
+    near.from = "10.1.2.3";
+    far.from = "11.1.2.3";
+    const std::vector<Answer> each = {Answer::BadAddress, Answer::Allow, Answer::Deny};
+    check(ticket.judge_all({request, near, far}) == each && ticket.judge_all({}) == std::vector<Answer>(), "several requests");
+    check(!Ticket().judge_all({near}).has_value(), "several requests and no ticket");
     std::printf("%lu checks\n", checks);
     return faults != 0;
 }

@@ -12,9 +12,9 @@ from __future__ import annotations
 import ctypes
 import enum
 import os
-from typing import Iterable, List, Mapping, NamedTuple, Optional, Sequence, Tuple, Union
+from typing import Callable, Iterable, List, Mapping, NamedTuple, Optional, Sequence, Tuple, Union
 
-__all__ = ["AddressNeeded", "Call", "Fault", "Line", "Names", "Refused", "Rules", "Tags", "Ticket", "version"]
+__all__ = ["AddressNeeded", "Call", "Fault", "Line", "Names", "Refused", "Request", "Rules", "Tags", "Ticket", "version"]
 
 Names = Union[str, bytes]
 #: The application tags of a pool: for each application its pairs of a key and a value.
@@ -64,6 +64,10 @@ class _Call(ctypes.Structure):
         ("writes", ctypes.c_bool),
         ("listed", ctypes.c_bool),
     ]
+
+
+#: Application tags and calls as C takes them, each list with its length.
+_Lists = Tuple["ctypes.Array[_Application]", int, "ctypes.Array[_Call]", int]
 
 
 def _load() -> ctypes.PyDLL:
@@ -144,6 +148,22 @@ class Line(NamedTuple):
     condition: str
 
 
+class Request(NamedTuple):
+    """A request without class calls, for a pool without application tags. A listing has the empty object name."""
+
+    pool: Names = ""
+    namespace: Names = ""
+    object: Names = ""
+    read: bool = False
+    write: bool = False
+    tick: int = 0
+    address: Names = ""
+
+    def _as_c(self) -> _Request:
+        names = [_text(name) for name in (self.pool, self.namespace, self.object, self.address)]
+        return _Request(*names, self.tick, self.read, self.write)
+
+
 class Call(NamedTuple):
     """A call of a class's method, with what the class registry says of the method."""
 
@@ -206,12 +226,20 @@ class Ticket:
         address: Names = "",
     ) -> bool:
         """Whether the ticket allows a request. A listing has the empty object name. Only grants with a network look at the address."""
-        request = _Request(_text(pool), _text(namespace), _text(object), _text(address), tick, read, write)
+        request = Request(pool, namespace, object, read, write, tick, address)._as_c()
         applications, asked = _applications(tags or {}), _calls(calls)
         if not len(applications) and not len(asked):
             return bool(_checked(_library.sig_judge(self._handle, request)) == _ALLOW)
         answer = _library.sig_judge_with(self._handle, request, *_lists(applications, asked))
         return bool(_checked(answer) == _ALLOW)
+
+    def allows_all(self, requests: Iterable[Request]) -> List[bool]:
+        """Whether the ticket allows each of some requests, in their order. It calls the library once."""
+        held = [request._as_c() for request in requests]
+        # One place more, so that no pointer is null.
+        asked, answers = (_Request * (len(held) + 1))(*held), (ctypes.c_uint8 * (len(held) + 1))()
+        _checked(_library.sig_judge_all(self._handle, asked, len(held), answers, len(held)))
+        return [_checked(answer) == _ALLOW for answer in answers[: len(held)]]
 
     def report(
         self,
@@ -227,7 +255,7 @@ class Ticket:
         address: Names = "",
     ) -> Optional[List[Line]]:
         """Why a request is denied: a line for each grant. None if it is allowed."""
-        request = _Request(_text(pool), _text(namespace), _text(object), _text(address), tick, read, write)
+        request = Request(pool, namespace, object, read, write, tick, address)._as_c()
         lists = _lists(_applications(tags or {}), _calls(calls))
         text = _whole(_DENY, lambda *out: _library.sig_report(self._handle, request, *lists, *out))
         if text is None:
@@ -290,14 +318,14 @@ def _calls(calls: Iterable[Call]) -> "ctypes.Array[_Call]":
     return (_Call * len(made))(*made)
 
 
-def _lists(applications: "ctypes.Array[_Application]", calls: "ctypes.Array[_Call]") -> tuple:
+def _lists(applications: "ctypes.Array[_Application]", calls: "ctypes.Array[_Call]") -> "_Lists":
     # An array with no items has no address of its own: one of one item stands for it.
     tags = applications if len(applications) else (_Application * 1)()
     asked = calls if len(calls) else (_Call * 1)()
     return tags, len(applications), asked, len(calls)
 
 
-def _whole(done: int, call) -> Optional[bytes]:
+def _whole(done: int, call: Callable[..., int]) -> Optional[bytes]:
     """A text by a call that takes a buffer: asked for its length, and then for the text."""
     needed = ctypes.c_size_t(0)
     out = ctypes.create_string_buffer(1)

@@ -19,7 +19,7 @@ import refused_tests
 
 TOP = refused_tests.TOP
 # The crates of tests with ample memory.
-CRATES = ["tests_libraries", "tests_worlds", "tests_clusters"]
+CRATES = ["tests_libraries", "tests_questions", "tests_worlds", "tests_clusters"]
 # So many runs are made at a time, and seconds after which a run counts for nothing.
 LANES, LIMIT = 4, 60
 PUBLIC = re.compile(r"^\s*pub (?:const )?fn (\w+)", re.MULTILINE)

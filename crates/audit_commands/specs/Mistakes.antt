@@ -2,7 +2,7 @@
 -- What is wrong with a grant, by what is found of it (this project's profile).
 use Rattle.std.specs.Prelude.{List, [], ◌∷◌, ◌++◌, Bool, true, false, Option, None, Some, if◌then◌else◌}
 use Rattle.lint_core.specs.declared.findings.Standing.{Standing}
-use Rattle.lint_core.specs.declared.findings.Standing.TheVariants.{Needed, Needless, Covered}
+use Rattle.lint_core.specs.declared.findings.Standing.TheVariants.{Needed, CoveredTogether, Covered}
 use Rattle.lint_core.specs.declared.rights_lint.GrantLint.{GrantLint}
 use Rattle.audit_commands.specs.declared.findings.Mistake.{Mistake}
 use Rattle.audit_commands.specs.declared.findings.Mistake.TheVariants.{NoPool, Redundant, Unknown, NoAddress}
@@ -10,7 +10,7 @@ use Rattle.audit_commands.specs.declared.findings.Mistake.TheVariants.{NoPool, R
 -- the others allow the same, and one of them alone does if there is a number
 abbrev pub redundancy : Standing → List Mistake
 redundancy Needed = []
-redundancy Needless = Redundant None ∷ []
+redundancy CoveredTogether = Redundant None ∷ []
 redundancy (Covered other) = Redundant (Some other) ∷ []
 
 -- one that grants nothing has no other mistake

@@ -22,7 +22,7 @@ fn findings<'a>(
     if arguments.format == AuditFormat::Csv {
         return Ok(Vec::new(alloc));
     }
-    findings_of(alloc, arguments.rules, entities, inputs.pools.as_slice())
+    findings_of(alloc, entities, inputs.pools.as_slice())
 }
 
 /// The answer on entities and pools: it fails if an entity could not be checked, unless that is accepted.

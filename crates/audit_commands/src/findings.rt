@@ -3,12 +3,11 @@
 ghost use Rattle.std.specs.Prelude.{◌≡◌, ◌++◌, ◌<◌, ◌^◌, IfOk, OnOk};
 ghost use Rattle.audit_commands.specs.Mistakes as spec;
 
-use cap_text::{FaultKind, parse};
 use common_types::OutOfMemory;
 use lint_core::{GrantLint, Pool, Standing, lint_rights};
-use std::alloc::{AllocError, Global};
+use std::alloc::Global;
 use std::fmt::Write;
-use verdict_text::{ReadEntity, Rules, push_shown_text, read_ceph_rights};
+use verdict_text::{ReadEntity, Spelled, push_shown_text};
 
 /// What is wrong with a grant.
 #[derive(Clone, Copy, PartialEq, Eq)]
@@ -68,7 +67,7 @@ fn push_redundancy(all: &mut Vec<Mistake>, standing: Standing) -> Result<(), Out
 {
     match standing {
         Standing::Needed => Ok(()),
-        Standing::Needless => Ok(all.push(Mistake::Redundant { by: None })?),
+        Standing::CoveredTogether => Ok(all.push(Mistake::Redundant { by: None })?),
         Standing::Covered(other) => Ok(all.push(Mistake::Redundant { by: Some(other) })?),
     }
 }
@@ -115,47 +114,44 @@ fn push_findings<'a>(
 /// The most grants that a text has by this project's rules.
 const MAX_GRANTS: usize = 64;
 
-/// How many grants a text has by this project's rules, none where it is refused.
-fn count_of(alloc: Global, text: &str) -> Result<usize, OutOfMemory>
-    ensures { IfOk result (λ count. count < 2 ^ 32) }
+/// The most grants that a text has by Ceph's rules.
+const MAX_CEPH_GRANTS: usize = 4096;
+
+/// How many grants a text has that spells this, none where it is empty or refused.
+fn count_of(spelled: &Spelled) -> usize
+    ensures { result < 2 ^ 32 }
 {
-    match parse(alloc, text) {
-        Ok(list) => Ok(list.grants().len().min(MAX_GRANTS)),
-        Err(fault) if fault.kind == FaultKind::OutOfMemory => Err(AllocError),
-        Err(_) => Ok(0),
+    match spelled {
+        Spelled::Nothing => 0,
+        Spelled::Listed(list) => list.grants().len().min(MAX_GRANTS),
+        Spelled::Counted(count) => (*count).min(MAX_CEPH_GRANTS),
     }
 }
 
 /// What is found of each grant of an entity's text, or nothing where the text is empty or refused.
 fn lints_of(
     alloc: Global,
-    rules: Rules,
     entity: &ReadEntity,
     pools: &[Pool],
 ) -> Result<Vec<GrantLint>, OutOfMemory> {
-    let text = entity.osd.text();
-    match rules {
-        Rules::Ceph => match read_ceph_rights(alloc, text)? {
-            Ok(read) => lint_rights(alloc, &read.rights, read.count, Some(pools)),
-            Err(_) => Ok(Vec::new(alloc)),
-        },
-        Rules::Project => match entity.osd.read() {
-            Ok(rights) => lint_rights(alloc, rights, count_of(alloc, text)?, Some(pools)),
-            Err(_) => Ok(Vec::new(alloc)),
-        },
+    match entity.osd.read() {
+        Ok(rights) => {
+            let count = count_of(entity.osd.spelled());
+            lint_rights(alloc, rights, count, Some(pools))
+        }
+        Err(_) => Ok(Vec::new(alloc)),
     }
 }
 
 /// What is found of the grants of each entity, in their orders.
 pub(crate) fn findings_of<'a>(
     alloc: Global,
-    rules: Rules,
     entities: &'a [ReadEntity],
     pools: &[Pool],
 ) -> Result<Vec<Finding<'a>>, OutOfMemory> {
     let mut all = Vec::new(alloc);
     for entity in entities {
-        let lints = lints_of(alloc, rules, entity, pools)?;
+        let lints = lints_of(alloc, entity, pools)?;
         for (index, lint) in lints.iter().enumerate() {
             push_findings(&mut all, alloc, entity, index + 1, lint)?;
         }

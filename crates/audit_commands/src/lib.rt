@@ -12,8 +12,6 @@ mod reach_command;
 mod reach_text;
 mod reached_pools;
 mod rendering;
-#[cfg(test)]
-mod tests;
 
 pub use arguments::output_of;
 pub use auditing::audit;

@@ -4,8 +4,8 @@ use crate::reach_text::{reach_document, reach_lines};
 use crate::reached_pools::{ReachedPool, named_pools, needs_tags, reached_pools, sorted_pools};
 use clap::ArgMatches;
 use command_steps::{
-    Answered, BadWords, NoAnswer, caps_of, fault_note, format_of, pools_given, reader_of,
-    refused_text, value_of, with_rules_of,
+    Answered, BadWords, NoAnswer, caps_of, colours_of, fault_note, format_of, pools_given,
+    reader_of, refused_text, value_of, with_rules_of,
 };
 use common_types::OutOfMemory;
 use gate_files::{InputFiles, Screen};
@@ -122,7 +122,8 @@ fn answered(
     let answered = reached(alloc, arguments, &text, pools)?;
     let answered = answered.with_note(fault_note(alloc, &text, screen))?;
     let answered = with_rules_of(alloc, matches, answered)?;
-    Ok(answered.documented(alloc, arguments.format)?)
+    let answered = answered.documented(alloc, arguments.format)?;
+    Ok(answered.coloured(alloc, arguments.format, colours_of(matches, screen))?)
 }
 
 /// `osdgate reach`: what an entity of a file reaches of each pool, and the grants that give it.

@@ -14,8 +14,6 @@ mod printing;
 mod profiles;
 mod reading;
 mod row;
-#[cfg(test)]
-mod tests;
 
 pub use entry::CephEntry;
 pub use fault::CephFault;

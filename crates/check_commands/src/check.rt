@@ -1,31 +1,42 @@
 //! `osdgate check`.
 
-ghost use Rattle.std.specs.Prelude.{◌≤◌};
+ghost use Rattle.std.specs.Prelude.{◌≡◌, ◌≤◌, IfOk, option_copied, string_bytes};
+ghost use Rattle.check_commands.specs.Judged as spec;
 
 use crate::arguments::{CheckArguments, CheckFormat};
 use crate::rules_file::rules_in;
 use clap::ArgMatches;
 use command_steps::{
-    Answered, NoAnswer, chosen_in, finish_answer, finish_unanswered, format_of, pools_given,
+    Answered, NoAnswer, chosen_read_by, finish_answer, finish_unanswered, format_of, pools_given,
     reader_of, with_rules_of,
 };
 use common_types::OutOfMemory;
 use gate_files::{Chosen, InputFiles};
 use rules_text::{
-    CheckedRule, RuleLine, check_json, check_junit, check_report, check_rules, some_fail,
+    CheckedRule, RuleLine, Watch, check_json, check_junit, check_report, check_rules, some_fail,
 };
 use share_core::Pool;
 use std::alloc::Global;
 use std::io::{Read, Write};
 use verdict_text::{Printed, ReadEntity};
 
-/// The answer in the form that is asked for.
+/// Looks on while rules are checked, and shows nothing.
+#[derive(Clone, Copy)]
+struct Silent;
+
+impl Watch for Silent {
+    fn checked(&mut self, _count: usize) {}
+}
+
+/// Checked rules in the form that is asked for.
 fn rendered(
     alloc: Global,
     arguments: &CheckArguments<'_>,
     entities: &[ReadEntity],
     all: &[CheckedRule<'_>],
-) -> Result<String, OutOfMemory> {
+) -> Result<String, OutOfMemory>
+    ensures { IfOk result (λ text. string_bytes text ≡ spec.rendered arguments.now entities.now all.now) }
+{
     match arguments.format {
         CheckFormat::Text => check_report(alloc, entities, arguments.quiet, all),
         CheckFormat::Json => check_json(alloc, entities, all),
@@ -33,20 +44,36 @@ fn rendered(
     }
 }
 
-/// The answer on rules: it fails where one does not hold, names nobody, or names an entity that could not be checked. The other
-/// entities that could not be checked are noted.
-fn checked(
+/// What is printed of the rules of a file. It fails where a rule does not hold, names nobody, or names an entity that could not
+/// be checked.
+fn judged<W: Watch>(
+    alloc: Global,
+    arguments: &CheckArguments<'_>,
+    rules: &[RuleLine],
+    pools: Option<&[Pool]>,
+    entities: &[ReadEntity],
+    watch: &mut W,
+) -> Result<Printed, OutOfMemory>
+    ensures { IfOk result (spec.AreJudged arguments.now (option_copied pools.entry) rules.now entities.now) }
+{
+    let all = check_rules(alloc, pools, rules, entities, watch)?;
+    let fails = some_fail(all.as_slice());
+    let text = rendered(alloc, arguments, entities, all.as_slice())?;
+    Ok(Printed { text, fails })
+}
+
+/// The answer on rules, with the entities that could not be checked. Those that no rule names do not make it fail.
+fn checked<W: Watch>(
     alloc: Global,
     arguments: &CheckArguments<'_>,
     rules: &[RuleLine],
     pools: Option<&[Pool]>,
     chosen: &Chosen,
+    watch: &mut W,
 ) -> Result<Answered, OutOfMemory> {
-    let entities = chosen.entities();
-    let all = check_rules(alloc, pools, rules, entities)?;
-    let fails = some_fail(all.as_slice());
-    let text = rendered(alloc, arguments, entities, all.as_slice())?;
-    let mut answered = Answered::of(alloc, Printed { text, fails }).about(alloc, chosen)?;
+    let printed = judged(alloc, arguments, rules, pools, chosen.entities(), watch)?;
+    let fails = printed.fails;
+    let mut answered = Answered::of(alloc, printed).about(alloc, chosen)?;
     answered.printed.fails = fails;
     Ok(answered)
 }
@@ -61,10 +88,17 @@ fn check<F: InputFiles, R: Read>(
     let arguments = CheckArguments::of(matches)?;
     let pools = pools_given(alloc, files, reader, matches)?;
     let pools = pools.as_ref().map(Vec::as_slice);
-    let chosen = chosen_in(alloc, files, reader, matches)?;
     let by = reader_of(alloc, matches)?;
+    let chosen = chosen_read_by(alloc, files, reader, matches, &by)?;
     let rules = rules_in(alloc, files, reader, arguments.path, chosen.entities(), &by)?;
-    let answered = checked(alloc, &arguments, rules.as_slice(), pools, &chosen)?;
+    let answered = checked(
+        alloc,
+        &arguments,
+        rules.as_slice(),
+        pools,
+        &chosen,
+        &mut Silent,
+    )?;
     let answered = with_rules_of(alloc, matches, answered)?;
     Ok(answered.documented(alloc, format_of(matches))?)
 }

@@ -7,7 +7,5 @@
 mod arguments;
 mod check;
 mod rules_file;
-#[cfg(test)]
-mod tests;
 
 pub use check::run_check;

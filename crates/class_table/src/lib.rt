@@ -5,8 +5,6 @@ mod flags;
 mod listing;
 mod lookup;
 mod table;
-#[cfg(test)]
-mod tests;
 
 pub use flags::{ClassMethod, MethodFlags};
 pub use listing::{default_list, is_listed};

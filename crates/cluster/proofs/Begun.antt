@@ -1,14 +1,14 @@
 -- The seats of a cluster that is begun.
-use Rattle.std.proofs.Common.{◌≡◌, ℕ, zero, suc, ◌+◌, ◌-◌, ◌*◌, List, [], ◌∷◌, ◌++◌, map, length, take, get_or, refl, sym, ap, ◌∙◌, subst, arith}
+use Rattle.std.proofs.Common.{◌≡◌, ℕ, zero, suc, ◌+◌, List, [], ◌∷◌, ◌++◌, map, length, take, get_or, refl, sym, ap, ◌∙◌, subst, arith}
 use Rattle.std.specs.Prelude.{All, Option, None, Some, IfSome}
 use Rattle.std.specs.Option.{option_to_list}
-use Rattle.std.proofs.lemmas.List.{map-append, length-append, take_more}
+use Rattle.std.proofs.lemmas.List.{take_more}
 use Rattle.std.proofs.lemmas.List.Elements.{All-head, All-tail, All-cons, All-nil}
-use Rattle.turn_lock.specs.Turns.{last_word, made_by}
-use Rattle.turn_lock.specs.Seats.{Locked, Seated, lock_of, seat_lock, IsFresh, IsNewSeatOf, AreShared, HasItsOwn}
+use Rattle.turn_lock.specs.Turns.{made_by}
+use Rattle.turn_lock.specs.Seats.{Locked, Seated, lock_of, seat_lock, IsFresh, IsNewSeatOf, HasDrawnNone, HasItsOwn}
 use Rattle.cluster_locks.specs.Places.{InStep, Beside, IsFreshRow, share_of}
-use Rattle.cluster_locks.specs.Shares.{times, pass_share, monitor_share, shares_of}
-use Rattle.cluster.specs.Passes.{AreFreshOf, AreSeatsOf, HaveShare, AreAlone}
+use Rattle.cluster_locks.specs.Shares.{times}
+use Rattle.cluster.specs.Passes.{AreFreshOf, AreSeatsOf, HaveShare, HaveDrawnNone, AreAlone}
 use Rattle.cluster_locks.specs.declared.groups.GroupEntry.{GroupEntry}
 use Rattle.cluster_locks.specs.declared.users.UserEntry.{UserEntry}
 use Rattle.cluster.specs.declared.cluster.Cluster.{Cluster}
@@ -75,6 +75,16 @@ row_own share (l ∷ ls) (s ∷ ss) h = All-cons HasItsOwn s ss (ap (made_by s.n
 pub fresh_are : (c : Cluster) (share : ℕ) (p : Seats) → AreFreshOf c share p → AreSeatsOf c p × HaveShare share p × AreAlone p
 fresh_are c share p h = let r = fresh_shares share c.groups.items p.groups.items h.0 in
     ((fresh_locks share c.groups.items p.groups.items h.0, h.1.0), (r.0, h.2), (r.1, h.1.3))
+
+fresh_undrawn : {S E : Type 0} → (share : ℕ) (ls : List (Locked S)) (ss : List (Seated E)) → IsFreshRow share ls ss → All (HasDrawnNone {E = E}) ss
+fresh_undrawn share [] [] h = All-nil HasDrawnNone
+fresh_undrawn share [] (s ∷ ss) h = absurd h
+fresh_undrawn share (l ∷ ls) [] h = absurd h
+fresh_undrawn share (l ∷ ls) (s ∷ ss) h = All-cons HasDrawnNone s ss h.0.4 (fresh_undrawn share ls ss h.2)
+
+-- and have drawn no number
+pub fresh_numbers : (c : Cluster) (share : ℕ) (p : Seats) → AreFreshOf c share p → HaveDrawnNone p
+fresh_numbers c share p h = (fresh_undrawn share c.groups.items p.groups.items h.0, h.1.4)
 
 pub all_are : {X : Type 0} → (P Q : X → Type 0) (xs : List X) → ((x : X) → P x → Q x) → All P xs → All Q xs
 all_are P Q [] f h = All-nil Q

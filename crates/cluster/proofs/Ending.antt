@@ -163,12 +163,12 @@ record AskedBy (passes : List Pass) (k id : ℕ) : Type 0 where
   numbered : IsNumbered pass.sessions.items id
 
 -- the group at the place k has the requests that passes asked there, and no others
-pub record HasAsked (passes : List Pass) (k : ℕ) (last : Group) : Type 0 where
+pub record HasSubmitted (passes : List Pass) (k : ℕ) (last : Group) : Type 0 where
   pub asked : (id : ℕ) → is_submitted last.requests id ≡ true → (a : ℕ) × (p : Pass) × (slice_get passes a ≡ Some p) × IsAskedAt p.seats k id
   pub kept : (a : ℕ) (p : Pass) (id : ℕ) → slice_get passes a ≡ Some p → IsAskedAt p.seats k id → is_submitted last.requests id ≡ true
 
 module _ (c : Cluster) (passes : List Pass) (sessions : List Session) (are : All (IsPassOf c) passes) (numbered : AreSessionsOf (map sessions_of passes) sessions) (ends : List Group) (long : length ends ≡ length (firsts_of c))
-    (has : (k : ℕ) (first last : Group) → slice_get (firsts_of c) k ≡ Some first → slice_get ends k ≡ Some last → HasAsked passes k last) where
+    (has : (k : ℕ) (first last : Group) → slice_get (firsts_of c) k ≡ Some first → slice_get ends k ≡ Some last → HasSubmitted passes k last) where
   pass_at : (a : ℕ) (p : Pass) → slice_get passes a ≡ Some p → IsPassOf c p
   pass_at a p there = all_at (IsPassOf c) passes a p are there
 
@@ -238,7 +238,7 @@ module _ (c : Cluster) (passes : List Pass) (sessions : List Session) (are : All
 pub all_ran : (c : Cluster) (passes : List Pass) (p : WorldParts) (w : World) (cs : List MapCommand) → IsSound w → w.front.submissions ≡ [] → w.front.history ≡ c.start → firsts_of c ≡ w.groups → All (IsPassOf c) passes
     → All (λ x. is_creation x ≡ false) cs → IsAccepted (with_commands c.start cs) → p.map ≡ with_commands c.start cs → length p.groups.items ≡ length (firsts_of c) → AreSessionsOf (map sessions_of passes) p.sessions.items
     → ((k : ℕ) (first : Group) → slice_get (firsts_of c) k ≡ Some first → TookAt c.start cs p.groups.items k first)
-    → ((k : ℕ) (first last : Group) → slice_get (firsts_of c) k ≡ Some first → slice_get p.groups.items k ≡ Some last → HasAsked passes k last) → RanApart p
+    → ((k : ℕ) (first last : Group) → slice_get (firsts_of c) k ≡ Some first → slice_get p.groups.items k ≡ Some last → HasSubmitted passes k last) → RanApart p
 all_ran c passes p w cs sound empty same groups are none accepted map_is long numbered took has =
     let ends : List Group = p.groups.items in
     let apart : AreApart (with_commands c.start cs) ends =
@@ -316,10 +316,10 @@ module _ (c : Cluster) (m : Monitor) (passes : List Pass) (ended : Ended) (are :
       let b = made.kept a p there in
       asked_by_all made.list b.0 id (subst (λ (es : List GroupEntry). is_submitted (asked_of (happened es)) id ≡ true) (sym b.2) (asked_front (mine_at p.seats k) b.1 id asked))
 
-  has_asked : (last : Group) → slice_get (map group_in ended.groups.items) k ≡ Some last → HasAsked passes k last
+  has_asked : (last : Group) → slice_get (map group_in ended.groups.items) k ≡ Some last → HasSubmitted passes k last
   has_asked last here =
       let same : state_after group_after first made.list ≡ last = one_there (map group_in ended.groups.items) k (state_after group_after first made.list) last made.is here in
-      subst (HasAsked passes k) same (record {
+      subst (HasSubmitted passes k) same (record {
         asked = λ id asked. let b = asked_by_one made.list id (subst (λ (rs : List Sealed). is_submitted rs id ≡ true) requests_are asked) in pass_asked b.0 id b.1;
         kept = λ a p id there asked. subst (λ (rs : List Sealed). is_submitted rs id ≡ true) (sym requests_are) (asked_kept a p id there asked);
       })

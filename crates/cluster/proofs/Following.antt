@@ -20,7 +20,7 @@ use Rattle.cluster.specs.declared.cluster.Cluster.{Cluster}
 use Rattle.cluster.specs.declared.cluster.Seats.{Seats}
 use Rattle.cluster.specs.declared.monitor.Monitor.{Monitor}
 use Rattle.cluster.specs.declared.monitor.Unfinished.{Unfinished}
-use Rattle.cluster.specs.declared.monitor.Unfinished.TheVariants.{Left, Laid}
+use Rattle.cluster.specs.declared.monitor.Unfinished.TheVariants.{Left, Staged}
 use Rattle.cluster_locks.specs.Places.{IsFreshRow}
 use Rattle.published_map.specs.Published.{with_command, with_commands}
 use Rattle.cluster.specs.Passes.{AreFreshOf, group_count, firsts_of}
@@ -73,8 +73,8 @@ pub follow_none : (u : Option Unfinished) (first : History) (commands : List Map
 follow_none None first commands places seats none h = h
 follow_none (Some x) first commands places seats none h = absurd (cc)
 
-pub follow_laid : (u : Option Unfinished) (first : History) (commands : List MapCommand) (places : List GroupId) (seats : Seats) → u ≡ Some Laid → AllFollow first commands places seats → FollowBy u first commands places seats
-follow_laid u first commands places seats is h = subst (λ (x : Option Unfinished). FollowBy x first commands places seats) (sym is) h
+pub follow_staged : (u : Option Unfinished) (first : History) (commands : List MapCommand) (places : List GroupId) (seats : Seats) → u ≡ Some Staged → AllFollow first commands places seats → FollowBy u first commands places seats
+follow_staged u first commands places seats is h = subst (λ (x : Option Unfinished). FollowBy x first commands places seats) (sym is) h
 
 module _ (c : Cluster) (first : History) (before : List MapCommand) (command : MapCommand) (places : List GroupId) (seats : Seats) where
   follow_left : (u : Option Unfinished) → IsLeftBy c command (group_count c) u → SomeFollow first before command (group_count c) places seats → AllFollow first (before ++ command ∷ []) places seats
@@ -82,7 +82,7 @@ module _ (c : Cluster) (first : History) (before : List MapCommand) (command : M
   follow_left None left some all = absurd left
   follow_left (Some (Left other from)) left some all =
       (before, ap (λ (x : MapCommand). before ++ x ∷ []) (sym left.0), subst (λ (x : MapCommand). SomeFollow first before x from places seats) (sym left.0) (subst (λ (n : ℕ). SomeFollow first before command n places seats) (sym left.1) some))
-  follow_left (Some Laid) left some all = all
+  follow_left (Some Staged) left some all = all
 
   -- what an answer leaves, once all groups have moved
   pub follow_lain : (u : Option Unfinished) (r : Result (Unit {0}) ℕ) (P : ℕ → Type 0) → length places ≡ group_count c → OnOk r (IsNone u) → IfErr r (λ at. at ≡ group_count c) → IfErr r (λ at. P at × IsLeftBy c command at u)
@@ -97,7 +97,7 @@ all_looked first commands places old new look h k id inside there = look.same k 
 
 by_looked : (u : Option Unfinished) (first : History) (commands : List MapCommand) (places : List GroupId) (old new : Seats) → HaveLooked old new → FollowBy u first commands places old → FollowBy u first commands places new
 by_looked None first commands places old new look h = all_looked first commands places old new look h
-by_looked (Some Laid) first commands places old new look h = all_looked first commands places old new look h
+by_looked (Some Staged) first commands places old new look h = all_looked first commands places old new look h
 by_looked (Some (Left command at)) first commands places old new look h = (h.0, h.1, λ k id inside there. let s = h.2 k id inside there in ((λ below. look.same k ∙ s.0 below), (λ above. look.same k ∙ s.1 above)))
 
 pub follows_looked : (first : History) (old new : Monitor) → new.map ≡ old.map → new.places ≡ old.places → new.unfinished ≡ old.unfinished → HaveLooked old.seats new.seats → Follows first old → Follows first new
@@ -163,10 +163,10 @@ module _ (first : History) (command : MapCommand) (at : ℕ) (old new : Monitor)
   }
 
   -- to the publication
-  pub follows_lain : (c : Cluster) (mid : Seats) (r : Result (Unit {0}) ℕ) (P : ℕ → Type 0) → at ≤ group_count c → length new.places.items ≡ group_count c
+  pub follows_staged : (c : Cluster) (mid : Seats) (r : Result (Unit {0}) ℕ) (P : ℕ → Type 0) → at ≤ group_count c → length new.places.items ≡ group_count c
       → HaveMoved (event_at (move_in (map_of old.map) command) old.places.items) at (group_count c) old.seats mid → new.seats ≡ mid
       → OnOk r (IsNone new.unfinished) → IfErr r (λ n. n ≡ group_count c) → IfErr r (λ n. P n × IsLeftBy c command n new.unfinished) → Follows first new
-  follows_lain c mid r P far long moved seats ok is err = record {
+  follows_staged c mid r P far long moved seats ok is err = record {
     commands = h.events.0 ++ command ∷ [];
     map_is = map_is ∙ (h.map_is ∙ ap (with_commands first) commands_are);
     pools = subst (λ (l : List MapCommand). All (λ x. is_creation x ≡ false) l) commands_are h.pools;

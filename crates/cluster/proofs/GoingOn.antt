@@ -17,7 +17,7 @@ use Rattle.cluster.specs.declared.cluster.Cluster.{Cluster}
 use Rattle.cluster.specs.declared.cluster.Seats.{Seats}
 use Rattle.cluster.specs.declared.monitor.Monitor.{Monitor}
 use Rattle.cluster.specs.declared.monitor.Unfinished.{Unfinished}
-use Rattle.cluster.specs.declared.monitor.Unfinished.TheVariants.{Laid}
+use Rattle.cluster.specs.declared.monitor.Unfinished.TheVariants.{Staged}
 use Rattle.published_map.specs.Published.{with_command}
 use Rattle.cluster.specs.Passes.{group_count}
 use Rattle.cluster.specs.MapCommands.{move_in, move_by}
@@ -84,9 +84,9 @@ module _ (command : MapCommand) where
     moved = after_looks event 0 0 old.seats new.seats new.seats look (none_moved event 0 new.seats);
   }
 
--- what is left where all is laid down is left at the number of groups
-pub left_laid : (c : Cluster) (command : MapCommand) (at : ℕ) (u : Option Unfinished) → u ≡ Some Laid → IsLeftBy c command at u → at ≡ group_count c
-left_laid c command at u is h = subst (λ z. IsLeftBy c command at z) is h
+-- what is left where all is staged is left at the number of groups
+pub left_staged : (c : Cluster) (command : MapCommand) (at : ℕ) (u : Option Unfinished) → u ≡ Some Staged → IsLeftBy c command at u → at ≡ group_count c
+left_staged c command at u is h = subst (λ z. IsLeftBy c command at z) is h
 
 -- an answer that is left at the count is as far as one that is whole
 pub either : (P : ℕ → Type 0) (count : ℕ) (r : Result (Unit {0}) ℕ) → P count → IfErr r (λ at. at ≡ count) → MatchResult r (λ _. P count) P

@@ -135,17 +135,18 @@ at_work c (w ∷ ws) (p ∷ ps) is h =
     let rest : map pass_of ws ≡ ps = ap (λ (l : List Pass). drop 1 l) is in
     All-cons (λ (v : Worker). IsPassOf c v.pass) w ws (subst (IsPassOf c) (sym first) (All-head (IsPassOf c) p ps h)) (at_work c ws ps rest (All-tail (IsPassOf c) p ps h))
 
-abbrev AllWorked : Cluster → ℕ → List Worker → List Worker → Type 0
-AllWorked c most old new = (i : ℕ) (d : Worker) → i < length old → HasWorkedOf c most (get_or old i d) (get_or new i d)
+abbrev AllWorked : Cluster → (ℕ → ℕ → Type 0) → ℕ → List Worker → List Worker → Type 0
+AllWorked c refuses most old new = (i : ℕ) (d : Worker) → i < length old → HasWorkedOf c (refuses i) most (get_or old i d) (get_or new i d)
 
-pub passes_after : (c : Cluster) (most : ℕ) (old new : List Worker) → length new ≡ length old → AllWorked c most old new → All (IsPassOf c) (map pass_of new)
-passes_after c most [] [] long h = All-nil (IsPassOf c)
-passes_after c most [] (v ∷ vs) long h = absurd (omega arith)
-passes_after c most (w ∷ ws) [] long h = absurd (omega arith)
-passes_after c most (w ∷ ws) (v ∷ vs) long h = All-cons (IsPassOf c) v.pass (map pass_of vs) (h 0 w (omega arith)).0 (passes_after c most ws vs (omega arith) (λ i d less. h (suc i) d (omega arith)))
+pub passes_after : (c : Cluster) (refuses : ℕ → ℕ → Type 0) (most : ℕ) (old new : List Worker) → length new ≡ length old → AllWorked c refuses most old new → All (IsPassOf c) (map pass_of new)
+passes_after c refuses most [] [] long h = All-nil (IsPassOf c)
+passes_after c refuses most [] (v ∷ vs) long h = absurd (omega arith)
+passes_after c refuses most (w ∷ ws) [] long h = absurd (omega arith)
+passes_after c refuses most (w ∷ ws) (v ∷ vs) long h =
+    All-cons (IsPassOf c) v.pass (map pass_of vs) (h 0 w (omega arith)).0 (passes_after c (λ i. refuses (suc i)) most ws vs (omega arith) (λ i d less. h (suc i) d (omega arith)))
 
-pub passes_worked : (c : Cluster) (most : ℕ) (old new : List Worker) → length new ≡ length old → AllWorked c most old new → Beside (HasWorked most) (map pass_of old) (map pass_of new)
-passes_worked c most [] [] long h = tt
-passes_worked c most [] (v ∷ vs) long h = absurd (omega arith)
-passes_worked c most (w ∷ ws) [] long h = absurd (omega arith)
-passes_worked c most (w ∷ ws) (v ∷ vs) long h = ((h 0 w (omega arith)).1, passes_worked c most ws vs (omega arith) (λ i d less. h (suc i) d (omega arith)))
+pub passes_worked : (c : Cluster) (refuses : ℕ → ℕ → Type 0) (most : ℕ) (old new : List Worker) → length new ≡ length old → AllWorked c refuses most old new → Beside (HasWorked most) (map pass_of old) (map pass_of new)
+passes_worked c refuses most [] [] long h = tt
+passes_worked c refuses most [] (v ∷ vs) long h = absurd (omega arith)
+passes_worked c refuses most (w ∷ ws) [] long h = absurd (omega arith)
+passes_worked c refuses most (w ∷ ws) (v ∷ vs) long h = ((h 0 w (omega arith)).1, passes_worked c (λ i. refuses (suc i)) most ws vs (omega arith) (λ i d less. h (suc i) d (omega arith)))

@@ -29,7 +29,7 @@ use Rattle.turn_lock.specs.Seats.{lock_of, first_of as began, seat_lock}
 use Rattle.world_events.specs.declared.fault.WorldFault.{WorldFault as Fault}
 use Rattle.world_events.specs.declared.fault.WorldFault.TheVariants.{NoSession, StaleTick}
 use Rattle.world_front.specs.declared.session.Session.{Session}
-use Rattle.cluster.specs.declared.asking.Asking.{Asking}
+use Rattle.cluster.specs.declared.asking.NewRequest.{NewRequest}
 use Rattle.cluster.specs.declared.cluster.Cluster.{Cluster}
 use Rattle.cluster.specs.declared.cluster.Seats.{Seats}
 use Rattle.cluster.specs.declared.pass.OwnSession.{OwnSession}
@@ -55,7 +55,7 @@ less_tells a b h = grind (arith, nat_tests)
 not_less_tells : (a b : ℕ) → b ≤ a → nat_lt a b ≡ false
 not_less_tells a b h = grind (arith, nat_tests)
 
-module _ (own : List OwnSession) (a : Asking) where
+module _ (own : List OwnSession) (a : NewRequest) where
   pub session_none : own_session own a.session ≡ None → session_by own a ≡ Err NoSession
   session_none none = ap (λ (o : Option Session). need o NoSession >>= λ s. refuse_if (nat_lt a.tick s.tick) StaleTick >>= λ _. Ok s) none
 

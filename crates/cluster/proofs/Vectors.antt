@@ -17,8 +17,8 @@ use Rattle.world_events.specs.declared.event.Ask.{Ask}
 use Rattle.world_events.specs.declared.fault.WorldFault.{WorldFault as Fault}
 use Rattle.world_events.specs.declared.fault.WorldFault.TheVariants.{NoSession, NoPool, BadObjectName, StaleTick, Needs as OfNeeds}
 use Rattle.world_front.specs.declared.session.Session.{Session}
-use Rattle.cluster.specs.declared.asking.Asking.{Asking}
-use Rattle.cluster.specs.declared.asking.Asked.{Asked}
+use Rattle.cluster.specs.declared.asking.NewRequest.{NewRequest}
+use Rattle.cluster.specs.declared.asking.Submitted.{Submitted}
 use Rattle.cluster.specs.declared.cluster.Cluster.{Cluster}
 use Rattle.cluster.specs.declared.fault.ClusterFault.{ClusterFault}
 use Rattle.cluster.specs.declared.fault.ClusterFault.TheVariants as faults
@@ -26,8 +26,8 @@ use Rattle.cluster.specs.declared.pass.OwnSession.{OwnSession}
 use Rattle.cluster.specs.declared.pass.Pass.{Pass}
 use Rattle.cluster.specs.Sessions.{own_session}
 use Rattle.cluster.specs.Pools.{view_by, IsPoolOf, HasSeen, IsUnseen}
-use Rattle.cluster.specs.Asking.{ask_by, session_by, asker_by, vector_by, request_by, piece_of, HasAsked, IsNotAsked, IsSubmitted, IsRefusedBy, SubmitFails}
-use Rattle.cluster.specs.ToAsk.{IsToAsk, IsVectorAsked, IsVectorRefused}
+use Rattle.cluster.specs.Asking.{ask_by, session_by, asker_by, vector_by, request_by, piece_of, HasSubmitted, IsNotSubmitted, IsSubmitted, IsRefusedBy, SubmitFails}
+use Rattle.cluster.specs.ToAsk.{IsToAsk, IsVectorSubmitted, IsVectorRefused}
 
 -- ---- ready to be submitted
 
@@ -58,7 +58,7 @@ pub memory_refuses : (c : Cluster) (r : Result Sealed Fault) (p : Pass) → IsRe
 memory_refuses c (Ok request) p = inl (refl, refl)
 memory_refuses c (Err why) p = (inr refl, refl)
 
-module _ (a : Asking) (asker : Asker) (object : List ℕ) (ops : List Op) where
+module _ (a : NewRequest) (asker : Asker) (object : List ℕ) (ops : List Op) where
   pub vector_named : (is_object_name object && is_namespace a.namespace) ≡ false → vector_by a asker object ops ≡ Err BadObjectName
   vector_named bad = ap (λ b. refuse_if (not b) BadObjectName >>= λ _. lower OfNeeds (needs_fault ops) >>= λ _. Ok (vector_of (ask_by a asker.view) asker object ops)) bad
 
@@ -85,29 +85,29 @@ pub err_so : {X E : Type 0} → (P Q : E → Type 0) (r : Result X E) → ((e : 
 err_so P Q (Ok x) f h = tt
 err_so P Q (Err e) f h = f e h
 
-module _ (c : Cluster) (a : Asking) (view : PoolView) (object : List ℕ) (ops : List Op) (session : Session) (old new : Pass) (has : own_session old.sessions.items a.session ≡ Some session) (ask : Ask) (request : Sealed) (asks : ask ≡ ask_by a view)
+module _ (c : Cluster) (a : NewRequest) (view : PoolView) (object : List ℕ) (ops : List Op) (session : Session) (old new : Pass) (has : own_session old.sessions.items a.session ≡ Some session) (ask : Ask) (request : Sealed) (asks : ask ≡ ask_by a view)
     (seals : request ≡ vector_of ask (record { session = session; view = view }) object ops) (made : vector_by a (record { session = session; view = view }) object ops ≡ Ok (vector_of (ask_by a view) (record { session = session; view = view }) object ops)) where
   same_request : request ≡ vector_of (ask_by a view) (record { session = session; view = view }) object ops
   same_request = seals ∙ ap (λ (k : Ask). vector_of k (record { session = session; view = view }) object ops) asks
 
-  pub vector_asked : (r : Result Asked ClusterFault) → IfOk r (λ asked. HasAsked c ask request asked old new) → IfOk r (λ asked. IsVectorAsked c a view object ops asked old new)
-  vector_asked r = ok_so (λ asked. HasAsked c ask request asked old new) (λ asked. IsVectorAsked c a view object ops asked old new) r (λ asked h. record {
+  pub vector_asked : (r : Result Submitted ClusterFault) → IfOk r (λ asked. HasSubmitted c ask request asked old new) → IfOk r (λ asked. IsVectorSubmitted c a view object ops asked old new)
+  vector_asked r = ok_so (λ asked. HasSubmitted c ask request asked old new) (λ asked. IsVectorSubmitted c a view object ops asked old new) r (λ asked h. record {
     session = session;
     has = has;
     request = vector_of (ask_by a view) (record { session = session; view = view }) object ops;
     sealed = made;
-    asks = subst (λ (s : Sealed). HasAsked c (ask_by a view) s asked old new) same_request (subst (λ (k : Ask). HasAsked c k request asked old new) asks h);
+    asks = subst (λ (s : Sealed). HasSubmitted c (ask_by a view) s asked old new) same_request (subst (λ (k : Ask). HasSubmitted c k request asked old new) asks h);
   })
 
-  pub vector_refused : (r : Result Asked ClusterFault) → IfErr r (λ fault. IsNotAsked c request fault old new) → IfErr r (λ fault. IsVectorRefused c a view object ops fault old new)
-  vector_refused r = err_so (λ fault. IsNotAsked c request fault old new) (λ fault. IsVectorRefused c a view object ops fault old new) r (λ fault h. record {
+  pub vector_refused : (r : Result Submitted ClusterFault) → IfErr r (λ fault. IsNotSubmitted c request fault old new) → IfErr r (λ fault. IsVectorRefused c a view object ops fault old new)
+  vector_refused r = err_so (λ fault. IsNotSubmitted c request fault old new) (λ fault. IsVectorRefused c a view object ops fault old new) r (λ fault h. record {
     session = session;
     has = has;
-    fails = subst (λ (s : Result Sealed Fault). IsRefusedBy c s fault old new) (sym made) (subst (λ (s : Sealed). IsNotAsked c s fault old new) same_request h);
+    fails = subst (λ (s : Result Sealed Fault). IsRefusedBy c s fault old new) (sym made) (subst (λ (s : Sealed). IsNotSubmitted c s fault old new) same_request h);
   })
 
 -- no request was made
-pub vector_unmade : (c : Cluster) (a : Asking) (view : PoolView) (object : List ℕ) (ops : List Op) (session : Session) (p : Pass) (fault : ClusterFault) → own_session p.sessions.items a.session ≡ Some session
+pub vector_unmade : (c : Cluster) (a : NewRequest) (view : PoolView) (object : List ℕ) (ops : List Op) (session : Session) (p : Pass) (fault : ClusterFault) → own_session p.sessions.items a.session ≡ Some session
     → (is_object_name object && is_namespace a.namespace) ≡ true → (fault ≡ faults.OutOfMemory) ⊎ ((why : Fault) × (fault ≡ faults.World why) × (option_map OfNeeds (needs_fault ops) ≡ Some why)) → IsVectorRefused c a view object ops fault p p
 vector_unmade c a view object ops session p fault has good (inl memory) = record {
   session = session;
@@ -120,7 +120,7 @@ vector_unmade c a view object ops session p fault has good (inr e) = record {
   fails = subst (λ (s : Result Sealed Fault). IsRefusedBy c s fault p p) (sym (vector_needs a (record { session = session; view = view }) object ops good e.0 e.2)) (inl e.1, refl);
 }
 
-pub vector_unnamed : (c : Cluster) (a : Asking) (view : PoolView) (object : List ℕ) (ops : List Op) (session : Session) (p : Pass) → own_session p.sessions.items a.session ≡ Some session
+pub vector_unnamed : (c : Cluster) (a : NewRequest) (view : PoolView) (object : List ℕ) (ops : List Op) (session : Session) (p : Pass) → own_session p.sessions.items a.session ≡ Some session
     → (is_object_name object && is_namespace a.namespace) ≡ false → IsVectorRefused c a view object ops (faults.World BadObjectName) p p
 vector_unnamed c a view object ops session p has bad = record {
   session = session;
@@ -130,7 +130,7 @@ vector_unnamed c a view object ops session p has bad = record {
 
 -- ---- by the map that was read
 
-pub session_given : (own : List OwnSession) (a : Asking) (s : Session) → error_of (session_by own a) ≡ None → own_session own a.session ≡ Some s → session_by own a ≡ Ok s
+pub session_given : (own : List OwnSession) (a : NewRequest) (s : Session) → error_of (session_by own a) ≡ None → own_session own a.session ≡ Some s → session_by own a ≡ Ok s
 session_given own a s fine has = to ∙ by (nat_lt a.tick s.tick) (sym (ap error_of to) ∙ fine)
   where
     to : session_by own a ≡ (refuse_if (nat_lt a.tick s.tick) StaleTick >>= λ _. Ok s)
@@ -140,7 +140,7 @@ session_given own a s fine has = to ∙ by (nat_lt a.tick s.tick) (sym (ap error
     by true e = absurd (cc)
     by false e = refl
 
-module _ (start map : History) (own : List OwnSession) (a : Asking) (s : Session) (session : session_by own a ≡ Ok s) where
+module _ (start map : History) (own : List OwnSession) (a : NewRequest) (s : Session) (session : session_by own a ≡ Ok s) where
   to_pool : asker_by start map own a ≡ (need (view_by start map a.pool) NoPool >>= λ view. Ok (record { session = s; view = view }))
   to_pool = ap (λ (r : Result Session Fault). r >>= λ t. need (view_by start map a.pool) NoPool >>= λ view. Ok (record { session = t; view = view })) session
 
@@ -150,18 +150,18 @@ module _ (start map : History) (own : List OwnSession) (a : Asking) (s : Session
   pub asker_unseen : view_by start map a.pool ≡ None → asker_by start map own a ≡ Err NoPool
   asker_unseen none = to_pool ∙ ap (λ (o : Option PoolView). need o NoPool >>= λ view. Ok (record { session = s; view = view })) none
 
-pub request_as : (start map : History) (own : List OwnSession) (a : Asking) (object : List ℕ) (ops : List Op) (asker : Asker) → asker_by start map own a ≡ Ok asker → request_by start map own a object ops ≡ vector_by a asker object ops
+pub request_as : (start map : History) (own : List OwnSession) (a : NewRequest) (object : List ℕ) (ops : List Op) (asker : Asker) → asker_by start map own a ≡ Ok asker → request_by start map own a object ops ≡ vector_by a asker object ops
 request_as start map own a object ops who is = ap (λ (r : Result Asker Fault). r >>= λ k. vector_by a k object ops) is
 
-pub no_request : (start map : History) (own : List OwnSession) (a : Asking) (object : List ℕ) (ops : List Op) (fault : Fault) → asker_by start map own a ≡ Err fault → request_by start map own a object ops ≡ Err fault
+pub no_request : (start map : History) (own : List OwnSession) (a : NewRequest) (object : List ℕ) (ops : List Op) (fault : Fault) → asker_by start map own a ≡ Err fault → request_by start map own a object ops ≡ Err fault
 no_request start map own a object ops fault is = ap (λ (r : Result Asker Fault). r >>= λ k. vector_by a k object ops) is
 
 -- ---- a vector, by a reading and a turn
 
-module _ (c : Cluster) (a : Asking) (object : List ℕ) (ops : List Op) (old : Pass) (fine : error_of (session_by old.sessions.items a) ≡ None) where
+module _ (c : Cluster) (a : NewRequest) (object : List ℕ) (ops : List Op) (old : Pass) (fine : error_of (session_by old.sessions.items a) ≡ None) where
   pub submit_unseen : (new : Pass) (s : Session) (fault : ClusterFault) → own_session old.sessions.items a.session ≡ Some s → IsUnseen c.start a.pool fault old new → SubmitFails c a object ops fault old new
-  submit_unseen new s fault has (inl u) = inr (inl u)
-  submit_unseen new s fault has (inr u) = inr (inr (u.0, new, u.1, by u.2))
+  submit_unseen new s fault has (inl u) = inr ((s, session_given old.sessions.items a s fine has), inl u)
+  submit_unseen new s fault has (inr u) = inr ((s, session_given old.sessions.items a s fine has), inr (u.0, new, u.1, by u.2))
     where
       by : (fault ≡ faults.OutOfMemory) ⊎ ((fault ≡ faults.World NoPool) × (view_by c.start u.0 a.pool ≡ None)) → IsRefusedBy c (request_by c.start u.0 old.sessions.items a object ops) fault new new
       by (inl memory) = subst (λ (f : ClusterFault). IsRefusedBy c (request_by c.start u.0 old.sessions.items a object ops) f new new) (sym memory) (memory_refuses c (request_by c.start u.0 old.sessions.items a object ops) new)
@@ -176,8 +176,8 @@ module _ (c : Cluster) (a : Asking) (object : List ℕ) (ops : List Op) (old : P
     as_vector s has = request_as c.start seen.map old.sessions.items a object ops (record { session = s; view = view })
         (asker_seen c.start seen.map old.sessions.items a s (session_given old.sessions.items a s fine (was s has)) view seen.is)
 
-    pub submitted_by : (r : Result Asked ClusterFault) → IfOk r (λ asked. IsVectorAsked c a view object ops asked mid new) → IfOk r (λ asked. IsSubmitted c a object ops asked old new)
-    submitted_by r = ok_so (λ asked. IsVectorAsked c a view object ops asked mid new) (λ asked. IsSubmitted c a object ops asked old new) r (λ asked v. record {
+    pub submitted_by : (r : Result Submitted ClusterFault) → IfOk r (λ asked. IsVectorSubmitted c a view object ops asked mid new) → IfOk r (λ asked. IsSubmitted c a object ops asked old new)
+    submitted_by r = ok_so (λ asked. IsVectorSubmitted c a view object ops asked mid new) (λ asked. IsSubmitted c a object ops asked old new) r (λ asked v. record {
       map = seen.map;
       mid = mid;
       read = seen.read;
@@ -186,6 +186,6 @@ module _ (c : Cluster) (a : Asking) (object : List ℕ) (ops : List Op) (old : P
       asks = v.asks;
     })
 
-    pub unsubmitted_by : (r : Result Asked ClusterFault) → IfErr r (λ fault. IsVectorRefused c a view object ops fault mid new) → IfErr r (λ fault. SubmitFails c a object ops fault old new)
+    pub unsubmitted_by : (r : Result Submitted ClusterFault) → IfErr r (λ fault. IsVectorRefused c a view object ops fault mid new) → IfErr r (λ fault. SubmitFails c a object ops fault old new)
     unsubmitted_by r = err_so (λ fault. IsVectorRefused c a view object ops fault mid new) (λ fault. SubmitFails c a object ops fault old new) r
-        (λ fault v. inr (inr (seen.map, mid, seen.read, subst (λ (k : Result Sealed Fault). IsRefusedBy c k fault mid new) (sym (as_vector v.session v.has)) v.fails)))
+        (λ fault v. inr ((v.session, session_given old.sessions.items a v.session fine (was v.session v.has)), inr (seen.map, mid, seen.read, subst (λ (k : Result Sealed Fault). IsRefusedBy c k fault mid new) (sym (as_vector v.session v.has)) v.fails)))

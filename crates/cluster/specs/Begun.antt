@@ -7,9 +7,9 @@ use Rattle.world_core.specs.declared.world.parts.WorldParts.{WorldParts}
 use Rattle.cluster.specs.declared.cluster.Cluster.{Cluster}
 use Rattle.cluster.specs.declared.monitor.Monitor.{Monitor}
 use Rattle.cluster.specs.declared.pass.Pass.{Pass}
-use Rattle.cluster.specs.Passes.{firsts_of, start_of}
-use Rattle.cluster.specs.Monitors.{IsMonitorOf, FollowsStart, IsWhole, own_map}
-use Rattle.cluster.specs.Asks.{IsBegun, IsPassOf, sessions_of}
+use Rattle.cluster.specs.Passes.{firsts_of, start_of, HaveDrawnNone}
+use Rattle.cluster.specs.Monitors.{IsMonitorOf, FollowsStart, IsWhole, own_map, monitor_seats}
+use Rattle.cluster.specs.Asks.{IsBegun, IsPassOf, seats_of, sessions_of}
 
 -- the parts are those of a world that holds, in which nothing was asked
 pub record HasWorld (p : WorldParts) : Type 0 where
@@ -28,14 +28,16 @@ pub record HasParts (p : WorldParts) (c : Cluster) : Type 0 where
   pub users : c.users.first.db ≡ p.users
   pub sessions : c.users.first.sessions ≡ 0
 
--- the monitor has changed nothing
+-- the monitor has changed nothing, and has taken no turn
 pub record HasChangedNothing (c : Cluster) (m : Monitor) : Type 0 where
   pub own : IsMonitorOf c m
   pub whole : IsWhole m
   pub map_is : own_map m ≡ start_of c
   pub follows : FollowsStart c m
+  pub numbers : HaveDrawnNone (monitor_seats m)
 
--- the passes have opened no session
+-- the passes have opened no session, and have taken no turn
 pub record AreIdle (c : Cluster) (passes : List Pass) : Type 0 where
   pub own : All (IsPassOf c) passes
   pub idle : All (λ p. sessions_of p ≡ []) passes
+  pub numbers : All (λ p. HaveDrawnNone (seats_of p)) passes

@@ -16,3 +16,4 @@ pub mod Workers
 pub mod Views
 pub mod Noted
 pub mod UserTurns
+pub mod Printed

@@ -16,7 +16,7 @@ use Rattle.cluster.specs.declared.cluster.Cluster.{Cluster}
 use Rattle.cluster.specs.declared.cluster.Seats.{Seats}
 use Rattle.cluster.specs.declared.monitor.Monitor.{Monitor}
 use Rattle.cluster.specs.declared.monitor.Unfinished.{Unfinished}
-use Rattle.cluster.specs.declared.monitor.Unfinished.TheVariants.{Left, Laid}
+use Rattle.cluster.specs.declared.monitor.Unfinished.TheVariants.{Left, Staged}
 use Rattle.cluster.specs.declared.monitor.ChangeFault.{ChangeFault}
 use Rattle.cluster.specs.declared.monitor.ChangeFault.TheVariants as faults
 use Rattle.cluster.specs.declared.monitor.TellFault.{TellFault}
@@ -45,7 +45,7 @@ IsWhole m = IsNone m.unfinished
 abbrev pub published_of : Monitor → History
 published_of m = m.writer.desk.shown.value.map
 
--- the commands that are laid down and not published
+-- the commands that are staged and not published
 abbrev pub waiting_of : Monitor → List MapCommand
 waiting_of m = drop m.writer.behind m.writer.log.items
 
@@ -57,7 +57,7 @@ known_of m = (known m.writer.desk.place).seen
 abbrev pub StandsBy : Option Unfinished → ℕ → (own shown : History) → List MapCommand → Type 0
 StandsBy None count own shown waiting = (shown ≡ own) × (waiting ≡ [])
 StandsBy (Some (Left command at)) count own shown waiting = (at ≤ count) × (waiting ≡ []) × (own ≡ with_command shown command)
-StandsBy (Some Laid) count own shown waiting = own ≡ with_commands shown waiting
+StandsBy (Some Staged) count own shown waiting = own ≡ with_commands shown waiting
 
 -- The monitor has the monitor's seats of the cluster, and each seat knows all that it made. It has the places of the
 -- cluster's groups in order. What is published is its own map, except for what is unfinished.
@@ -70,19 +70,19 @@ pub record IsMonitorOf (c : Cluster) (m : Monitor) : Type 0 where
 abbrev pub left_with : MapCommand → ℕ → Monitor → Monitor
 left_with command at m = record m { unfinished = Some (Left command at) }
 
-abbrev pub laid_with : Monitor → Monitor
-laid_with m = record m { unfinished = Some Laid }
+abbrev pub staged_with : Monitor → Monitor
+staged_with m = record m { unfinished = Some Staged }
 
 -- the group at which a change was left, which is the number of groups where it is to be published
 abbrev pub left_at : Cluster → Unfinished → ℕ
 left_at c (Left command at) = at
-left_at c Laid = group_count c
+left_at c Staged = group_count c
 
 -- this command is unfinished, from this group on
 abbrev pub IsLeftBy : Cluster → MapCommand → ℕ → Option Unfinished → Type 0
 IsLeftBy c command at None = ⊥
 IsLeftBy c command at (Some (Left left from)) = (left ≡ command) × (from ≡ at)
-IsLeftBy c command at (Some Laid) = at ≡ group_count c
+IsLeftBy c command at (Some Staged) = at ≡ group_count c
 
 -- there is no news while a change is unfinished, or where no reader is left
 abbrev pub TellFails : Cluster → TellFault → Option Unfinished → Type 0
@@ -189,7 +189,7 @@ SomeFollow first commands command at places seats = (k : ℕ) (id : GroupId) →
 -- by how far a change is unfinished
 abbrev pub FollowBy : Option Unfinished → History → List MapCommand → List GroupId → Seats → Type 0
 FollowBy None first commands places seats = AllFollow first commands places seats
-FollowBy (Some Laid) first commands places seats = AllFollow first commands places seats
+FollowBy (Some Staged) first commands places seats = AllFollow first commands places seats
 FollowBy (Some (Left command at)) first commands places seats = (before : List MapCommand) × (commands ≡ before ++ command ∷ []) × SomeFollow first before command at places seats
 
 -- Since the first map the monitor's map has these commands, none of which creates a pool. Each seat has made exactly

@@ -19,5 +19,5 @@ abbrev pub TellsAllOf : Note → Pass → Type 0
 TellsAllOf note pass = heard_of note.seats ≡ heard_of pass.seats
 
 -- the pass has seen what it had seen and what the note tells; reader and sessions stay
-abbrev pub HasHeard : Note → Pass → Pass → Type 0
-HasHeard note old new = TakeIn old.seats note.seats new.seats × (new.reader ≡ old.reader) × (new.sessions ≡ old.sessions)
+abbrev pub HasReadNote : Note → Pass → Pass → Type 0
+HasReadNote note old new = TakeIn old.seats note.seats new.seats × (new.reader ≡ old.reader) × (new.sessions ≡ old.sessions)

@@ -2,7 +2,7 @@
 -- What clauses say of a cluster and of seats of its locks.
 use Rattle.std.specs.Prelude.{◌≡◌, ℕ, List, [], ◌∷◌, All, map, length}
 use Rattle.turn_lock.specs.declared.rule.Made.{Made}
-use Rattle.turn_lock.specs.Seats.{lock_of, first_of, seat_lock, seen_by, IsSeatOf, IsFresh, HasItsOwn, IsSameSeat, HasSameShare}
+use Rattle.turn_lock.specs.Seats.{lock_of, first_of, seat_lock, seen_by, IsSeatOf, IsFresh, HasDrawnNone, HasItsOwn, IsSameSeat, HasSameShare}
 use Rattle.turn_lock.specs.Turned.{Turned, Closes}
 use Rattle.map_core.specs.State.{History}
 use Rattle.group_model.specs.Group.{Group}
@@ -61,6 +61,10 @@ Gathers old (p ∷ ps) new = (next : Seats) × TakeIn old p next × Gathers next
 
 abbrev pub HaveShare : ℕ → Seats → Type 0
 HaveShare share p = All (λ s. s.share ≡ share) p.groups.items × (p.users.share ≡ share)
+
+-- each of these seats may still draw its whole share
+abbrev pub HaveDrawnNone : Seats → Type 0
+HaveDrawnNone p = All HasDrawnNone p.groups.items × HasDrawnNone p.users
 
 -- no seat was joined to these
 abbrev pub AreAlone : Seats → Type 0

@@ -16,8 +16,8 @@ use Rattle.world_events.specs.declared.event.Ask.{Ask}
 use Rattle.world_front.specs.ControlPlane.{id_of}
 use Rattle.world_core.specs.Sound.{IsSealedFor}
 use Rattle.world_front.specs.declared.session.Session.{Session}
-use Rattle.cluster.specs.declared.asking.Asking.{Asking}
-use Rattle.cluster.specs.declared.asking.Asked.{Asked}
+use Rattle.cluster.specs.declared.asking.NewRequest.{NewRequest}
+use Rattle.cluster.specs.declared.asking.Submitted.{Submitted}
 use Rattle.cluster.specs.declared.fault.ClusterFault.{ClusterFault}
 use Rattle.cluster.specs.declared.fault.ClusterFault.TheVariants as faults
 use Rattle.world_events.specs.declared.fault.WorldFault.TheVariants.{NoPool}
@@ -26,7 +26,7 @@ use Rattle.cluster.specs.declared.pass.OwnSession.{OwnSession}
 use Rattle.cluster.specs.declared.pass.Pass.{Pass}
 use Rattle.cluster.specs.Sessions.{own_session, next_of}
 use Rattle.cluster.specs.Pools.{HasRead}
-use Rattle.cluster.specs.Asking.{ask_by, vector_by, HasAsked, IsRefusedBy}
+use Rattle.cluster.specs.Asking.{ask_by, vector_by, HasSubmitted, IsRefusedBy}
 
 -- ---- a reading
 
@@ -58,15 +58,15 @@ pub record IsToAsk (start : History) (own : List OwnSession) (ask : Ask) (reques
   pub room : FitsOneMore own ask.session
 
 -- the request of a vector by a view in hand was submitted
-pub record IsVectorAsked (c : Cluster) (a : Asking) (view : PoolView) (object : List ℕ) (ops : List Op) (asked : Asked) (old new : Pass) : Type 0 where
+pub record IsVectorSubmitted (c : Cluster) (a : NewRequest) (view : PoolView) (object : List ℕ) (ops : List Op) (asked : Submitted) (old new : Pass) : Type 0 where
   pub session : Session
   pub has : own_session old.sessions.items a.session ≡ Some session
   pub request : Sealed
   pub sealed : vector_by a (record { session = session; view = view }) object ops ≡ Ok request
-  pub asks : HasAsked c (ask_by a request.view) request asked old new
+  pub asks : HasSubmitted c (ask_by a request.view) request asked old new
 
 -- or was not
-pub record IsVectorRefused (c : Cluster) (a : Asking) (view : PoolView) (object : List ℕ) (ops : List Op) (fault : ClusterFault) (old new : Pass) : Type 0 where
+pub record IsVectorRefused (c : Cluster) (a : NewRequest) (view : PoolView) (object : List ℕ) (ops : List Op) (fault : ClusterFault) (old new : Pass) : Type 0 where
   pub session : Session
   pub has : own_session old.sessions.items a.session ≡ Some session
   pub fails : IsRefusedBy c (vector_by a (record { session = session; view = view }) object ops) fault old new

@@ -12,8 +12,8 @@ ghost use Rattle.cluster.specs.Sessions.{own_session_at, next_of};
 ghost use Rattle.cluster.specs.Asks.{IsPassOf, sessions_of};
 ghost use Rattle.cluster.specs.Pools.{IsPoolOf};
 ghost use Rattle.cluster.specs.Asking as spec;
-ghost use Rattle.cluster.specs.Asking.{own_place, session_by, numbered_from, HasAsked, IsNotAsked, IsPiece, IsNoPiece, ArePieces, IsCutShort, IsSubmitted, SubmitFails, IsListed, ListFails};
-ghost use Rattle.cluster.specs.ToAsk.{IsToAsk, IsVectorAsked, IsVectorRefused, FitsOneMore};
+ghost use Rattle.cluster.specs.Asking.{own_place, session_by, numbered_from, HasSubmitted, IsNotSubmitted, IsPiece, IsNoPiece, ArePieces, IsCutShort, IsSubmitted, SubmitFails, IsListed, ListFails};
+ghost use Rattle.cluster.specs.ToAsk.{IsToAsk, IsVectorSubmitted, IsVectorRefused, FitsOneMore};
 
 use crate::cluster::Cluster;
 use crate::deliveries::of_group;
@@ -27,9 +27,9 @@ use std::alloc::Global;
 use std::sync::Wait;
 use world_core::{Ask, Ops, Session, WorldFault, are_names, is_namespace, place_of, seal_vector};
 
-/// Who asks, when, and where. The request names the epoch of the map that the pass reads.
+/// Which session requests, when, and where. The request names the epoch of the map that the pass reads.
 #[derive(Debug, Drop)]
-pub struct Asking {
+pub struct NewRequest {
     /// The session's number, from 1 on.
     pub session: u32,
     /// The stamp of the request, by which its ticket is judged. Its unit is the caller's.
@@ -42,14 +42,14 @@ pub struct Asking {
 
 /// A request that was submitted: its id, and the group that has it.
 #[derive(Debug)]
-pub struct Asked {
+pub struct Submitted {
     pub id: Id,
     pub group: GroupId,
 }
 
-impl Drop for Asked {
+impl Drop for Submitted {
     fn drop(self) {
-        let Asked { id: _, group: _ } = self;
+        let Submitted { id: _, group: _ } = self;
     }
 }
 
@@ -62,14 +62,14 @@ fn find_session(own: &[OwnSession], number: u32) -> Option<usize>
 }
 
 // Where the session stands that asks: W1 and W9.
-fn asking_session(own: &[OwnSession], asking: &Asking) -> Result<usize, WorldFault>
-    ensures found { IfOk result (λ k. own_place own.now asking.now.session ≡ Some k) }
-    ensures refused { RefusedExactly (error_of (session_by own.now asking.now)) result }
+fn asking_session(own: &[OwnSession], new_request: &NewRequest) -> Result<usize, WorldFault>
+    ensures found { IfOk result (λ k. own_place own.now new_request.now.session ≡ Some k) }
+    ensures refused { RefusedExactly (error_of (session_by own.now new_request.now)) result }
 {
-    match find_session(own, asking.session) {
+    match find_session(own, new_request.session) {
         None => Err(WorldFault::NoSession),
         Some(k) => {
-            if asking.tick < own[k].session.tick {
+            if new_request.tick < own[k].session.tick {
                 Err(WorldFault::StaleTick)
             } else {
                 Ok(k)
@@ -79,15 +79,15 @@ fn asking_session(own: &[OwnSession], asking: &Asking) -> Result<usize, WorldFau
 }
 
 // The question, with the epoch of the pool's view.
-fn ask_by(asking: Asking, view: &PoolView) -> Ask
-    ensures { result ≡ spec.ask_by asking view.now }
+fn ask_by(new_request: NewRequest, view: &PoolView) -> Ask
+    ensures { result ≡ spec.ask_by new_request view.now }
 {
-    let Asking {
+    let NewRequest {
         session,
         tick,
         pool,
         namespace,
-    } = asking;
+    } = new_request;
     Ask {
         session,
         epoch: view.epoch,
@@ -140,13 +140,13 @@ impl Cluster {
         k: usize,
         ask: &Ask,
         request: Sealed,
-    ) -> Result<Asked, ClusterFault>
+    ) -> Result<Submitted, ClusterFault>
         requires pass { IsPassOf self.now pass.old }
         requires place { own_place pass.old.sessions.items ask.now.session ≡ Some k }
         requires asks { IsToAsk self.now.start pass.old.sessions.items ask.now request }
         ensures pass { IsPassOf self.now pass.new }
-        ensures ok { IfOk result (λ asked. HasAsked self.now ask.now request asked pass.old pass.new) }
-        ensures err { IfErr result (λ fault. IsNotAsked self.now request fault pass.old pass.new) }
+        ensures ok { IfOk result (λ submitted. HasSubmitted self.now ask.now request submitted pass.old pass.new) }
+        ensures err { IfErr result (λ fault. IsNotSubmitted self.now request fault pass.old pass.new) }
     {
         let id = request.id();
         let Ok(group) = request.group() else {
@@ -158,7 +158,7 @@ impl Cluster {
                 Err(fault) => Err(of_group(fault)),
                 Ok(()) => {
                     move_on(&mut pass.sessions, k, ask);
-                    Ok(Asked { id, group })
+                    Ok(Submitted { id, group })
                 }
             },
         }
@@ -170,23 +170,23 @@ impl Cluster {
         rt: &R,
         pass: &mut Pass,
         k: usize,
-        asking: Asking,
+        new_request: NewRequest,
         view: PoolView,
         object: Name,
         ops: Ops,
-    ) -> Result<Asked, ClusterFault>
+    ) -> Result<Submitted, ClusterFault>
         requires pass { IsPassOf self.now pass.old }
-        requires place { own_place pass.old.sessions.items asking.session ≡ Some k }
-        requires pool { IsPoolOf self.now.start asking.pool view }
+        requires place { own_place pass.old.sessions.items new_request.session ≡ Some k }
+        requires pool { IsPoolOf self.now.start new_request.pool view }
         ensures pass { IsPassOf self.now pass.new }
-        ensures ok { IfOk result (λ asked. IsVectorAsked self.now asking view object ops asked pass.old pass.new) }
-        ensures err { IfErr result (λ fault. IsVectorRefused self.now asking view object ops fault pass.old pass.new) }
+        ensures ok { IfOk result (λ submitted. IsVectorSubmitted self.now new_request view object ops submitted pass.old pass.new) }
+        ensures err { IfErr result (λ fault. IsVectorRefused self.now new_request view object ops fault pass.old pass.new) }
     {
-        if !are_names(&object, &asking.namespace) {
+        if !are_names(&object, &new_request.namespace) {
             return Err(ClusterFault::World(WorldFault::BadObjectName));
         }
         let alloc = *pass.sessions.allocator();
-        let ask = ask_by(asking, &view);
+        let ask = ask_by(new_request, &view);
         match seal_next(alloc, &ask, &pass.sessions[k].session, view, object, ops) {
             Err(fault) => Err(fault),
             Ok(request) => self.put(rt, pass, k, &ask, request),
@@ -213,20 +213,20 @@ impl Cluster {
         &self,
         rt: &R,
         pass: &mut Pass,
-        asking: Asking,
+        new_request: NewRequest,
         object: Name,
         ops: Ops,
-    ) -> Result<Asked, ClusterFault>
+    ) -> Result<Submitted, ClusterFault>
         requires { IsPassOf self.now pass.old }
         ensures pass { IsPassOf self.now pass.new }
-        ensures ok { IfOk result (λ asked. IsSubmitted self.now asking object ops asked pass.old pass.new) }
-        ensures err { IfErr result (λ fault. SubmitFails self.now asking object ops fault pass.old pass.new) }
+        ensures ok { IfOk result (λ submitted. IsSubmitted self.now new_request object ops submitted pass.old pass.new) }
+        ensures err { IfErr result (λ fault. SubmitFails self.now new_request object ops fault pass.old pass.new) }
     {
-        match asking_session(pass.sessions.as_slice(), &asking) {
-            Err(fault) => Err(ClusterFault::World(fault)),
-            Ok(k) => match self.see_pool(pass, &asking.pool) {
+        match asking_session(pass.sessions.as_slice(), &new_request) {
+            Err(why) => Err(ClusterFault::World(why)),
+            Ok(k) => match self.see_pool(pass, &new_request.pool) {
                 Err(fault) => Err(fault),
-                Ok(view) => self.submit_vector(rt, pass, k, asking, view, object, ops),
+                Ok(view) => self.submit_vector(rt, pass, k, new_request, view, object, ops),
             },
         }
     }
@@ -240,14 +240,14 @@ impl Cluster {
         ask: &Ask,
         view: &PoolView,
         group: u32,
-    ) -> Result<Asked, ClusterFault>
+    ) -> Result<Submitted, ClusterFault>
         requires pass { IsPassOf self.now pass.old }
         requires place { own_place pass.old.sessions.items ask.now.session ≡ Some k }
         requires pool { IsPoolOf self.now.start ask.now.pool view.now }
         requires group { group < view.now.pg_num }
         ensures pass { IsPassOf self.now pass.new }
         ensures place { own_place pass.new.sessions.items ask.now.session ≡ Some k }
-        ensures ok { IfOk result (λ asked. IsPiece self.now ask.now view.now group asked pass.old pass.new) }
+        ensures ok { IfOk result (λ submitted. IsPiece self.now ask.now view.now group submitted pass.old pass.new) }
         ensures err { IfErr result (λ fault. IsNoPiece self.now ask.now view.now group fault pass.old pass.new) }
     {
         let alloc = *pass.sessions.allocator();
@@ -265,7 +265,7 @@ impl Cluster {
         k: usize,
         ask: &Ask,
         view: &PoolView,
-    ) -> Result<Vec<Asked>, ClusterFault>
+    ) -> Result<Vec<Submitted>, ClusterFault>
         requires pass { IsPassOf self.now pass.old }
         requires place { own_place pass.old.sessions.items ask.now.session ≡ Some k }
         requires pool { IsPoolOf self.now.start ask.now.pool view.now }
@@ -280,7 +280,7 @@ impl Cluster {
         for group in 0..view.pg_num {
             match self.submit_piece(rt, pass, k, ask, view, group) {
                 Err(fault) => return Err(fault),
-                Ok(asked) => all.push_reserved(asked),
+                Ok(submitted) => all.push_reserved(submitted),
             }
         }
         Ok(all)
@@ -296,23 +296,23 @@ impl Cluster {
         &self,
         rt: &R,
         pass: &mut Pass,
-        asking: Asking,
-    ) -> Result<Vec<Asked>, ClusterFault>
+        new_request: NewRequest,
+    ) -> Result<Vec<Submitted>, ClusterFault>
         requires { IsPassOf self.now pass.old }
         ensures pass { IsPassOf self.now pass.new }
-        ensures ok { IfOk result (λ all. IsListed self.now asking all.items pass.old pass.new) }
-        ensures told { IfOk result (λ all. all.items ≡ numbered_from asking.session (next_of (sessions_of pass.old) asking.session) asking.pool (length all.items)) }
-        ensures err { IfErr result (λ fault. ListFails self.now asking fault pass.old pass.new) }
+        ensures ok { IfOk result (λ all. IsListed self.now new_request all.items pass.old pass.new) }
+        ensures told { IfOk result (λ all. all.items ≡ numbered_from new_request.session (next_of (sessions_of pass.old) new_request.session) new_request.pool (length all.items)) }
+        ensures err { IfErr result (λ fault. ListFails self.now new_request fault pass.old pass.new) }
     {
-        match asking_session(pass.sessions.as_slice(), &asking) {
+        match asking_session(pass.sessions.as_slice(), &new_request) {
             Err(fault) => Err(ClusterFault::World(fault)),
-            Ok(k) => match self.see_pool(pass, &asking.pool) {
+            Ok(k) => match self.see_pool(pass, &new_request.pool) {
                 Err(fault) => Err(fault),
                 Ok(view) => {
-                    if !is_namespace(&asking.namespace) {
+                    if !is_namespace(&new_request.namespace) {
                         return Err(ClusterFault::World(WorldFault::BadObjectName));
                     }
-                    let ask = ask_by(asking, &view);
+                    let ask = ask_by(new_request, &view);
                     self.submit_pieces(rt, pass, k, &ask, &view)
                 }
             },

@@ -155,7 +155,7 @@ impl Cluster {
     /// nothing changed, and the cluster, the monitor and the passes are returned.
     ///
     /// It ends the publication, for which it waits until no reader is within a reading. It takes a last turn on each
-    /// lock. A note that nobody has heard does not hinder it. Its time is at most quadratic in the number of
+    /// lock. A note that nobody has read does not hinder it. Its time is at most quadratic in the number of
     /// sessions.
     pub fn close<R: Wait>(
         self,

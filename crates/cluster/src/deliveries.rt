@@ -9,7 +9,7 @@ ghost use Rattle.cluster.specs.Passes.{group_count, start_of};
 ghost use Rattle.cluster.specs.Asks.{IsPassOf};
 ghost use Rattle.cluster.specs.Deliveries.{fault_of_group, fault_of_answer, WorksAt, WorksOn, LooksAt, LooksIn};
 
-use crate::asking::Asked;
+use crate::asking::Submitted;
 use crate::cluster::Cluster;
 use crate::fault::ClusterFault;
 use crate::pass::Pass;
@@ -107,15 +107,15 @@ impl Cluster {
         &self,
         rt: &R,
         pass: &mut Pass,
-        asked: &Asked,
+        submitted: &Submitted,
     ) -> Result<Option<Reply>, ClusterFault>
         requires { IsPassOf self.now pass.old }
         ensures pass { IsPassOf self.now pass.new }
-        ensures missing { (fault : map.MapFault) → acting_refusal (start_of self.now) asked.now.group.pool asked.now.group.number ≡ Some fault → (result ≡ Err (faults.World NoRequest)) × (pass.new ≡ pass.old) }
-        ensures looked { acting_refusal (start_of self.now) asked.now.group.pool asked.now.group.number ≡ None → LooksIn self.now asked.now.group asked.now.id pass.old pass.new result }
+        ensures missing { (fault : map.MapFault) → acting_refusal (start_of self.now) submitted.now.group.pool submitted.now.group.number ≡ Some fault → (result ≡ Err (faults.World NoRequest)) × (pass.new ≡ pass.old) }
+        ensures looked { acting_refusal (start_of self.now) submitted.now.group.pool submitted.now.group.number ≡ None → LooksIn self.now submitted.now.group submitted.now.id pass.old pass.new result }
     {
-        match place_of(&self.start, &asked.group) {
-            Ok(place) => self.answer_at(rt, pass, place, asked.id),
+        match place_of(&self.start, &submitted.group) {
+            Ok(place) => self.answer_at(rt, pass, place, submitted.id),
             Err(_) => Err(ClusterFault::World(WorldFault::NoRequest)),
         }
     }

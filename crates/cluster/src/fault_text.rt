@@ -1,5 +1,8 @@
 //! The printed forms of faults: number, name, and what they carry.
 
+ghost use Rattle.std.specs.Prelude.{Some};
+ghost use Rattle.cluster.specs.Printed.{fault_text, change_text, tell_text, close_text};
+
 use crate::closing::CloseFault;
 use crate::fault::ClusterFault;
 use crate::monitor::{ChangeFault, TellFault};
@@ -8,6 +11,8 @@ use std::fmt;
 
 /// As `K1 Unfinished 2`; a fault of a lower layer prints itself.
 impl fmt::Display for ClusterFault {
+    ghost output = { λ fault. Some (fault_text fault) };
+
     fn fmt<W: fmt::Write>(&self, f: &mut fmt::Formatter<W>) -> fmt::Result {
         match self {
             ClusterFault::World(fault) => write!(f, "{fault}"),
@@ -23,6 +28,8 @@ impl Error for ClusterFault {}
 
 /// As `K1 Unfinished 2`; a fault of the map or of a group prints itself.
 impl fmt::Display for ChangeFault {
+    ghost output = { λ fault. Some (change_text fault) };
+
     fn fmt<W: fmt::Write>(&self, f: &mut fmt::Formatter<W>) -> fmt::Result {
         match self {
             ChangeFault::Map(fault) => write!(f, "{fault}"),
@@ -36,6 +43,8 @@ impl Error for ChangeFault {}
 
 /// As `K4 NoReader`.
 impl fmt::Display for TellFault {
+    ghost output = { λ fault. Some (tell_text fault) };
+
     fn fmt<W: fmt::Write>(&self, f: &mut fmt::Formatter<W>) -> fmt::Result {
         match self {
             TellFault::Unfinished(at) => write!(f, "K1 Unfinished {at}"),
@@ -48,6 +57,8 @@ impl Error for TellFault {}
 
 /// As `L1 MissingPass`.
 impl fmt::Display for CloseFault {
+    ghost output = { λ fault. Some (close_text fault) };
+
     fn fmt<W: fmt::Write>(&self, f: &mut fmt::Formatter<W>) -> fmt::Result {
         match self {
             CloseFault::MissingPass => write!(f, "L1 MissingPass"),

@@ -46,7 +46,7 @@ mod user_turns;
 mod views;
 mod workers;
 
-pub use asking::{Asked, Asking};
+pub use asking::{NewRequest, Submitted};
 pub use closing::CloseFault;
 pub use cluster::{Cluster, Ended, Seats};
 pub use cluster_locks::{LockedGroup, PoolSpec, UserSpec, Worked};

@@ -16,17 +16,17 @@ use crate::group_moves::{any_full, move_groups};
 use entry_core::GroupId;
 use group_messages::GroupFault;
 use map_core::{ClusterMap, Epoch, MapCommand, MapFault};
-use published_map::{MapWriter, News, lay, publish, tell};
+use published_map::{MapWriter, News, publish, stage, tell};
 use std::alloc::AllocError;
 use std::sync::Wait;
 
 /// What is left of a change whose command stands in the monitor's map.
 #[derive(Drop)]
 pub enum Unfinished {
-    /// The groups from `at` on have not moved, and the command is not laid down to be published.
+    /// The groups from `at` on have not moved, and the command is not staged for publication.
     Left { command: MapCommand, at: usize },
-    /// All groups have moved and the command is laid down, but it is not published.
-    Laid,
+    /// All groups have moved and the command is staged, but it is not published.
+    Staged,
 }
 
 /// The right to change the map: the monitor's own map, the places of the cluster's groups in order, seats of it, the writer of the
@@ -61,7 +61,7 @@ pub enum TellFault {
 
 impl Monitor {
     ghost use Rattle.cluster.specs.Passes.{group_count};
-    ghost use Rattle.cluster.specs.Monitors.{IsMonitorOf, IsWhole, HasOnlyTold, own_map, monitor_seats, unfinished_of, published_of, waiting_of, known_of, left_with, laid_with, left_at, IsLeftBy, HasBegun, Changed, IsAdmitted, ChangeFails, TellFails, Finishes, Follows, change_refusal};
+    ghost use Rattle.cluster.specs.Monitors.{IsMonitorOf, IsWhole, HasOnlyTold, own_map, monitor_seats, unfinished_of, published_of, waiting_of, known_of, left_with, staged_with, left_at, IsLeftBy, HasBegun, Changed, IsAdmitted, ChangeFails, TellFails, Finishes, Follows, change_refusal};
 
     // The group at which a change is left, if one is.
     fn left(&self, cluster: &Cluster) -> Option<usize>
@@ -70,7 +70,7 @@ impl Monitor {
         match &self.unfinished {
             None => None,
             Some(Unfinished::Left { command: _, at }) => Some(*at),
-            Some(Unfinished::Laid) => Some(cluster.group_count()),
+            Some(Unfinished::Staged) => Some(cluster.group_count()),
         }
     }
 
@@ -109,13 +109,13 @@ impl Monitor {
         publish(rt, &mut self.writer)
     }
 
-    // Lays a command down to be published.
+    // Stages a command, to be published.
     fn append(&mut self, command: MapCommand) -> Result<(), MapCommand>
         ensures rest { (self.new.map ≡ self.old.map) × (self.new.places ≡ self.old.places) × (self.new.seats ≡ self.old.seats) × (self.new.unfinished ≡ self.old.unfinished) }
         ensures shown { (published_of self.new ≡ published_of self.old) × (known_of self.new ≡ known_of self.old) }
         ensures waiting { MatchResult result (λ _. waiting_of self.new ≡ waiting_of self.old ++ command ∷ []) (λ back. (back ≡ command) × (waiting_of self.new ≡ waiting_of self.old)) }
     {
-        lay(&mut self.writer, command)
+        stage(&mut self.writer, command)
     }
 
     /// The news of what the monitor has published. While a change is unfinished, it returns `Err`. At `Err` nothing
@@ -132,7 +132,7 @@ impl Monitor {
         match &self.unfinished {
             None => (),
             Some(Unfinished::Left { command: _, at }) => return Err(TellFault::Unfinished(*at)),
-            Some(Unfinished::Laid) => return Err(TellFault::Unfinished(cluster.group_count())),
+            Some(Unfinished::Staged) => return Err(TellFault::Unfinished(cluster.group_count())),
         }
         match tell(&mut self.writer) {
             Some(news) => Ok(news),
@@ -140,27 +140,32 @@ impl Monitor {
         }
     }
 
-    // Publishes a command that is laid down.
-    fn show<R: Wait>(&mut self, rt: &R, cluster: &Cluster) -> Result<(), usize>
-        requires { IsMonitorOf cluster.now (laid_with self.old) × IsNone self.old.unfinished }
+    // Publishes a staged command.
+    fn publish<R: Wait>(&mut self, rt: &R, cluster: &Cluster) -> Result<(), usize>
+        requires { IsMonitorOf cluster.now (staged_with self.old) × IsNone self.old.unfinished }
         ensures monitor { IsMonitorOf cluster.now self.new }
         ensures rest { (self.new.map ≡ self.old.map) × (self.new.places ≡ self.old.places) × (self.new.seats ≡ self.old.seats) }
         ensures ok { OnOk result (IsNone self.new.unfinished) }
         ensures at { IfErr result (λ at. at ≡ group_count cluster.now) }
-        ensures laid { OnErr result (self.new.unfinished ≡ Some left_by.Laid) }
+        ensures staged { OnErr result (self.new.unfinished ≡ Some left_by.Staged) }
         ensures err { IfErr result (λ at. (published_of self.new ≡ published_of self.old) × ((command : MapCommand) → IsLeftBy cluster.now command at self.new.unfinished)) }
     {
         match self.publish_all(rt) {
             Ok(()) => Ok(()),
             Err(_) => {
-                self.unfinished = Some(Unfinished::Laid);
+                self.unfinished = Some(Unfinished::Staged);
                 Err(cluster.group_count())
             }
         }
     }
 
-    // Lays down a command by which all groups have moved, and publishes it.
-    fn lay<R: Wait>(&mut self, rt: &R, cluster: &Cluster, command: MapCommand) -> Result<(), usize>
+    // Stages a command by which all groups have moved, and publishes it.
+    fn stage<R: Wait>(
+        &mut self,
+        rt: &R,
+        cluster: &Cluster,
+        command: MapCommand,
+    ) -> Result<(), usize>
         requires { IsMonitorOf cluster.now (left_with command (group_count cluster.now) self.old) × IsNone self.old.unfinished }
         ensures monitor { IsMonitorOf cluster.now self.new }
         ensures rest { (self.new.map ≡ self.old.map) × (self.new.places ≡ self.old.places) × (self.new.seats ≡ self.old.seats) }
@@ -169,7 +174,7 @@ impl Monitor {
         ensures err { IfErr result (λ at. (published_of self.new ≡ published_of self.old) × IsLeftBy cluster.now command at self.new.unfinished) }
     {
         match self.append(command) {
-            Ok(()) => self.show(rt, cluster),
+            Ok(()) => self.publish(rt, cluster),
             Err(command) => {
                 let at = cluster.group_count();
                 self.unfinished = Some(Unfinished::Left { command, at });
@@ -178,8 +183,8 @@ impl Monitor {
         }
     }
 
-    // Goes on with a change from the group `at` on, and publishes at the end. At `Err` it is left for `finish`.
-    fn go_on<R: Wait>(
+    // Resumes a change from the group `at` on, and publishes at the end. At `Err` it is left for `finish`.
+    fn resume<R: Wait>(
         &mut self,
         rt: &R,
         cluster: &Cluster,
@@ -206,7 +211,7 @@ impl Monitor {
             at,
         );
         match moved {
-            Ok(()) => self.lay(rt, cluster, command),
+            Ok(()) => self.stage(rt, cluster, command),
             Err(to) => {
                 self.unfinished = Some(Unfinished::Left { command, at: to });
                 Err(to)
@@ -214,7 +219,7 @@ impl Monitor {
         }
     }
 
-    /// Goes on with a change that was left: the groups that have not moved, then the publication. Where none was left, nothing changes.
+    /// Resumes a change that was left: the groups that have not moved, then the publication. Where none was left, nothing changes.
     ///
     /// At `Err`, K1, it is left again, from the group that is named on. It takes a turn on each group that moves, and waits for it.
     pub fn finish<R: Wait>(&mut self, rt: &R, cluster: &Cluster) -> Result<(), ChangeFault>
@@ -228,12 +233,12 @@ impl Monitor {
         match self.unfinished.take() {
             None => Ok(()),
             Some(Unfinished::Left { command, at }) => {
-                match self.go_on(rt, cluster, command, at) {
+                match self.resume(rt, cluster, command, at) {
                     Ok(()) => Ok(()),
                     Err(at) => Err(ChangeFault::Unfinished(at)),
                 }
             }
-            Some(Unfinished::Laid) => match self.show(rt, cluster) {
+            Some(Unfinished::Staged) => match self.publish(rt, cluster) {
                 Ok(()) => Ok(()),
                 Err(at) => Err(ChangeFault::Unfinished(at)),
             },
@@ -266,7 +271,7 @@ impl Monitor {
         };
         match self.map.apply(command) {
             Err(_) => Err(ChangeFault::Map(MapFault::OutOfMemory)),
-            Ok(epoch) => match self.go_on(rt, cluster, kept, 0) {
+            Ok(epoch) => match self.resume(rt, cluster, kept, 0) {
                 Ok(()) => Ok(epoch),
                 Err(at) => Err(ChangeFault::Unfinished(at)),
             },

@@ -1,4 +1,4 @@
-//! Notes and news: what a pass hears from others.
+//! Notes and news: what a pass learns from others.
 
 ghost use Rattle.std.specs.Prelude.{◌≡◌, Some, OnOk, IfOk, IfErr};
 ghost use Rattle.map_core.specs.State.{History};
@@ -6,7 +6,7 @@ ghost use Rattle.cluster.specs.declared.cluster.Cluster.{Cluster as ACluster};
 ghost use Rattle.cluster.specs.declared.fault.ClusterFault.TheVariants as faults;
 ghost use Rattle.cluster.specs.Asks.{IsPassOf, known_by};
 ghost use Rattle.cluster.specs.Views.{OnlyLooked};
-ghost use Rattle.cluster.specs.Noted.{IsNoteOf, GaveNote, TellsAllOf, HasHeard};
+ghost use Rattle.cluster.specs.Noted.{IsNoteOf, GaveNote, TellsAllOf, HasReadNote};
 ghost use Rattle.published_map.specs.Published.{Covers, KnowsAll};
 ghost use Rattle.published_map.specs.Told.{knowledge_of};
 
@@ -40,11 +40,11 @@ impl Pass {
     }
 
     /// From now on this pass has seen all that the note tells. It waits for nobody.
-    pub fn hear(&mut self, cluster: &Cluster, note: Note)
+    pub fn read_note(&mut self, cluster: &Cluster, note: Note)
         requires pass { IsPassOf cluster.now self.old }
         requires note { IsNoteOf cluster.now note }
         ensures pass { IsPassOf cluster.now self.new }
-        ensures heard { HasHeard note self.old self.new }
+        ensures read { HasReadNote note self.old self.new }
     {
         cluster.absorb(&mut self.seats, note.seats);
     }

@@ -1,12 +1,12 @@
 //! Starting a cluster.
 
 ghost use Rattle.std.specs.Prelude.{◌≡◌, ℕ, ◌<◌, ◌≤◌, ◌^◌, ◌++◌, [], All, map as each, vec_len, IfOk, IfErr, IsNone, MatchResult};
-ghost use Rattle.cluster.specs.Passes.{AreFreshOf, AreMonitorOf, firsts_of, start_of};
+ghost use Rattle.cluster.specs.Passes.{AreFreshOf, AreMonitorOf, HaveDrawnNone, firsts_of, start_of};
 ghost use Rattle.cluster_locks.specs.Beginning as spec;
 ghost use Rattle.cluster_locks.specs.Groups.{group_in};
 ghost use Rattle.cluster_locks.specs.Shares.{pass_share};
-ghost use Rattle.cluster.specs.Monitors.{IsMonitorOf, Follows, FollowsStart, IsWhole, own_map};
-ghost use Rattle.cluster.specs.Asks.{IsBegun, IsPassOf, sessions_of};
+ghost use Rattle.cluster.specs.Monitors.{IsMonitorOf, Follows, FollowsStart, IsWhole, own_map, monitor_seats};
+ghost use Rattle.cluster.specs.Asks.{IsBegun, IsPassOf, seats_of, sessions_of};
 ghost use Rattle.cluster.specs.Begun.{HasWorld, HasParts, HasChangedNothing, AreIdle};
 ghost use Rattle.cluster.specs.Starts.{IsStartOf, IsWant, StartFails};
 
@@ -93,9 +93,9 @@ fn pass_with(
     requires follows { (monitor.old.map ≡ cluster.now.start) × Follows cluster.now.start monitor.old }
     requires begun { IsBegun cluster.now }
     requires fresh { AreFreshOf cluster.now (pass_share cluster.now.passes) seats }
-    ensures monitor { IsMonitorOf cluster.now monitor.new × IsNone monitor.new.unfinished }
+    ensures monitor { IsMonitorOf cluster.now monitor.new × IsNone monitor.new.unfinished × (monitor.new.seats ≡ monitor.old.seats) }
     ensures follows { (monitor.new.map ≡ cluster.now.start) × Follows cluster.now.start monitor.new }
-    ensures pass { IfOk result (λ pass. IsPassOf cluster.now pass × (pass.seats ≡ seats) × (pass.sessions.items ≡ [])) }
+    ensures pass { IfOk result (λ pass. IsPassOf cluster.now pass × HaveDrawnNone pass.seats × (pass.sessions.items ≡ [])) }
     ensures err { IfErr result IsWant }
 {
     match monitor.tell(cluster) {
@@ -209,6 +209,7 @@ pub fn start<R: Wait>(
     ensures whole { IfOk result (λ r. IsWhole r.1 × (own_map r.1 ≡ start_of r.0)) }
     ensures passes { IfOk result (λ r. (vec_len r.2 ≡ passes) × All (IsPassOf r.0) r.2.items) }
     ensures idle { IfOk result (λ r. All (λ pass. sessions_of pass ≡ []) r.2.items) }
+    ensures numbers { IfOk result (λ r. HaveDrawnNone (monitor_seats r.1) × All (λ pass. HaveDrawnNone (seats_of pass)) r.2.items) }
     ensures err { IfErr result (λ fault. StartFails table daemons (spec.events_of pools.items users.items) fault) }
 {
     let events = events_of(alloc, pools, users)?;

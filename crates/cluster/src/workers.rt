@@ -1,13 +1,13 @@
 //! Workers: a thread for each pass, which delivers messages round by round.
 
-ghost use Rattle.std.specs.Prelude.{◌≡◌, ◌↔◌, ◌<◌, ◌≤◌, ℕ, [], Some, Err, All, map as each, length, slice_index_or, vec_len, IsTrue, MatchResult, Result};
+ghost use Rattle.std.specs.Prelude.{◌≡◌, ◌↔◌, ◌<◌, ◌≤◌, ℕ, [], Err, All, map as each, false, length, slice_index_or, vec_len, IsTrue, MatchResult, Result};
 ghost use Rattle.std.specs.Vec.{vec_capacity};
 ghost use Rattle.cluster_locks.specs.Places.{Beside};
 ghost use Rattle.cluster.specs.Asks.{IsPassOf};
 ghost use Rattle.cluster.specs.declared.fault.ClusterFault.{ClusterFault as Fault};
 ghost use Rattle.cluster.specs.Passes.{group_count};
 ghost use Rattle.cluster.specs.Deliveries.{WorksAt};
-ghost use Rattle.cluster.specs.Workers.{HasWorked, HasWorkedOf, HasGoneOn, EndsBy, IsPassedOver, GoesOnAfter, TellsFault, AreAtWork, first_fault, pass_of, fault_of};
+ghost use Rattle.cluster.specs.Workers.{HasWorked, HasWorkedOf, HasDelivered, IsCutShortBy, EndsBy, IsPassedOver, GoesOnAfter, TellsFault, AreAtWork, first_fault, pass_of, fault_of};
 
 use crate::cluster::Cluster;
 use crate::fault::ClusterFault;
@@ -20,10 +20,14 @@ use std::thread;
 use std::thread::Threads;
 use world_core::WorldFault;
 
-/// Asked before each round of a worker.
+/// Submitted before each round of a worker.
 pub trait Gate {
+    // Which rounds of which workers the gate may refuse.
+    ghost refuses: { Self → ℕ → ℕ → Type 0 } = { λ _ _ _. Unit {0} };
+
     /// Whether this worker goes on with this round, both counted from 0. The worker ends where it does not.
-    fn enter(&self, worker: u32, round: u32) -> bool;
+    fn enter(&self, worker: usize, round: u32) -> bool
+        ensures { result ≡ false → refuses self.now worker round };
 }
 
 /// A pass at work, and why it ended before its last round, if it did.
@@ -73,7 +77,7 @@ fn work_round<R: Wait>(rt: &R, cluster: &Cluster, pass: &mut Pass) -> Result<(),
     requires { IsPassOf cluster.now pass.old }
     ensures pass { IsPassOf cluster.now pass.new }
     ensures worked { HasWorked 1 pass.old pass.new }
-    ensures told { MatchResult result (λ _. HasGoneOn cluster.now pass.old pass.new) (λ fault. EndsBy cluster.now (Some fault) pass.old pass.new) }
+    ensures told { MatchResult result (λ _. HasDelivered cluster.now (group_count cluster.now) pass.old pass.new) (λ fault. IsCutShortBy cluster.now fault pass.old pass.new) }
 {
     for place in 0..cluster.group_count() {
         match work_one(rt, cluster, pass, place) {
@@ -89,14 +93,14 @@ fn work_rounds<R: Wait, G: Gate>(
     rt: &R,
     cluster: &Cluster,
     gate: &G,
-    number: u32,
+    number: usize,
     pass: &mut Pass,
     rounds: u32,
 ) -> Option<ClusterFault>
     requires { IsPassOf cluster.now pass.old }
     ensures pass { IsPassOf cluster.now pass.new }
     ensures worked { HasWorked rounds pass.old pass.new }
-    ensures told { EndsBy cluster.now result pass.old pass.new }
+    ensures told { EndsBy cluster.now (G.refuses gate.now number) rounds result pass.old pass.new }
 {
     for round in 0..rounds {
         if !gate.enter(number, round) {
@@ -120,12 +124,8 @@ fn work_on<R: Wait, G: Gate>(
     rounds: u32,
 )
     requires { IsPassOf cluster.now worker.old.pass }
-    ensures { HasWorkedOf cluster.now rounds worker.old worker.new }
+    ensures { HasWorkedOf cluster.now (G.refuses gate.now number) rounds worker.old worker.new }
 {
-    let Ok(number) = u32::try_from(number) else {
-        worker.fault = None;
-        return;
-    };
     worker.fault = work_rounds(rt, cluster, gate, number, &mut worker.pass, rounds);
 }
 
@@ -139,7 +139,7 @@ fn work_all<R: Threads + Wait + Sync, G: Gate + Sync>(
 )
     requires { AreAtWork cluster.now workers.old }
     ensures count { length workers.new ≡ length workers.old }
-    ensures each { (i : ℕ) (d : Worker) → i < length workers.old → HasWorkedOf cluster.now rounds (slice_index_or workers.old i d) (slice_index_or workers.new i d) }
+    ensures each { (i : ℕ) (d : Worker) → i < length workers.old → HasWorkedOf cluster.now (G.refuses gate.now i) rounds (slice_index_or workers.old i d) (slice_index_or workers.new i d) }
 {
     let count = workers.len();
     if count == 0 {
@@ -151,7 +151,7 @@ fn work_all<R: Threads + Wait + Sync, G: Gate + Sync>(
         count,
         &|number, worker|
             requires { IsPassOf cluster.now worker.now.pass }
-            ensures { HasWorkedOf cluster.entry.now rounds worker.entry.now worker.exit.now }
+            ensures { HasWorkedOf cluster.entry.now (G.refuses gate.entry.now number) rounds worker.entry.now worker.exit.now }
         { work_on(rt, cluster, gate, number, worker, rounds) },
     );
 }
@@ -184,9 +184,9 @@ fn dismiss(workers: Vec<Worker>, mut passes: Vec<Pass>) -> (Vec<Pass>, Option<Cl
 /// Runs workers that deliver messages, each with a pass and on a thread of its own: worker w has pass w, both counted
 /// from 0.
 ///
-/// Each worker has at most `rounds` rounds. In each it asks the gate, and ends if the gate does not let it in. Then
-/// it delivers message 0 of each group once, in order. It passes over a message to a daemon that is down. Another
-/// fault ends that worker.
+/// In each of the `rounds` a worker asks the gate, and ends if the gate does not let it in. Then it delivers message 0
+/// of each group once, in order. It passes over a message to a daemon that is down. Another fault ends that worker. So
+/// a worker without a fault has done all its rounds, or those before one that the gate refused.
 ///
 /// The passes are returned in order, even if a worker ended early. The fault is that of the last turn of the first
 /// worker, by number, that a fault ended. If memory runs out before any round, it is K3. If no thread can be started,
@@ -202,7 +202,7 @@ pub fn run_workers<R: Threads + Wait + Sync, G: Gate + Sync>(
     requires { All (IsPassOf cluster.now) passes.items }
     ensures passes { All (IsPassOf cluster.now) result.0.items }
     ensures worked { Beside (HasWorked rounds) passes.items result.0.items }
-    ensures fault { TellsFault cluster.now passes.items result.0.items result.1 }
+    ensures fault { TellsFault cluster.now (G.refuses gate.now) rounds passes.items result.0.items result.1 }
 {
     let Ok(workers) = Vec::with_capacity(alloc, passes.len()) else {
         return (passes, Some(ClusterFault::OutOfMemory));

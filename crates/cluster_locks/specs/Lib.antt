@@ -4,3 +4,4 @@ pub mod Moves
 pub mod Places
 pub mod Shares
 pub mod Beginning
+pub mod Printed

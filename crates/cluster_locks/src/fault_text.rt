@@ -1,5 +1,8 @@
 //! The printed forms of the steps' faults: number, name, and what they carry.
 
+ghost use Rattle.std.specs.Prelude.{Some};
+ghost use Rattle.cluster_locks.specs.Printed.{open_text, answer_text};
+
 use crate::groups::AnswerFault;
 use crate::users::OpenFault;
 use std::error::Error;
@@ -7,6 +10,8 @@ use std::fmt;
 
 /// As `W6 Limit`; a fault of the users prints itself.
 impl fmt::Display for OpenFault {
+    ghost output = { λ fault. Some (open_text fault) };
+
     fn fmt<W: fmt::Write>(&self, f: &mut fmt::Formatter<W>) -> fmt::Result {
         match self {
             OpenFault::User(fault) => write!(f, "{fault}"),
@@ -19,6 +24,8 @@ impl Error for OpenFault {}
 
 /// As `W5 NoRequest`.
 impl fmt::Display for AnswerFault {
+    ghost output = { λ fault. Some (answer_text fault) };
+
     fn fmt<W: fmt::Write>(&self, f: &mut fmt::Formatter<W>) -> fmt::Result {
         match self {
             AnswerFault::NoRequest => write!(f, "W5 NoRequest"),

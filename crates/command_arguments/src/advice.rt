@@ -1,4 +1,4 @@
-//! What to write in place of a capability text that is refused, in words: the advice of docs/FAULTS.md.
+//! What to write in place of a capability text that is refused, in words: the advice of docs/guide/FAULTS.md.
 
 use crate::near::nearest;
 use cap_text::{CapFault, FaultKind};

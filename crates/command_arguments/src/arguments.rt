@@ -1,15 +1,9 @@
 //! The words that each command takes.
 
-use crate::audit_arguments::{audit_command, reach_command};
-use crate::check_arguments::check_command;
-use crate::log_arguments::{log_command, suggest_command};
-use clap::{Arg, ArgAction, ArgMatches, Command, Error};
+use clap::{Arg, ArgAction, Command};
 use std::alloc::{AllocError, Global};
-use std::convert::AsStr;
 
-const VERSION: &str = "0.1.0";
-
-const VERDICT_EXAMPLE: &str =
+pub(crate) const VERDICT_EXAMPLE: &str =
     "Example: osdgate verdict --caps 'allow rw pool=data' --pool data --object x --read --write";
 
 const EXPLAIN_EXAMPLE: &str = "Example: osdgate explain --caps 'profile rbd pool=vms'";
@@ -44,7 +38,8 @@ Example: ceph auth ls --format json | osdgate lint --auth - --check";
 
 const RUN_EXAMPLE: &str = "\
 Example: osdgate run incident.txt
-Example: osdgate run --picture incident.svg incident.txt";
+Example: osdgate run --picture incident.svg incident.txt
+Example: osdgate run --picture request.svg --request 1.2 incident.txt";
 
 const THREADS_EXAMPLE: &str = "Example: osdgate threads 4";
 
@@ -57,7 +52,14 @@ const SCRIPT_HELP: &str = "The script; standard input if it is `-` or not given"
 const PICTURE_HELP: &str =
     "The file of a picture of what happens to a group: SVG where it ends in `.svg`, a Mermaid sequence diagram where it ends in `.mmd`; `-` prints SVG in place of what the script prints";
 
-const GROUP_HELP: &str = "The group of the picture, the one with most messages if none is given";
+const GROUP_HELP: &str =
+    "The group of the picture; if none is given, that of the request, or else the one with most messages";
+
+const LINES_HELP: &str =
+    "Draw only what these lines of the script do, such as `3..9`, and nothing behind them";
+
+const REQUEST_HELP: &str =
+    "Draw only what happens with this request, such as `1.2`, and what moves its group meanwhile";
 
 pub(crate) const AUTH_HELP: &str =
     "What `ceph auth ls`, `ceph auth export` or `ceph auth get NAME` prints, with or without `--format json`, or a keyring; `-` for standard input";
@@ -81,6 +83,9 @@ pub(crate) const FORMAT_HELP: &str = "The form of the answer, `text` if none is 
 
 const REGISTRY_HELP: &str =
     "The class registry of requests: `all` of them, if none is given, this program's `own`, or by Ceph's rules the `known` methods of Ceph 16.2.15";
+
+const ALL_HELP: &str =
+    "Show also the pairs of entities that read and write every object, and with `--flows` each step of a chain";
 
 /// Which methods requests call.
 const METHODS: OptionRow = (
@@ -146,7 +151,7 @@ const FROM: OptionRow = (
 );
 
 const CALL_HELP: &str =
-    "A call of a method that is not in the class registry: what it does, r, w or rw, and then `:listed` if flags cover the class; by Ceph's rules its table has 293 methods";
+    "A call of a method that is not in the class registry: what it does, r, w or rw, and then `:listed` if flags cover the class; by Ceph's rules its table has 295 methods";
 
 /// The text, in whose place that of an entity of a file may be.
 fn caps_option<'a>(alloc: Global) -> Result<Arg<'a>, AllocError> {
@@ -209,7 +214,7 @@ const KNOWN: OptionRow = (
 );
 
 /// The options of `osdgate verdict`.
-const VERDICT: &[OptionRow; 15] = &[
+const VERDICT: &[OptionRow; 16] = &[
     RULES,
     LISTED,
     POOL,
@@ -230,6 +235,11 @@ const VERDICT: &[OptionRow; 15] = &[
     READ,
     WRITE,
     FROM,
+    (
+        "why",
+        Nothing,
+        "Print the grants that allow the request, too",
+    ),
     FORMAT,
     (
         "check",
@@ -281,12 +291,13 @@ const COMPARE_HOW: &[OptionRow; 4] = &[
 ];
 
 /// The options of `osdgate share` that apply only to the entities of a file, except `flows`.
-const SHARE_FILE: &[OptionRow; 5] = &[
+const SHARE_FILE: &[OptionRow; 6] = &[
     ("auth", Value("FILE"), AUTH_HELP),
     ("pools", Value("FILE"), SHARED_POOLS_HELP),
     ONLY,
     WITHOUT,
     ("reads", Nothing, "Show also two that read the same"),
+    ("all", Nothing, ALL_HELP),
 ];
 
 /// The last options of `osdgate share`.
@@ -321,7 +332,10 @@ const LINT_HOW: &[OptionRow; 7] = &[
 pub fn is_option(word: &str) -> bool {
     VERDICT.iter().any(|row| row.0 == word)
         || WHO.iter().any(|row| row.0 == word)
-        || matches!(word, "all" | "caps" | "requests" | "list" | "call")
+        || matches!(
+            word,
+            "all" | "caps" | "requests" | "list" | "call" | "color"
+        )
 }
 
 /// An option whose value is taken as it is, also where it begins with a dash.
@@ -437,7 +451,7 @@ pub fn request_command<'a>(alloc: Global) -> Result<Command<'a>, AllocError> {
     with_request(alloc, command, REQUEST)
 }
 
-fn verdict_command<'a>(alloc: Global) -> Result<Command<'a>, AllocError> {
+pub(crate) fn verdict_command<'a>(alloc: Global) -> Result<Command<'a>, AllocError> {
     let command = Command::new(alloc, "verdict")
         .about("Check whether a capability text allows a request, and say why not")
         .after_help(VERDICT_EXAMPLE);
@@ -487,7 +501,7 @@ fn any_option<'a>(alloc: Global) -> Result<Arg<'a>, AllocError> {
     in_place_of(flag(alloc, "any", help), NOT_ANY)
 }
 
-fn who_command<'a>(alloc: Global) -> Result<Command<'a>, AllocError> {
+pub(crate) fn who_command<'a>(alloc: Global) -> Result<Command<'a>, AllocError> {
     let command = Command::new(alloc, "who")
         .about("List the entities of a file that are allowed a request")
         .after_help(WHO_EXAMPLE);
@@ -497,7 +511,7 @@ fn who_command<'a>(alloc: Global) -> Result<Command<'a>, AllocError> {
     command.arg(flag(alloc, "all", "Print each entity with its answer"))
 }
 
-fn explain_command<'a>(alloc: Global) -> Result<Command<'a>, AllocError> {
+pub(crate) fn explain_command<'a>(alloc: Global) -> Result<Command<'a>, AllocError> {
     let command = Command::new(alloc, "explain")
         .about("Print the canonical form of a capability text, and the grants that it expands to")
         .after_help(EXPLAIN_EXAMPLE);
@@ -541,7 +555,7 @@ fn commands_option<'a>(alloc: Global) -> Result<Arg<'a>, AllocError> {
         .conflicts_with("new")
 }
 
-fn compare_command<'a>(alloc: Global) -> Result<Command<'a>, AllocError> {
+pub(crate) fn compare_command<'a>(alloc: Global) -> Result<Command<'a>, AllocError> {
     let command = Command::new(alloc, "compare")
         .about(
             "Compare two capability texts, or all those of two files: what each allows that the other denies",
@@ -557,8 +571,8 @@ fn compare_command<'a>(alloc: Global) -> Result<Command<'a>, AllocError> {
 }
 
 /// What only the entities of a file are asked with.
-const OF_FILE: &[&str; 7] = &[
-    "auth", "pools", "only", "without", "reads", "flows", "known",
+const OF_FILE: &[&str; 8] = &[
+    "auth", "pools", "only", "without", "reads", "all", "flows", "known",
 ];
 
 /// The two texts, in whose place a file of entities may be.
@@ -577,7 +591,7 @@ fn flows_option<'a>(alloc: Global) -> Result<Arg<'a>, AllocError> {
     flag(alloc, "flows", help).conflicts_with("reads")
 }
 
-fn share_command<'a>(alloc: Global) -> Result<Command<'a>, AllocError> {
+pub(crate) fn share_command<'a>(alloc: Global) -> Result<Command<'a>, AllocError> {
     let command = Command::new(alloc, "share")
         .about("Show what two capability texts, or the entities of a file, both reach")
         .override_usage(SHARE_USAGE)
@@ -606,7 +620,7 @@ fn lint_pools_option<'a>(alloc: Global) -> Result<Arg<'a>, AllocError> {
     text_option(alloc, "pools", "FILE", LINT_POOLS_HELP).conflicts_with("tidy")
 }
 
-fn lint_command<'a>(alloc: Global) -> Result<Command<'a>, AllocError> {
+pub(crate) fn lint_command<'a>(alloc: Global) -> Result<Command<'a>, AllocError> {
     let command = Command::new(alloc, "lint")
         .about("List the redundant grants of a capability text, or print the text without them")
         .override_usage(LINT_USAGE)
@@ -626,12 +640,24 @@ fn group_option<'a>(alloc: Global) -> Result<Arg<'a>, AllocError> {
         .requires_arg("picture")
 }
 
-fn run_command<'a>(alloc: Global) -> Result<Command<'a>, AllocError> {
+/// An option that selects a part of the picture.
+fn part_option<'a>(
+    alloc: Global,
+    name: &'a str,
+    value: &'a str,
+    help: &'a str,
+) -> Result<Arg<'a>, AllocError> {
+    text_option(alloc, name, value, help).requires_arg("picture")
+}
+
+pub(crate) fn run_command<'a>(alloc: Global) -> Result<Command<'a>, AllocError> {
     let command = Command::new(alloc, "run")
         .about("Run a script of events in a world of its own, and print what happens")
         .after_help(RUN_EXAMPLE)
         .arg(text_option(alloc, "picture", "FILE", PICTURE_HELP))?;
     let command = with_arg(command, group_option(alloc))?;
+    let command = with_arg(command, part_option(alloc, "lines", "A..B", LINES_HELP))?;
+    let command = with_arg(command, part_option(alloc, "request", "S.N", REQUEST_HELP))?;
     let help = "Only look for lines that are no commands, and exit with 1 if there is one";
     let command = with_arg(
         command,
@@ -640,7 +666,7 @@ fn run_command<'a>(alloc: Global) -> Result<Command<'a>, AllocError> {
     command.arg(operand(alloc, "script", "FILE", SCRIPT_HELP))
 }
 
-fn threads_command<'a>(alloc: Global) -> Result<Command<'a>, AllocError> {
+pub(crate) fn threads_command<'a>(alloc: Global) -> Result<Command<'a>, AllocError> {
     let help = "A daemon goes down and comes up 20 times meanwhile";
     Command::new(alloc, "threads")
         .about("Run workers on threads over one cluster, and print what became of their requests")
@@ -652,7 +678,7 @@ fn threads_command<'a>(alloc: Global) -> Result<Command<'a>, AllocError> {
 /// The shells that completions are made for.
 const SHELLS: &[&str] = &["bash", "zsh", "fish"];
 
-fn completions_command<'a>(alloc: Global) -> Result<Command<'a>, AllocError> {
+pub(crate) fn completions_command<'a>(alloc: Global) -> Result<Command<'a>, AllocError> {
     let shell = operand(alloc, "shell", "SHELL", "The shell")
         .required(true)
         .value_parser(SHELLS);
@@ -662,95 +688,6 @@ fn completions_command<'a>(alloc: Global) -> Result<Command<'a>, AllocError> {
         .arg(shell)
 }
 
-fn man_command<'a>(alloc: Global) -> Command<'a> {
+pub(crate) fn man_command<'a>(alloc: Global) -> Command<'a> {
     Command::new(alloc, "man").about("Print the man page")
-}
-
-/// The commands, in the order of help.
-#[derive(Clone, Copy)]
-enum Kind {
-    Verdict,
-    Explain,
-    Compare,
-    Who,
-    Share,
-    Lint,
-    Audit,
-    Reach,
-    Log,
-    Suggest,
-    Check,
-    Run,
-    Threads,
-    Completions,
-    Man,
-}
-
-const KINDS: &[Kind; 15] = &[
-    Kind::Verdict,
-    Kind::Explain,
-    Kind::Compare,
-    Kind::Who,
-    Kind::Share,
-    Kind::Lint,
-    Kind::Audit,
-    Kind::Reach,
-    Kind::Log,
-    Kind::Suggest,
-    Kind::Check,
-    Kind::Run,
-    Kind::Threads,
-    Kind::Completions,
-    Kind::Man,
-];
-
-fn command_of<'a>(alloc: Global, kind: Kind) -> Result<Command<'a>, AllocError> {
-    match kind {
-        Kind::Verdict => verdict_command(alloc),
-        Kind::Explain => explain_command(alloc),
-        Kind::Compare => compare_command(alloc),
-        Kind::Who => who_command(alloc),
-        Kind::Share => share_command(alloc),
-        Kind::Lint => lint_command(alloc),
-        Kind::Audit => audit_command(alloc),
-        Kind::Reach => reach_command(alloc),
-        Kind::Log => log_command(alloc),
-        Kind::Suggest => suggest_command(alloc),
-        Kind::Check => check_command(alloc),
-        Kind::Run => run_command(alloc),
-        Kind::Threads => threads_command(alloc),
-        Kind::Completions => completions_command(alloc),
-        Kind::Man => Ok(man_command(alloc)),
-    }
-}
-
-/// The commands, in the order of help.
-pub fn commands<'a>(alloc: Global) -> Result<Vec<Command<'a>>, AllocError> {
-    let mut commands = Vec::new(alloc);
-    for kind in KINDS {
-        commands.push(command_of(alloc, *kind)?)?;
-    }
-    Ok(commands)
-}
-
-/// The program's command line.
-pub fn whole_command<'a>(alloc: Global) -> Result<Command<'a>, AllocError> {
-    let mut command = Command::new(alloc, "osdgate")
-        .about("The access gate of a replicated object store")
-        .version(VERSION)
-        .after_help(VERDICT_EXAMPLE)
-        .arg_required_else_help(true)
-        .subcommand_required(true);
-    for kind in KINDS {
-        command = command.subcommand(command_of(alloc, *kind)?)?;
-    }
-    Ok(command)
-}
-
-/// The command that arguments request, the first of which is the program's own name.
-///
-/// The error is what clap reports of arguments that it does not take, the help that they request, or out of memory.
-/// `refuse_command` writes it.
-pub fn command_words<'a, S: AsStr>(alloc: Global, words: &'a [S]) -> Result<ArgMatches<'a>, Error> {
-    whole_command(alloc)?.try_get_matches_from(words)
 }

@@ -1,6 +1,6 @@
 //! Completions of the command line for shells, made of its commands and options.
 
-use crate::arguments::whole_command;
+use crate::commands::whole_command;
 use clap::builder::ValueParser;
 use clap::{Arg, Command};
 use common_types::OutOfMemory;
@@ -16,7 +16,7 @@ pub enum Shell {
 }
 
 /// The options whose values are files.
-const FILES: &[&str; 5] = &["auth", "pools", "requests", "log", "picture"];
+const FILES: &[&str; 6] = &["auth", "pools", "requests", "log", "picture", "output"];
 
 /// The head of the completions for bash. Names of files are offered as they are, and bash puts quotes round them. A word
 /// such as `--auth=F` is three words to bash.

@@ -8,6 +8,7 @@ mod advice;
 mod arguments;
 mod audit_arguments;
 mod check_arguments;
+mod commands;
 mod completions;
 mod log_arguments;
 mod man_page;
@@ -16,7 +17,8 @@ mod tips;
 mod wrapping;
 
 pub use advice::advice_line;
-pub use arguments::{command_words, is_option, request_command};
+pub use arguments::{is_option, request_command};
+pub use commands::command_words;
 pub use completions::{Shell, completions_for};
 pub use man_page::manual;
 pub use near::nearest;

@@ -25,7 +25,7 @@ const LOG_POOLS_HELP: &str =
     "Report pools whose tags are not those of the log: what `ceph osd dump --format json` or `ceph osd pool ls detail --format json` prints, `-` for standard input";
 
 const BY_HELP: &str =
-    "How finely the texts divide: a grant of flags for each `pool`, or for each `namespace` of a pool, if none is given";
+    "How finely the texts divide: a grant of flags for each `pool`, for each `namespace` of a pool, or for the common `prefix` of the names seen in a namespace; `namespace` if none is given";
 
 /// The options of `osdgate log`.
 const LOG: &[OptionRow; 6] = &[
@@ -62,7 +62,11 @@ pub(crate) fn log_command<'a>(alloc: Global) -> Result<Command<'a>, AllocError> 
 
 /// The options of `osdgate suggest` behind its files.
 const SUGGEST: &[OptionRow; 3] = &[
-    ("by", Takes::Choice(&["pool", "namespace"]), BY_HELP),
+    (
+        "by",
+        Takes::Choice(&["pool", "namespace", "prefix"]),
+        BY_HELP,
+    ),
     (
         "commands",
         Takes::Nothing,

@@ -1,6 +1,6 @@
 //! The man page, made of the help of the command line.
 
-use crate::arguments::{commands, whole_command};
+use crate::commands::{commands, whole_command};
 use clap::Command;
 use common_types::OutOfMemory;
 use std::alloc::Global;

@@ -206,7 +206,10 @@ fn bad_words(alloc: Global, words: &[Word<'_>]) -> Result<Slip, OutOfMemory> {
             return unknown(alloc, "command", *word, known.as_slice());
         }
     }
-    let text = String::from_str(alloc, "the command goes on: docs/SCRIPTS.md has its words")?;
+    let text = String::from_str(
+        alloc,
+        "the command goes on: docs/reference/SCRIPTS.md has its words",
+    )?;
     Ok(Slip { column: 1, text })
 }
 

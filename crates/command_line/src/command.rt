@@ -93,8 +93,8 @@ fn finish_picture<E: Write>(drawn: &Drawn, err: &mut E) -> u8
             let _ = write_out(err, told.as_str());
             DONE
         }
-        Drawn::NoGroup => {
-            let _ = write_out(err, "osdgate: the script makes no group of that name\n");
+        Drawn::Nothing(why) => {
+            let _ = write_out(err, why);
             TROUBLE
         }
         Drawn::Unwritten(error) => {

@@ -4,8 +4,8 @@ use crate::output_files::OutputFiles;
 use clap::ArgMatches;
 use command_steps::number_of;
 use common_types::{Name, OutOfMemory};
-use entry_core::GroupId;
-use replay_picture::{Format, draw_script};
+use entry_core::{GroupId, Id};
+use replay_picture::{Drawing, Format, Wanted, draw_part};
 use std::alloc::{AllocError, Global};
 use std::fmt::Write as _;
 use std::io;
@@ -16,9 +16,15 @@ use std::io::{ErrorKind, Write};
 pub(crate) struct Asked<'a> {
     path: &'a str,
     format: Format,
-    /// The group that is named.
-    group: Option<GroupId>,
+    wanted: Wanted,
 }
+
+/// Why nothing is drawn of a script.
+const NO_GROUP: &str = "osdgate: the script makes no group of that name\n";
+
+const NO_REQUEST: &str = "osdgate: the script makes no such request\n";
+
+const NO_LINE: &str = "osdgate: the script does not come to these lines\n";
 
 /// The path that stands for standard output.
 const STANDARD_OUTPUT: &str = "-";
@@ -28,6 +34,10 @@ const STANDARD_OUTPUT: &str = "-";
 pub(crate) enum NoPicture {
     /// A group's number is invalid.
     BadGroup,
+    /// Lines are no two numbers, the first of which is the smaller one and at least 1.
+    BadLines,
+    /// A request is no session and number.
+    BadRequest,
     /// The file's ending names no format.
     BadEnding,
     /// The file is the script.
@@ -42,6 +52,12 @@ impl NoPicture {
     pub(crate) fn line(self) -> &'static str {
         match self {
             NoPicture::BadGroup => "osdgate: a group is a pool and a number below 2^32\n",
+            NoPicture::BadLines => {
+                "osdgate: lines are two numbers from 1 on, such as `3..9`, the smaller one first\n"
+            }
+            NoPicture::BadRequest => {
+                "osdgate: a request is its session and its number there, such as `1.2`\n"
+            }
             NoPicture::BadEnding => {
                 "osdgate: the file of a picture ends in `.svg` or `.mmd`, or is `-` for standard output\n"
             }
@@ -65,8 +81,8 @@ impl From<AllocError> for NoPicture {
 pub(crate) enum Drawn {
     /// It is written, and this is to be told.
     Written(String),
-    /// The script makes no such group.
-    NoGroup,
+    /// The script has nothing to draw, for this reason.
+    Nothing(&'static str),
     /// The file could not be written.
     Unwritten(io::Error),
     OutOfMemory,
@@ -108,6 +124,52 @@ fn refuse_used<F: OutputFiles>(files: &F, path: &str, script: &str) -> Result<()
     Ok(())
 }
 
+/// A number of a line, from 1 on.
+fn line_number(text: &str) -> Option<usize> {
+    let number = usize::try_from(number_of(text)?).ok()?;
+    if number == 0 { None } else { Some(number) }
+}
+
+/// The first and the last line that a word names.
+fn named_lines(word: &str) -> Option<(usize, usize)> {
+    let (first, last) = word.split_once("..")?;
+    let (first, last) = (line_number(first)?, line_number(last)?);
+    if first > last {
+        None
+    } else {
+        Some((first, last))
+    }
+}
+
+/// The request that a word names.
+fn named_request(word: &str) -> Option<Id> {
+    let (session, number) = word.split_once(".")?;
+    let session = u32::try_from(number_of(session)?).ok()?;
+    let number = u32::try_from(number_of(number)?).ok()?;
+    Some(Id::new(session, number))
+}
+
+/// What the words want the picture to show.
+fn wanted(alloc: Global, matches: &ArgMatches<'_>) -> Result<Wanted, NoPicture> {
+    let group = match matches.get_strs("group") {
+        None => None,
+        Some(words) => Some(named_group(alloc, words)?),
+    };
+    let lines = match matches.get_str("lines") {
+        None => None,
+        Some(word) => Some(named_lines(word).ok_or(NoPicture::BadLines)?),
+    };
+    let request = match matches.get_str("request") {
+        None => None,
+        Some(word) => Some(named_request(word).ok_or(NoPicture::BadRequest)?),
+    };
+    Ok(Wanted {
+        group,
+        lines,
+        request,
+    })
+}
+
 /// The picture that the words of `osdgate run` ask for, if they do. The path of the script is `-` for standard input.
 pub(crate) fn asked_picture<'a, F: OutputFiles>(
     alloc: Global,
@@ -122,14 +184,11 @@ pub(crate) fn asked_picture<'a, F: OutputFiles>(
     if path != STANDARD_OUTPUT {
         refuse_used(files, path, script)?;
     }
-    let group = match matches.get_strs("group") {
-        None => None,
-        Some(words) => Some(named_group(alloc, words)?),
-    };
+    let wanted = wanted(alloc, matches)?;
     Ok(Some(Asked {
         path,
         format,
-        group,
+        wanted,
     }))
 }
 
@@ -169,9 +228,12 @@ fn write_picture<F: OutputFiles, O: Write>(
     asked: Asked<'_>,
     out: &mut O,
 ) -> Result<Drawn, OutOfMemory> {
-    let is_named = asked.group.is_some();
-    let Some(picture) = draw_script(alloc, script, asked.group, asked.format)? else {
-        return Ok(Drawn::NoGroup);
+    let is_named = asked.wanted.group.is_some();
+    let picture = match draw_part(alloc, script, asked.wanted, asked.format)? {
+        Drawing::Drawn(picture) => picture,
+        Drawing::NoGroup => return Ok(Drawn::Nothing(NO_GROUP)),
+        Drawing::NoRequest => return Ok(Drawn::Nothing(NO_REQUEST)),
+        Drawing::NoLine => return Ok(Drawn::Nothing(NO_LINE)),
     };
     let told = if is_named {
         String::new(alloc)

@@ -1,5 +1,6 @@
 //! What a command prints, and what it notes beside that.
 
+use crate::colours::{Colours, coloured_answer, coloured_notes};
 use crate::documents::with_members;
 use common_types::OutOfMemory;
 use gate_files::{Chosen, Unchecked};
@@ -93,6 +94,22 @@ impl Answered {
             self.note.as_str(),
         )?;
         self.printed.text = text;
+        Ok(self)
+    }
+
+    /// The answer with its colours, which is the last step before it is written. A document has none.
+    pub fn coloured(
+        mut self,
+        alloc: Global,
+        format: Format,
+        colours: Colours,
+    ) -> Result<Answered, OutOfMemory> {
+        if colours.out && format == Format::Text {
+            self.printed.text = coloured_answer(alloc, self.printed.text.as_str())?;
+        }
+        if colours.err {
+            self.note = coloured_notes(alloc, self.note.as_str())?;
+        }
         Ok(self)
     }
 }

@@ -38,8 +38,6 @@ pub enum BadWords {
     KnownByProject,
     /// What is asked of something in a pool is not one read, write, listing or call.
     OneAny,
-    /// A comparison over the methods of Ceph's class table is to be a document.
-    KnownDocument,
 }
 
 impl BadWords {
@@ -72,9 +70,6 @@ impl BadWords {
             BadWords::ListedByProject => "`--listed` is by Ceph's rules: give --rules ceph",
             BadWords::KnownByProject => "`--registry known` is by Ceph's rules: give --rules ceph",
             BadWords::OneAny => "`--any` takes one of --read, --write, --list and a call",
-            BadWords::KnownDocument => {
-                "a comparison with `--registry known` has no form in JSON: leave `--format json` out"
-            }
         }
     }
 }

@@ -51,6 +51,13 @@ fn does(flags: MethodFlags) -> &'static str {
     }
 }
 
+/// Whether a word begins as the names of entities do.
+fn is_entity(word: &str) -> bool {
+    ["client.", "osd.", "mon.", "mgr.", "mds."]
+        .iter()
+        .any(|front| word.starts_with(front))
+}
+
 /// That Ceph's class table lacks a method, and how to state a call of it.
 fn lacked(alloc: Global, word: &str) -> Result<NoRequest, OutOfMemory> {
     let mut line = String::new(alloc);
@@ -59,6 +66,11 @@ fn lacked(alloc: Global, word: &str) -> Result<NoRequest, OutOfMemory> {
         return Ok(NoRequest::Told(line));
     }
     push_name(&mut line, word)?;
+    if is_entity(word) {
+        line.push_str(" is no call; an entity stands behind the = of an option, as in --known=")?;
+        push_name(&mut line, word)?;
+        return Ok(NoRequest::Told(line));
+    }
     line.push_str(" is not in the class table of Ceph ")?;
     line.push_str(RELEASE)?;
     line.push_str("; a call of it says what it does: --call CLASS.METHOD:r, :w or :rw")?;

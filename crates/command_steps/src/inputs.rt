@@ -12,7 +12,7 @@ use gate_files::{
 use share_core::Pool;
 use std::alloc::Global;
 use std::io::Read;
-use verdict_text::Entity;
+use verdict_text::{Entity, Reader};
 
 /// What is read of a file, or why it cannot be used.
 pub fn or_bad_file<T: Drop>(
@@ -99,9 +99,10 @@ pub fn refuse_unmatched(
     }
 }
 
-/// The entities that are chosen of a file, and their texts for other services.
+/// The entities that are chosen of a file, what has read them, and their texts for other services.
 pub struct ChosenFile {
     pub chosen: Chosen,
+    pub rules: Reader,
     pub services: Vec<ServiceText>,
 }
 
@@ -109,19 +110,9 @@ impl Drop for ChosenFile {
     fn drop(self) {
         let ChosenFile {
             chosen: _,
+            rules: _,
             services: _,
         } = self;
-    }
-}
-
-impl ChosenFile {
-    /// The entities alone.
-    fn into_chosen(self) -> Chosen {
-        let ChosenFile {
-            chosen,
-            services: _,
-        } = self;
-        chosen
     }
 }
 
@@ -132,8 +123,23 @@ pub fn chosen_in<F: InputFiles, R: Read>(
     reader: &mut R,
     matches: &ArgMatches<'_>,
 ) -> Result<Chosen, NoAnswer> {
-    let file = chosen_file_in(alloc, files, reader, matches)?;
-    Ok(file.into_chosen())
+    let rules = reader_of(alloc, matches)?;
+    chosen_read_by(alloc, files, reader, matches, &rules)
+}
+
+/// The entities of the file of `--auth` that the arguments choose, each read once by a reader of texts that the command has.
+pub fn chosen_read_by<F: InputFiles, R: Read>(
+    alloc: Global,
+    files: &F,
+    reader: &mut R,
+    matches: &ArgMatches<'_>,
+    rules: &Reader,
+) -> Result<Chosen, NoAnswer> {
+    let known = KnownNames::of(alloc, files, reader, matches)?;
+    let patterns = known.patterns(alloc)?;
+    let choice = choice_knowing(matches, patterns.as_slice());
+    let (chosen, _) = chosen_with_services(alloc, files, reader, matches, choice, rules)?;
+    Ok(chosen)
 }
 
 /// The entities of the file of `--auth` that the arguments choose, each read once, with their texts for other services.
@@ -146,7 +152,13 @@ pub fn chosen_file_in<F: InputFiles, R: Read>(
     let known = KnownNames::of(alloc, files, reader, matches)?;
     let patterns = known.patterns(alloc)?;
     let choice = choice_knowing(matches, patterns.as_slice());
-    chosen_file_by(alloc, files, reader, matches, choice)
+    let rules = reader_of(alloc, matches)?;
+    let (chosen, services) = chosen_with_services(alloc, files, reader, matches, choice, &rules)?;
+    Ok(ChosenFile {
+        chosen,
+        rules,
+        services,
+    })
 }
 
 /// The entities of the file of `--auth` that a choice has, each read once.
@@ -157,27 +169,25 @@ pub fn chosen_by<F: InputFiles, R: Read>(
     matches: &ArgMatches<'_>,
     choice: Choice<'_>,
 ) -> Result<Chosen, NoAnswer> {
-    let file = chosen_file_by(alloc, files, reader, matches, choice)?;
-    Ok(file.into_chosen())
+    let rules = reader_of(alloc, matches)?;
+    let (chosen, _) = chosen_with_services(alloc, files, reader, matches, choice, &rules)?;
+    Ok(chosen)
 }
 
 /// The entities of the file of `--auth` that a choice has, each read once, with their texts for other services.
-fn chosen_file_by<F: InputFiles, R: Read>(
+fn chosen_with_services<F: InputFiles, R: Read>(
     alloc: Global,
     files: &F,
     reader: &mut R,
     matches: &ArgMatches<'_>,
     choice: Choice<'_>,
-) -> Result<ChosenFile, NoAnswer> {
+    rules: &Reader,
+) -> Result<(Chosen, Vec<ServiceText>), NoAnswer> {
     let path = value_of(matches, "auth");
     let mut file = auth_in(alloc, files, reader, Purpose::Entities, path)?;
     refuse_unmatched(alloc, matches, &[file.entities.as_slice()])?;
     keep_chosen(choice, &mut file.entities);
     keep_chosen_services(choice, &mut file.services);
-    let rules = reader_of(alloc, matches)?;
     let (entities, services) = file.into_parts();
-    Ok(ChosenFile {
-        chosen: Chosen::of(alloc, &rules, choice, entities)?,
-        services,
-    })
+    Ok((Chosen::of(alloc, rules, choice, entities)?, services))
 }

@@ -7,7 +7,6 @@ ghost use Rattle.verdict_core.specs.Verdict as spec;
 
 use crate::tag_words::{StatedWords, call_by};
 use cap_text::{Access, AllowGrant, Flags};
-use ceph_text::{CephEntry, CephFault, expand_ceph, push_ceph_grant};
 use class_table::{ClassMethod, default_list, is_listed, methods};
 use common_types::{OutOfMemory, TryClone};
 use grant_core::Path;
@@ -109,16 +108,6 @@ pub fn limited_rights(
     rights_of(grants, networks)
 }
 
-/// Whether an access gives nothing.
-fn gives_nothing(access: &Access) -> bool {
-    match access {
-        Access::Flags(flags) => {
-            !flags.read && !flags.write && !flags.class_read && !flags.class_write
-        }
-        Access::All | Access::Class { .. } => false,
-    }
-}
-
 /// Whether an access covers some call whose method reads, of any class registry.
 fn covers_some_reading(access: &Access) -> bool {
     match access {
@@ -141,63 +130,14 @@ fn gives_less(access: &Access, calls: &[ClassCall]) -> bool {
         || covers_some_writing(access) != covers_writing(access, calls)
 }
 
-/// A text that is limited to the methods of a list.
-#[derive(Drop)]
-pub struct LimitedText {
-    pub text: String,
-    /// Over every class registry its grants give more.
-    pub gives_less: bool,
-}
-
-impl LimitedText {
-    /// Adds a grant with its network, limited to these calls. One that gives nothing is left out.
-    fn push(&mut self, entry: &CephEntry, calls: &[ClassCall]) -> Result<(), OutOfMemory> {
-        self.gives_less = self.gives_less || gives_less(&entry.grant.access, calls);
-        let access = limited(&entry.grant.access, calls);
-        if gives_nothing(&access) {
-            return Ok(());
+/// Whether rights give more than where requests call these methods alone.
+pub fn gives_more(rights: &Rights, calls: &[ClassCall]) -> bool {
+    for index in 0..rights.len() {
+        if let Some((_, _, grant)) = rights.entry(index) {
+            if gives_less(&grant.access, calls) {
+                return true;
+            }
         }
-        let separator = if self.text.is_empty() { "" } else { ", " };
-        self.text.push_str(separator)?;
-        push_ceph_grant(&mut self.text, &with_access(&entry.grant, access)?)?;
-        if let Some(network) = &entry.network {
-            self.text.push_str(" network ")?;
-            self.text.push_str(network.as_str())?;
-        }
-        Ok(())
     }
-}
-
-/// The grants of a text by Ceph's rules, or nothing where Ceph refuses it.
-fn entries_of(alloc: Global, text: &str) -> Result<Option<Vec<CephEntry>>, OutOfMemory> {
-    let list = match ceph_text::read(alloc, text) {
-        Ok(list) => list,
-        Err(CephFault::OutOfMemory) => return Err(AllocError),
-        Err(_) => return Ok(None),
-    };
-    match expand_ceph(alloc, &list) {
-        Ok(entries) => Ok(Some(entries)),
-        Err(CephFault::OutOfMemory) => Err(AllocError),
-        Err(_) => Ok(None),
-    }
-}
-
-/// A capability text that by Ceph's rules gives what another one gives where requests call these methods alone, or nothing where
-/// Ceph refuses that one. It serves the question of what two share, and no other.
-pub fn limited_text(
-    alloc: Global,
-    text: &str,
-    calls: &[ClassCall],
-) -> Result<Option<LimitedText>, OutOfMemory> {
-    let Some(entries) = entries_of(alloc, text)? else {
-        return Ok(None);
-    };
-    let mut limited = LimitedText {
-        text: String::new(alloc),
-        gives_less: false,
-    };
-    for entry in entries.as_slice() {
-        limited.push(entry, calls)?;
-    }
-    Ok(Some(limited))
+    false
 }

@@ -3,3 +3,4 @@ pub mod Quotes
 pub mod Comparisons
 pub mod Items
 pub mod NoFloats
+pub mod PairsTold

@@ -6,3 +6,4 @@ pub mod Request
 pub mod Relation
 pub mod Compared
 pub mod Entities
+pub mod Pairs

@@ -1,7 +1,8 @@
 -- Statement: contracts of public calls use it.
 -- Requests as the words of a shell that `osdgate verdict` takes (this project's profile; quotes as POSIX shells read them).
-use Rattle.std.specs.Prelude.{ℕ, List, [], ◌∷◌, ◌++◌, ◌==◌, Option, None, Some, codes, if◌then◌else◌, length}
-use Rattle.std.specs.List.{flat_map}
+use Rattle.std.specs.Prelude.{ℕ, List, [], ◌∷◌, ◌++◌, ◌==◌, ◌&&◌, not, Option, None, Some, codes, if◌then◌else◌, length}
+use Rattle.std.specs.List.{flat_map, list_all}
+use Rattle.common_types.specs.WordBytes.{is_word_byte}
 use Rattle.common_types.specs.declared.tags.AppTags.{AppTags}
 use Rattle.grant_core.specs.Text.{printed_path}
 use Rattle.request_types.specs.declared.request.Needs.{Needs}
@@ -9,19 +10,24 @@ use Rattle.request_types.specs.Target.{Target}
 use Rattle.compare_core.specs.declared.comparing.Example.{Example}
 use Rattle.network_core.specs.Address.{address_text}
 use Rattle.network_core.specs.declared.address.Address.{Address}
-use Rattle.compare_text.specs.Calls.{call_words}
+use Rattle.compare_text.specs.Calls.{call_words, quoted_class}
 use Rattle.compare_text.specs.Words.{flag_words, shell_word}
 use Rattle.compare_text.specs.declared.widening.AddressedExample.{AddressedExample}
+
+-- A name of a tag. Where it is empty or has a byte that words lack, it is between quotes as in a capability text, and all that
+-- between a shell's. So `:` and `=` inside of it end no part of the option.
+abbrev pub tag_part : List ℕ → List ℕ
+tag_part name = if not (length name == 0) && list_all is_word_byte name then name else quoted_class name
 
 -- the option of a pair of an application
 abbrev pub pair_words : List ℕ → List ℕ × List ℕ → List ℕ
 pair_words application pair =
-    (codes " --tag " ++ shell_word application) ++ ((codes ":" ++ shell_word pair.0) ++ (codes "=" ++ shell_word pair.1))
+    (codes " --tag " ++ tag_part application) ++ ((codes ":" ++ tag_part pair.0) ++ (codes "=" ++ tag_part pair.1))
 
 -- an option takes one pair, so each has its own; an application without pairs has one too
 abbrev pub tag_words : AppTags → List ℕ
 tag_words app =
-    if length app.pairs == 0 then codes " --tag " ++ shell_word app.application else flat_map (pair_words app.application) app.pairs
+    if length app.pairs == 0 then codes " --tag " ++ tag_part app.application else flat_map (pair_words app.application) app.pairs
 
 -- none for the empty namespace, which is the one where none is given
 abbrev pub namespace_words : List ℕ → List ℕ

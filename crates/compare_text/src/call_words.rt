@@ -59,7 +59,7 @@ fn quote_for(class: &Name) -> &'static str
 }
 
 /// Adds a class between quotes as in a capability text, and all that between a shell's.
-fn push_quoted_class(line: &mut String, class: &Name) -> Result<(), OutOfMemory>
+pub(crate) fn push_quoted_class(line: &mut String, class: &Name) -> Result<(), OutOfMemory>
     ensures { OnOk result (string_bytes line.new ≡ string_bytes line.old ++ spec.quoted_class class.now) }
 {
     let quote = quote_for(class);

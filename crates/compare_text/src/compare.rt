@@ -17,11 +17,11 @@ use std::alloc::Global;
 use verdict_text::{Format, Printed, Reader, Reading, Rules, TextFault};
 
 /// What changes between two rights.
-pub(crate) struct Change {
+pub struct Change {
     /// An example for each new grant that allows what the old ones deny.
-    pub(crate) gained: Vec<AddressedExample>,
+    pub gained: Vec<AddressedExample>,
     /// An example for each old grant that allows what the new ones deny.
-    pub(crate) lost: Vec<AddressedExample>,
+    pub lost: Vec<AddressedExample>,
 }
 
 impl Drop for Change {
@@ -31,7 +31,8 @@ impl Drop for Change {
 }
 
 impl Change {
-    pub(crate) fn relation(&self) -> Relation
+    /// How the new rights stand to the old ones.
+    pub fn relation(&self) -> Relation
         ensures { result ≡ relation_of (spec.is_any self.now.gained.items) (spec.is_any self.now.lost.items) }
     {
         Relation::of(!self.gained.is_empty(), !self.lost.is_empty())
@@ -106,6 +107,14 @@ fn compared_by(
         Format::Text => compared_text(alloc, relation, change),
         Format::Json => compared_json(alloc, relation, change),
     }
+}
+
+/// What is printed of what changes between two texts: the relation and the examples, as [`compare_read`] prints them. The only error is
+/// out of memory.
+pub fn print_change(alloc: Global, change: &Change, format: Format) -> Result<String, OutOfMemory>
+    ensures { IfOk result (λ text. string_bytes text ≡ spec.compared_by format (relation_of (spec.is_any change.now.gained.items) (spec.is_any change.now.lost.items)) change.now.gained.items change.now.lost.items) }
+{
+    compared_by(alloc, change.relation(), change, format)
 }
 
 /// The relation and the examples. It fails where a check was asked for and the new rights are wider.

@@ -9,12 +9,15 @@ mod compare;
 mod compare_auth;
 mod compare_json;
 mod comparison;
+mod pairs;
 mod relation;
 mod request;
 mod widening;
 
-pub use compare::{compare_read, compare_text};
-pub use compare_auth::compare_entities;
+pub use compare::{Change, compare_read, compare_text, print_change};
+pub use compare_auth::{compare_entities, compare_pair, compare_pairs, print_pair};
 pub use comparison::Comparison;
+pub use pairs::{ReadPair, read_pairs};
+pub use relation::{Presence, Relation};
 pub use request::{push_request, push_target};
 pub use widening::{AddressedExample, widening_from};

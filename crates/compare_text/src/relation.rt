@@ -4,7 +4,7 @@ ghost use Rattle.std.specs.Prelude.{◌≡◌, ◌&&◌, option_copied};
 ghost use Rattle.compare_text.specs.Relation as spec;
 
 /// How the rights of new grants stand to those of old ones.
-#[derive(Clone, Copy)]
+#[derive(Clone, Copy, Debug, PartialEq, Eq)]
 pub enum Relation {
     /// Each allows what the other does.
     Same,
@@ -17,7 +17,7 @@ pub enum Relation {
 }
 
 /// Which of two lists have an entity.
-#[derive(Clone, Copy)]
+#[derive(Clone, Copy, Debug, PartialEq, Eq)]
 pub enum Presence {
     Both,
     /// The new list alone.

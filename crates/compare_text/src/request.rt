@@ -3,10 +3,10 @@
 ghost use Rattle.std.specs.Prelude.{◌≡◌, ◌++◌, string_bytes, OnOk};
 ghost use Rattle.std.specs.List.{flat_map};
 ghost use Rattle.compare_text.specs.Calls.{call_words};
-ghost use Rattle.compare_text.specs.Request.{addressed_words, example_line, example_lines, from_words, indented_lines, needs_words, namespace_words, pair_words, request_words, target_words, tag_words};
+ghost use Rattle.compare_text.specs.Request.{addressed_words, example_line, example_lines, from_words, indented_lines, needs_words, namespace_words, pair_words, request_words, tag_part, target_words, tag_words};
 ghost use Rattle.compare_text.specs.Words.{flag_words, quoted, quoted_byte, shell_word};
 
-use crate::call_words::push_call;
+use crate::call_words::{push_call, push_quoted_class};
 use crate::widening::AddressedExample;
 use common_types::{AppTags, Name, OutOfMemory, are_word_bytes};
 use compare_core::{Example, OwnedTarget};
@@ -55,13 +55,34 @@ fn push_option(line: &mut String, option: &str, value: &Name) -> Result<(), OutO
     push_word(line, value)
 }
 
+/// Adds a name of a tag: bare if a shell and the option read it as it is, else between quotes as in a capability text, and all
+/// that between a shell's.
+fn push_tag_part(line: &mut String, name: &Name) -> Result<(), OutOfMemory>
+    ensures { OnOk result (string_bytes line.new ≡ string_bytes line.old ++ tag_part name.now) }
+{
+    let text = name.as_str();
+    if !text.is_empty() && are_word_bytes(text.as_bytes()) {
+        line.push_str(text)
+    } else {
+        push_quoted_class(line, name)
+    }
+}
+
+/// Adds words in front of a name of a tag, and the name.
+fn push_tag_option(line: &mut String, option: &str, name: &Name) -> Result<(), OutOfMemory>
+    ensures { OnOk result (string_bytes line.new ≡ string_bytes line.old ++ (option.now ++ tag_part name.now)) }
+{
+    line.push_str(option)?;
+    push_tag_part(line, name)
+}
+
 /// Adds the option of a pair of an application.
 fn push_pair(line: &mut String, application: &Name, pair: &(Name, Name)) -> Result<(), OutOfMemory>
     ensures { OnOk result (string_bytes line.new ≡ string_bytes line.old ++ pair_words application.now pair.now) }
 {
-    push_option(line, " --tag ", application)?;
-    push_option(line, ":", &pair.0)?;
-    push_option(line, "=", &pair.1)
+    push_tag_option(line, " --tag ", application)?;
+    push_tag_option(line, ":", &pair.0)?;
+    push_tag_option(line, "=", &pair.1)
 }
 
 fn push_pairs(
@@ -82,7 +103,7 @@ fn push_tag(line: &mut String, app: &AppTags) -> Result<(), OutOfMemory>
     ensures { OnOk result (string_bytes line.new ≡ string_bytes line.old ++ tag_words app.now) }
 {
     if app.pairs.as_slice().is_empty() {
-        push_option(line, " --tag ", &app.application)
+        push_tag_option(line, " --tag ", &app.application)
     } else {
         push_pairs(line, &app.application, app.pairs.as_slice())
     }
@@ -110,7 +131,7 @@ fn push_namespace(line: &mut String, namespace: &Name) -> Result<(), OutOfMemory
 /// empty, `--object`, and a `--tag` for each pair of an application, or for an application without pairs. The form of
 /// the arguments is this project's profile. An `Err` leaves a beginning of them behind the line.
 ///
-/// An application with a `:`, or a key with a `=`, is printed, but `--tag` is cut there.
+/// A name of a tag that has both kinds of quotes is printed, but `--tag` is cut at the second quote.
 pub fn push_target(line: &mut String, target: &OwnedTarget) -> Result<(), OutOfMemory>
     ensures { OnOk result (string_bytes line.new ≡ string_bytes line.old ++ target_words target.now) }
 {

@@ -16,7 +16,7 @@ pub struct SigRequest<'a> {
     pub pool: &'a [u8],
     pub namespace: &'a [u8],
     pub object: &'a [u8],
-    /// The client's address. No rules that are known today look at it.
+    /// The text of the client's address; an empty one asks about all addresses. Only grants with a network look at it.
     pub from: &'a [u8],
     pub tick: u64,
     pub reads: bool,

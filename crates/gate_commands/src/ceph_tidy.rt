@@ -1,13 +1,13 @@
 //! A capability text without its redundant grants, by Ceph's rules.
 
-use command_steps::{Methods, known_calls, known_widening};
+use command_steps::{Methods, known_calls, known_widening, rights_part};
 use common_types::OutOfMemory;
 use compare_core::Registry;
 use compare_text::widening_from;
 use rights_core::Rights;
 use std::alloc::Global;
 use verdict_core::ClassCall;
-use verdict_text::{Printed, read_ceph_rights};
+use verdict_text::Printed;
 
 /// Where a character of a text that Ceph reads stands.
 #[derive(Clone, Copy)]
@@ -59,16 +59,6 @@ fn pieces_of(alloc: Global, text: &str) -> Result<Vec<String>, OutOfMemory> {
     Ok(pieces)
 }
 
-/// The text of some grants.
-fn joined(alloc: Global, pieces: &[String]) -> Result<String, OutOfMemory> {
-    let mut text = String::new(alloc);
-    for piece in pieces {
-        text.push_str(if text.is_empty() { "" } else { ", " })?;
-        text.push_str(piece.as_str())?;
-    }
-    Ok(text)
-}
-
 /// What grants must allow to stay a text's grants.
 #[derive(Clone, Copy)]
 struct Whole<'a> {
@@ -88,40 +78,33 @@ impl Whole<'_> {
         };
         Ok(gained.is_empty())
     }
+}
 
-    /// Whether a text allows all of it.
-    fn is_within_text(&self, alloc: Global, text: &str) -> Result<bool, OutOfMemory> {
-        match read_ceph_rights(alloc, text)? {
-            Ok(read) => self.is_within(alloc, &read.rights),
-            Err(_) => Ok(false),
+/// The numbers of the grants that go where each, from the last one to the first, goes if the others allow the whole. One grant stays
+/// in any case: Ceph refuses a text without grants.
+fn redundant(alloc: Global, count: usize, whole: Whole<'_>) -> Result<Vec<usize>, OutOfMemory> {
+    // No grant has the number 0.
+    let mut kept = rights_part(alloc, whole.rights, 0, false)?;
+    let mut gone = Vec::new(alloc);
+    for place in (0..count).rev() {
+        let others = rights_part(alloc, &kept, place + 1, false)?;
+        if gone.len() < count - 1 && whole.is_within(alloc, &others)? {
+            gone.push(place + 1)?;
+            kept = others;
         }
     }
+    Ok(gone)
 }
 
-/// Takes the grant at a place away, if the others allow the whole. One grant stays in any case: Ceph refuses a text without grants.
-fn drop_redundant(
-    alloc: Global,
-    kept: &mut Vec<String>,
-    place: usize,
-    whole: Whole<'_>,
-) -> Result<(), OutOfMemory> {
-    if place >= kept.len() || kept.len() == 1 {
-        return Ok(());
-    }
-    let piece = kept.remove(place);
-    let text = joined(alloc, kept.as_slice())?;
-    if !whole.is_within_text(alloc, text.as_str())? && place <= kept.len() {
-        kept.insert(place, piece)?;
-    }
-    Ok(())
-}
-
-/// The grants of a text without those that are redundant, from the last one to the first.
-fn tidied(alloc: Global, text: &str, whole: Whole<'_>) -> Result<Vec<String>, OutOfMemory> {
-    let mut kept = pieces_of(alloc, text)?;
-    let count = kept.len();
-    for place in (0..count).rev() {
-        drop_redundant(alloc, &mut kept, place, whole)?;
+/// The text of the grants of a text whose numbers are not among these.
+fn text_without(alloc: Global, text: &str, gone: &[usize]) -> Result<String, OutOfMemory> {
+    let pieces = pieces_of(alloc, text)?;
+    let mut kept = String::new(alloc);
+    for (place, piece) in pieces.iter().enumerate() {
+        if !gone.contains(&(place + 1)) {
+            kept.push_str(if kept.is_empty() { "" } else { ", " })?;
+            kept.push_str(piece.as_str())?;
+        }
     }
     Ok(kept)
 }
@@ -142,11 +125,11 @@ pub(crate) fn tidy_ceph(
         methods,
         calls: calls.as_slice(),
     };
-    let kept = tidied(alloc, text, whole)?;
-    let mut text = joined(alloc, kept.as_slice())?;
+    let gone = redundant(alloc, count, whole)?;
+    let mut text = text_without(alloc, text, gone.as_slice())?;
     text.push_str("\n")?;
     Ok(Printed {
         text,
-        fails: check && kept.len() != count,
+        fails: check && !gone.is_empty(),
     })
 }

@@ -76,19 +76,23 @@ fn verb_of(old: Option<&Entity>, new: &Entity, is_changed: bool) -> Option<Verb>
     }
 }
 
-/// Adds the lines for the entities of the new file.
+/// Adds the lines for the entities of the new file that are not left out.
 fn push_kept(
     alloc: Global,
     lines: &mut String,
     old: &AuthFile,
     new: &AuthFile,
     changes: &[ServiceChange<'_>],
+    left_out: &IndexSet<String>,
 ) -> Result<(), OutOfMemory> {
     let before = NamedEntities::of(alloc, old.entities.as_slice())?;
     let services = ByEntity::of(alloc, new.services.as_slice())?;
     let changed = changed_services(alloc, changes)?;
     for entity in &new.entities {
         let name = entity.name.as_str();
+        if left_out.contains(name) {
+            continue;
+        }
         if let Some(verb) = verb_of(before.find(name), entity, changed.contains(name)) {
             let texts = services.find(alloc, name)?;
             push_line(lines, verb, name, texts.as_slice(), entity.osd.as_str())?;
@@ -98,19 +102,21 @@ fn push_kept(
 }
 
 /// The lines of `ceph` that turn the entities of the old file into those of the new one: first those of the new file in its
-/// order, then the removal of those that it has not.
+/// order, then the removal of those that it has not. Entities that are left out have no lines.
 pub(crate) fn change_lines(
     alloc: Global,
     old: &AuthFile,
     new: &AuthFile,
     changes: &[ServiceChange<'_>],
+    left_out: &IndexSet<String>,
 ) -> Result<String, OutOfMemory> {
     let mut lines = String::new(alloc);
-    push_kept(alloc, &mut lines, old, new, changes)?;
+    push_kept(alloc, &mut lines, old, new, changes, left_out)?;
     let after = NamedEntities::of(alloc, new.entities.as_slice())?;
     for entity in &old.entities {
-        if after.find(entity.name.as_str()).is_none() {
-            push_line(&mut lines, Verb::Remove, entity.name.as_str(), &[], "")?;
+        let name = entity.name.as_str();
+        if after.find(name).is_none() && !left_out.contains(name) {
+            push_line(&mut lines, Verb::Remove, name, &[], "")?;
         }
     }
     Ok(lines)

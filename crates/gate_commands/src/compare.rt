@@ -1,7 +1,7 @@
 //! `osdgate compare`.
 
 use crate::change_lines::change_lines;
-use crate::known_changes::{KnownAnswer, KnownComparison, known_entities, known_texts};
+use crate::known_changes::{KnownAnswer, known_pairs, known_texts};
 use crate::service_lines::{add_changes, add_commands};
 use clap::ArgMatches;
 use command_steps::{
@@ -10,7 +10,7 @@ use command_steps::{
     registry_of, value_of,
 };
 use common_types::OutOfMemory;
-use compare_text::{Comparison, compare_entities, compare_read};
+use compare_text::{Comparison, ReadPair, compare_pairs, compare_read, read_pairs};
 use gate_files::{
     AuthFile, Choice, InputFiles, Purpose, Screen, keep_chosen, keep_chosen_services,
     service_changes,
@@ -18,7 +18,7 @@ use gate_files::{
 use indexmap::IndexSet;
 use std::alloc::Global;
 use std::io::Read;
-use verdict_text::{Entity, Format, Printed, ReadText, Reader, Reading, Rules};
+use verdict_text::{Printed, ReadText, Reader, Reading, Rules};
 
 /// What is compared.
 #[derive(Clone, Copy)]
@@ -62,13 +62,9 @@ fn compared_of<'a>(matches: &ArgMatches<'a>) -> Result<Compared<'a>, BadWords> {
 
 impl<'a> CompareArguments<'a> {
     fn of(matches: &ArgMatches<'a>) -> Result<CompareArguments<'a>, BadWords> {
-        let methods = methods_of(matches)?;
-        if methods == Methods::Known && format_of(matches) == Format::Json {
-            return Err(BadWords::KnownDocument);
-        }
         Ok(CompareArguments {
             compared: compared_of(matches)?,
-            methods,
+            methods: methods_of(matches)?,
             how: Comparison {
                 registry: registry_of(matches),
                 check: matches.get_flag("check"),
@@ -114,7 +110,7 @@ fn compared_readings(
     let every = compare_read(alloc, old, new, how)?;
     match (rules.rules(), old, new) {
         (Rules::Ceph, Ok(old), Ok(new)) if methods != Methods::Own => {
-            let known = known_texts(alloc, methods, old, new, how.check)?;
+            let known = known_texts(alloc, methods, old, new, how)?;
             by_methods(alloc, methods, every, known)
         }
         _ => Ok(Answered::of(alloc, every)),
@@ -159,97 +155,75 @@ fn both_files<F: InputFiles, R: Read>(
     Ok(BothFiles { old, new })
 }
 
-/// The names of the entities that could not be checked and for which that is accepted.
+/// The names of the entities of which a text that was read is refused, and for which that is accepted.
 fn accepted_names(
     alloc: Global,
-    rules: &Reader,
     choice: Choice<'_>,
-    entities: &[Entity],
+    pairs: &[ReadPair<'_>],
 ) -> Result<IndexSet<String>, OutOfMemory> {
     let mut names = IndexSet::new(alloc);
-    for entity in entities {
-        let is_accepted = choice.accepts(entity.name.as_str());
-        if is_accepted && rules.read(alloc, entity.osd.as_str(), None)?.is_err() {
-            names.insert(entity.name.clone()?)?;
+    for pair in pairs {
+        let is_refused = pair.old.is_err() || pair.new.is_err();
+        if is_refused && choice.accepts(pair.name) {
+            names.insert(String::from_str(alloc, pair.name)?)?;
         }
     }
     Ok(names)
 }
 
-/// Leaves out the entities that could not be checked in one of the files and for which that is accepted.
-fn leave_accepted_out(
+/// How entities that were read differ, over the methods that are asked about.
+fn compared_pairs(
     alloc: Global,
-    rules: &Reader,
-    choice: Choice<'_>,
-    both: &mut BothFiles,
-) -> Result<(), OutOfMemory> {
-    if choice.known.is_empty() {
-        return Ok(());
-    }
-    let of_old = accepted_names(alloc, rules, choice, both.old.entities.as_slice())?;
-    let of_new = accepted_names(alloc, rules, choice, both.new.entities.as_slice())?;
-    let is_left_out = |name: &str| of_old.contains(name) || of_new.contains(name);
-    both.old
-        .entities
-        .retain(|entity| !is_left_out(entity.name.as_str()));
-    both.new
-        .entities
-        .retain(|entity| !is_left_out(entity.name.as_str()));
-    Ok(())
-}
-
-/// How the entities of two lists differ, over the methods that are asked about.
-fn compared_lists(
-    alloc: Global,
-    rules: &Reader,
-    old: &[Entity],
-    new: &[Entity],
+    rules: Rules,
+    pairs: &[ReadPair<'_>],
     arguments: CompareArguments<'_>,
 ) -> Result<Answered, OutOfMemory> {
-    let how = arguments.how;
-    let methods = arguments.methods;
-    let every = compare_entities(alloc, rules, old, new, how)?;
-    if rules.rules() == Rules::Project || methods == Methods::Own {
+    let (how, methods) = (arguments.how, arguments.methods);
+    let every = compare_pairs(alloc, pairs, how)?;
+    if rules == Rules::Project || methods == Methods::Own {
         return Ok(Answered::of(alloc, every));
     }
-    let comparison = KnownComparison {
-        rules,
-        methods,
-        check: how.check,
-    };
-    let known = known_entities(alloc, comparison, old, new)?;
+    let known = known_pairs(alloc, methods, pairs, how)?;
     by_methods(alloc, methods, every, known)
 }
 
-/// How the entities of two files differ. A text that is the same in both is not read. Texts for other services are compared as
-/// texts, and with a check each change fails.
+/// Adds the texts for other services that are not the same in both files, and with `--commands` the lines that make the change. With
+/// a check each such text fails.
+fn add_services(
+    alloc: Global,
+    answered: &mut Answered,
+    both: &BothFiles,
+    left_out: &IndexSet<String>,
+    arguments: CompareArguments<'_>,
+) -> Result<(), OutOfMemory> {
+    let (old, new, how) = (&both.old, &both.new, arguments.how);
+    let changes = service_changes(alloc, old.services.as_slice(), new.services.as_slice())?;
+    let (changes, printed) = (changes.as_slice(), &mut answered.printed);
+    add_changes(alloc, &mut printed.text, changes, how.format)?;
+    if arguments.commands {
+        let lines = change_lines(alloc, old, new, changes, left_out)?;
+        add_commands(alloc, &mut printed.text, lines.as_str(), how.format)?;
+    }
+    printed.fails = printed.fails || (how.check && !changes.is_empty());
+    Ok(())
+}
+
+/// How the entities of two files differ. Each text is read once, and one that is the same in both is not read. An entity of which a
+/// text is refused is left out where that is accepted.
 fn compared_files(
     alloc: Global,
     rules: &Reader,
     both: &BothFiles,
+    choice: Choice<'_>,
     arguments: CompareArguments<'_>,
 ) -> Result<Answered, OutOfMemory> {
-    let how = arguments.how;
-    let (old, new) = (&both.old, &both.new);
-    let (old_entities, new_entities) = (old.entities.as_slice(), new.entities.as_slice());
-    let mut answered = compared_lists(alloc, rules, old_entities, new_entities, arguments)?;
-    let changes = service_changes(alloc, old.services.as_slice(), new.services.as_slice())?;
-    add_changes(
-        alloc,
-        &mut answered.printed.text,
-        changes.as_slice(),
-        how.format,
-    )?;
-    if arguments.commands {
-        let lines = change_lines(alloc, old, new, changes.as_slice())?;
-        add_commands(
-            alloc,
-            &mut answered.printed.text,
-            lines.as_str(),
-            how.format,
-        )?;
-    }
-    answered.printed.fails = answered.printed.fails || (how.check && !changes.is_empty());
+    let old = both.old.entities.as_slice();
+    let new = both.new.entities.as_slice();
+    let mut pairs = read_pairs(alloc, rules, old, new)?;
+    let left_out = accepted_names(alloc, choice, pairs.as_slice())?;
+    pairs.retain(|pair| !left_out.contains(pair.name));
+    let mut answered = compared_pairs(alloc, rules.rules(), pairs.as_slice(), arguments)?;
+    add_services(alloc, &mut answered, both, &left_out, arguments)?;
     Ok(answered)
 }
 
@@ -270,9 +244,8 @@ pub(crate) fn compare<F: InputFiles, R: Read>(
             let known = KnownNames::of(alloc, files, reader, matches)?;
             let patterns = known.patterns(alloc)?;
             let choice = choice_knowing(matches, patterns.as_slice());
-            let mut both = both_files(alloc, matches, files, reader, old, new)?;
-            leave_accepted_out(alloc, &rules, choice, &mut both)?;
-            Ok(compared_files(alloc, &rules, &both, arguments)?)
+            let both = both_files(alloc, matches, files, reader, old, new)?;
+            Ok(compared_files(alloc, &rules, &both, choice, arguments)?)
         }
     }
 }

@@ -22,7 +22,7 @@ pub(crate) fn refused_side(
     Ok(Printed { text, fails: true })
 }
 
-/// The document of a line that is a tidied text, or why there is none.
+/// The document of a line that is a tidied text, or the reason why no text was tidied.
 fn tidied_value(alloc: Global, line: &str) -> Result<Value, OutOfMemory> {
     match line.strip_prefix("refused ") {
         Some(why) => json!(in alloc; {"fault": why}),

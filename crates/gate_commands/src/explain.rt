@@ -7,22 +7,9 @@ use common_types::OutOfMemory;
 use gate_files::{InputFiles, Screen};
 use std::alloc::Global;
 use std::io::Read;
-use verdict_text::{Format, Printed, ReadText, Reader, Rules, explain_ceph, explain_text};
+use verdict_text::{Explained, Format, Reader, read_explained};
 
-/// The canonical form of the text and the grants that it expands to, or by Ceph's rules these grants with their networks.
-fn explained_by(
-    alloc: Global,
-    rules: Rules,
-    caps: &str,
-    format: Format,
-) -> Result<Printed, OutOfMemory> {
-    match rules {
-        Rules::Project => explain_text(alloc, caps, format),
-        Rules::Ceph => explain_ceph(alloc, caps, format),
-    }
-}
-
-/// What is printed and noted of the text.
+/// What is printed and noted of the text, which is read once.
 fn explained(
     alloc: Global,
     rules: &Reader,
@@ -30,8 +17,7 @@ fn explained(
     format: Format,
     screen: Screen,
 ) -> Result<Answered, OutOfMemory> {
-    let printed = explained_by(alloc, rules.rules(), caps.as_str(), format)?;
-    let text = ReadText::of(alloc, rules, caps, None)?;
+    let Explained { printed, text } = read_explained(alloc, rules, caps, format)?;
     let note = fault_note(alloc, &text, screen)?;
     Answered::noted(alloc, printed, note).about_text(text)
 }

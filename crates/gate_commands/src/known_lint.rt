@@ -8,7 +8,7 @@ use rights_core::Rights;
 use std::alloc::Global;
 use std::fmt::Write;
 use verdict_core::ClassCall;
-use verdict_text::Printed;
+use verdict_text::{Printed, ReadText, Spelled};
 
 /// The most grants that a text has.
 const MAX_GRANTS: usize = 4_096;
@@ -21,6 +21,14 @@ pub(crate) struct KnownLint<'a, 'p> {
     pub(crate) calls: &'a [ClassCall],
     pub(crate) pools: Option<&'p [Pool]>,
     pub(crate) check: bool,
+}
+
+/// What a text that Ceph read grants, and how many grants it has; or nothing where Ceph refuses it or it is empty.
+pub(crate) fn ceph_grants(text: &ReadText) -> Option<(&Rights, usize)> {
+    match (text.read(), text.spelled()) {
+        (Ok(rights), Spelled::Counted(count)) => Some((rights, *count)),
+        _ => None,
+    }
 }
 
 /// Whether some rights allow all that others do.
@@ -66,7 +74,7 @@ fn known_standing(
     }
     match first_cover(alloc, calls, rights, count, number)? {
         Some(other) => Ok(Standing::Covered(other)),
-        None => Ok(Standing::Needless),
+        None => Ok(Standing::CoveredTogether),
     }
 }
 
@@ -79,7 +87,7 @@ fn push_live(
 ) -> Result<(), OutOfMemory> {
     match found.standing {
         Standing::Needed => (),
-        Standing::Needless => write!(text, "{before}{number} redundant\n")?,
+        Standing::CoveredTogether => write!(text, "{before}{number} redundant\n")?,
         Standing::Covered(cover) => write!(text, "{before}{number} redundant, by {cover}\n")?,
     }
     match found.reach {

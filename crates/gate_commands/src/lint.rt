@@ -3,24 +3,22 @@
 use crate::ceph_tidy::tidy_ceph;
 use crate::documents::tidied_answer;
 use crate::known_changes::has_class;
-use crate::known_lint::{KnownLint, known_lines};
+use crate::known_lint::{KnownLint, ceph_grants, known_lines};
 use crate::lint_document::{entities_document, entity_pieces, text_document, text_pieces};
 use crate::service_lines::push_raising;
 use clap::ArgMatches;
 use command_steps::{
     Answered, BadWords, ChosenFile, Methods, NoAnswer, chosen_file_in, fault_note, format_of,
-    known_calls, methods_line, methods_of, pools_given, reader_of, refused_text, rules_of,
-    value_of,
+    known_calls, methods_line, methods_of, pools_given, reader_of, refused_text, value_of,
 };
 use common_types::OutOfMemory;
 use gate_files::{InputFiles, Screen, ServiceText};
 use lint_core::Pool;
-use lint_text::{lint_caps, lint_ceph_caps, lint_ceph_entities, lint_entities, tidy_caps};
+use lint_text::{lint_read, lint_read_entities, tidy_read};
+use rights_core::Rights;
 use std::alloc::Global;
 use std::io::Read;
-use verdict_text::{
-    CephRights, Entity, Format, Printed, ReadText, Reader, Rules, push_shown_text, read_ceph_rights,
-};
+use verdict_text::{Format, Printed, ReadEntity, ReadText, Reader, Rules, push_shown_text};
 
 /// What is asked of a text or of entities.
 #[derive(Clone, Copy)]
@@ -96,14 +94,15 @@ fn or_nothing(alloc: Global, printed: Printed) -> Result<Printed, OutOfMemory> {
     Ok(printed)
 }
 
-/// What is found of a text that Ceph reads.
+/// What is found of a text that Ceph reads as these rights of `count` grants.
 fn linted_caps(
     alloc: Global,
-    caps: &str,
-    read: &CephRights,
+    reader: &Reader,
+    text: &ReadText,
+    (rights, count): (&Rights, usize),
     arguments: LintArguments<'_>,
 ) -> Result<Linted, OutOfMemory> {
-    let every = lint_ceph_caps(alloc, caps, arguments.pools, arguments.check)?;
+    let every = lint_read(alloc, reader, text, arguments.pools, arguments.check)?;
     let calls = known_calls(alloc)?;
     let how = KnownLint {
         methods: arguments.methods,
@@ -111,7 +110,7 @@ fn linted_caps(
         pools: arguments.pools,
         check: arguments.check,
     };
-    let known = match known_lines(alloc, how, "", &read.rights, read.count)? {
+    let known = match known_lines(alloc, how, "", rights, count)? {
         Some(printed) => Some(or_nothing(alloc, printed)?),
         None => None,
     };
@@ -122,10 +121,10 @@ fn linted_caps(
 fn tidied_caps(
     alloc: Global,
     caps: &str,
-    read: &CephRights,
+    (rights, count): (&Rights, usize),
     arguments: LintArguments<'_>,
 ) -> Result<Linted, OutOfMemory> {
-    let (rights, count, check) = (&read.rights, read.count, arguments.check);
+    let check = arguments.check;
     let every = tidy_ceph(alloc, caps, rights, count, Methods::Every, check)?;
     let known = if arguments.methods == Methods::Known || has_class(rights) {
         Some(tidy_ceph(alloc, caps, rights, count, Methods::Known, check)?)
@@ -138,36 +137,49 @@ fn tidied_caps(
 /// What is printed of a text by Ceph's rules.
 fn ceph_answer(
     alloc: Global,
-    caps: &str,
+    reader: &Reader,
+    text: &ReadText,
     arguments: LintArguments<'_>,
 ) -> Result<Answered, OutOfMemory> {
-    let LintArguments {
-        methods,
-        check,
-        pools,
-        ..
-    } = arguments;
-    match read_ceph_rights(alloc, caps)? {
-        Err(_) => Ok(Answered::of(alloc, lint_ceph_caps(alloc, caps, pools, check)?)),
-        Ok(read) if arguments.tidy => {
-            tidied_caps(alloc, caps, &read, arguments)?.answered(alloc, methods)
+    let methods = arguments.methods;
+    match ceph_grants(text) {
+        None => {
+            let printed = lint_read(alloc, reader, text, arguments.pools, arguments.check)?;
+            Ok(Answered::of(alloc, printed))
         }
-        Ok(read) => linted_caps(alloc, caps, &read, arguments)?.answered(alloc, methods),
+        Some(grants) if arguments.tidy => {
+            tidied_caps(alloc, text.text(), grants, arguments)?.answered(alloc, methods)
+        }
+        Some(grants) => {
+            linted_caps(alloc, reader, text, grants, arguments)?.answered(alloc, methods)
+        }
+    }
+}
+
+/// What is printed of a text by this project's rules.
+fn project_printed(
+    alloc: Global,
+    reader: &Reader,
+    text: &ReadText,
+    arguments: LintArguments<'_>,
+) -> Result<Printed, OutOfMemory> {
+    if arguments.tidy {
+        tidy_read(alloc, reader, text, arguments.check)
+    } else {
+        lint_read(alloc, reader, text, arguments.pools, arguments.check)
     }
 }
 
 /// What is printed of a text.
 fn text_answer(
     alloc: Global,
-    rules: Rules,
-    caps: &str,
+    reader: &Reader,
+    text: &ReadText,
     arguments: LintArguments<'_>,
 ) -> Result<Answered, OutOfMemory> {
-    let (pools, check) = (arguments.pools, arguments.check);
-    match rules {
-        Rules::Ceph => ceph_answer(alloc, caps, arguments),
-        Rules::Project if arguments.tidy => Ok(Answered::of(alloc, tidy_caps(alloc, caps, check)?)),
-        Rules::Project => Ok(Answered::of(alloc, lint_caps(alloc, caps, pools, check)?)),
+    match text.rules() {
+        Rules::Ceph => ceph_answer(alloc, reader, text, arguments),
+        Rules::Project => Ok(Answered::of(alloc, project_printed(alloc, reader, text, arguments)?)),
     }
 }
 
@@ -175,17 +187,15 @@ fn text_answer(
 fn known_entity(
     alloc: Global,
     how: KnownLint<'_, '_>,
-    entity: &Entity,
+    entity: &ReadEntity,
 ) -> Result<Option<Printed>, OutOfMemory> {
-    match read_ceph_rights(alloc, entity.osd.as_str())? {
-        Err(_) => Ok(None),
-        Ok(read) => {
-            let mut before = String::new(alloc);
-            push_shown_text(&mut before, entity.name.as_str())?;
-            before.push_str(" ")?;
-            known_lines(alloc, how, before.as_str(), &read.rights, read.count)
-        }
-    }
+    let Some((rights, count)) = ceph_grants(&entity.osd) else {
+        return Ok(None);
+    };
+    let mut before = String::new(alloc);
+    push_shown_text(&mut before, entity.name.as_str())?;
+    before.push_str(" ")?;
+    known_lines(alloc, how, before.as_str(), rights, count)
 }
 
 /// Adds what is printed behind what is there.
@@ -206,7 +216,8 @@ pub(crate) fn nothing(alloc: Global) -> Printed {
 /// What is found of entities by Ceph's rules.
 fn linted_ceph_entities(
     alloc: Global,
-    entities: &[Entity],
+    reader: &Reader,
+    entities: &[ReadEntity],
     arguments: LintArguments<'_>,
 ) -> Result<Linted, OutOfMemory> {
     let calls = known_calls(alloc)?;
@@ -219,7 +230,7 @@ fn linted_ceph_entities(
     let mut every = nothing(alloc);
     let mut known = nothing(alloc);
     for one in entities.chunks(1) {
-        let printed = lint_ceph_entities(alloc, one, arguments.pools, arguments.check)?;
+        let printed = lint_read_entities(alloc, reader, one, arguments.pools, arguments.check)?;
         push_printed(&mut every, &printed)?;
         let limited = match one.first() {
             Some(entity) => known_entity(alloc, how, entity)?,
@@ -239,16 +250,18 @@ fn linted_ceph_entities(
 /// What is printed of entities.
 fn entities_answer(
     alloc: Global,
-    rules: Rules,
-    entities: &[Entity],
+    reader: &Reader,
+    entities: &[ReadEntity],
     arguments: LintArguments<'_>,
 ) -> Result<Answered, OutOfMemory> {
-    match rules {
-        Rules::Ceph => {
-            linted_ceph_entities(alloc, entities, arguments)?.answered(alloc, arguments.methods)
-        }
+    match reader.rules() {
+        Rules::Ceph => linted_ceph_entities(alloc, reader, entities, arguments)?.answered(
+            alloc,
+            arguments.methods,
+        ),
         Rules::Project => {
-            let printed = lint_entities(alloc, entities, arguments.pools, arguments.check)?;
+            let (pools, check) = (arguments.pools, arguments.check);
+            let printed = lint_read_entities(alloc, reader, entities, pools, check)?;
             Ok(Answered::of(alloc, printed))
         }
     }
@@ -257,14 +270,14 @@ fn entities_answer(
 /// The document of a text: of its redundant grants, or of the text without them.
 fn document_answer(
     alloc: Global,
-    rules: Rules,
-    caps: &str,
+    reader: &Reader,
+    text: &ReadText,
     arguments: LintArguments<'_>,
 ) -> Result<Answered, OutOfMemory> {
-    match text_pieces(alloc, rules, caps, arguments)? {
+    match text_pieces(alloc, reader, text, arguments)? {
         Err(fault) => Ok(Answered::of(alloc, refused_text(alloc, fault)?)),
         Ok(_) if arguments.tidy => {
-            let answered = text_answer(alloc, rules, caps, arguments)?;
+            let answered = text_answer(alloc, reader, text, arguments)?;
             tidied_answer(alloc, answered)
         }
         Ok(linted) => {
@@ -285,8 +298,8 @@ fn linted_text(
 ) -> Result<Answered, OutOfMemory> {
     let text = ReadText::of(alloc, rules, String::from_str(alloc, caps)?, None)?;
     let answered = match arguments.format {
-        Format::Text => text_answer(alloc, rules.rules(), caps, arguments)?,
-        Format::Json => document_answer(alloc, rules.rules(), caps, arguments)?,
+        Format::Text => text_answer(alloc, rules, &text, arguments)?,
+        Format::Json => document_answer(alloc, rules, &text, arguments)?,
     };
     answered
         .with_note(fault_note(alloc, &text, screen))?
@@ -296,12 +309,12 @@ fn linted_text(
 /// The document of entities: their redundant grants, and what their monitor texts give.
 fn entities_document_answer(
     alloc: Global,
-    rules: Rules,
-    entities: &[Entity],
+    reader: &Reader,
+    entities: &[ReadEntity],
     services: &[ServiceText],
     arguments: LintArguments<'_>,
 ) -> Result<Answered, OutOfMemory> {
-    let linted = entity_pieces(alloc, rules, entities, arguments)?;
+    let linted = entity_pieces(alloc, reader, entities, arguments)?;
     let mut answered = linted.answered(alloc, arguments.methods)?;
     let pieces = answered.printed.text.as_str();
     answered.printed.text = entities_document(alloc, pieces, services)?;
@@ -311,12 +324,12 @@ fn entities_document_answer(
 /// The lines of entities: their redundant grants, and what their monitor texts give.
 fn entities_lines(
     alloc: Global,
-    rules: Rules,
-    entities: &[Entity],
+    reader: &Reader,
+    entities: &[ReadEntity],
     services: &[ServiceText],
     arguments: LintArguments<'_>,
 ) -> Result<Answered, OutOfMemory> {
-    let mut answered = entities_answer(alloc, rules, entities, arguments)?;
+    let mut answered = entities_answer(alloc, reader, entities, arguments)?;
     push_raising(&mut answered.printed.text, services)?;
     Ok(answered)
 }
@@ -324,15 +337,14 @@ fn entities_lines(
 /// The redundant grants of entities, and those whose monitor texts let them change capabilities.
 fn linted_entities(
     alloc: Global,
-    rules: Rules,
     file: &ChosenFile,
     arguments: LintArguments<'_>,
 ) -> Result<Answered, OutOfMemory> {
-    let entities = file.chosen.unread(alloc)?;
-    let (entities, services) = (entities.as_slice(), file.services.as_slice());
+    let (reader, services) = (&file.rules, file.services.as_slice());
+    let entities = file.chosen.entities();
     let answered = match arguments.format {
-        Format::Text => entities_lines(alloc, rules, entities, services, arguments)?,
-        Format::Json => entities_document_answer(alloc, rules, entities, services, arguments)?,
+        Format::Text => entities_lines(alloc, reader, entities, services, arguments)?,
+        Format::Json => entities_document_answer(alloc, reader, entities, services, arguments)?,
     };
     answered.about(alloc, &file.chosen)
 }
@@ -350,7 +362,7 @@ pub(crate) fn lint<F: InputFiles, R: Read>(
     let arguments = LintArguments::of(matches, pools)?;
     if matches.get_str("auth").is_some() {
         let file = chosen_file_in(alloc, files, reader, matches)?;
-        return Ok(linted_entities(alloc, rules_of(matches), &file, arguments)?);
+        return Ok(linted_entities(alloc, &file, arguments)?);
     }
     let rules = reader_of(alloc, matches)?;
     let caps = value_of(matches, "caps");

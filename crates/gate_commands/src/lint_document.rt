@@ -1,16 +1,16 @@
 //! What `osdgate lint --format json` prints: what is found of grants, as pieces of a list.
 
 use crate::known_changes::has_class;
-use crate::known_lint::{KnownLint, is_mistake, known_lints};
+use crate::known_lint::{KnownLint, ceph_grants, is_mistake, known_lints};
 use crate::lint::{LintArguments, Linted, nothing, push_printed};
 use command_steps::{Methods, known_calls};
 use common_types::OutOfMemory;
 use gate_files::{Service, ServiceText, can_raise};
 use lint_core::{GrantLint, Reach, Standing};
-use lint_text::found_grants;
+use lint_text::found_read_grants;
 use serde_json::{Value, json};
 use std::alloc::Global;
-use verdict_text::{Entity, Printed, Rules, TextFault, read_ceph_rights};
+use verdict_text::{Printed, ReadEntity, ReadText, Reader, Rules, TextFault};
 
 /// What is found of a grant: words, and the number of the grant that covers it if there is one.
 type Found = (&'static str, Option<usize>);
@@ -19,7 +19,7 @@ type Found = (&'static str, Option<usize>);
 fn redundant(standing: Standing) -> Option<Found> {
     match standing {
         Standing::Needed => None,
-        Standing::Needless => Some(("redundant", None)),
+        Standing::CoveredTogether => Some(("redundant", None)),
         Standing::Covered(other) => Some(("redundant", Some(other))),
     }
 }
@@ -110,21 +110,17 @@ fn pieces_of(
     Ok(Printed { text, fails })
 }
 
-/// The same over the methods of Ceph's class table, if these matter.
+/// The answer over the methods of Ceph's class table, if these matter.
 fn known_pieces(
     alloc: Global,
-    rules: Rules,
     entity: Option<&str>,
-    caps: &str,
+    text: &ReadText,
     arguments: LintArguments<'_>,
 ) -> Result<Option<Printed>, OutOfMemory> {
-    if rules == Rules::Project {
-        return Ok(None);
-    }
-    let Ok(read) = read_ceph_rights(alloc, caps)? else {
+    let Some((rights, count)) = ceph_grants(text) else {
         return Ok(None);
     };
-    if arguments.methods == Methods::Every && !has_class(&read.rights) {
+    if arguments.methods == Methods::Every && !has_class(rights) {
         return Ok(None);
     }
     let calls = known_calls(alloc)?;
@@ -134,22 +130,22 @@ fn known_pieces(
         pools: arguments.pools,
         check: arguments.check,
     };
-    let lints = known_lints(alloc, how, &read.rights, read.count)?;
+    let lints = known_lints(alloc, how, rights, count)?;
     Ok(Some(pieces_of(alloc, entity, lints.as_slice(), arguments.check)?))
 }
 
 /// What is found of the grants of a text, or why it is refused.
 pub(crate) fn text_pieces(
     alloc: Global,
-    rules: Rules,
-    caps: &str,
+    reader: &Reader,
+    text: &ReadText,
     arguments: LintArguments<'_>,
 ) -> Result<Result<Linted, TextFault>, OutOfMemory> {
-    match found_grants(alloc, rules, caps, arguments.pools)? {
+    match found_read_grants(alloc, reader, text, arguments.pools)? {
         Err(fault) => Ok(Err(fault)),
         Ok(lints) => Ok(Ok(Linted {
             every: pieces_of(alloc, None, lints.as_slice(), arguments.check)?,
-            known: known_pieces(alloc, rules, None, caps, arguments)?,
+            known: known_pieces(alloc, None, text, arguments)?,
         })),
     }
 }
@@ -160,15 +156,14 @@ fn push_entity(
     every: &mut Printed,
     known: &mut Printed,
     alloc: Global,
-    rules: Rules,
-    entity: &Entity,
+    reader: &Reader,
+    entity: &ReadEntity,
     arguments: LintArguments<'_>,
 ) -> Result<(), OutOfMemory> {
     let name = Some(entity.name.as_str());
-    let caps = entity.osd.as_str();
-    if let Ok(lints) = found_grants(alloc, rules, caps, arguments.pools)? {
+    if let Ok(lints) = found_read_grants(alloc, reader, &entity.osd, arguments.pools)? {
         let own = pieces_of(alloc, name, lints.as_slice(), arguments.check)?;
-        let limited = known_pieces(alloc, rules, name, caps, arguments)?;
+        let limited = known_pieces(alloc, name, &entity.osd, arguments)?;
         push_printed(every, &own)?;
         push_printed(known, limited.as_ref().unwrap_or(&own))?;
     }
@@ -178,16 +173,16 @@ fn push_entity(
 /// What is found of the grants of entities.
 pub(crate) fn entity_pieces(
     alloc: Global,
-    rules: Rules,
-    entities: &[Entity],
+    reader: &Reader,
+    entities: &[ReadEntity],
     arguments: LintArguments<'_>,
 ) -> Result<Linted, OutOfMemory> {
     let mut every = nothing(alloc);
     let mut known = nothing(alloc);
     for entity in entities {
-        push_entity(&mut every, &mut known, alloc, rules, entity, arguments)?;
+        push_entity(&mut every, &mut known, alloc, reader, entity, arguments)?;
     }
-    let known = match rules {
+    let known = match reader.rules() {
         Rules::Ceph => Some(known),
         Rules::Project => None,
     };

@@ -119,16 +119,15 @@ pub(crate) fn fails_by_tag(answer: &Answer) -> bool {
     }
 }
 
-/// Whether an entity is denied by a grant that is for pools with a tag. A text without the word has no such grant.
-fn depends_on_tags(
-    alloc: Global,
-    entity: &ReadEntity,
-    asked: &Asked<'_>,
-) -> Result<bool, OutOfMemory> {
-    if !entity.osd.text().contains("tag") {
-        return Ok(false);
+/// The entities that may have a grant for pools with a tag. A text without the word has none.
+pub(crate) fn tag_holders(alloc: Global, chosen: &Chosen) -> Result<Vec<&ReadEntity>, OutOfMemory> {
+    let mut holders = Vec::new(alloc);
+    for entity in chosen.entities() {
+        if entity.osd.text().contains("tag") {
+            holders.push(entity)?;
+        }
     }
-    Ok(fails_by_tag(&answer_of(alloc, entity.osd.read(), asked)?))
+    Ok(holders)
 }
 
 /// The entities whose access depends on a pool's tags that are not known.
@@ -140,17 +139,17 @@ pub(crate) struct TagNames {
     pub(crate) fails: bool,
 }
 
-/// The entities that are denied by a grant for pools with a tag.
+/// Those of some entities that are denied by a grant for pools with a tag.
 fn tag_names(
     alloc: Global,
-    chosen: &Chosen,
+    holders: &[&ReadEntity],
     choice: Choice<'_>,
     asked: &Asked<'_>,
 ) -> Result<TagNames, OutOfMemory> {
     let mut names = String::new(alloc);
     let mut fails = false;
-    for entity in chosen.entities() {
-        if depends_on_tags(alloc, entity, asked)? {
+    for entity in holders {
+        if fails_by_tag(&answer_of(alloc, entity.osd.read(), asked)?) {
             names.push_str(if names.is_empty() { "" } else { ", " })?;
             push_name(&mut names, entity.name.as_str())?;
             fails = fails || !choice.accepts(entity.name.as_str());
@@ -175,12 +174,12 @@ pub(crate) fn with_tag_names(
     answered.with_note(format!(in alloc; "osdgate: {before}{TAGS_NEEDED}: {names}\n"))
 }
 
-/// An answer with a line on the entities whose access depends on tags that the request does not know, behind what names the
-/// request. Such an entity makes it fail, unless the choice accepts that.
+/// An answer with a line on those of some entities whose access depends on tags that the request does not know, behind what names
+/// the request. Such an entity makes it fail, unless the choice accepts that.
 pub(crate) fn with_unknown_tags(
     alloc: Global,
     answered: Answered,
-    chosen: &Chosen,
+    holders: &[&ReadEntity],
     choice: Choice<'_>,
     request: &RequestWords<'_, '_>,
     before: &str,
@@ -188,7 +187,7 @@ pub(crate) fn with_unknown_tags(
     if request.knows_tags() {
         return Ok(answered);
     }
-    let found = tag_names(alloc, chosen, choice, &request.asked(FIRST_TICK))?;
+    let found = tag_names(alloc, holders, choice, &request.asked(FIRST_TICK))?;
     with_tag_names(alloc, answered, found, before)
 }
 

@@ -11,8 +11,8 @@ use crate::who::who;
 use clap::ArgMatches;
 use command_arguments::{Shell, command_words, completions_for, manual};
 use command_steps::{
-    Answered, BadWords, NoAnswer, finish_answer, finish_unanswered, format_of, refuse_command,
-    value_of, with_rules_of,
+    Answered, BadWords, NoAnswer, colours_of, finish_answer, finish_unanswered, format_of,
+    refuse_command, value_of, with_rules_of,
 };
 use gate_files::InputFiles;
 use std::alloc::Global;
@@ -70,12 +70,13 @@ fn answer_matches<F: InputFiles, R: Read>(
         return Err(NoAnswer::Words(BadWords::Command));
     };
     let answered = answer_command(alloc, name, matches, files, reader)?;
-    let answered = if reads_texts(name) {
-        with_rules_of(alloc, matches, answered)?
-    } else {
-        answered
-    };
-    Ok(answered.documented(alloc, format_of(matches))?)
+    if !reads_texts(name) {
+        return Ok(answered);
+    }
+    let format = format_of(matches);
+    let answered = with_rules_of(alloc, matches, answered)?.documented(alloc, format)?;
+    let colours = colours_of(matches, files.screen());
+    Ok(answered.coloured(alloc, format, colours)?)
 }
 
 /// Answers the command of the arguments, and returns the status: `DONE`, `FOUND` or `TROUBLE` of `command_steps`.

@@ -1,30 +1,34 @@
 //! `osdgate share`.
 
 use crate::documents::refused_side;
-use crate::limited::limited_entities;
+use crate::limited::{limited_reading, limited_readings};
 use clap::ArgMatches;
 use command_steps::{
     Answered, BadWords, Methods, NoAnswer, chosen_in, first_fault_note, format_of, known_calls,
-    limited_rights, methods_line, methods_of, pools_given, reader_of,
+    methods_line, methods_of, pools_given, reader_of, rules_of,
 };
 use common_types::OutOfMemory;
 use gate_files::{Chosen, InputFiles, Screen};
 use share_core::Pool;
 use share_text::{
-    Strictness, flow_document, flow_entities, share_document, share_entities, share_read,
+    Detail, Holder, Strictness, everybody_entities, flow_document, flow_entities, holders_of,
+    retag_entities, retag_rights, share_document, share_entities, share_read, writer_entities,
 };
 use std::alloc::Global;
 use std::io::Read;
-use verdict_core::ClassCall;
 use verdict_text::{Format, Printed, ReadEntity, ReadText, Reader, Reading, Rules};
 
-/// What is asked of the entities of a file.
+/// What is asked of the entities of a file, and how much of it is printed.
 #[derive(Clone, Copy)]
 enum Question {
     /// What each two of them both reach.
-    Shared(Strictness),
+    Shared(Strictness, Detail),
     /// Where what each of them writes may flow to. With a check a line fails.
-    Flows { check: bool, format: Format },
+    Flows {
+        check: bool,
+        format: Format,
+        detail: Detail,
+    },
 }
 
 /// How two texts are looked at.
@@ -43,6 +47,15 @@ fn two_texts<'a>(texts: &[&'a str]) -> Result<(&'a str, &'a str), BadWords> {
     }
 }
 
+/// How much is printed.
+fn detail_of(matches: &ArgMatches<'_>) -> Detail {
+    if matches.get_flag("all") {
+        Detail::Whole
+    } else {
+        Detail::Brief
+    }
+}
+
 /// What the arguments ask of the entities of a file. At most one file is standard input.
 fn question_of(matches: &ArgMatches<'_>) -> Result<Question, BadWords> {
     if matches.get_str("auth") == Some("-") && matches.get_str("pools") == Some("-") {
@@ -50,14 +63,20 @@ fn question_of(matches: &ArgMatches<'_>) -> Result<Question, BadWords> {
     }
     let check = matches.get_flag("check");
     let format = format_of(matches);
+    let detail = detail_of(matches);
     if matches.get_flag("flows") {
-        return Ok(Question::Flows { check, format });
+        return Ok(Question::Flows {
+            check,
+            format,
+            detail,
+        });
     }
-    Ok(Question::Shared(Strictness {
+    let how = Strictness {
         reads: matches.get_flag("reads"),
         check,
         format,
-    }))
+    };
+    Ok(Question::Shared(how, detail))
 }
 
 /// A text that was read.
@@ -65,20 +84,32 @@ fn read_text(alloc: Global, rules: &Reader, text: &str) -> Result<ReadText, OutO
     ReadText::of(alloc, rules, String::from_str(alloc, text)?, None)
 }
 
-/// A reading whose grants give what they do where requests call these methods alone.
-fn limited_reading(
-    alloc: Global,
-    reading: &Reading,
-    calls: &[ClassCall],
-) -> Result<Reading, OutOfMemory> {
-    match reading {
-        Ok(rights) => Ok(Ok(limited_rights(alloc, rights, calls)?)),
-        Err(fault) => Ok(Err(*fault)),
-    }
+/// Two documents on a line as one, with the members of both.
+fn joined(alloc: Global, front: &str, behind: &str) -> Result<String, OutOfMemory> {
+    let front = front.strip_suffix("}\n").unwrap_or(front);
+    let behind = behind.strip_prefix('{').unwrap_or(behind);
+    format!(in alloc; "{front},{behind}")
 }
 
-/// What is printed of two texts that were read, as lines or as a document.
-fn printed_texts(
+/// What is printed, with lines behind it or members of a second document. It fails as the first one does.
+fn with_more(
+    alloc: Global,
+    printed: Printed,
+    more: &str,
+    format: Format,
+) -> Result<Printed, OutOfMemory> {
+    let text = printed.text.as_str();
+    Ok(Printed {
+        text: match format {
+            Format::Text => format!(in alloc; "{text}{more}")?,
+            Format::Json => joined(alloc, text, more)?,
+        },
+        fails: printed.fails,
+    })
+}
+
+/// What two texts that were read share, as lines or as a document.
+fn shared_readings(
     alloc: Global,
     first: &Reading,
     second: &Reading,
@@ -91,6 +122,23 @@ fn printed_texts(
         (Ok(ones), Ok(others)) => share_document(alloc, ones, others, how.check),
         (Err(fault), _) => refused_side(alloc, "first", *fault),
         (_, Err(fault)) => refused_side(alloc, "second", *fault),
+    }
+}
+
+/// What is printed of two texts that were read: what they share, and what they share once a pool is tagged anew.
+fn printed_texts(
+    alloc: Global,
+    first: &Reading,
+    second: &Reading,
+    how: TextsHow,
+) -> Result<Printed, OutOfMemory> {
+    let printed = shared_readings(alloc, first, second, how)?;
+    match (first, second) {
+        (Ok(ones), Ok(others)) => {
+            let retags = retag_rights(alloc, ones, others, how.format)?;
+            with_more(alloc, printed, retags.text.as_str(), how.format)
+        }
+        _ => Ok(printed),
     }
 }
 
@@ -149,43 +197,136 @@ fn shared_texts(
         .about_text(second)
 }
 
+/// Where what each entity writes may flow, and behind that who writes the same as another one whom it does not read.
+fn printed_flows(
+    alloc: Global,
+    entities: &[Holder<'_>],
+    pools: Option<&[Pool]>,
+    check: bool,
+    format: Format,
+    detail: Detail,
+) -> Result<Printed, OutOfMemory> {
+    let flows = match format {
+        Format::Text => flow_entities(alloc, entities, pools, detail, check)?,
+        Format::Json => flow_document(alloc, entities, pools, detail, check)?,
+    };
+    let how = Strictness {
+        reads: false,
+        check,
+        format,
+    };
+    let writers = writer_entities(alloc, entities, how, pools)?;
+    let mut printed = with_more(alloc, flows, writers.text.as_str(), format)?;
+    printed.fails = printed.fails || writers.fails;
+    Ok(printed)
+}
+
+/// Which entities reach every object, whose pairs are left out, and behind that what each two entities share. It fails as the
+/// pairs do.
+fn printed_pairs(
+    alloc: Global,
+    entities: &[Holder<'_>],
+    pools: Option<&[Pool]>,
+    how: Strictness,
+    detail: Detail,
+) -> Result<Printed, OutOfMemory> {
+    let shared = share_entities(alloc, entities, how, pools, detail)?;
+    if detail == Detail::Whole {
+        return Ok(shared);
+    }
+    let everybody = Printed {
+        text: everybody_entities(alloc, entities, how.format)?,
+        fails: shared.fails,
+    };
+    with_more(alloc, everybody, shared.text.as_str(), how.format)
+}
+
 /// What is printed of entities, of these pools alone if they are given.
 fn printed_entities(
     alloc: Global,
-    entities: &[ReadEntity],
+    entities: &[Holder<'_>],
     pools: Option<&[Pool]>,
     question: Question,
 ) -> Result<Printed, OutOfMemory> {
     match question {
-        Question::Flows { check, format } => match format {
-            Format::Text => flow_entities(alloc, entities, pools, check),
-            Format::Json => flow_document(alloc, entities, pools, check),
-        },
-        Question::Shared(strictness) => share_entities(alloc, entities, strictness, pools),
+        Question::Flows {
+            check,
+            format,
+            detail,
+        } => printed_flows(alloc, entities, pools, check, format, detail),
+        Question::Shared(how, detail) => {
+            let shared = printed_pairs(alloc, entities, pools, how, detail)?;
+            let retags = retag_entities(alloc, entities, how.format, pools)?;
+            with_more(alloc, shared, retags.text.as_str(), how.format)
+        }
     }
 }
 
-/// What the entities of a file share, of these pools alone if they are given.
+/// A line on the chains that may be missing, since each entity that could not be checked may be between any two.
+fn missing_chains(alloc: Global, chosen: &Chosen) -> Result<String, OutOfMemory> {
+    let line = match chosen.unchecked().len() {
+        0 => return Ok(String::new(alloc)),
+        1 => {
+            "osdgate: a chain through the entity that is not checked may be missing, from any that writes to any that reads\n"
+        }
+        _ => {
+            "osdgate: chains through the entities that are not checked may be missing, from any that writes to any that reads\n"
+        }
+    };
+    String::from_str(alloc, line)
+}
+
+/// What is noted of an answer beside the entities that could not be checked.
+fn question_note(
+    alloc: Global,
+    chosen: &Chosen,
+    question: Question,
+) -> Result<String, OutOfMemory> {
+    match question {
+        Question::Flows { .. } => missing_chains(alloc, chosen),
+        Question::Shared(_, _) => Ok(String::new(alloc)),
+    }
+}
+
+/// Entities with these readings in place of their own.
+fn holders_with<'a>(
+    alloc: Global,
+    entities: &'a [ReadEntity],
+    readings: &'a [Reading],
+) -> Result<Vec<Holder<'a>>, OutOfMemory> {
+    let mut holders = Vec::with_capacity(alloc, entities.len())?;
+    for (entity, read) in entities.iter().zip(readings.iter()) {
+        let name = entity.name.as_str();
+        holders.push(Holder { name, read })?;
+    }
+    Ok(holders)
+}
+
+/// What the entities of a file share by these rules, of these pools alone if they are given.
 fn shared_entities(
     alloc: Global,
-    rules: &Reader,
+    rules: Rules,
     chosen: &Chosen,
     pools: Option<&[Pool]>,
     question: Question,
     methods: Methods,
-) -> Result<Answered, NoAnswer> {
-    let every = printed_entities(alloc, chosen.entities(), pools, question)?;
-    let answered = match limited_entities(alloc, rules, chosen)? {
+) -> Result<Answered, OutOfMemory> {
+    let entities = chosen.entities();
+    let holders = holders_of(alloc, entities)?;
+    let every = printed_entities(alloc, holders.as_slice(), pools, question)?;
+    let answered = match limited_readings(alloc, rules, entities)? {
         None => {
             let line = String::from_str(alloc, methods_line(methods, false))?;
             Answered::noted(alloc, every, line)
         }
-        Some(entities) => {
-            let known = printed_entities(alloc, entities.as_slice(), pools, question)?;
+        Some(readings) => {
+            let holders = holders_with(alloc, entities, readings.as_slice())?;
+            let known = printed_entities(alloc, holders.as_slice(), pools, question)?;
             by_methods(alloc, methods, every, known)?
         }
     };
-    Ok(answered.about(alloc, chosen)?)
+    let answered = answered.with_note(question_note(alloc, chosen, question))?;
+    answered.about(alloc, chosen)
 }
 
 /// What the entities of a file share.
@@ -200,8 +341,8 @@ fn shared_file<F: InputFiles, R: Read>(
     let pools = pools_given(alloc, files, reader, matches)?;
     let pools = pools.as_ref().map(Vec::as_slice);
     let chosen = chosen_in(alloc, files, reader, matches)?;
-    let rules = reader_of(alloc, matches)?;
-    shared_entities(alloc, &rules, &chosen, pools, question, methods)
+    let rules = rules_of(matches);
+    Ok(shared_entities(alloc, rules, &chosen, pools, question, methods)?)
 }
 
 /// `osdgate share`: what two texts, or the entities of a file, both reach.

@@ -5,7 +5,7 @@ use crate::notes::{fails_by_tag, request_lines, verdict_tag_line};
 use clap::ArgMatches;
 use command_steps::{
     Answered, BadWords, CallRules, NoAnswer, RequestWords, Times, fault_note, format_of,
-    pools_given, reader_of, times_of, with_line,
+    pools_given, reader_of, rules_of, times_of, with_line,
 };
 use common_types::OutOfMemory;
 use gate_files::{InputFiles, Screen};
@@ -13,7 +13,8 @@ use share_core::Pool;
 use std::alloc::Global;
 use std::io::Read;
 use verdict_text::{
-    Answer, Format, Printed, ReadText, Reader, Verdict, VerdictFault, answer_of, text_of,
+    Answer, Asked, Printed, Printing, ReadText, Reader, Verdict, VerdictFault, answer_of,
+    verdict_by,
 };
 
 /// What the arguments say, except the text and the request.
@@ -24,7 +25,7 @@ struct VerdictArguments {
     check: bool,
     /// Access that depends on unknown tags does not fail.
     known: bool,
-    format: Format,
+    printing: Printing,
 }
 
 /// The capability text and the request.
@@ -50,6 +51,15 @@ impl VerdictInputs<'_, '_> {
     }
 }
 
+/// How the arguments say that the answer is printed.
+fn printing_of(matches: &ArgMatches<'_>) -> Printing {
+    Printing {
+        rules: rules_of(matches),
+        why: matches.get_flag("why"),
+        format: format_of(matches),
+    }
+}
+
 impl VerdictArguments {
     /// What the arguments say. At most one file is standard input.
     fn of(matches: &ArgMatches<'_>) -> Result<VerdictArguments, BadWords> {
@@ -60,7 +70,7 @@ impl VerdictArguments {
             times: times_of(matches).ok_or(BadWords::Time)?,
             check: matches.get_flag("check"),
             known: matches.get_flag("known"),
-            format: format_of(matches),
+            printing: printing_of(matches),
         })
     }
 
@@ -106,12 +116,13 @@ fn rendered(
     alloc: Global,
     arguments: &VerdictArguments,
     inputs: &VerdictInputs<'_, '_>,
+    asked: &Asked<'_>,
     answer: &Answer,
     screen: Screen,
 ) -> Result<Answered, OutOfMemory> {
     let needs_tags = fails_by_tag(answer) && !inputs.request.knows_tags();
     let printed = Printed {
-        text: text_of(alloc, answer, arguments.format)?,
+        text: verdict_by(alloc, arguments.printing, inputs.text.read(), asked, answer)?,
         fails: arguments.fails(answer, needs_tags),
     };
     let answered = Answered::noted(alloc, printed, noted(alloc, inputs, answer, screen)?);
@@ -135,7 +146,7 @@ fn verdict_on(
     let inputs = read_inputs(alloc, &rules, arguments, caps, request)?;
     let asked = inputs.request.asked(arguments.times.tick);
     let answer = answer_of(alloc, inputs.text.read(), &asked)?;
-    let answered = rendered(alloc, arguments, &inputs, &answer, screen)?;
+    let answered = rendered(alloc, arguments, &inputs, &asked, &answer, screen)?;
     Ok(answered.about_text(inputs.into_text())?)
 }
 

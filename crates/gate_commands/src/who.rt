@@ -1,7 +1,9 @@
 //! `osdgate who`.
 
 use crate::any_request::AnyRequest;
-use crate::notes::{FIRST_TICK, calls_line, refuses_calls, request_lines, with_unknown_tags};
+use crate::notes::{
+    FIRST_TICK, calls_line, refuses_calls, request_lines, tag_holders, with_unknown_tags,
+};
 use crate::who_any::answer_any;
 use clap::ArgMatches;
 use command_steps::{
@@ -9,18 +11,38 @@ use command_steps::{
     chosen_by, format_of, lines_of, or_bad_file, pools_given, requests_of, text_in, with_line,
 };
 use common_types::OutOfMemory;
-use gate_files::{Choice, Chosen, FileFault, InputFiles, Purpose};
+use gate_files::{Choice, Chosen, InputFiles, Purpose};
 use share_core::Pool;
 use std::alloc::Global;
 use std::io::Read;
 use verdict_text::{Asked, Format, Printed};
 use who_text::{who_table, who_text};
 
+/// What is asked.
+#[derive(Clone, Copy)]
+enum WhoQuestion<'m> {
+    /// Who is allowed the request of the arguments.
+    One,
+    /// Who is allowed it at something in its pool.
+    Any,
+    /// Who is allowed each request of the file with this path.
+    Each(&'m str),
+}
+
+impl<'m> WhoQuestion<'m> {
+    fn of(matches: &ArgMatches<'m>) -> WhoQuestion<'m> {
+        match matches.get_str("requests") {
+            Some(path) => WhoQuestion::Each(path),
+            None if matches.get_flag("any") => WhoQuestion::Any,
+            None => WhoQuestion::One,
+        }
+    }
+}
+
 /// What the arguments say, except the request.
 #[derive(Clone, Copy)]
 pub(crate) struct WhoArguments<'m> {
-    /// The file of requests, if one is given.
-    requests: Option<&'m str>,
+    question: WhoQuestion<'m>,
     pub(crate) choice: Choice<'m>,
     /// Each entity is printed with its answer.
     all: bool,
@@ -41,7 +63,7 @@ impl<'m> WhoArguments<'m> {
             return Err(BadWords::OneInput);
         }
         Ok(WhoArguments {
-            requests: matches.get_str("requests"),
+            question: WhoQuestion::of(matches),
             choice,
             all: matches.get_flag("all"),
             format: format_of(matches),
@@ -67,7 +89,15 @@ fn answer_one(
         return Ok(answered);
     }
     let answered = answered.about(alloc, chosen)?;
-    with_unknown_tags(alloc, answered, chosen, arguments.choice, request, "")
+    let holders = tag_holders(alloc, chosen)?;
+    with_unknown_tags(
+        alloc,
+        answered,
+        holders.as_slice(),
+        arguments.choice,
+        request,
+        "",
+    )
 }
 
 /// The requests of some lines.
@@ -102,12 +132,13 @@ fn with_tag_lines(
     requests: &[LineRequest<'_, '_>],
     chosen: &Chosen,
 ) -> Result<Answered, OutOfMemory> {
+    let holders = tag_holders(alloc, chosen)?;
+    let holders = holders.as_slice();
     let mut answered = answered;
     for line in requests {
         let before = format!(in alloc; "line {}: ", line.number)?;
-        let request = &line.request;
-        let choice = arguments.choice;
-        answered = with_unknown_tags(alloc, answered, chosen, choice, request, before.as_str())?;
+        let (request, before) = (&line.request, before.as_str());
+        answered = with_unknown_tags(alloc, answered, holders, arguments.choice, request, before)?;
     }
     Ok(answered)
 }
@@ -137,19 +168,6 @@ fn answer_each(
     let answered = Answered::noted(alloc, printed, refused_lines(alloc, requests)?);
     let answered = answered.about(alloc, chosen)?;
     with_tag_lines(alloc, answered, arguments, requests, chosen)
-}
-
-/// Who is allowed each of the requests of a file with this text.
-fn answer_lines(
-    alloc: Global,
-    arguments: &WhoArguments<'_>,
-    text: &str,
-    pools: Option<&[Pool]>,
-    chosen: &Chosen,
-) -> Result<Answered, FileFault> {
-    let lines = lines_of(alloc, text)?;
-    let requests = requests_of(alloc, lines.as_slice(), pools, arguments.calls)?;
-    Ok(answer_each(alloc, arguments, requests.as_slice(), chosen)?)
 }
 
 /// Who is allowed the request of the arguments. The request is checked before the file of entities is read.
@@ -197,8 +215,11 @@ fn who_each<F: InputFiles, R: Read>(
 ) -> Result<Answered, NoAnswer> {
     let chosen = chosen_by(alloc, files, reader, matches, arguments.choice)?;
     let text = text_in(alloc, files, reader, Purpose::Requests, path)?;
-    let answered = answer_lines(alloc, arguments, text.as_str(), pools, &chosen);
-    or_bad_file(alloc, Purpose::Requests, path, answered)
+    let lines = lines_of(alloc, text.as_str());
+    let lines = or_bad_file(alloc, Purpose::Requests, path, lines)?;
+    let requests = requests_of(alloc, lines.as_slice(), pools, arguments.calls);
+    let requests = or_bad_file(alloc, Purpose::Requests, path, requests)?;
+    Ok(answer_each(alloc, arguments, requests.as_slice(), &chosen)?)
 }
 
 /// `osdgate who`: which entities of a file are allowed a request, or each request of a file.
@@ -214,11 +235,11 @@ pub(crate) fn who<F: InputFiles, R: Read>(
     let arguments = WhoArguments::of(matches, choice)?;
     let pools = pools_given(alloc, files, reader, matches)?;
     let pools = pools.as_ref().map(Vec::as_slice);
-    match arguments.requests {
-        None if matches.get_flag("any") => {
-            who_any(alloc, matches, &arguments, pools, files, reader)
+    match arguments.question {
+        WhoQuestion::One => who_one(alloc, matches, &arguments, pools, files, reader),
+        WhoQuestion::Any => who_any(alloc, matches, &arguments, pools, files, reader),
+        WhoQuestion::Each(path) => {
+            who_each(alloc, matches, &arguments, path, pools, files, reader)
         }
-        None => who_one(alloc, matches, &arguments, pools, files, reader),
-        Some(path) => who_each(alloc, matches, &arguments, path, pools, files, reader),
     }
 }

@@ -58,11 +58,7 @@ impl<'t> Entry<'t> {
     }
 
     /// Gives the last entity the entry's texts for other services.
-    fn push_services_to(
-        &self,
-        alloc: Global,
-        entities: &mut EntityList,
-    ) -> Result<(), OutOfMemory> {
+    fn push_services_to(&self, entities: &mut EntityList) -> Result<(), OutOfMemory> {
         let texts = [
             (Service::Mon, self.mon),
             (Service::Mgr, self.mgr),
@@ -70,25 +66,25 @@ impl<'t> Entry<'t> {
         ];
         for (service, text) in &texts {
             if let Some(text) = text {
-                let _ = entities.give_service(alloc, *service, text)?;
+                let _ = entities.give_service(*service, text)?;
             }
         }
         Ok(())
     }
 
     /// Adds the entry to the entities before it.
-    fn push_to(&self, alloc: Global, entities: &mut EntityList) -> Result<(), FileFault> {
+    fn push_to(&self, entities: &mut EntityList) -> Result<(), FileFault> {
         let number = entities.next_number();
         let name = self.name.ok_or(FileFault::NoEntity(number))?;
         if !self.has_caps {
             return Err(FileFault::NoCaps(number));
         }
         match self.osd {
-            OsdText::Missing => entities.push(alloc, name, "")?,
-            OsdText::Text(osd) => entities.push(alloc, name, osd)?,
+            OsdText::Missing => entities.push(name, "")?,
+            OsdText::Text(osd) => entities.push(name, osd)?,
             OsdText::Other => return Err(FileFault::NoText(number)),
         }
-        Ok(self.push_services_to(alloc, entities)?)
+        Ok(self.push_services_to(entities)?)
     }
 }
 
@@ -150,10 +146,10 @@ fn read_list(alloc: Global, reader: &mut Reader<'_>, most: usize) -> Result<Auth
     for _ in 0..most {
         match reader.next() {
             None | Some(Token::EndArray) => break,
-            Some(token) => read_entry(reader, token, most).push_to(alloc, &mut entities)?,
+            Some(token) => read_entry(reader, token, most).push_to(&mut entities)?,
         }
     }
-    Ok(entities.into_file())
+    Ok(entities.into_file()?)
 }
 
 /// Reads what an object has under `auth_dump`, which must be a list.
@@ -170,8 +166,8 @@ fn one_entity(alloc: Global, entry: &Entry<'_>) -> Result<AuthFile, FileFault> {
         return Err(FileFault::NoEntries);
     }
     let mut entities = EntityList::new(alloc);
-    entry.push_to(alloc, &mut entities)?;
-    Ok(entities.into_file())
+    entry.push_to(&mut entities)?;
+    Ok(entities.into_file()?)
 }
 
 /// Reads an object behind its brace: the list under `auth_dump`, or else the one entry that it is.

@@ -1,9 +1,9 @@
 //! The entities of files that a command is about.
 
-use crate::glob::{matches, matches_any};
 use crate::names::push_name;
 use crate::unchecked::{Unchecked, all_unchecked, unchecked_line};
 use common_types::OutOfMemory;
+use name_patterns::{matches, matches_any};
 use std::alloc::Global;
 use std::mem;
 use verdict_text::{Entity, ReadEntity, ReadText, Reader};

@@ -4,14 +4,15 @@ use crate::auth_file::AuthFile;
 use crate::file_fault::FileFault;
 use crate::services::{Service, ServiceText};
 use common_types::OutOfMemory;
-use indexmap::IndexSet;
+use indexmap::IndexMap;
 use std::alloc::Global;
 use verdict_text::Entity;
 
-/// Entities in the order of a file, and their names, so that one that stands twice is found at once.
+/// Entities in the order of a file, found by their names, so that one that stands twice is found at once.
 pub(crate) struct EntityList {
-    entities: Vec<Entity>,
-    names: IndexSet<String>,
+    alloc: Global,
+    /// The text for object stores of each name.
+    texts: IndexMap<String, String>,
     /// Their texts for other services.
     services: Vec<ServiceText>,
 }
@@ -19,51 +20,46 @@ pub(crate) struct EntityList {
 impl Drop for EntityList {
     fn drop(self) {
         let EntityList {
-            entities: _,
-            names: _,
+            alloc: _,
+            texts: _,
             services: _,
         } = self;
     }
 }
 
-fn new_entity(alloc: Global, name: &str, osd: &str) -> Result<Entity, OutOfMemory> {
-    Ok(Entity {
-        name: String::from_str(alloc, name)?,
-        osd: String::from_str(alloc, osd)?,
-    })
-}
-
 impl EntityList {
     pub(crate) fn new(alloc: Global) -> EntityList {
         EntityList {
-            entities: Vec::new(alloc),
-            names: IndexSet::new(alloc),
+            alloc,
+            texts: IndexMap::new(alloc),
             services: Vec::new(alloc),
         }
     }
 
     pub(crate) fn is_empty(&self) -> bool {
-        self.entities.is_empty()
+        self.texts.is_empty()
     }
 
     /// The number of the next entity, from 1.
     pub(crate) fn next_number(&self) -> usize {
-        self.entities.len().saturating_add(1)
+        self.texts.len().saturating_add(1)
     }
 
     /// Adds an entity to those before it, none of which may have its name.
-    pub(crate) fn push(&mut self, alloc: Global, name: &str, osd: &str) -> Result<(), FileFault> {
-        if !self.names.insert(String::from_str(alloc, name)?)? {
-            return Err(FileFault::Doubled(self.next_number()));
+    pub(crate) fn push(&mut self, name: &str, osd: &str) -> Result<(), FileFault> {
+        let name = String::from_str(self.alloc, name)?;
+        let osd = String::from_str(self.alloc, osd)?;
+        match self.texts.insert(name, osd)? {
+            None => Ok(()),
+            Some(_) => Err(FileFault::Doubled(self.next_number())),
         }
-        Ok(self.entities.push(new_entity(alloc, name, osd)?)?)
     }
 
     /// Gives the last entity its text; whether there is one, which had none before.
     pub(crate) fn give_text(&mut self, text: String) -> bool {
-        match self.entities.last_mut() {
-            Some(entity) if entity.osd.is_empty() => {
-                entity.osd = text;
+        match self.texts.last_mut() {
+            Some(osd) if osd.is_empty() => {
+                *osd = text;
                 true
             }
             _ => false,
@@ -73,14 +69,13 @@ impl EntityList {
     /// Gives the last entity its text for a service; whether there is one, which had none before.
     pub(crate) fn give_service(
         &mut self,
-        alloc: Global,
         service: Service,
         text: &str,
     ) -> Result<bool, OutOfMemory> {
-        let Some(entity) = self.entities.last() else {
+        let Some((name, _)) = self.texts.last() else {
             return Ok(false);
         };
-        let name = entity.name.as_str();
+        let name = name.as_str();
         // The texts of the last entity are the last ones.
         let is_doubled = self
             .services
@@ -92,19 +87,24 @@ impl EntityList {
             return Ok(false);
         }
         self.services.push(ServiceText {
-            entity: String::from_str(alloc, name)?,
+            entity: String::from_str(self.alloc, name)?,
             service,
-            text: String::from_str(alloc, text)?,
+            text: String::from_str(self.alloc, text)?,
         })?;
         Ok(true)
     }
 
-    pub(crate) fn into_file(self) -> AuthFile {
+    /// The entities and their texts for other services, in their order.
+    pub(crate) fn into_file(self) -> Result<AuthFile, OutOfMemory> {
         let EntityList {
-            entities,
-            names: _,
+            alloc,
+            texts,
             services,
         } = self;
-        AuthFile { entities, services }
+        let mut entities = Vec::with_capacity(alloc, texts.len())?;
+        for (name, osd) in texts {
+            entities.push(Entity { name, osd })?;
+        }
+        Ok(AuthFile { entities, services })
     }
 }

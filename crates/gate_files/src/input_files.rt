@@ -5,6 +5,7 @@ use crate::file_fault::FileFault;
 use crate::screen::{Screen, host_screen};
 use std::alloc::Global;
 use std::io::Read;
+use std::time::{Clock, Duration};
 use std::{fs, io};
 
 /// The most bytes that a file of entities, pools or requests may have: 64 MiB.
@@ -27,6 +28,11 @@ pub trait InputFiles {
     fn build_note(&self) -> Option<String> {
         None
     }
+
+    /// The time since some start, if there is a clock.
+    fn now(&self) -> Option<Duration> {
+        None
+    }
 }
 
 /// The files of the program's host.
@@ -41,6 +47,10 @@ impl InputFiles for HostRuntime {
 
     fn build_note(&self) -> Option<String> {
         host_note(self)
+    }
+
+    fn now(&self) -> Option<Duration> {
+        self.monotonic().ok()
     }
 }
 

@@ -102,7 +102,7 @@ fn take_line(alloc: Global, entities: &mut EntityList, words: &str) -> Result<bo
     match line_of(words) {
         None => Ok(false),
         Some(Line::Entity(name)) => {
-            entities.push(alloc, name, "")?;
+            entities.push(name, "")?;
             Ok(true)
         }
         Some(Line::Osd(value)) => match text_of(alloc, value)? {
@@ -110,7 +110,7 @@ fn take_line(alloc: Global, entities: &mut EntityList, words: &str) -> Result<bo
             None => Ok(false),
         },
         Some(Line::Service(service, value)) => match text_of(alloc, value)? {
-            Some(text) => Ok(entities.give_service(alloc, service, text.as_str())?),
+            Some(text) => Ok(entities.give_service(service, text.as_str())?),
             None => Ok(false),
         },
         Some(Line::Other) => Ok(!entities.is_empty()),
@@ -128,5 +128,5 @@ pub(crate) fn keyring_entities(alloc: Global, text: &str) -> Result<AuthFile, Fi
             });
         }
     }
-    Ok(entities.into_file())
+    Ok(entities.into_file()?)
 }

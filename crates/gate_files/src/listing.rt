@@ -33,7 +33,7 @@ fn take_indented(alloc: Global, entities: &mut EntityList, words: &str) -> Resul
     match behind.split_once("] ") {
         Some(("osd", text)) => Ok(entities.give_text(String::from_str(alloc, text)?)),
         Some((name, text)) => match Service::of(name) {
-            Some(service) => Ok(entities.give_service(alloc, service, text)?),
+            Some(service) => Ok(entities.give_service(service, text)?),
             None => Ok(!entities.is_empty()),
         },
         None => Ok(false),
@@ -52,7 +52,7 @@ fn take_line(alloc: Global, entities: &mut EntityList, line: &str) -> Result<boo
     if !is_entity_name(name) {
         return Ok(false);
     }
-    entities.push(alloc, name, "")?;
+    entities.push(name, "")?;
     Ok(true)
 }
 
@@ -67,5 +67,5 @@ pub(crate) fn listed_entities(alloc: Global, text: &str) -> Result<AuthFile, Fil
             });
         }
     }
-    Ok(entities.into_file())
+    Ok(entities.into_file()?)
 }

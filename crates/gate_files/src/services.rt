@@ -1,5 +1,8 @@
 //! What entities may do at services other than object stores. Their texts are kept as they are: nothing here decides by them.
 
+ghost use Rattle.std.specs.Prelude.{◌≡◌};
+ghost use Rattle.gate_files.specs.Services as spec;
+
 use crate::chosen::Choice;
 use common_types::OutOfMemory;
 use indexmap::IndexMap;
@@ -25,7 +28,9 @@ impl Service {
     }
 
     /// Its name.
-    pub fn name(self) -> &'static str {
+    pub fn name(self) -> &'static str
+        ensures { result.now ≡ spec.service_name self }
+    {
         match self {
             Service::Mon => "mon",
             Service::Mgr => "mgr",

@@ -131,34 +131,35 @@ pub all_from_silent : (grants others : Flat) → ¬ Widens grants others → All
 all_from_silent grants others none target needs asked h =
     elim (true_or_false (grants_allow grants target needs)) [ inl allowed ↦ allowed | inr denied ↦ absurd (none (record { target = target; needs = needs }, (asked, h, denied))) ]
 
--- a list without some grants allows all that it does where it allows all that these do
-pub around_enough : (table : Table) (front middle behind : List Grant) → AllowsAll (flat table (front ++ behind)) (flat table middle)
-    → AllowsAll (flat table (front ++ behind)) (flat table (front ++ (middle ++ behind)))
-around_enough table front middle behind enough =
-    all_from_silent few many (nothing_widens Every few many (none_alone few many silent))
+-- Of many grants few allow all that they do where they allow all that those between do: a test that one of many passes is passed by
+-- one of the few or by one of those between.
+pub enough_around : (few between many : Flat)
+    → ((test : AllowGrant → Bool) → list_any (λ entry. test entry.1) many ≡ true → (list_any (λ entry. test entry.1) few ≡ true) ⊎ (list_any (λ entry. test entry.1) between ≡ true))
+    → AllowsAll few between → AllowsAll few many
+enough_around few between many split enough = all_from_silent few many (nothing_widens Every few many (none_alone few many silent))
   where
-    few : Flat
-    few = flat table (front ++ behind)
-
-    many : Flat
-    many = flat table (front ++ (middle ++ behind))
-
     silent : (i : ℕ) (entry : List ℕ × AllowGrant) → slice_get many i ≡ Some entry → ¬ WidensBy Every few (entry ∷ [])
     silent i entry at gained =
         let target : Target = gained.0.target in
         let needs : Needs = gained.0.needs in
         let passing : list_any (λ e. passes target needs e.1) many ≡ true =
         any_at (λ (e : List ℕ × AllowGrant). passes target needs e.1) many i entry at (passes_alone entry target needs gained.1.1) in
-        elim (any_split table (passes target needs) front middle behind passing) [
+        elim (split (passes target needs) passing) [
           | inl around ↦ not_both (grants_allow few target needs) (some_allows few target needs around) gained.1.2
-          | inr between ↦ not_both (grants_allow few target needs) (enough target needs gained.1.0 (some_allows (flat table middle) target needs between)) gained.1.2
+          | inr own ↦ not_both (grants_allow few target needs) (enough target needs gained.1.0 (some_allows between target needs own)) gained.1.2
         ]
+
+-- a list without some grants allows all that it does where it allows all that these do
+pub around_enough : (table : Table) (front middle behind : List Grant) → AllowsAll (flat table (front ++ behind)) (flat table middle)
+    → AllowsAll (flat table (front ++ behind)) (flat table (front ++ (middle ++ behind)))
+around_enough table front middle behind =
+    enough_around (flat table (front ++ behind)) (flat table middle) (flat table (front ++ (middle ++ behind))) (λ test. any_split table test front middle behind)
 
 pub silent_from_all : (grants others : Flat) → AllowsAll grants others → ¬ Widens grants others
 silent_from_all grants others all gained =
     not_both (grants_allow grants gained.0.target gained.0.needs) (all gained.0.target gained.0.needs gained.1.0 gained.1.1) gained.1.2
 
-along : (grants others rest whole : Flat) → rest ≡ grants → whole ≡ others → AllowsAll rest whole → AllowsAll grants others
+pub along : (grants others rest whole : Flat) → rest ≡ grants → whole ≡ others → AllowsAll rest whole → AllowsAll grants others
 along grants others rest whole p q all = subst (λ l. AllowsAll l others) p (subst (AllowsAll rest) q all)
 
 -- what an answer says of equal lists

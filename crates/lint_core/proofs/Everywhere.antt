@@ -1,5 +1,5 @@
 -- What holds of each sampled ticket holds at every address.
-use Rattle.std.proofs.Common.{◌≡◌, ◌≢◌, ℕ, ◌+◌, ◌<◌, zero, suc, List, [], ◌∷◌, ◌++◌, Bool, true, false, not, ◌&&◌, ◌||◌, Option, None, Some, MatchOption, map, filter, length, get_or, All, IsTrue, ◌↔◌, refl, sym, ap, subst, ◌∙◌, arith}
+use Rattle.std.proofs.Common.{◌≡◌, ◌≢◌, ℕ, ◌+◌, ◌<◌, zero, suc, List, [], ◌∷◌, ◌++◌, Bool, true, false, not, ◌&&◌, ◌||◌, Option, None, Some, MatchOption, map, filter, length, get_or, All, IsTrue, ◌↔◌, ◌⊎◌, inl, inr, refl, sym, ap, subst, ◌∙◌, arith}
 use Rattle.std.specs.List.{Contains, list_any, slice_get}
 use Rattle.std.proofs.lemmas.Bool.{false≢true}
 use Rattle.std.proofs.lemmas.List.{get_or-map, length-map}
@@ -14,8 +14,9 @@ use Rattle.verdict_core.specs.Ticket.{Ticket}
 use Rattle.verdict_core.specs.Verdict.{covers, is_covered, is_usable}
 use Rattle.compare_core.proofs.Bools.{all_also, both, both_left, both_right}
 use Rattle.lint_core.specs.Lint.{AllowsAll}
-use Rattle.lint_core.specs.RightsLint.{CoversIn, IsFirstCoverIn, IsRedundantIn, NoneCovers, is_part, part}
+use Rattle.lint_core.specs.RightsLint.{CoversIn, IsFirstCoverIn, IsRedundantIn, NoneCovers, begins_with, is_part, part}
 use Rattle.lint_core.specs.Sampled.{AreSampled}
+use Rattle.lint_core.proofs.Allowed.{along, enough_around, through}
 
 contains_map : (f : Address → Ticket) (xs : List Address) → All (λ x. Contains (map f xs) (f x)) xs
 contains_map f xs =
@@ -53,6 +54,14 @@ either : (a b c : Bool) → (b ≡ true → c ≡ true) → (a || b) ≡ true �
 either true b c more h = refl
 either false b c more h = more h
 
+sooner : (a b : Bool) → a ≡ true → (a || b) ≡ true
+sooner true b h = refl
+sooner false b h = absurd (false≢true h)
+
+or_cases : (a b : Bool) → (a || b) ≡ true → (a ≡ true) ⊎ (b ≡ true)
+or_cases true b h = inl refl
+or_cases false b h = inr h
+
 later : (a b : Bool) → b ≡ true → (a || b) ≡ true
 later true b h = refl
 later false b h = h
@@ -72,6 +81,35 @@ fewer own number grants target needs asked h =
     both _ _ (any_kept (is_part own number) (λ entry. is_usable entry.1 target needs) grants (both_left _ _ h))
     (all_also (is_covered few target needs) (is_covered grants target needs) needs.calls
     (λ call. any_kept (is_part own number) (λ entry. is_usable entry.1 target needs && covers entry.1.access call) grants) (both_right (list_any (λ entry. is_usable entry.1 target needs) few) _ h))
+
+-- ---- one grant and the others are all
+
+parted_step : (number : ℕ) (test : List ℕ × AllowGrant → Bool) (x : List ℕ × AllowGrant) (xs : Flat) (b : Bool) → begins_with number x.0 ≡ b → (test x || list_any test xs) ≡ true
+    → (list_any test xs ≡ true → (list_any test (part false number xs) ≡ true) ⊎ (list_any test (part true number xs) ≡ true))
+    → (list_any test (part false number (x ∷ xs)) ≡ true) ⊎ (list_any test (part true number (x ∷ xs)) ≡ true)
+parted_step number test x xs true e h more = rw e (elim (or_cases (test x) (list_any test xs) h) [
+  | inl here ↦ inr (sooner (test x) (list_any test (part true number xs)) here)
+  | inr there ↦ elim (more there) [ inl other ↦ inl other | inr own ↦ inr (later (test x) (list_any test (part true number xs)) own) ]
+])
+parted_step number test x xs false e h more = rw e (elim (or_cases (test x) (list_any test xs) h) [
+  | inl here ↦ inl (sooner (test x) (list_any test (part false number xs)) here)
+  | inr there ↦ elim (more there) [ inl other ↦ inl (later (test x) (list_any test (part false number xs)) other) | inr own ↦ inr own ]
+])
+
+any_parted : (number : ℕ) (test : List ℕ × AllowGrant → Bool) (grants : Flat) → list_any test grants ≡ true
+    → (list_any test (part false number grants) ≡ true) ⊎ (list_any test (part true number grants) ≡ true)
+any_parted number test [] h = inl h
+any_parted number test (x ∷ xs) h = parted_step number test x xs (begins_with number x.0) refl h (any_parted number test xs)
+
+-- what an answer on one grant says of all
+pub others_answer : (number : ℕ) (grants rest own : Flat) (all : Bool) → (IsTrue all ↔ AllowsAll rest own) → rest ≡ part false number grants → own ≡ part true number grants
+    → IsTrue all ↔ AllowsAll (part false number grants) grants
+others_answer number grants rest own all answer p q =
+    let few : Flat = part false number grants in
+    let alone : Flat = part true number grants in (
+      λ yes. enough_around few alone grants (λ test. any_parted number (λ entry. test entry.1) grants) (along few alone rest own p q (answer.0 yes)),
+      λ enough. answer.1 (along rest own few alone (sym p) (sym q) (through few grants alone enough (fewer true number grants))),
+    )
 
 -- ---- redundant or not
 

@@ -107,7 +107,7 @@ tidied_all table grants kept list tidied tidy same is =
     subst (λ l. IsTidied table l tidied) same (subst (IsTidied table grants) (sym is) (record {
       kept = tidy.among;
       same = (tidy.same, tidy.no_more);
-      needed = λ place within needless. tidy.needed place within (through (flat table (remove kept place)) (flat table kept) (flat table grants) needless.0 tidy.same);
+      needed = λ place within redundant. tidy.needed place within (through (flat table (remove kept place)) (flat table kept) (flat table grants) redundant.0 tidy.same);
       first_stay = tidy.chosen;
     }))
 

@@ -17,7 +17,7 @@ use Rattle.grant_core.specs.Refusal.{first_fault, has_profile, list_fault}
 use Rattle.grant_core.specs.declared.fault.ExpandFault.{ExpandFault}
 use Rattle.grant_core.specs.declared.fault.ExpandFault.TheVariants.{TooLarge, UnknownProfile}
 use Rattle.compare_core.proofs.Bools.{both, both_left, both_right}
-use Rattle.lint_core.specs.Lint.{AllowsAll, IsNeedless, alone}
+use Rattle.lint_core.specs.Lint.{AllowsAll, IsRedundant, alone}
 use Rattle.lint_core.proofs.Allowed.{more}
 use Rattle.lint_core.specs.Parts.{CanExpand}
 
@@ -133,8 +133,8 @@ without table grants place whole =
     (part table (take place grants) (alone grants place) (drop (suc place) grants) (subst (CanExpand table) (whole_again grants place) whole))
 
 -- the whole list allows all that it allows without a grant
-pub needless_by : (table : Table) (grants : List Grant) (place : ℕ) → AllowsAll (flat table (remove grants place)) (flat table grants) → IsNeedless table grants place
-needless_by table grants place all = (
+pub redundant_by : (table : Table) (grants : List Grant) (place : ℕ) → AllowsAll (flat table (remove grants place)) (flat table grants) → IsRedundant table grants place
+redundant_by table grants place all = (
   all,
   subst (λ l. AllowsAll (flat table l) (flat table (remove grants place))) (sym (whole_again grants place))
       (more table (take place grants) (alone grants place) (drop (suc place) grants)),

@@ -11,7 +11,7 @@ use Rattle.request_types.specs.declared.request.Needs.{Needs}
 use Rattle.compare_core.specs.Widening.{CanBeAsked}
 use Rattle.compare_core.specs.declared.registry.Registry.TheVariants.{Every}
 use Rattle.lint_core.specs.declared.findings.Standing.{Standing}
-use Rattle.lint_core.specs.declared.findings.Standing.TheVariants.{Needed, Needless, Covered}
+use Rattle.lint_core.specs.declared.findings.Standing.TheVariants.{Needed, CoveredTogether, Covered}
 
 -- every request that can be asked and that the other grants allow, these allow too, over every class registry
 abbrev pub AllowsAll : Flat → Flat → Type 0
@@ -22,8 +22,8 @@ abbrev pub AllowSame : Flat → Flat → Type 0
 AllowSame grants others = AllowsAll grants others × AllowsAll others grants
 
 -- without the grant at this place the list allows the same
-abbrev pub IsNeedless : Table → List Grant → ℕ → Type 0
-IsNeedless table grants place = AllowSame (flat table (remove grants place)) (flat table grants)
+abbrev pub IsRedundant : Table → List Grant → ℕ → Type 0
+IsRedundant table grants place = AllowSame (flat table (remove grants place)) (flat table grants)
 
 -- the grant at a place, alone
 abbrev pub alone : List Grant → ℕ → List Grant
@@ -43,9 +43,9 @@ pub record IsFirstCover (table : Table) (grants : List Grant) (place number : �
 
 -- how the grant at a place stands to the others
 abbrev pub IsStanding : Table → List Grant → ℕ → Standing → Type 0
-IsStanding table grants place Needed = ¬ IsNeedless table grants place
-IsStanding table grants place Needless = IsNeedless table grants place × ((other : ℕ) → other < length grants → ¬ Covers table grants place other)
-IsStanding table grants place (Covered number) = IsNeedless table grants place × IsFirstCover table grants place number
+IsStanding table grants place Needed = ¬ IsRedundant table grants place
+IsStanding table grants place CoveredTogether = IsRedundant table grants place × ((other : ℕ) → other < length grants → ¬ Covers table grants place other)
+IsStanding table grants place (Covered number) = IsRedundant table grants place × IsFirstCover table grants place number
 
 -- how each grant stands to the others, in the list's order
 pub record AreStandings (table : Table) (grants : List Grant) (standings : List Standing) : Type 0 where
@@ -71,5 +71,5 @@ AreKept table list front (grant ∷ behind) kept =
 pub record IsTidied (table : Table) (grants tidied : List Grant) : Type 0 where
   pub kept : IsSublist tidied grants
   pub same : AllowSame (flat table tidied) (flat table grants)
-  pub needed : (place : ℕ) → place < length tidied → ¬ IsNeedless table tidied place
+  pub needed : (place : ℕ) → place < length tidied → ¬ IsRedundant table tidied place
   pub first_stay : AreKept table grants [] grants tidied

@@ -12,7 +12,7 @@ use Rattle.share_core.specs.Pools.{is_for}
 use Rattle.share_core.specs.declared.pools.Pool.{Pool}
 use Rattle.lint_core.specs.Lint.{AllowSame, AllowsAll}
 use Rattle.lint_core.specs.declared.findings.Standing.{Standing}
-use Rattle.lint_core.specs.declared.findings.Standing.TheVariants.{Needed, Needless, Covered}
+use Rattle.lint_core.specs.declared.findings.Standing.TheVariants.{Needed, CoveredTogether, Covered}
 use Rattle.lint_core.specs.declared.rights_lint.GrantLint.{GrantLint}
 use Rattle.lint_core.specs.declared.rights_lint.Reach.{Reach}
 use Rattle.lint_core.specs.declared.rights_lint.Reach.TheVariants.{Bounded, EveryPoolByPrefix, EveryPool}
@@ -53,7 +53,7 @@ pub record IsFirstCoverIn (rights : Rights) (count number found : ℕ) : Type 0 
 -- how the grant of a number stands to the others, where the text has `count` grants
 abbrev pub IsStandingIn : Rights → ℕ → ℕ → Standing → Type 0
 IsStandingIn rights count number Needed = ¬ IsRedundantIn rights number
-IsStandingIn rights count number Needless = IsRedundantIn rights number × NoneCovers rights number count
+IsStandingIn rights count number CoveredTogether = IsRedundantIn rights number × NoneCovers rights number count
 IsStandingIn rights count number (Covered found) = IsRedundantIn rights number × IsFirstCoverIn rights count number found
 
 -- whether the grant of a number expands to some grant that passes a test

@@ -18,7 +18,7 @@ pub enum Standing {
     /// Without it the list allows less.
     Needed,
     /// Without it the list allows the same, though no other grant alone allows all that it allows.
-    Needless,
+    CoveredTogether,
     /// Without it the list allows the same. The grant of this number, counted from 1, is the first other one that alone
     /// allows all that it allows.
     Covered(usize),
@@ -64,7 +64,7 @@ fn standing_at(
         return Ok(Standing::Needed);
     }
     match first_cover(alloc, table, grants, place)? {
-        None => Ok(Standing::Needless),
+        None => Ok(Standing::CoveredTogether),
         Some(number) => Ok(Standing::Covered(number)),
     }
 }

@@ -1,8 +1,9 @@
 //! How each grant of a text that Ceph's rules expand stands to the others, at every address.
 
-ghost use Rattle.std.specs.Prelude.{◌≡◌, ◌<◌, ◌^◌, ◌↔◌, IfOk, IsTrue, MatchOption, option_copied};
+ghost use Rattle.std.specs.Prelude.{◌≡◌, ◌<◌, ◌^◌, ◌↔◌, false, IfOk, IsTrue, MatchOption, option_copied};
 ghost use Rattle.lint_core.specs.RightsLint as spec;
-ghost use Rattle.lint_core.specs.RightsLint.{AreLintsIn, CoversIn, IsFirstCoverIn, IsLintIn, IsRedundantIn, IsStandingIn, NoneCovers};
+ghost use Rattle.lint_core.specs.Lint.{AllowsAll};
+ghost use Rattle.lint_core.specs.RightsLint.{AreLintsIn, CoversIn, IsFirstCoverIn, IsLintIn, IsRedundantIn, IsStandingIn, NoneCovers, part};
 ghost use Rattle.lint_core.specs.Sampled.{AreSampled};
 
 use crate::findings::Standing;
@@ -48,6 +49,16 @@ fn sampled(alloc: Global, rights: &Rights) -> Result<Vec<Ticket>, OutOfMemory>
     Ok(tickets)
 }
 
+/// Whether all grants but that of a number allow the same as all. They do if they allow all that it allows.
+fn others_allow_all(alloc: Global, number: usize, ticket: &Ticket) -> Result<bool, OutOfMemory>
+    ensures { IfOk result (λ all. IsTrue all ↔ AllowsAll (part false number ticket.now.grants) ticket.now.grants) }
+{
+    let others = part(alloc, false, number, ticket)?;
+    let own = part(alloc, true, number, ticket)?;
+    let all = allows_all(alloc, &others, &own)?;
+    Ok(all)
+}
+
 /// Whether at every address the other grants allow the same as all. The tickets decide for all addresses.
 fn is_redundant(
     alloc: Global,
@@ -59,8 +70,7 @@ fn is_redundant(
     ensures { IfOk result (λ redundant. IsTrue redundant ↔ IsRedundantIn rights.now number) }
 {
     for ticket in tickets {
-        let others = part(alloc, false, number, ticket)?;
-        if !allows_all(alloc, &others, ticket)? {
+        if !others_allow_all(alloc, number, ticket)? {
             return Ok(false);
         }
     }
@@ -127,7 +137,7 @@ fn standing_of(
         return Ok(Standing::Needed);
     }
     match first_cover(alloc, rights, tickets, count, number)? {
-        None => Ok(Standing::Needless),
+        None => Ok(Standing::CoveredTogether),
         Some(found) => Ok(Standing::Covered(found)),
     }
 }
@@ -184,8 +194,8 @@ fn lint_of(
 /// registry. Each grant is checked alone: of two equal grants each is redundant, but only one can be removed. Pools are
 /// checked if they are given. The only error is out of memory.
 ///
-/// It takes a comparison of the whole text for each grant and each sample address, and for a redundant one a comparison with
-/// each other grant.
+/// For each grant and each sample address it takes a comparison of the grant alone with all others, and for a redundant one a
+/// comparison with each other grant.
 pub fn lint_rights(
     alloc: Global,
     rights: &Rights,

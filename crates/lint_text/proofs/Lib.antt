@@ -1,3 +1,3 @@
 pub mod Stepped
-pub mod ReadLists
 pub mod CephFound
+pub mod KeptLists

@@ -18,7 +18,7 @@ use Rattle.verdict_text.specs.Reading.{AreGrantsOf, IsCephFaultOf, fault_text}
 use Rattle.verdict_text.specs.Text.{refused_text}
 use Rattle.verdict_text.specs.declared.entity.Entity.{Entity}
 use Rattle.verdict_text.specs.declared.reading.TextFault.{TextFault}
-use Rattle.lint_text.specs.Linted.{is_needless, or_nothing, pool_line, standing_line}
+use Rattle.lint_text.specs.Linted.{is_redundant, or_nothing, pool_line, standing_line}
 
 -- a line behind what stands before it
 abbrev pub line_of : List ℕ → ℕ → List ℕ → List ℕ
@@ -45,7 +45,7 @@ all_lines before number [] = []
 all_lines before number (found ∷ others) = found_lines before number found ++ all_lines before (number + 1) others
 
 abbrev pub is_mistake : GrantLint → Bool
-is_mistake found = found.nothing || (found.dead || (is_needless found.standing || found.without_pool))
+is_mistake found = found.nothing || (found.dead || (is_redundant found.standing || found.without_pool))
 
 -- Ceph reads these grants of the text, and this is found of them
 pub record AreFound (pools : Option (List Pool)) (caps : List ℕ) (all : List GrantLint) : Type 0 where
@@ -79,18 +79,22 @@ abbrev pub IsCephLintAnswer : Option (List Pool) → Bool → List ℕ → List 
 IsCephLintAnswer pools check caps text fails = IsCephLinted pools check caps text fails ⊎ IsCephRefusal caps text fails
 
 -- the lines of an entity's grants, behind its name
-pub record IsCephEntityLinted (pools : Option (List Pool)) (check : Bool) (entity : Entity) (text : List ℕ) (fails : Bool) : Type 0 where
+pub record IsCephEntityLinted (pools : Option (List Pool)) (check : Bool) (name caps text : List ℕ) (fails : Bool) : Type 0 where
   pub all : List GrantLint
-  pub found : AreFound pools (string_bytes entity.osd) all
-  pub printed : text ≡ all_lines (shown (string_bytes entity.name) ++ codes " ") 1 all
+  pub found : AreFound pools caps all
+  pub printed : text ≡ all_lines (shown name ++ codes " ") 1 all
   pub ends : fails ≡ (check && list_any is_mistake all)
 
 -- an entity of no text, or of one that Ceph refuses, is left out
-abbrev pub IsCephLeftOut : Entity → List ℕ → Bool → Type 0
-IsCephLeftOut entity text fails = (fault : TextFault) × IsCephFaultOf (string_bytes entity.osd) fault × (text ≡ []) × (fails ≡ false)
+abbrev pub IsCephLeftOut : List ℕ → List ℕ → Bool → Type 0
+IsCephLeftOut caps text fails = (fault : TextFault) × IsCephFaultOf caps fault × (text ≡ []) × (fails ≡ false)
+
+-- what is printed of an entity of a name and a text
+abbrev pub IsCephNameTold : Option (List Pool) → Bool → List ℕ → List ℕ → List ℕ → Bool → Type 0
+IsCephNameTold pools check name caps text fails = IsCephEntityLinted pools check name caps text fails ⊎ IsCephLeftOut caps text fails
 
 abbrev pub IsCephEntityTold : Option (List Pool) → Bool → Entity → List ℕ → Bool → Type 0
-IsCephEntityTold pools check entity text fails = IsCephEntityLinted pools check entity text fails ⊎ IsCephLeftOut entity text fails
+IsCephEntityTold pools check entity text fails = IsCephNameTold pools check (string_bytes entity.name) (string_bytes entity.osd) text fails
 
 -- what is printed of some entities, in order, and whether the command fails, which it does where it fails for one
 abbrev pub AreCephLinted : Option (List Pool) → Bool → List Entity → List ℕ → Bool → Type 0

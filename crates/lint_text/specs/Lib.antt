@@ -1,3 +1,4 @@
 pub mod Linted
 pub mod Judged
 pub mod CephLinted
+pub mod ReadLinted

@@ -11,7 +11,7 @@ use Rattle.grant_core.specs.Refusal.{expand_refusal}
 use Rattle.lint_core.specs.Lint.{AreStandings, IsTidied}
 use Rattle.lint_core.specs.Pools.{without_pools}
 use Rattle.lint_core.specs.declared.findings.Standing.{Standing}
-use Rattle.lint_core.specs.declared.findings.Standing.TheVariants.{Needed, Needless, Covered}
+use Rattle.lint_core.specs.declared.findings.Standing.TheVariants.{Needed, CoveredTogether, Covered}
 use Rattle.share_core.specs.declared.pools.Pool.{Pool}
 use Rattle.verdict_text.specs.Caret.{shown}
 use Rattle.verdict_text.specs.Reading.{IsFaultOf, fault_text}
@@ -23,7 +23,7 @@ use Rattle.verdict_text.specs.declared.entity.Entity.{Entity}
 -- the line of a grant's number, behind what stands before it; a grant that is needed has none
 abbrev pub standing_line : List ℕ → ℕ → Standing → List ℕ
 standing_line before number Needed = []
-standing_line before number Needless = before ++ (decimal number ++ codes " redundant\n")
+standing_line before number CoveredTogether = before ++ (decimal number ++ codes " redundant\n")
 standing_line before number (Covered cover) = before ++ (decimal number ++ (codes " redundant, by " ++ (decimal cover ++ codes "\n")))
 
 -- the grant names neither a pool nor a tag
@@ -50,14 +50,14 @@ lines_from before number (grant ∷ grants) (standing ∷ standings) [] = []
 lines_from before number (grant ∷ grants) (standing ∷ standings) (none ∷ without) =
     standing_line before number standing ++ (reach_line before number grant ++ (pool_line before number none ++ lines_from before (number + 1) grants standings without))
 
-abbrev pub is_needless : Standing → Bool
-is_needless Needed = false
-is_needless Needless = true
-is_needless (Covered cover) = true
+abbrev pub is_redundant : Standing → Bool
+is_redundant Needed = false
+is_redundant CoveredTogether = true
+is_redundant (Covered cover) = true
 
 -- some grant is redundant, or matches no pool
 abbrev pub has_mistake : List Standing → List Bool → Bool
-has_mistake standings without = list_any is_needless standings || list_any (λ none. none) without
+has_mistake standings without = list_any is_redundant standings || list_any (λ none. none) without
 
 -- the text spells grants that are expanded by the built-in profiles
 abbrev pub SpellsList : List ℕ → List Grant → Type 0
@@ -74,14 +74,16 @@ pub record IsRefusal (caps text : List ℕ) (fails : Bool) : Type 0 where
 abbrev pub or_nothing : List ℕ → List ℕ
 or_nothing lines = if length lines == 0 then codes "nothing redundant\n" else lines
 
--- The lines of each grant of a text. With a check it fails if some grant is redundant or matches no pool.
-pub record IsLinted (pools : Option (List Pool)) (check : Bool) (caps text : List ℕ) (fails : Bool) : Type 0 where
-  pub grants : List Grant
-  pub spelled : SpellsList caps grants
+-- The lines of each grant of a list. With a check it fails if some grant is redundant or matches no pool.
+pub record IsListLinted (pools : Option (List Pool)) (check : Bool) (grants : List Grant) (text : List ℕ) (fails : Bool) : Type 0 where
   pub standings : List Standing
   pub are : AreStandings built_in grants standings
   pub printed : text ≡ or_nothing (lines_from [] 1 grants standings (poolless_by pools grants))
   pub ends : fails ≡ (check && has_mistake standings (poolless_by pools grants))
+
+-- the lines of each grant of a text
+abbrev pub IsLinted : Option (List Pool) → Bool → List ℕ → List ℕ → Bool → Type 0
+IsLinted pools check caps text fails = (grants : List Grant) × SpellsList caps grants × IsListLinted pools check grants text fails
 
 -- what is printed of a text, and whether the command fails
 abbrev pub IsLintAnswer : Option (List Pool) → Bool → List ℕ → List ℕ → Bool → Type 0
@@ -105,32 +107,40 @@ pub record IsTooLong (tidied : List Grant) (text : List ℕ) (fails : Bool) : Ty
 abbrev pub IsTidyForm : Bool → List Grant → List Grant → List ℕ → Bool → Type 0
 IsTidyForm check grants tidied text fails = IsTidyLine check grants tidied text fails ⊎ IsTooLong tidied text fails
 
--- the text without redundant grants
-pub record IsTidyText (check : Bool) (caps text : List ℕ) (fails : Bool) : Type 0 where
-  pub grants : List Grant
-  pub spelled : SpellsList caps grants
+-- a list without redundant grants
+pub record IsListTidied (check : Bool) (grants : List Grant) (text : List ℕ) (fails : Bool) : Type 0 where
   pub tidied : List Grant
   pub is : IsTidied built_in grants tidied
   pub printed_so : IsTidyForm check grants tidied text fails
 
+-- the text without redundant grants
+abbrev pub IsTidyText : Bool → List ℕ → List ℕ → Bool → Type 0
+IsTidyText check caps text fails = (grants : List Grant) × SpellsList caps grants × IsListTidied check grants text fails
+
 abbrev pub IsTidyAnswer : Bool → List ℕ → List ℕ → Bool → Type 0
 IsTidyAnswer check caps text fails = IsTidyText check caps text fails ⊎ IsRefusal caps text fails
 
--- the lines of each grant of an entity, behind its name
-pub record IsEntityLinted (pools : Option (List Pool)) (check : Bool) (entity : Entity) (text : List ℕ) (fails : Bool) : Type 0 where
-  pub grants : List Grant
-  pub spelled : SpellsList (string_bytes entity.osd) grants
+-- the lines of each grant of a list, behind the name of its entity
+pub record IsEntityListLinted (pools : Option (List Pool)) (check : Bool) (name : List ℕ) (grants : List Grant) (text : List ℕ) (fails : Bool) : Type 0 where
   pub standings : List Standing
   pub are : AreStandings built_in grants standings
-  pub printed : text ≡ lines_from (shown (string_bytes entity.name) ++ codes " ") 1 grants standings (poolless_by pools grants)
+  pub printed : text ≡ lines_from (shown name ++ codes " ") 1 grants standings (poolless_by pools grants)
   pub ends : fails ≡ (check && has_mistake standings (poolless_by pools grants))
 
+-- the lines of each grant of an entity, behind its name
+abbrev pub IsEntityLinted : Option (List Pool) → Bool → List ℕ → List ℕ → List ℕ → Bool → Type 0
+IsEntityLinted pools check name caps text fails = (grants : List Grant) × SpellsList caps grants × IsEntityListLinted pools check name grants text fails
+
 -- an entity whose text is refused is left out
-abbrev pub IsLeftOut : Entity → List ℕ → Bool → Type 0
-IsLeftOut entity text fails = (fault : TextFault) × IsFaultOf (string_bytes entity.osd) fault × (text ≡ []) × (fails ≡ false)
+abbrev pub IsLeftOut : List ℕ → List ℕ → Bool → Type 0
+IsLeftOut caps text fails = (fault : TextFault) × IsFaultOf caps fault × (text ≡ []) × (fails ≡ false)
+
+-- what is printed of an entity of a name and a text
+abbrev pub IsNameTold : Option (List Pool) → Bool → List ℕ → List ℕ → List ℕ → Bool → Type 0
+IsNameTold pools check name caps text fails = IsEntityLinted pools check name caps text fails ⊎ IsLeftOut caps text fails
 
 abbrev pub IsEntityTold : Option (List Pool) → Bool → Entity → List ℕ → Bool → Type 0
-IsEntityTold pools check entity text fails = IsEntityLinted pools check entity text fails ⊎ IsLeftOut entity text fails
+IsEntityTold pools check entity text fails = IsNameTold pools check (string_bytes entity.name) (string_bytes entity.osd) text fails
 
 -- what is printed of some entities, in order, and whether the command fails, which it does where it fails for one
 abbrev pub AreLinted : Option (List Pool) → Bool → List Entity → List ℕ → Bool → Type 0

@@ -1,10 +1,11 @@
 //! What is printed by Ceph's rules.
 
-ghost use Rattle.std.specs.Prelude.{◌≡◌, ◌++◌, ◌&&◌, [], codes, option_copied, IfOk, OnOk, string_bytes};
+ghost use Rattle.std.specs.Prelude.{◌≡◌, ◌++◌, ◌&&◌, [], false, codes, option_copied, IfOk, OnOk, string_bytes};
 ghost use Rattle.std.specs.List.{list_any};
 ghost use Rattle.verdict_text.specs.Caret.{shown};
-ghost use Rattle.lint_text.specs.CephLinted.{AreCephLinted, IsCephEntityTold, IsCephLintAnswer, IsFoundOf, all_lines, found_lines, is_mistake, line_of, live_lines, reach_line};
-ghost use Rattle.lint_text.specs.Linted.{is_needless, or_nothing};
+ghost use Rattle.verdict_text.specs.declared.reading.Rules.TheVariants as by;
+ghost use Rattle.lint_text.specs.CephLinted.{AreCephLinted, IsCephEntityTold, IsCephLintAnswer, IsCephNameTold, IsFoundOf, all_lines, found_lines, is_mistake, line_of, live_lines, reach_line};
+ghost use Rattle.lint_text.specs.Linted.{is_redundant, or_nothing};
 
 use crate::lines::{push_standing, push_without};
 use crate::texts::refused;
@@ -12,7 +13,9 @@ use common_types::OutOfMemory;
 use lint_core::{GrantLint, Pool, Reach, Standing, lint_rights};
 use std::alloc::Global;
 use std::fmt::Write;
-use verdict_text::{Entity, Printed, TextFault, push_shown_text, read_ceph_rights};
+use verdict_text::{
+    Entity, Printed, ReadText, Spelled, TextFault, push_shown_text, read_ceph_rights,
+};
 
 /// Adds a line: what stands before it, the number of a grant, and words that end with a line feed.
 fn push_line(text: &mut String, before: &str, number: usize, words: &str) -> Result<(), OutOfMemory>
@@ -79,8 +82,8 @@ fn push_all(text: &mut String, before: &str, all: &[GrantLint]) -> Result<(), Ou
     Ok(())
 }
 
-fn is_needless(standing: Standing) -> bool
-    ensures { result ≡ is_needless standing }
+fn is_redundant(standing: Standing) -> bool
+    ensures { result ≡ is_redundant standing }
 {
     !matches!(standing, Standing::Needed)
 }
@@ -88,7 +91,7 @@ fn is_needless(standing: Standing) -> bool
 fn is_mistake(found: &GrantLint) -> bool
     ensures { result ≡ is_mistake found.now }
 {
-    found.nothing || found.dead || is_needless(found.standing) || found.without_pool
+    found.nothing || found.dead || is_redundant(found.standing) || found.without_pool
 }
 
 fn has_mistake(all: &[GrantLint]) -> bool
@@ -114,6 +117,26 @@ pub(crate) fn found_of(
     }
 }
 
+/// What is found of the grants of a text that was read by Ceph's rules, or why Ceph reads none. The empty text alone, which Ceph
+/// refuses, is read again. An `Err` is out of memory alone.
+#[tactic(auto, using(crate::proofs::KeptLists::found_counted))]
+pub(crate) fn found_read(
+    alloc: Global,
+    text: &ReadText,
+    pools: Option<&[Pool]>,
+) -> Result<Result<Vec<GrantLint>, TextFault>, OutOfMemory>
+    requires { text.now.rules ≡ by.Ceph }
+    ensures { IfOk result (λ found. IsFoundOf (option_copied pools.entry) text.now.text found) }
+{
+    match text.read() {
+        Err(fault) => Ok(Err(*fault)),
+        Ok(rights) => match text.spelled() {
+            Spelled::Counted(count) => Ok(Ok(lint_rights(alloc, rights, *count, pools)?)),
+            Spelled::Nothing | Spelled::Listed(_) => found_of(alloc, text.text(), pools),
+        },
+    }
+}
+
 /// What is printed of a text whose grants are looked at.
 fn linted(alloc: Global, all: &[GrantLint], check: bool) -> Result<Printed, OutOfMemory>
     ensures text { IfOk result (λ printed. string_bytes printed.text ≡ or_nothing (all_lines [] 1 all.now)) }
@@ -128,6 +151,22 @@ fn linted(alloc: Global, all: &[GrantLint], check: bool) -> Result<Printed, OutO
         text,
         fails: check && has_mistake(all),
     })
+}
+
+/// What is printed of a text that was read by Ceph's rules.
+pub(crate) fn lint_ceph_read(
+    alloc: Global,
+    text: &ReadText,
+    pools: Option<&[Pool]>,
+    check: bool,
+) -> Result<Printed, OutOfMemory>
+    requires { text.now.rules ≡ by.Ceph }
+    ensures { IfOk result (λ printed. IsCephLintAnswer (option_copied pools.entry) check text.now.text (string_bytes printed.text) printed.fails) }
+{
+    match found_read(alloc, text, pools)? {
+        Ok(all) => linted(alloc, all.as_slice(), check),
+        Err(fault) => refused(alloc, fault),
+    }
 }
 
 /// What the program prints of the grants of a capability text that nobody needs, by Ceph's rules and at every address.
@@ -178,7 +217,35 @@ fn linted_entity(
     })
 }
 
-/// What is printed of an entity. One of no text, or of one that Ceph refuses, is left out.
+/// What is printed of an entity that is left out: one of no text, or of one that Ceph refuses.
+fn nothing(alloc: Global) -> Printed
+    ensures text { string_bytes result.text ≡ [] }
+    ensures fails { result.fails ≡ false }
+{
+    Printed {
+        text: String::new(alloc),
+        fails: false,
+    }
+}
+
+/// What is printed of an entity of a name whose text was read by Ceph's rules.
+pub(crate) fn told_ceph(
+    alloc: Global,
+    name: &str,
+    text: &ReadText,
+    pools: Option<&[Pool]>,
+    check: bool,
+) -> Result<Printed, OutOfMemory>
+    requires { text.now.rules ≡ by.Ceph }
+    ensures { IfOk result (λ printed. IsCephNameTold (option_copied pools.entry) check name.now text.now.text (string_bytes printed.text) printed.fails) }
+{
+    match found_read(alloc, text, pools)? {
+        Ok(all) => linted_entity(alloc, name, all.as_slice(), check),
+        Err(_) => Ok(nothing(alloc)),
+    }
+}
+
+/// What is printed of an entity.
 fn told(
     alloc: Global,
     entity: &Entity,
@@ -189,10 +256,7 @@ fn told(
 {
     match found_of(alloc, entity.osd.as_str(), pools)? {
         Ok(all) => linted_entity(alloc, entity.name.as_str(), all.as_slice(), check),
-        Err(_) => Ok(Printed {
-            text: String::new(alloc),
-            fails: false,
-        }),
+        Err(_) => Ok(nothing(alloc)),
     }
 }
 

@@ -21,6 +21,6 @@ mod reading;
 mod texts;
 
 pub use ceph::{lint_ceph_caps, lint_ceph_entities};
-pub use entities::lint_entities;
-pub use found::found_grants;
-pub use texts::{lint_caps, tidy_caps};
+pub use entities::{lint_entities, lint_read_entities};
+pub use found::{found_grants, found_read_grants};
+pub use texts::{lint_caps, lint_read, tidy_caps, tidy_read};

@@ -3,7 +3,7 @@
 ghost use Rattle.std.specs.Prelude.{◌≡◌, ◌≤◌, ◌++◌, length, string_bytes, OnOk};
 ghost use Rattle.std.specs.List.{list_any};
 ghost use Rattle.lint_text.specs.Linted as spec;
-ghost use Rattle.lint_text.specs.Linted.{has_mistake, is_needless, lines_from, pool_line, reach_line, standing_line};
+ghost use Rattle.lint_text.specs.Linted.{has_mistake, is_redundant, lines_from, pool_line, reach_line, standing_line};
 
 use cap_text::Grant;
 use common_types::OutOfMemory;
@@ -21,7 +21,7 @@ pub(crate) fn push_standing(
 {
     match standing {
         Standing::Needed => Ok(()),
-        Standing::Needless => write!(text, "{before}{number} redundant\n"),
+        Standing::CoveredTogether => write!(text, "{before}{number} redundant\n"),
         Standing::Covered(cover) => write!(text, "{before}{number} redundant, by {cover}\n"),
     }
 }
@@ -90,8 +90,8 @@ pub(crate) fn push_lines(
 }
 
 /// Whether some grant is redundant.
-fn any_needless(standings: &[Standing]) -> bool
-    ensures { result ≡ list_any is_needless standings.now }
+fn any_redundant(standings: &[Standing]) -> bool
+    ensures { result ≡ list_any is_redundant standings.now }
 {
     standings
         .iter()
@@ -109,5 +109,5 @@ fn any_without(without: &[bool]) -> bool
 pub(crate) fn is_mistaken(standings: &[Standing], without: &[bool]) -> bool
     ensures { result ≡ has_mistake standings.now without.now }
 {
-    any_needless(standings) || any_without(without)
+    any_redundant(standings) || any_without(without)
 }

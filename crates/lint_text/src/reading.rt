@@ -1,20 +1,21 @@
-//! A capability text, and how its grants stand to one another.
+//! The grants of a list, and how they stand to one another.
 
-ghost use Rattle.std.specs.Prelude.{◌≡◌, IfOk, option_copied};
+ghost use Rattle.std.specs.Prelude.{◌≡◌, None, IfOk, IfSome, option_copied};
 ghost use Rattle.grant_core.specs.BuiltIn.{built_in};
-ghost use Rattle.lint_text.specs.Judged.{IsJudgedList, IsJudgedText, IsKeptList, IsKeptText};
-ghost use Rattle.lint_text.specs.Linted.{poolless_by};
+ghost use Rattle.grant_core.specs.Refusal.{expand_refusal};
+ghost use Rattle.lint_text.specs.Judged.{IsExpanded, IsJudged, IsKept, IsListIn};
+ghost use Rattle.lint_text.specs.Linted.{SpellsList, poolless_by};
+ghost use Rattle.verdict_text.specs.declared.reading.Rules.TheVariants as by;
 
 use cap_text::{CapFault, CapList, FaultKind, parse};
 use common_types::OutOfMemory;
-use grant_core::{ExpandFault, ProfileTable};
+use grant_core::{ExpandFault, ProfileTable, expand};
 use lint_core::{Pool, Standing, redundancy, tidied, without_pool};
 use std::alloc::{AllocError, Global};
-use verdict_text::TextFault;
+use verdict_text::{ReadText, Spelled, TextFault};
 
-/// The grants of a text, and how each stands to the others.
+/// How the grants of a list stand to one another, and to the pools.
 pub(crate) struct Judged {
-    pub(crate) list: CapList,
     pub(crate) standings: Vec<Standing>,
     /// Whether each matches no pool, where pools are given.
     pub(crate) without: Vec<bool>,
@@ -23,22 +24,58 @@ pub(crate) struct Judged {
 impl Drop for Judged {
     fn drop(self) {
         let Judged {
-            list: _,
             standings: _,
             without: _,
         } = self;
     }
 }
 
-/// The grants of a text, and those that are kept.
-pub(crate) struct Kept {
-    pub(crate) list: CapList,
-    pub(crate) kept: CapList,
+/// A list, if the built-in profiles expand it, or why they do not. An `Err` is out of memory alone.
+fn expanded(
+    alloc: Global,
+    profiles: &ProfileTable,
+    list: CapList,
+) -> Result<Result<CapList, TextFault>, OutOfMemory>
+    requires { profiles.now ≡ built_in }
+    ensures { IfOk result (IsExpanded list) }
+{
+    match expand(alloc, profiles, &list) {
+        Ok(_) => Ok(Ok(list)),
+        Err(ExpandFault::OutOfMemory) => Err(AllocError),
+        Err(fault) => Ok(Err(TextFault::Expansion(fault))),
+    }
 }
 
-impl Drop for Kept {
-    fn drop(self) {
-        let Kept { list: _, kept: _ } = self;
+/// Reads a text: the list that it spells, or its first fault, by the built-in profiles. An `Err` is out of memory alone.
+pub(crate) fn list_of(
+    alloc: Global,
+    profiles: &ProfileTable,
+    caps: &str,
+) -> Result<Result<CapList, TextFault>, OutOfMemory>
+    requires { profiles.now ≡ built_in }
+    ensures { IfOk result (IsListIn caps.now) }
+{
+    match parse(alloc, caps) {
+        Ok(list) => expanded(alloc, profiles, list),
+        Err(
+            CapFault {
+                kind: FaultKind::OutOfMemory,
+                ..
+            },
+        ) => Err(AllocError),
+        Err(fault) => Ok(Err(TextFault::Spelling(fault))),
+    }
+}
+
+/// The list of a text that was read by this project's rules, if it is kept.
+#[tactic(auto, using(crate::proofs::KeptLists::listed))]
+pub(crate) fn listed(text: &ReadText) -> Option<&CapList>
+    requires { text.now.rules ≡ by.Project }
+    ensures { IfSome result (λ list. SpellsList text.now.text list.now) }
+{
+    match text.spelled() {
+        Spelled::Listed(list) => Some(list),
+        Spelled::Nothing | Spelled::Counted(_) => None,
     }
 }
 
@@ -62,99 +99,39 @@ fn without_pools(
     }
 }
 
-/// The grants of a list that is expanded, and how they stand to one another and to the pools.
-fn judged_with(
+/// How the grants of a list that can be expanded stand to one another and to the pools. An `Err` is out of memory alone.
+#[tactic(auto, using(crate::proofs::Stepped::poolless_length))]
+pub(crate) fn judged_of(
     alloc: Global,
     profiles: &ProfileTable,
-    list: CapList,
-    standings: Vec<Standing>,
+    list: &CapList,
     pools: Option<&[Pool]>,
 ) -> Result<Judged, OutOfMemory>
-    requires { profiles.now ≡ built_in }
-    ensures { IfOk result (λ judged. (judged.list ≡ list) × (judged.standings.items ≡ standings.items) × (judged.without.items ≡ poolless_by (option_copied pools.entry) list)) }
+    requires profiles { profiles.now ≡ built_in }
+    requires expands { expand_refusal built_in list.now ≡ None }
+    ensures { IfOk result (IsJudged (option_copied pools.entry) list.now) }
 {
-    let without = without_pools(alloc, profiles, &list, pools)?;
-    Ok(Judged {
-        list,
-        standings,
-        without,
-    })
-}
-
-/// How the grants of a list stand to one another and to the pools, or why it is not expanded.
-#[tactic(auto, using(crate::proofs::Stepped::poolless_length))]
-fn judged_list(
-    alloc: Global,
-    profiles: &ProfileTable,
-    list: CapList,
-    pools: Option<&[Pool]>,
-) -> Result<Result<Judged, TextFault>, OutOfMemory>
-    requires { profiles.now ≡ built_in }
-    ensures { IfOk result (λ judged. IsJudgedList (option_copied pools.entry) list judged) }
-{
-    match redundancy(alloc, profiles, &list) {
-        Ok(standings) => Ok(Ok(judged_with(alloc, profiles, list, standings, pools)?)),
-        Err(ExpandFault::OutOfMemory) => Err(AllocError),
-        Err(fault) => Ok(Err(TextFault::Expansion(fault))),
+    match redundancy(alloc, profiles, list) {
+        Ok(standings) => Ok(Judged {
+            standings,
+            without: without_pools(alloc, profiles, list, pools)?,
+        }),
+        Err(_) => Err(AllocError),
     }
 }
 
-/// Reads a text. How its grants stand to one another and to the pools, or its first fault, by the built-in profiles, which
-/// the caller makes once for all texts. An `Err` is out of memory alone.
-pub(crate) fn judged_text(
-    alloc: Global,
-    profiles: &ProfileTable,
-    caps: &str,
-    pools: Option<&[Pool]>,
-) -> Result<Result<Judged, TextFault>, OutOfMemory>
-    requires { profiles.now ≡ built_in }
-    ensures { IfOk result (λ judged. IsJudgedText (option_copied pools.entry) caps.now judged) }
-{
-    match parse(alloc, caps) {
-        Ok(list) => judged_list(alloc, profiles, list, pools),
-        Err(
-            CapFault {
-                kind: FaultKind::OutOfMemory,
-                ..
-            },
-        ) => Err(AllocError),
-        Err(fault) => Ok(Err(TextFault::Spelling(fault))),
-    }
-}
-
-/// What is kept of the grants of a list, or why it is not expanded.
-fn kept_list(
-    alloc: Global,
-    profiles: &ProfileTable,
-    list: CapList,
-) -> Result<Result<Kept, TextFault>, OutOfMemory>
-    requires { profiles.now ≡ built_in }
-    ensures { IfOk result (λ kept. IsKeptList list kept) }
-{
-    match tidied(alloc, profiles, &list) {
-        Ok(kept) => Ok(Ok(Kept { list, kept })),
-        Err(ExpandFault::OutOfMemory) => Err(AllocError),
-        Err(fault) => Ok(Err(TextFault::Expansion(fault))),
-    }
-}
-
-/// Reads a text. What is kept of its grants, or its first fault, by the built-in profiles. An `Err` is out of memory alone.
+/// Those grants of a list that can be expanded which are kept. An `Err` is out of memory alone.
 pub(crate) fn kept_of(
     alloc: Global,
     profiles: &ProfileTable,
-    caps: &str,
-) -> Result<Result<Kept, TextFault>, OutOfMemory>
-    requires { profiles.now ≡ built_in }
-    ensures { IfOk result (λ kept. IsKeptText caps.now kept) }
+    list: &CapList,
+) -> Result<CapList, OutOfMemory>
+    requires profiles { profiles.now ≡ built_in }
+    requires expands { expand_refusal built_in list.now ≡ None }
+    ensures { IfOk result (IsKept list.now) }
 {
-    match parse(alloc, caps) {
-        Ok(list) => kept_list(alloc, profiles, list),
-        Err(
-            CapFault {
-                kind: FaultKind::OutOfMemory,
-                ..
-            },
-        ) => Err(AllocError),
-        Err(fault) => Ok(Err(TextFault::Spelling(fault))),
+    match tidied(alloc, profiles, list) {
+        Ok(kept) => Ok(kept),
+        Err(_) => Err(AllocError),
     }
 }

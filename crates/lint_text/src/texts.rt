@@ -1,18 +1,23 @@
 //! What is printed of one capability text.
 
-ghost use Rattle.std.specs.Prelude.{◌≡◌, ◌&&◌, [], true, length, option_copied, IfOk, string_bytes};
+ghost use Rattle.std.specs.Prelude.{◌≡◌, ◌&&◌, [], None, true, length, option_copied, IfOk, string_bytes};
+ghost use Rattle.grant_core.specs.BuiltIn.{built_in};
+ghost use Rattle.grant_core.specs.Refusal.{expand_refusal};
 ghost use Rattle.verdict_text.specs.Reading.{fault_text};
 ghost use Rattle.verdict_text.specs.Text.{refused_text};
-ghost use Rattle.lint_text.specs.Linted.{IsLintAnswer, IsTidyAnswer, IsTidyForm, has_mistake, lines_from, or_nothing, too_long_line};
+ghost use Rattle.verdict_text.specs.declared.reading.Rules.TheVariants as by;
+ghost use Rattle.lint_text.specs.Linted.{IsLintAnswer, IsListLinted, IsListTidied, IsTidyAnswer, IsTidyForm, has_mistake, lines_from, or_nothing, too_long_line};
+ghost use Rattle.lint_text.specs.ReadLinted.{IsLintAnswerBy};
 
+use crate::ceph::lint_ceph_read;
 use crate::lines::{is_mistaken, push_lines};
-use crate::reading::{Judged, Kept, judged_text, kept_of};
-use cap_text::print;
+use crate::reading::{Judged, judged_of, kept_of, list_of, listed};
+use cap_text::{CapList, print};
 use common_types::OutOfMemory;
 use grant_core::ProfileTable;
 use lint_core::Pool;
 use std::alloc::Global;
-use verdict_text::{Printed, TextFault};
+use verdict_text::{Printed, ReadText, Reader, Rules, TextFault};
 
 /// The most bytes of a text that can be read.
 const MAX_BYTES: usize = 4096;
@@ -25,18 +30,23 @@ pub(crate) fn refused(alloc: Global, fault: TextFault) -> Result<Printed, OutOfM
     Ok(Printed { text, fails: true })
 }
 
-/// What is printed of a text whose grants are looked at.
-fn linted(alloc: Global, judged: &Judged, check: bool) -> Result<Printed, OutOfMemory>
-    requires all { length judged.now.standings.items ≡ length judged.now.list }
-    requires each { length judged.now.without.items ≡ length judged.now.list }
-    ensures text { IfOk result (λ printed. string_bytes printed.text ≡ or_nothing (lines_from [] 1 judged.now.list judged.now.standings.items judged.now.without.items)) }
+/// What is printed of a list whose grants are looked at.
+fn linted(
+    alloc: Global,
+    list: &CapList,
+    judged: &Judged,
+    check: bool,
+) -> Result<Printed, OutOfMemory>
+    requires all { length judged.now.standings.items ≡ length list.now }
+    requires each { length judged.now.without.items ≡ length list.now }
+    ensures text { IfOk result (λ printed. string_bytes printed.text ≡ or_nothing (lines_from [] 1 list.now judged.now.standings.items judged.now.without.items)) }
     ensures fails { IfOk result (λ printed. printed.fails ≡ (check && has_mistake judged.now.standings.items judged.now.without.items)) }
 {
     let mut text = String::new(alloc);
     push_lines(
         &mut text,
         "",
-        judged.list.grants(),
+        list.grants(),
         &judged.standings,
         &judged.without,
     )?;
@@ -45,6 +55,22 @@ fn linted(alloc: Global, judged: &Judged, check: bool) -> Result<Printed, OutOfM
     }
     let fails = check && is_mistaken(&judged.standings, &judged.without);
     Ok(Printed { text, fails })
+}
+
+/// What is printed of a list that can be expanded.
+fn linted_list(
+    alloc: Global,
+    profiles: &ProfileTable,
+    list: &CapList,
+    pools: Option<&[Pool]>,
+    check: bool,
+) -> Result<Printed, OutOfMemory>
+    requires profiles { profiles.now ≡ built_in }
+    requires expands { expand_refusal built_in list.now ≡ None }
+    ensures { IfOk result (λ printed. IsListLinted (option_copied pools.entry) check list.now (string_bytes printed.text) printed.fails) }
+{
+    let judged = judged_of(alloc, profiles, list, pools)?;
+    linted(alloc, list, &judged, check)
 }
 
 /// What the program prints of the grants of a capability text that nobody needs, by the built-in profiles.
@@ -67,9 +93,47 @@ pub fn lint_caps(
     ensures { IfOk result (λ printed. IsLintAnswer (option_copied pools.entry) check caps.now (string_bytes printed.text) printed.fails) }
 {
     let profiles = ProfileTable::builtin(alloc)?;
-    match judged_text(alloc, &profiles, caps, pools)? {
-        Ok(judged) => linted(alloc, &judged, check),
+    match list_of(alloc, &profiles, caps)? {
+        Ok(list) => linted_list(alloc, &profiles, &list, pools, check),
         Err(fault) => refused(alloc, fault),
+    }
+}
+
+/// What is printed of a text that was read by this project's rules.
+fn lint_project(
+    alloc: Global,
+    reader: &Reader,
+    text: &ReadText,
+    pools: Option<&[Pool]>,
+    check: bool,
+) -> Result<Printed, OutOfMemory>
+    requires { text.now.rules ≡ by.Project }
+    ensures { IfOk result (λ printed. IsLintAnswer (option_copied pools.entry) check text.now.text (string_bytes printed.text) printed.fails) }
+{
+    if let Err(fault) = text.read() {
+        return refused(alloc, *fault);
+    }
+    match listed(text) {
+        Some(list) => linted_list(alloc, reader.profiles(), list, pools, check),
+        None => lint_caps(alloc, text.text(), pools, check),
+    }
+}
+
+/// What the program prints of the grants that nobody needs of a capability text that was read: the lines of [`lint_caps`], or
+/// those of [`crate::lint_ceph_caps`] where it was read by Ceph's rules. It is read again only where nothing is kept of what it
+/// spells. `reader` lends its profiles.
+pub fn lint_read(
+    alloc: Global,
+    reader: &Reader,
+    text: &ReadText,
+    pools: Option<&[Pool]>,
+    check: bool,
+) -> Result<Printed, OutOfMemory>
+    ensures { IfOk result (λ printed. IsLintAnswerBy text.now.rules (option_copied pools.entry) check text.now.text (string_bytes printed.text) printed.fails) }
+{
+    match text.rules() {
+        Rules::Project => lint_project(alloc, reader, text, pools, check),
+        Rules::Ceph => lint_ceph_read(alloc, text, pools, check),
     }
 }
 
@@ -83,16 +147,31 @@ fn too_long(alloc: Global, size: usize) -> Result<Printed, OutOfMemory>
 
 /// The canonical form of what is kept of a list, on a line. With a check it fails where a grant went. A form that is longer than
 /// a text may be is refused.
-fn tidy(alloc: Global, kept: &Kept, check: bool) -> Result<Printed, OutOfMemory>
-    ensures { IfOk result (λ printed. IsTidyForm check kept.now.list kept.now.kept (string_bytes printed.text) printed.fails) }
+fn tidy(alloc: Global, list: &CapList, kept: &CapList, check: bool) -> Result<Printed, OutOfMemory>
+    ensures { IfOk result (λ printed. IsTidyForm check list.now kept.now (string_bytes printed.text) printed.fails) }
 {
-    let mut text = print(alloc, &kept.kept)?;
+    let mut text = print(alloc, kept)?;
     if text.len() > MAX_BYTES {
         return too_long(alloc, text.len());
     }
     text.push_str("\n")?;
-    let fails = check && kept.kept.grants().len() != kept.list.grants().len();
+    let fails = check && kept.grants().len() != list.grants().len();
     Ok(Printed { text, fails })
+}
+
+/// What is printed of a list that can be expanded, without its redundant grants.
+fn tidy_list(
+    alloc: Global,
+    profiles: &ProfileTable,
+    list: &CapList,
+    check: bool,
+) -> Result<Printed, OutOfMemory>
+    requires profiles { profiles.now ≡ built_in }
+    requires expands { expand_refusal built_in list.now ≡ None }
+    ensures { IfOk result (λ printed. IsListTidied check list.now (string_bytes printed.text) printed.fails) }
+{
+    let kept = kept_of(alloc, profiles, list)?;
+    tidy(alloc, list, &kept, check)
 }
 
 /// What the program prints of a capability text to tidy it up: the canonical form of some of its grants, on a line.
@@ -106,8 +185,43 @@ pub fn tidy_caps(alloc: Global, caps: &str, check: bool) -> Result<Printed, OutO
     ensures { IfOk result (λ printed. IsTidyAnswer check caps.now (string_bytes printed.text) printed.fails) }
 {
     let profiles = ProfileTable::builtin(alloc)?;
-    match kept_of(alloc, &profiles, caps)? {
-        Ok(kept) => tidy(alloc, &kept, check),
+    match list_of(alloc, &profiles, caps)? {
+        Ok(list) => tidy_list(alloc, &profiles, &list, check),
         Err(fault) => refused(alloc, fault),
+    }
+}
+
+/// What is printed to tidy up a text that was read by this project's rules.
+fn tidy_project(
+    alloc: Global,
+    reader: &Reader,
+    text: &ReadText,
+    check: bool,
+) -> Result<Printed, OutOfMemory>
+    requires { text.now.rules ≡ by.Project }
+    ensures { IfOk result (λ printed. IsTidyAnswer check text.now.text (string_bytes printed.text) printed.fails) }
+{
+    if let Err(fault) = text.read() {
+        return refused(alloc, *fault);
+    }
+    match listed(text) {
+        Some(list) => tidy_list(alloc, reader.profiles(), list, check),
+        None => tidy_caps(alloc, text.text(), check),
+    }
+}
+
+/// What [`tidy_caps`] prints of a capability text that was read. It is read again only where it was read by Ceph's rules, or nothing
+/// is kept of what it spells. `reader` lends its profiles.
+pub fn tidy_read(
+    alloc: Global,
+    reader: &Reader,
+    text: &ReadText,
+    check: bool,
+) -> Result<Printed, OutOfMemory>
+    ensures { IfOk result (λ printed. IsTidyAnswer check text.now.text (string_bytes printed.text) printed.fails) }
+{
+    match text.rules() {
+        Rules::Project => tidy_project(alloc, reader, text, check),
+        Rules::Ceph => tidy_caps(alloc, text.text(), check),
     }
 }

@@ -38,7 +38,8 @@ fn answer_command<F: InputFiles, L: LogFiles, R: Read, E: Write>(
 }
 
 /// Answers a command about logs by its arguments, and returns the status: `DONE`, `FOUND` or `TROUBLE` of `command_steps`. Logs
-/// are read by `logs`, every other file by `files`. The answer goes to `out`, and notes and progress to `err`.
+/// are read by `logs`, every other file by `files`. The answer goes to `out`, and notes to `err`, as do
+/// lines on progress if that is a terminal.
 pub fn run_log_command<F: InputFiles, L: LogFiles, R: Read, O: Write, E: Write>(
     alloc: Global,
     name: &str,

@@ -16,7 +16,7 @@ use log_text::{LogReading, LoggedRequest, Standing, push_report, request_piece, 
 use share_core::Pool;
 use std::alloc::Global;
 use std::io::{Read, Write};
-use verdict_text::{Format, Printed, Reading, list_by};
+use verdict_text::{Format, Printed, Reader, Reading, list_by};
 
 /// What the arguments say.
 #[derive(Clone, Copy)]
@@ -72,14 +72,14 @@ pub(crate) fn entities_in<'m, F: InputFiles, R: Read>(
     matches: &'m ArgMatches<'_>,
     files: &F,
     reader: &mut R,
+    rules: &Reader,
     only: &'m [&'m str],
 ) -> Result<Entities<'m>, NoAnswer> {
     let path = value_of(matches, "auth");
     let file = auth_in(alloc, files, reader, Purpose::Entities, path)?;
     refuse_unmatched(alloc, matches, &[file.entities.as_slice()])?;
-    let rules = reader_of(alloc, matches)?;
     let (entities, services) = file.into_parts();
-    let entities = read_all(alloc, &rules, entities)?;
+    let entities = read_all(alloc, rules, entities)?;
     Ok(Entities::of(alloc, entities, services, only)?)
 }
 
@@ -222,9 +222,10 @@ pub(crate) fn log<F: InputFiles, L: LogFiles, R: Read, E: Write>(
     err: &mut E,
 ) -> Result<Answered, NoAnswer> {
     let arguments = LogArguments::of(matches)?;
-    let entities = entities_in(alloc, matches, files, reader, arguments.only)?;
+    let rules = reader_of(alloc, matches)?;
+    let entities = entities_in(alloc, matches, files, reader, &rules, arguments.only)?;
     let pools = pools_given(alloc, files, reader, matches)?;
     let pools = pools.as_ref().map(Vec::as_slice);
-    let reading = logs_in(alloc, logs, reader, err, arguments.logs)?;
+    let reading = logs_in(alloc, files, logs, reader, err, arguments.logs)?;
     Ok(answered(alloc, &arguments, &entities, pools, &reading)?)
 }

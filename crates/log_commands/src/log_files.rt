@@ -2,7 +2,9 @@
 
 ghost use Rattle.std.specs.Prelude.{◌≤◌};
 
+use command_steps::Progress;
 use common_types::OutOfMemory;
+use gate_files::InputFiles;
 use log_text::LogReading;
 use std::alloc::Global;
 use std::io;
@@ -11,8 +13,8 @@ use std::io::{Read, Write};
 /// How many bytes are read at a time: 256 KiB.
 const CHUNK: usize = 262_144;
 
-/// After how many bytes a line on the progress is written: 256 MiB.
-const PROGRESS: u64 = 268_435_456;
+/// How many bytes a megabyte has.
+const MEGABYTE: u64 = 1_000_000;
 
 /// What takes the bytes of a log.
 pub trait TakesChunks {
@@ -39,36 +41,37 @@ pub fn pour<R: Read, T: TakesChunks>(alloc: Global, reader: &mut R, to: &mut T) 
     Ok(())
 }
 
-/// A log that is being read, and where progress is written.
-pub(crate) struct Progress<'a, E> {
+/// A log that is being read, and how far that is.
+pub(crate) struct ShownReading<'r, 'a, F, E> {
     alloc: Global,
-    reading: &'a mut LogReading,
-    err: &'a mut E,
+    reading: &'r mut LogReading,
+    progress: &'r mut Progress<'a, F, E>,
+    /// How many bytes are read.
     read: u64,
-    /// How many bytes have been read where the next line is written.
-    next: u64,
 }
 
-impl<E> Drop for Progress<'_, E> {
+impl<F, E> Drop for ShownReading<'_, '_, F, E> {
     fn drop(self) {
-        let Progress {
+        let ShownReading {
             alloc: _,
             reading: _,
-            err: _,
+            progress: _,
             read: _,
-            next: _,
         } = self;
     }
 }
 
-impl<'a, E: Write> Progress<'a, E> {
-    pub(crate) fn of(alloc: Global, reading: &'a mut LogReading, err: &'a mut E) -> Self {
-        Progress {
+impl<'r, 'a, F: InputFiles, E: Write> ShownReading<'r, 'a, F, E> {
+    pub(crate) fn of(
+        alloc: Global,
+        reading: &'r mut LogReading,
+        progress: &'r mut Progress<'a, F, E>,
+    ) -> Self {
+        ShownReading {
             alloc,
             reading,
-            err,
+            progress,
             read: 0,
-            next: PROGRESS,
         }
     }
 
@@ -76,20 +79,18 @@ impl<'a, E: Write> Progress<'a, E> {
     pub(crate) fn end_file(&mut self) -> Result<(), OutOfMemory> {
         self.reading.end_file(self.alloc)
     }
+
+    /// The last file ends.
+    pub(crate) fn end(&mut self) {
+        self.progress.end();
+    }
 }
 
-impl<E: Write> TakesChunks for Progress<'_, E> {
+impl<F: InputFiles, E: Write> TakesChunks for ShownReading<'_, '_, F, E> {
     fn take(&mut self, chunk: &[u8]) -> Result<(), OutOfMemory> {
         self.reading.read_chunk(self.alloc, chunk)?;
         self.read = self.read.saturating_add(chunk.len() as u64);
-        if self.read >= self.next {
-            self.next = self.next.saturating_add(PROGRESS);
-            let _ = write!(
-                self.err,
-                "osdgate: {} MiB are read\n",
-                self.read / 1_048_576
-            );
-        }
+        self.progress.show(self.read / MEGABYTE, "MB are read");
         Ok(())
     }
 }

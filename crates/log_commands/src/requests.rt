@@ -1,10 +1,10 @@
 //! The logs of the arguments.
 
-use crate::log_files::{LogFiles, Progress, pour};
+use crate::log_files::{LogFiles, ShownReading, pour};
 use crate::log_notes::no_decision_line;
-use command_steps::NoAnswer;
+use command_steps::{NoAnswer, Progress};
 use common_types::OutOfMemory;
-use gate_files::push_name;
+use gate_files::{InputFiles, push_name};
 use log_text::LogReading;
 use std::alloc::Global;
 use std::io;
@@ -30,17 +30,17 @@ fn unread(alloc: Global, path: &str, error: &io::Error) -> NoAnswer {
 }
 
 /// Reads one log, which is standard input where the path is `-`.
-fn read_one<L: LogFiles, R: Read, E: Write>(
+fn read_one<F: InputFiles, L: LogFiles, R: Read, E: Write>(
     alloc: Global,
-    files: &L,
+    logs: &L,
     reader: &mut R,
-    to: &mut Progress<'_, E>,
+    to: &mut ShownReading<'_, '_, F, E>,
     path: &str,
 ) -> Result<(), NoAnswer> {
     let read = if path == "-" {
         pour(alloc, reader, to)
     } else {
-        files.read_log(path, to)
+        logs.read_log(path, to)
     };
     match read {
         Ok(()) => Ok(to.end_file()?),
@@ -49,35 +49,46 @@ fn read_one<L: LogFiles, R: Read, E: Write>(
 }
 
 /// Reads the logs of these paths, in order.
-fn read_logs<L: LogFiles, R: Read, E: Write>(
+fn read_logs<F: InputFiles, L: LogFiles, R: Read, E: Write>(
     alloc: Global,
-    files: &L,
+    logs: &L,
     reader: &mut R,
-    to: &mut Progress<'_, E>,
+    to: &mut ShownReading<'_, '_, F, E>,
     paths: &[&str],
 ) -> Result<(), NoAnswer> {
     for path in paths {
-        read_one(alloc, files, reader, to, path)?;
+        read_one(alloc, logs, reader, to, path)?;
     }
     Ok(())
 }
 
-/// Reads the logs of these paths, in order, as one log. It is an error if they have no decision.
-pub(crate) fn logs_in<L: LogFiles, R: Read, E: Write>(
+/// Reads the logs of these paths, in order, and shows how far that is.
+fn read_shown<F: InputFiles, L: LogFiles, R: Read, E: Write>(
     alloc: Global,
-    files: &L,
+    reading: &mut LogReading,
+    logs: &L,
+    reader: &mut R,
+    progress: &mut Progress<'_, F, E>,
+    paths: &[&str],
+) -> Result<(), NoAnswer> {
+    let mut shown = ShownReading::of(alloc, reading, progress);
+    let read = read_logs(alloc, logs, reader, &mut shown, paths);
+    shown.end();
+    read
+}
+
+/// Reads the logs of these paths, in order, as one log. It is an error if they have no decision.
+pub(crate) fn logs_in<F: InputFiles, L: LogFiles, R: Read, E: Write>(
+    alloc: Global,
+    files: &F,
+    logs: &L,
     reader: &mut R,
     err: &mut E,
     paths: &[&str],
 ) -> Result<LogReading, NoAnswer> {
     let mut reading = LogReading::new(alloc);
-    read_logs(
-        alloc,
-        files,
-        reader,
-        &mut Progress::of(alloc, &mut reading, err),
-        paths,
-    )?;
+    let mut progress = Progress::begin(files, err);
+    read_shown(alloc, &mut reading, logs, reader, &mut progress, paths)?;
     if reading.counts().decisions == 0 {
         return Err(NoAnswer::Told(no_decision_line(alloc, &reading.counts())?));
     }

@@ -11,10 +11,12 @@ use clap::ArgMatches;
 use command_steps::{Answered, BadWords, NoAnswer, reader_of};
 use common_types::OutOfMemory;
 use gate_files::InputFiles;
-use log_text::{Decided, allows_each, compared_with_present, push_words, seen_of, suggested_text};
+use log_text::{
+    Decided, allows_each, compared_with_present, push_words, seen_of, suggested_text, tags_of,
+};
 use std::alloc::Global;
 use std::io::{Read, Write};
-use suggest_core::{Grain, Seen, asks_nothing};
+use suggest_core::{Division, Grain, Seen, asks_nothing};
 use verdict_text::{Printed, Reader, Reading};
 
 /// What the arguments say.
@@ -23,7 +25,7 @@ pub(crate) struct SuggestArguments<'m> {
     pub(crate) logs: &'m [&'m str],
     /// The entities, all of the log if none is given.
     pub(crate) names: &'m [&'m str],
-    grain: Grain,
+    by: Division,
     allow_all: bool,
     commands: bool,
 }
@@ -36,9 +38,10 @@ impl<'m> SuggestArguments<'m> {
         Ok(SuggestArguments {
             logs,
             names: matches.get_strs("entity").unwrap_or(&[]),
-            grain: match matches.get_str("by") {
-                Some("pool") => Grain::Pool,
-                _ => Grain::Namespace,
+            by: match matches.get_str("by") {
+                Some("pool") => Division::Pool,
+                Some("prefix") => Division::Prefix,
+                _ => Division::Namespace,
             },
             allow_all: matches.get_flag("allow-all"),
             commands: matches.get_flag("commands"),
@@ -76,6 +79,15 @@ fn asking(alloc: Global, requests: &[&Decided]) -> Result<Vec<Seen>, OutOfMemory
         }
     }
     Ok(seen)
+}
+
+/// The grain of an entity: tags of its present text may replace the names of pools.
+fn grain_of(alloc: Global, by: Division, present: &Reading) -> Result<Grain, OutOfMemory> {
+    let tags = match present {
+        Ok(rights) => tags_of(alloc, rights)?,
+        Err(_) => Vec::new(alloc),
+    };
+    Ok(Grain { by, tags })
 }
 
 /// The line on a request that only `*` allows.
@@ -157,7 +169,8 @@ impl Suggesting<'_, '_> {
             return self.lines.push("no suggestion: nothing was requested");
         }
         let arguments = self.arguments;
-        match suggested_text(alloc, arguments.grain, arguments.allow_all, seen.as_slice())? {
+        let grain = grain_of(alloc, arguments.by, present)?;
+        match suggested_text(alloc, &grain, arguments.allow_all, seen.as_slice())? {
             Ok(text) => self.push_text(alloc, name, present, text.as_str(), seen.as_slice()),
             Err(index) => {
                 self.fails = true;
@@ -235,15 +248,15 @@ pub(crate) fn suggest<F: InputFiles, L: LogFiles, R: Read, E: Write>(
     err: &mut E,
 ) -> Result<Answered, NoAnswer> {
     let arguments = SuggestArguments::of(matches)?;
-    let entities = entities_in(alloc, matches, files, reader, &[])?;
     let rules = reader_of(alloc, matches)?;
+    let entities = entities_in(alloc, matches, files, reader, &rules, &[])?;
     if let Some(path) = matches.get_str("requests") {
         let requests = of_file(alloc, matches, files, reader, path)?;
         let all = SeenOf::of_names(alloc, arguments.names, requests.as_slice())?;
         let note = String::new(alloc);
         return Ok(suggested(alloc, arguments, &entities, &rules, all.as_slice(), note)?);
     }
-    let reading = logs_in(alloc, logs, reader, err, arguments.logs)?;
+    let reading = logs_in(alloc, files, logs, reader, err, arguments.logs)?;
     let all = of_log(alloc, &reading, arguments.names)?;
     let note = count_lines(alloc, &reading.counts())?;
     Ok(suggested(alloc, arguments, &entities, &rules, all.as_slice(), note)?)

@@ -1,2 +1,5 @@
 pub mod Log
 pub mod Lines
+pub mod Marks
+pub mod Tally
+pub mod Ledger

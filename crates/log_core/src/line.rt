@@ -6,11 +6,24 @@ use common_types::Name;
 #[derive(Debug)]
 pub enum Line {
     /// A session of an entity begins.
-    Session { session: Name, entity: Name },
+    Session {
+        session: Name,
+        entity: Name,
+    },
     /// A thread takes up an operation on an object.
-    Operation { thread: Name, object: Name },
-    /// A thread decides an operation of a session.
-    Decision { thread: Name, session: Name },
+    Operation {
+        thread: Name,
+        object: Name,
+    },
+    /// A thread decides an operation of a session, at a time. The text is what is behind the session.
+    Decision {
+        thread: Name,
+        session: Name,
+        time: Name,
+        text: Name,
+    },
+    /// A line that lacks a part.
+    Cut,
 }
 
 impl Drop for Line {
@@ -27,7 +40,10 @@ impl Drop for Line {
             Line::Decision {
                 thread: _,
                 session: _,
+                time: _,
+                text: _,
             } => (),
+            Line::Cut => (),
         }
     }
 }

@@ -1,37 +1,49 @@
 //! Which lines make one operation.
 
-ghost use Rattle.std.specs.Prelude.{◌≡◌, ◌∷◌, ◌++◌, [], List, ℕ, None, Some, IfOk, OnOk, if◌then◌else◌};
+ghost use Rattle.std.specs.Prelude.{◌≡◌, ◌∷◌, [], List, ℕ, None, Some, IfOk, OnOk, if◌then◌else◌};
 ghost use Rattle.std.specs.HashMap.{get_by_text};
-ghost use Rattle.std.specs.Option.{option_to_list};
 ghost use Rattle.std.specs.Str.{bytes_eq};
 ghost use Rattle.log_core.specs.declared.line.Line.{Line};
-ghost use Rattle.log_core.specs.Log.{Remembers, pair_of, pairs_from};
+ghost use Rattle.log_core.specs.Log.{Remembers, pair_of};
+ghost use Rattle.log_core.specs.Ledger.{request_from};
 
 use crate::line::Line;
+use crate::request::Request;
 use common_types::{Name, OutOfMemory};
 use std::alloc::Global;
 use std::collections::HashMap;
 
 /// What belongs to a decision.
 #[derive(Debug, Drop)]
-pub struct Pair {
+pub(crate) struct Pair {
     /// The entity of its session, if the log has the session's beginning.
-    pub entity: Option<Name>,
+    pub(crate) entity: Option<Name>,
     /// The object of its operation, if the log has the line before.
-    pub object: Option<Name>,
+    pub(crate) object: Option<Name>,
 }
 
 impl Pair {
-    /// The entity and the object.
-    pub fn into_parts(self) -> (Option<Name>, Option<Name>)
-        ensures { result ≡ (self.entity, self.object) }
+    /// The request of a decision with this text, if the entity and the object are known.
+    pub(crate) fn into_request(self, text: &Name) -> Result<Option<Request>, OutOfMemory>
+        ensures { IfOk result (λ request. request ≡ request_from self.entity self.object text.now) }
     {
-        (self.entity, self.object)
+        let Pair { entity, object } = self;
+        let Some(entity) = entity else {
+            return Ok(None);
+        };
+        let Some(object) = object else {
+            return Ok(None);
+        };
+        Ok(Some(Request {
+            entity,
+            object,
+            text: text.copy()?,
+        }))
     }
 }
 
 /// What is remembered of the lines so far.
-pub struct Pairing {
+pub(crate) struct Pairing {
     entities: HashMap<String, Name>,
     objects: HashMap<String, Name>,
 }
@@ -79,7 +91,7 @@ fn found(map: &HashMap<String, Name>, key: &Name) -> Result<Option<Name>, OutOfM
 
 impl Pairing {
     /// Nothing is remembered. It takes no memory.
-    pub fn new(alloc: Global) -> Pairing
+    pub(crate) fn new(alloc: Global) -> Pairing
         ensures { Remembers [] result }
     {
         Pairing {
@@ -90,7 +102,7 @@ impl Pairing {
 
     /// Remembers the next line. Where it is a decision, returns what belongs to it, and forgets the thread's operation. An `Err`
     /// is out of memory alone, and leaves all as it was.
-    pub fn read(&mut self, alloc: Global, line: &Line) -> Result<Option<Pair>, OutOfMemory>
+    pub(crate) fn read(&mut self, alloc: Global, line: &Line) -> Result<Option<Pair>, OutOfMemory>
         ensures remembers { OnOk result ((before : List Line) → Remembers before self.old → Remembers (line.now ∷ before) self.new) }
         ensures pair { IfOk result (λ pair. (before : List Line) → Remembers before self.old → pair ≡ pair_of before line.now) }
     {
@@ -103,34 +115,16 @@ impl Pairing {
                 put(&mut self.objects, alloc, thread, object)?;
                 Ok(None)
             }
-            Line::Decision { thread, session } => {
+            Line::Decision {
+                thread,
+                session,
+                ..
+            } => {
                 let entity = found(&self.entities, session)?;
                 let object = take(&mut self.objects, thread);
                 Ok(Some(Pair { entity, object }))
             }
+            Line::Cut => Ok(None),
         }
     }
-}
-
-/// Adds a pair, if there is one.
-fn push_pair(pairs: &mut Vec<Pair>, pair: Option<Pair>) -> Result<(), OutOfMemory>
-    ensures { OnOk result (pairs.new.items ≡ pairs.old.items ++ option_to_list pair) }
-{
-    if let Some(pair) = pair {
-        pairs.push(pair)?;
-    }
-    Ok(())
-}
-
-/// What belongs to each decision of a whole log, in order.
-pub fn pairs_of(alloc: Global, lines: &[Line]) -> Result<Vec<Pair>, OutOfMemory>
-    ensures { IfOk result (λ pairs. pairs.items ≡ pairs_from [] lines.now) }
-{
-    let mut pairing = Pairing::new(alloc);
-    let mut pairs = Vec::new(alloc);
-    for line in lines {
-        let pair = pairing.read(alloc, line)?;
-        push_pair(&mut pairs, pair)?;
-    }
-    Ok(pairs)
 }

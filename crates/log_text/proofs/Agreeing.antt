@@ -1,5 +1,5 @@
 -- A verdict that every address gets.
-use Rattle.std.proofs.Common.{◌≡◌, Bool, true, false, sym, ap, ◌∙◌, not, subst}
+use Rattle.std.proofs.Common.{◌≡◌, Bool, true, false, sym, ap, ◌∙◌, not}
 use Rattle.network_core.specs.declared.address.Address.{Address}
 use Rattle.network_core.specs.Address.{IsAddress}
 use Rattle.rights_core.specs.Rights.{Rights}

@@ -1,4 +1,3 @@
-pub mod Counting
 pub mod Agreeing
 pub mod NoFloats
 pub mod Suggesting

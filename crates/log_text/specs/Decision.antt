@@ -1,12 +1,11 @@
 -- Statement: contracts of public calls use it.
 -- A decision as Ceph 16.2.15 logs it (source: PG::op_has_sufficient_caps), behind its session.
-use Rattle.std.specs.Prelude.{ℕ, ◌≡◌, List, ◌++◌, Bool, true, false, codes, flat_map, length, if◌then◌else◌, ◌==◌}
+use Rattle.std.specs.Prelude.{ℕ, List, ◌++◌, Bool, codes, flat_map, if◌then◌else◌}
 use Rattle.common_types.specs.declared.tags.AppTags.{AppTags}
 use Rattle.request_types.specs.declared.request.ClassCall.{ClassCall}
 use Rattle.request_types.specs.declared.request.Needs.{Needs}
 use Rattle.request_types.specs.Target.{Target}
 use Rattle.verdict_text.specs.Documents.{without_comma}
-use Rattle.log_text.specs.Object.{escaped}
 use Rattle.log_text.specs.declared.decided.Decided.{Decided}
 
 abbrev pub bit : Bool → List ℕ

@@ -1,7 +1,6 @@
 pub mod Object
 pub mod Decision
 pub mod Reading
-pub mod Tally
 pub mod Agreement
 pub mod Names
 pub mod Sides

@@ -1,4 +1,4 @@
--- Statement: contracts of public calls use it.
+-- Refinement: only contracts inside the crate use it.
 -- Names of objects as Ceph 16.2.15 logs them (source: the printed form of its hobject_t).
 use Rattle.std.specs.Prelude.{ℕ, List, [], ◌∷◌, Bool, ◌==◌, ◌&&◌, ◌/◌, ◌%◌, not, nat_le, length, flat_map, if◌then◌else◌}
 use Rattle.common_types.specs.Escapes.{hex_digit}

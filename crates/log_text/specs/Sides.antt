@@ -1,6 +1,6 @@
 -- Statement: contracts of public calls use it.
 -- Both sides of the condition of a grant that a logged request fails (this project's profile).
-use Rattle.std.specs.Prelude.{ℕ, ◌-◌, List, [], ◌∷◌, ◌++◌, Bool, true, false, Option, None, Some, codes, decimal, not, slice_get, if◌then◌else◌}
+use Rattle.std.specs.Prelude.{ℕ, ◌-◌, List, [], ◌++◌, Bool, false, Option, None, Some, codes, decimal, not, slice_get, if◌then◌else◌}
 use Rattle.std.specs.Option.{option_map_or}
 use Rattle.cap_grants.specs.declared.grant.AllowGrant.{AllowGrant}
 use Rattle.cap_grants.specs.declared.grant.NsMatch.{NsMatch}

@@ -1,11 +1,11 @@
 //! How many lines a log has, by what they are.
 
-/// How many lines a log has, by what they are. Each counts up to 2^64 - 1.
+/// How many lines a log has, by what they are. Each count is at most 2^64 - 1.
 #[derive(Clone, Copy, Debug, Default, PartialEq, Eq)]
 pub struct Counts {
     /// All lines.
     pub lines: u64,
-    /// Lines that an OSD logged.
+    /// Lines of an OSD that may tell of requests, and one for all lines of an OSD before them.
     pub of_osd: u64,
     /// Sessions that begin.
     pub sessions: u64,

@@ -33,10 +33,10 @@ impl<'a> ObjectWords<'a> {
         })
     }
 
-    /// The words as one text.
+    /// What capabilities see of the words, as one text.
     pub(crate) fn joined(&self, alloc: Global) -> Result<Name, OutOfMemory> {
         let mut text = String::from_str(alloc, self.pool)?;
-        for part in [self.namespace, self.key, self.name] {
+        for part in [self.namespace, self.seen_name()] {
             text.push_str(":")?;
             text.push_str(part)?;
         }
@@ -46,12 +46,11 @@ impl<'a> ObjectWords<'a> {
     /// The words of a text that `joined` made.
     pub(crate) fn of_joined(text: &'a str) -> Option<ObjectWords<'a>> {
         let (pool, rest) = text.split_once(':')?;
-        let (namespace, rest) = rest.split_once(':')?;
-        let (key, name) = rest.split_once(':')?;
+        let (namespace, name) = rest.split_once(':')?;
         Some(ObjectWords {
             pool,
             namespace,
-            key,
+            key: "",
             name,
         })
     }

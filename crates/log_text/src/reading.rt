@@ -5,10 +5,10 @@ use crate::decided::Decided;
 use crate::decision::decision_of;
 use crate::front::{Fronted, front_of};
 use crate::object::ObjectWords;
-use crate::tally::{Summary, Tally};
 use crate::told::{Told, lacks_front, told_by};
 use common_types::{Name, OutOfMemory};
-use log_core::{Line, LineBuffer, Pairing};
+use log_core::{Ledger, Line, LineBuffer, Marks, Request, Summary};
+use memchr::memchr_iter;
 use std::alloc::Global;
 use std::str;
 
@@ -38,21 +38,29 @@ impl Drop for LoggedRequest {
 ///
 /// The memory is that of the distinct requests, of a session's entity for each session, and of the longest line up to 1 MiB.
 pub struct LogReading {
-    pairing: Pairing,
     buffer: LineBuffer,
-    counts: Counts,
+    marks: Marks,
+    ledger: Ledger,
+    /// How many lines there are, of what the ledger does not see.
+    lines: u64,
+    of_osd: u64,
+    not_text: u64,
     requests: Vec<LoggedRequest>,
-    tally: Tally,
+    /// The keys of decisions that are not what an OSD of Ceph 16.2.15 writes.
+    unread: Vec<String>,
 }
 
 impl Drop for LogReading {
     fn drop(self) {
         let LogReading {
-            pairing: _,
             buffer: _,
-            counts: _,
+            marks: _,
+            ledger: _,
+            lines: _,
+            of_osd: _,
+            not_text: _,
             requests: _,
-            tally: _,
+            unread: _,
         } = self;
     }
 }
@@ -65,36 +73,69 @@ fn place_of(alloc: Global, front: Fronted<'_>, name: &str) -> Result<Name, OutOf
     Ok(Name::from_string(text))
 }
 
-/// What the repetitions of a request have in common.
-fn key_of(
-    alloc: Global,
-    entity: &Name,
-    object: &ObjectWords<'_>,
-    text: &str,
-) -> Result<String, OutOfMemory> {
-    let mut key = String::from_str(alloc, entity.as_str())?;
-    for part in [object.namespace, object.seen_name(), text] {
-        key.push_str("\n")?;
-        key.push_str(part)?;
-    }
-    Ok(key)
+/// The line that an OSD's line is for the ledger, if it tells of a request.
+fn line_of(alloc: Global, front: Fronted<'_>) -> Result<Option<Line>, OutOfMemory> {
+    let line = match told_by(front) {
+        Told::Nothing => return Ok(None),
+        Told::Cut => Line::Cut,
+        Told::Session { session, entity } => Line::Session {
+            session: place_of(alloc, front, session)?,
+            entity: Name::new(alloc, entity)?,
+        },
+        Told::Operation(object) => Line::Operation {
+            thread: place_of(alloc, front, front.thread)?,
+            object: object.joined(alloc)?,
+        },
+        Told::Decision { session, text } => Line::Decision {
+            thread: place_of(alloc, front, front.thread)?,
+            session: place_of(alloc, front, session)?,
+            time: Name::new(alloc, front.time)?,
+            text: Name::new(alloc, text)?,
+        },
+    };
+    Ok(Some(line))
 }
 
 impl LogReading {
     /// Nothing was read. It takes no memory.
     pub fn new(alloc: Global) -> LogReading {
         LogReading {
-            pairing: Pairing::new(alloc),
             buffer: LineBuffer::new(alloc),
-            counts: Counts::default(),
+            marks: Marks::new(),
+            ledger: Ledger::new(alloc),
+            lines: 0,
+            of_osd: 0,
+            not_text: 0,
             requests: Vec::new(alloc),
-            tally: Tally::new(alloc),
+            unread: Vec::new(alloc),
         }
+    }
+
+    /// How many decisions are not what an OSD of Ceph 16.2.15 writes.
+    fn unread(&self) -> u64 {
+        let mut count: u64 = 0;
+        for key in &self.unread {
+            if let Some(summary) = self.ledger.summary(key.as_str()) {
+                count = count.saturating_add(summary.count);
+            }
+        }
+        count
     }
 
     /// How many lines there are, by what they are.
     pub fn counts(&self) -> Counts {
-        self.counts
+        let told = self.ledger.counts();
+        Counts {
+            lines: self.lines,
+            of_osd: self.of_osd,
+            sessions: told.sessions,
+            decisions: told.decisions,
+            cut: told.cut,
+            not_text: self.not_text,
+            without_entity: told.without_entity,
+            without_object: told.without_object,
+            unread: self.unread(),
+        }
     }
 
     /// The distinct requests, in the order in which they were first made.
@@ -104,140 +145,107 @@ impl LogReading {
 
     /// How often a request was made, and when first and last.
     pub fn summary(&self, request: &LoggedRequest) -> Option<&Summary> {
-        self.tally.summary(request.key.as_str())
+        self.ledger.summary(request.key.as_str())
     }
 
-    /// Counts a request, and keeps it if it is made for the first time.
-    fn count(
-        &mut self,
-        alloc: Global,
-        time: &str,
-        entity: Name,
-        object: &ObjectWords<'_>,
-        text: &str,
-    ) -> Result<(), OutOfMemory> {
-        let key = key_of(alloc, &entity, object, text)?;
-        if self.tally.summary(key.as_str()).is_some() {
-            self.tally.add(alloc, key.as_str(), time)?;
-            return Ok(());
+    /// Keeps a request that is made for the first time, or its key if its text cannot be read.
+    fn keep(&mut self, alloc: Global, request: &Request) -> Result<(), OutOfMemory> {
+        let key = request.key(alloc)?;
+        let decided = match ObjectWords::of_joined(request.object.as_str()) {
+            Some(object) => decision_of(alloc, &object, request.text.as_str())?,
+            None => None,
+        };
+        match decided {
+            Some(decided) => self.requests.push(LoggedRequest {
+                entity: request.entity.copy()?,
+                decided,
+                key,
+            })?,
+            None => self.unread.push(key)?,
         }
-        let Some(decided) = decision_of(alloc, object, text)? else {
-            add_one(&mut self.counts.unread);
-            return Ok(());
-        };
-        self.tally.add(alloc, key.as_str(), time)?;
-        self.requests.push(LoggedRequest {
-            entity,
-            decided,
-            key,
-        })?;
         Ok(())
     }
 
-    /// Reads a decision of a session.
-    fn read_decision(
-        &mut self,
-        alloc: Global,
-        front: Fronted<'_>,
-        session: &str,
-        text: &str,
-    ) -> Result<(), OutOfMemory> {
-        let thread = place_of(alloc, front, front.thread)?;
-        let session = place_of(alloc, front, session)?;
-        let line = Line::Decision { thread, session };
-        let Some(pair) = self.pairing.read(alloc, &line)? else {
-            return Ok(());
-        };
-        add_one(&mut self.counts.decisions);
-        let (entity, object) = pair.into_parts();
-        let Some(entity) = entity else {
-            add_one(&mut self.counts.without_entity);
-            return Ok(());
-        };
-        let Some(object) = object else {
-            add_one(&mut self.counts.without_object);
-            return Ok(());
-        };
-        match ObjectWords::of_joined(object.as_str()) {
-            Some(object) => self.count(alloc, front.time, entity, &object, text),
-            None => Ok(()),
-        }
-    }
-
-    /// Reads a session's beginning.
-    fn read_session(
-        &mut self,
-        alloc: Global,
-        front: Fronted<'_>,
-        session: &str,
-        entity: &str,
-    ) -> Result<(), OutOfMemory> {
-        let session = place_of(alloc, front, session)?;
-        let entity = Name::new(alloc, entity)?;
-        self.pairing
-            .read(alloc, &Line::Session { session, entity })?;
-        add_one(&mut self.counts.sessions);
-        Ok(())
-    }
-
-    /// Reads an operation.
-    fn read_operation(
-        &mut self,
-        alloc: Global,
-        front: Fronted<'_>,
-        object: &ObjectWords<'_>,
-    ) -> Result<(), OutOfMemory> {
-        let thread = place_of(alloc, front, front.thread)?;
-        let object = object.joined(alloc)?;
-        self.pairing
-            .read(alloc, &Line::Operation { thread, object })?;
-        Ok(())
-    }
-
-    /// Reads a line of an OSD.
-    fn read_fronted(&mut self, alloc: Global, front: Fronted<'_>) -> Result<(), OutOfMemory> {
-        match told_by(front) {
-            Told::Nothing => Ok(()),
-            Told::Cut => {
-                add_one(&mut self.counts.cut);
-                Ok(())
+    /// The line that a line of text is for the ledger, if it tells of a request.
+    fn line_of_text(&mut self, alloc: Global, line: &str) -> Result<Option<Line>, OutOfMemory> {
+        match front_of(line) {
+            Some(front) => {
+                add_one(&mut self.of_osd);
+                line_of(alloc, front)
             }
-            Told::Session { session, entity } => self.read_session(alloc, front, session, entity),
-            Told::Operation(object) => self.read_operation(alloc, front, &object),
-            Told::Decision { session, text } => self.read_decision(alloc, front, session, text),
+            None if lacks_front(line) => Ok(Some(Line::Cut)),
+            None => Ok(None),
         }
     }
 
-    /// Reads a line that is text.
-    fn read_text(&mut self, alloc: Global, line: &str) -> Result<(), OutOfMemory> {
-        let Some(front) = front_of(line) else {
-            if lacks_front(line) {
-                add_one(&mut self.counts.cut);
-            }
-            return Ok(());
-        };
-        add_one(&mut self.counts.of_osd);
-        self.read_fronted(alloc, front)
-    }
-
-    /// Reads a line, without its end.
-    fn read_line(&mut self, alloc: Global, line: &[u8]) -> Result<(), OutOfMemory> {
-        add_one(&mut self.counts.lines);
+    /// Passes over a line that says nothing of requests. It is looked at further only while no line of an OSD is known.
+    fn pass_over(&mut self, line: &[u8]) {
         match str::from_utf8(line) {
-            Ok(line) => self.read_text(alloc, line),
-            Err(_) => {
-                add_one(&mut self.counts.not_text);
-                Ok(())
+            Err(_) => add_one(&mut self.not_text),
+            Ok(line) => {
+                if self.of_osd == 0 && front_of(line).is_some() {
+                    add_one(&mut self.of_osd);
+                }
             }
         }
     }
 
-    /// Reads whole lines. Empty ones count for nothing.
+    /// Adds the line that a line of bytes with a mark is for the ledger, if it tells of a request.
+    fn push_marked(
+        &mut self,
+        alloc: Global,
+        told: &mut Vec<Line>,
+        line: &[u8],
+    ) -> Result<(), OutOfMemory> {
+        let Ok(line) = str::from_utf8(line) else {
+            add_one(&mut self.not_text);
+            return Ok(());
+        };
+        if let Some(line) = self.line_of_text(alloc, line)? {
+            told.push(line)?;
+        }
+        Ok(())
+    }
+
+    /// Adds the line that a line of bytes is for the ledger, if it tells of a request. An empty one counts for nothing.
+    fn push_line(
+        &mut self,
+        alloc: Global,
+        told: &mut Vec<Line>,
+        line: &[u8],
+    ) -> Result<(), OutOfMemory> {
+        if line.is_empty() {
+            return Ok(());
+        }
+        add_one(&mut self.lines);
+        if self.marks.are_in(line) {
+            return self.push_marked(alloc, told, line);
+        }
+        self.pass_over(line);
+        Ok(())
+    }
+
+    /// Adds the lines that lines of bytes are for the ledger.
+    fn push_lines(
+        &mut self,
+        alloc: Global,
+        told: &mut Vec<Line>,
+        lines: &[u8],
+    ) -> Result<(), OutOfMemory> {
+        let mut start = 0;
+        for end in memchr_iter(b'\n', lines) {
+            self.push_line(alloc, told, lines.get(start..end).unwrap_or(b""))?;
+            start = end.saturating_add(1);
+        }
+        self.push_line(alloc, told, lines.get(start..).unwrap_or(b""))
+    }
+
+    /// Reads whole lines.
     fn read_lines(&mut self, alloc: Global, lines: &[u8]) -> Result<(), OutOfMemory> {
-        for line in lines.split(|byte| *byte == b'\n') {
-            if !line.is_empty() {
-                self.read_line(alloc, line)?;
-            }
+        let mut told = Vec::new(alloc);
+        self.push_lines(alloc, &mut told, lines)?;
+        for request in &self.ledger.read_all(alloc, told.as_slice())? {
+            self.keep(alloc, request)?;
         }
         Ok(())
     }

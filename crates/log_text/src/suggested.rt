@@ -8,7 +8,7 @@ ghost use Rattle.log_text.specs.Suggested as spec;
 ghost use Rattle.log_text.specs.Suggested.{AllowsEach, IsSuggestedText};
 
 use crate::decided::Decided;
-use cap_text::AllowGrant;
+use cap_text::{AllowGrant, Tag};
 use ceph_text::push_ceph_grant;
 use common_types::{OutOfMemory, TryClone};
 use compare_core::{OwnedTarget, Registry};
@@ -38,6 +38,19 @@ pub fn seen_of(decided: &Decided) -> Result<Seen, OutOfMemory>
             calls: decided.needs.calls.copy()?,
         },
     })
+}
+
+/// The tags of rights, in order. The only error is out of memory.
+pub fn tags_of(alloc: Global, rights: &Rights) -> Result<Vec<Tag>, OutOfMemory> {
+    let mut tags = Vec::new(alloc);
+    let mut entries = rights.entries();
+    while let Some((entry, others)) = entries.split_first() {
+        if let Some(tag) = &entry.grant.tag {
+            tags.push(tag.copy()?)?;
+        }
+        entries = others;
+    }
+    Ok(tags)
 }
 
 /// Adds a grant behind a comma.
@@ -73,11 +86,11 @@ fn text_of(alloc: Global, grants: &[(Path, AllowGrant)]) -> Result<String, OutOf
 /// which nothing is suggested. The only error is out of memory.
 pub fn suggested_text(
     alloc: Global,
-    grain: Grain,
+    grain: &Grain,
     allow_all: bool,
     seen: &[Seen],
 ) -> Result<Result<String, usize>, OutOfMemory>
-    ensures { IfOk result (λ suggested. MatchResult suggested (λ text. IsSuggestedText grain allow_all seen.now (string_bytes text)) (λ index. IsOutcome grain allow_all seen.now (LeftOut index))) }
+    ensures { IfOk result (λ suggested. MatchResult suggested (λ text. IsSuggestedText grain.now allow_all seen.now (string_bytes text)) (λ index. IsOutcome grain.now allow_all seen.now (LeftOut index))) }
 {
     match suggest(alloc, grain, allow_all, seen)?.into_text() {
         Ok(grants) => Ok(Ok(text_of(alloc, grants.as_slice())?)),

@@ -7,8 +7,6 @@
 mod address;
 mod network;
 mod sampling;
-#[cfg(test)]
-mod tests;
 
 pub use address::Address;
 pub use network::Network;

@@ -3,7 +3,7 @@
 use crate::fault::Fault;
 use cap_text::parse;
 use common_types::OutOfMemory;
-use share_text::{Strictness, share_entities};
+use share_text::{Detail, Strictness, holders_of, share_entities};
 use std::alloc::Global;
 use std::time::Clock;
 use stopwatch::{Table, Work};
@@ -23,7 +23,9 @@ impl Work for Tenants {
             check: true,
             format: Format::Text,
         };
-        let told = share_entities(self.alloc, self.entities.as_slice(), strictness, None)?;
+        let holders = holders_of(self.alloc, self.entities.as_slice())?;
+        let holders = holders.as_slice();
+        let told = share_entities(self.alloc, holders, strictness, None, Detail::Brief)?;
         Ok(told.text.is_empty())
     }
 

@@ -55,6 +55,14 @@ pub enum Change {
     Restarted,
 }
 
+/// What is said of a decision or an answer, a text for each line.
+#[derive(Drop)]
+pub struct Outcome {
+    /// Whether the request is denied.
+    pub is_denied: bool,
+    pub lines: Vec<String>,
+}
+
 /// One thing that happened. A message is named by its number among the picture's messages, counted from 0.
 pub enum Happening {
     /// An interval of the group began, with this number, counted from 1, and this acting set.
@@ -65,10 +73,14 @@ pub enum Happening {
     Ended { message: usize, end: End },
     /// A message was sent.
     Sent { message: usize },
-    /// A request was decided: what is said of it, a text for each line.
-    Decided(Vec<String>),
-    /// A request was answered: what is said of it, a text for each line.
-    Answered(Vec<String>),
+    /// A request was decided.
+    Decided(Outcome),
+    /// A request was answered.
+    Answered(Outcome),
+    /// A question of the script was answered, and this was printed.
+    Printed(Outcome),
+    /// The primary of an interval chose the log that the interval begins with. A text for each line.
+    Chosen(Vec<String>),
     /// The event was refused, for this reason.
     Refused(String),
 }
@@ -88,6 +100,8 @@ impl Drop for Happening {
             | Happening::Sent { message: _ }
             | Happening::Decided(_)
             | Happening::Answered(_)
+            | Happening::Printed(_)
+            | Happening::Chosen(_)
             | Happening::Refused(_) => (),
         }
     }
@@ -100,6 +114,8 @@ pub struct ScriptLine {
     pub number: usize,
     /// Its bytes.
     pub text: Vec<u8>,
+    /// Whether its first rows are left out.
+    pub continues: bool,
 }
 
 /// What one event did, or a line that did nothing to the group.

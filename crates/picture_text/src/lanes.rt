@@ -31,6 +31,10 @@ const NOTES: Px = Px(300);
 const LEAST_WIDTH: Px = Px(1286);
 /// The height of what stands below the last row.
 const FOOT: Px = Px(88);
+/// The height of the lanes' names where they are repeated.
+const NAMES: Px = Px(24);
+/// The number of rows after which the names of the lanes are repeated, if a page has more.
+const NAMES_EVERY: usize = 40;
 
 /// The largest number of bytes of a script's line side by side, in one piece.
 pub(crate) const LINE_BYTES: usize = 52;
@@ -65,11 +69,17 @@ pub(crate) struct Layout {
     pub(crate) notes: Vec<Vec<Note>>,
     /// The places of the rows, and behind them of the messages that are on their way at the end.
     pub(crate) places: Vec<Place>,
+    /// Where the names of the lanes are repeated.
+    pub(crate) names: Vec<Px>,
     /// The left edge of the notes.
     pub(crate) notes_x: Px,
     pub(crate) width: Px,
+    /// The height of a page, if the picture is printed.
+    pub(crate) page: Px,
     /// Where the last row ends.
     pub(crate) bottom: Px,
+    /// Where the legend begins.
+    pub(crate) foot: Px,
     pub(crate) height: Px,
 }
 
@@ -81,9 +91,12 @@ impl Drop for Layout {
             reached: _,
             notes: _,
             places: _,
+            names: _,
             notes_x: _,
             width: _,
+            page: _,
             bottom: _,
+            foot: _,
             height: _,
         } = self;
     }
@@ -218,15 +231,13 @@ fn lanes_at(
     Ok((lanes, x))
 }
 
-/// How many pieces a script's line has.
+/// How many pieces a script's line has, and one more where it says that its first rows are left out.
 fn pieces_of(row: &Row) -> usize {
-    match &row.line {
-        None => 0,
-        Some(line) => (line.text.len().saturating_add(LINE_BYTES - 1) / LINE_BYTES).clamp(
-            1,
-            LINE_PIECES,
-        ),
-    }
+    let Some(line) = &row.line else {
+        return 0;
+    };
+    let pieces = line.text.len().saturating_add(LINE_BYTES - 1) / LINE_BYTES;
+    pieces.clamp(1, LINE_PIECES) + usize::from(line.continues)
 }
 
 fn begins_interval(row: &Row) -> bool {
@@ -242,25 +253,116 @@ fn height_of(row: &Row, notes: &[Note], names_interval: bool) -> Px {
     ROW.or_more(TEXT_LINE * lines + Px(12))
 }
 
-/// The places of the rows, one below the other, and where the last one ends.
-fn places_of(
+/// Rows as they are placed one below another, each on one page.
+struct Placing {
+    page: Px,
+    /// Where the next row begins, and where its page ends.
+    top: Px,
+    page_end: Px,
+    /// How many rows there are since the names of the lanes.
+    since_names: usize,
+    names: Vec<Px>,
+    places: Vec<Place>,
+}
+
+impl Drop for Placing {
+    fn drop(self) {
+        let Placing {
+            page: _,
+            top: _,
+            page_end: _,
+            since_names: _,
+            names: _,
+            places: _,
+        } = self;
+    }
+}
+
+impl Placing {
+    fn new(alloc: Global, page: Px) -> Placing {
+        Placing {
+            page,
+            top: FIRST_ROW,
+            page_end: page,
+            since_names: 0,
+            names: Vec::new(alloc),
+            places: Vec::new(alloc),
+        }
+    }
+
+    /// Whether something has no room on the page of the next row.
+    fn is_full(&self, height: Px) -> bool {
+        self.page_end.0 < (self.top + height).0
+    }
+
+    fn turn_page(&mut self) {
+        self.top = self.page_end;
+        self.page_end = self.page_end + self.page;
+    }
+
+    /// Places a row. Above it are the names of the lanes, where it is the first of its page or the last names are far above.
+    fn push(&mut self, height: Px) -> Result<(), OutOfMemory> {
+        let is_far = self.since_names >= NAMES_EVERY;
+        let turns = self.is_full(if is_far { height + NAMES } else { height });
+        if turns {
+            self.turn_page();
+        }
+        if turns || is_far {
+            self.names.push(self.top)?;
+            self.top = self.top + NAMES;
+            self.since_names = 0;
+        }
+        let top = self.top;
+        self.places.push(Place { top, height })?;
+        self.top = top + height;
+        self.since_names = self.since_names.saturating_add(1);
+        Ok(())
+    }
+
+    /// The places of the rows, and where the names of the lanes are repeated.
+    fn into_parts(self) -> (Vec<Place>, Vec<Px>) {
+        let Placing {
+            page: _,
+            top: _,
+            page_end: _,
+            since_names: _,
+            names,
+            places,
+        } = self;
+        (places, names)
+    }
+
+    /// Where the legend begins: below the last row, or on a page of its own.
+    fn foot(&self) -> Px {
+        if self.is_full(FOOT) {
+            self.page_end
+        } else {
+            self.top
+        }
+    }
+}
+
+/// Places the rows, and behind them the messages that are on their way at the end.
+fn placed_rows(
     alloc: Global,
     story: &Story,
     notes: &[Vec<Note>],
-) -> Result<(Vec<Place>, Px), OutOfMemory> {
-    let mut places = Vec::new(alloc);
-    let mut top = FIRST_ROW;
+    page: Px,
+) -> Result<Placing, OutOfMemory> {
+    let mut placing = Placing::new(alloc, page);
     for (place, (row, notes)) in story.rows.iter().zip(notes).enumerate() {
         let names_interval = place == 0 || begins_interval(row);
-        let height = height_of(row, notes.as_slice(), names_interval);
-        places.push(Place { top, height })?;
-        top = top + height;
+        placing.push(height_of(row, notes.as_slice(), names_interval))?;
     }
     for _ in 0..story.waiting.len() {
-        places.push(Place { top, height: ROW })?;
-        top = top + ROW;
+        placing.push(ROW)?;
     }
-    Ok((places, top))
+    Ok(placing)
+}
+
+/// The height of a page of this width: it fits on A4 and on letter, each laid across.
+fn page_of(width: Px) -> Px {
+    Px(width.0 / 10 * 7)
 }
 
 /// The notes of each row.
@@ -296,18 +398,24 @@ pub(crate) fn layout_of(alloc: Global, story: &Story) -> Result<Layout, OutOfMem
     let flights = flights_of(alloc, story, parties.as_slice())?;
     let (lanes, notes_x) = lanes_at(alloc, story, parties.as_slice(), flights.as_slice())?;
     let notes = notes_of_rows(alloc, story)?;
-    let (places, bottom) = places_of(alloc, story, notes.as_slice())?;
     let width = LEAST_WIDTH.or_more(notes_x + notes_width(notes.as_slice()));
+    let page = page_of(width);
+    let placing = placed_rows(alloc, story, notes.as_slice(), page)?;
+    let (bottom, foot) = (placing.top, placing.foot());
     let reached = reached_lanes(alloc, flights.as_slice(), story.rows.len())?;
+    let (places, names) = placing.into_parts();
     Ok(Layout {
         lanes,
         flights,
         reached,
         notes,
         places,
+        names,
         notes_x,
         width,
+        page,
         bottom,
-        height: bottom + FOOT,
+        foot,
+        height: foot + FOOT,
     })
 }

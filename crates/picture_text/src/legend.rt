@@ -48,7 +48,7 @@ const LOWER: [(Mark, &str); 5] = [
 ];
 
 const LAST: [(Mark, &str); 5] = [
-    (Waits, "a message that is on its way at the end"),
+    (Waits, "one that is on its way at the end"),
     (Peering, "messages of peering"),
     (Entries, "messages of the log"),
     (Requests, "requests and replies"),
@@ -92,8 +92,8 @@ fn push_sample(out: &mut String, mark: Mark, x: Px, y: Px) -> Result<(), OutOfMe
         Follows => push_disc(out, "follows", x + Px(20), y),
         Down => push_line(out, "down", x + Px(20), y - Px(8), x + Px(20), y + Px(8)),
         Restarts => push_restart(out, x + Px(20), y - Px(2)),
-        Decided => push_mark(out, false, x + Px(20), y),
-        Answered => push_mark(out, true, x + Px(20), y),
+        Decided => push_mark(out, "", false, x + Px(20), y),
+        Answered => push_mark(out, "", true, x + Px(20), y),
         Waits => {
             push_arrow(out, "flight", x, y)?;
             push_tip(out, "", Way::Right, x + Px(28), y)
@@ -101,7 +101,7 @@ fn push_sample(out: &mut String, mark: Mark, x: Px, y: Px) -> Result<(), OutOfMe
         Peering => push_kind(out, " moves", x, y),
         Entries => push_kind(out, "", x, y),
         Requests => push_kind(out, " asks", x, y),
-        Denied => push_text(out, "denied", x, y + Px(4), b"1.1"),
+        Denied => push_mark(out, " denied", false, x + Px(20), y),
     }
 }
 
@@ -116,8 +116,8 @@ fn push_row(out: &mut String, marks: &[(Mark, &str)], y: Px) -> Result<(), OutOf
 }
 
 /// Adds what the marks mean, below the last row.
-pub(crate) fn push_legend(out: &mut String, bottom: Px) -> Result<(), OutOfMemory> {
-    push_row(out, &UPPER, bottom + Px(22))?;
-    push_row(out, &LOWER, bottom + Px(46))?;
-    push_row(out, &LAST, bottom + Px(70))
+pub(crate) fn push_legend(out: &mut String, top: Px) -> Result<(), OutOfMemory> {
+    push_row(out, &UPPER, top + Px(22))?;
+    push_row(out, &LOWER, top + Px(46))?;
+    push_row(out, &LAST, top + Px(70))
 }

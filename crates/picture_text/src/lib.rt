@@ -15,7 +15,7 @@ mod style;
 mod svg;
 
 pub use happenings::{
-    Beginning, Change, End, Happening, Message, Party, Row, ScriptLine, Story, Topic,
+    Beginning, Change, End, Happening, Message, Outcome, Party, Row, ScriptLine, Story, Topic,
 };
 pub use mermaid::mermaid_of;
 pub use svg::svg_of;

@@ -64,15 +64,24 @@ pub(crate) fn push_restart(out: &mut String, x: Px, y: Px) -> Result<(), OutOfMe
 }
 
 /// Adds a square where a request is answered, and a lozenge where it is decided.
-pub(crate) fn push_mark(out: &mut String, answers: bool, x: Px, y: Px) -> Result<(), OutOfMemory> {
+pub(crate) fn push_mark(
+    out: &mut String,
+    class: &str,
+    answers: bool,
+    x: Px,
+    y: Px,
+) -> Result<(), OutOfMemory> {
     if answers {
         let (left, top) = (x - Px(4), y - Px(4));
-        return write!(out, "<path class=\"mark\" d=\"M{left} {top}h8v8h-8z\"/>\n");
+        return write!(
+            out,
+            "<path class=\"mark{class}\" d=\"M{left} {top}h8v8h-8z\"/>\n"
+        );
     }
     let top = y - Px(6);
     write!(
         out,
-        "<path class=\"mark\" d=\"M{x} {top}l6 6l-6 6l-6 -6z\"/>\n"
+        "<path class=\"mark{class}\" d=\"M{x} {top}l6 6l-6 6l-6 -6z\"/>\n"
     )
 }
 

@@ -11,6 +11,7 @@ text { font: 12px ui-sans-serif, system-ui, 'Segoe UI', Helvetica, Arial, sans-s
 .end { text-anchor: end; }
 .denied, .refused { fill: #b3261e; }
 .answered { fill: #1b6e3c; }
+.chosen { fill: #8a5a00; }
 .paper { fill: #ffffff; }
 .band { fill: #eef3fb; }
 .band.odd { fill: #f8f5ec; }
@@ -30,11 +31,13 @@ text { font: 12px ui-sans-serif, system-ui, 'Segoe UI', Helvetica, Arial, sans-s
 .follows { fill: #ffffff; stroke: #1c1e21; stroke-width: 1.3; }
 .restart { fill: none; stroke: #b3261e; stroke-width: 1.8; }
 .mark { fill: #1c1e21; }
+.mark.denied { fill: #b3261e; }
 @media screen and (prefers-color-scheme: dark) {
 text { fill: #e4e6ea; }
 .quiet { fill: #a3a9b5; }
 .denied, .refused { fill: #ff8a80; }
 .answered { fill: #7ed79b; }
+.chosen { fill: #e3b25c; }
 .paper { fill: #17191d; }
 .band { fill: #1e2530; }
 .band.odd { fill: #26231b; }
@@ -50,6 +53,7 @@ text { fill: #e4e6ea; }
 .tip.moves, .dot.moves { fill: #e3b25c; }
 .cross, .bar, .restart { stroke: #ff8a80; }
 .leads, .mark { fill: #e4e6ea; }
+.mark.denied { fill: #ff8a80; }
 .follows { fill: #17191d; stroke: #e4e6ea; }
 }
 ";

@@ -22,8 +22,20 @@ const BANDS: Px = Px(422);
 /// The left edge of the lines' texts, behind their numbers.
 const LINES: Px = Px(64);
 
-/// The number of rows after which the names of the lanes are repeated.
-const NAMES_EVERY: usize = 40;
+/// The margin of a printed page.
+const MARGIN: Px = Px(24);
+
+/// What is said of a line whose first rows are left out.
+const CONTINUED: &[u8] = b"(continued)";
+
+/// The size of a printed page, in the picture's style. Rows are placed so that none is on two pages.
+fn push_page(out: &mut String, layout: &Layout) -> Result<(), OutOfMemory> {
+    let (width, height) = (layout.width + MARGIN * 2, layout.page + MARGIN * 2);
+    write!(
+        out,
+        "@page {{ size: {width}px {height}px; margin: {MARGIN}px; }}\n"
+    )
+}
 
 /// How the picture begins: its size, its title and its style.
 fn push_opening(
@@ -44,6 +56,7 @@ fn push_opening(
     push_xml(out, story.title.as_bytes())?;
     out.push_str("</title>\n<style>\n")?;
     out.push_str(STYLE)?;
+    push_page(out, layout)?;
     out.push_str("</style>\n")?;
     push_rect(out, "paper", Px(0), Px(0), width, height)?;
     push_text(out, "title", SCRIPT, Px(30), story.title.as_bytes())?;
@@ -69,18 +82,12 @@ fn push_heads(alloc: Global, out: &mut String, layout: &Layout) -> Result<(), Ou
     Ok(())
 }
 
-/// The names of the lanes once more, at the top of every fortieth row, for those who scroll.
+/// The names of the lanes once more, at the top of each page and after each 40 rows.
 fn push_names(alloc: Global, out: &mut String, layout: &Layout) -> Result<(), OutOfMemory> {
-    for place in layout.places.iter().skip(NAMES_EVERY).step_by(NAMES_EVERY) {
+    for top in &layout.names {
         for lane in &layout.lanes {
             let name = party_name(alloc, lane.party)?;
-            push_text(
-                out,
-                "head quiet",
-                lane.x,
-                place.top + Px(4),
-                name.as_bytes(),
-            )?;
+            push_text(out, "head quiet", lane.x, *top + Px(16), name.as_bytes())?;
         }
     }
     Ok(())
@@ -235,7 +242,7 @@ fn push_roles(
     Ok(())
 }
 
-/// A line of the script, in pieces, with its number.
+/// A line of the script, with its number.
 fn push_script_line(
     alloc: Global,
     out: &mut String,
@@ -244,8 +251,23 @@ fn push_script_line(
 ) -> Result<(), OutOfMemory> {
     let number = line.number;
     let text = format!(in alloc; "{number}")?;
-    push_text(out, "mono quiet", SCRIPT, top + Px(18), text.as_bytes())?;
-    let mut y = top + Px(18);
+    let y = top + Px(18);
+    push_text(out, "mono quiet", SCRIPT, y, text.as_bytes())?;
+    if line.continues {
+        push_text(out, "mono quiet", LINES, y, CONTINUED)?;
+        return push_pieces(alloc, out, line, y + TEXT_LINE);
+    }
+    push_pieces(alloc, out, line, y)
+}
+
+/// The text of a line, in pieces one below another.
+fn push_pieces(
+    alloc: Global,
+    out: &mut String,
+    line: &ScriptLine,
+    y: Px,
+) -> Result<(), OutOfMemory> {
+    let mut y = y;
     for (place, piece) in line.text.as_slice().chunks(LINE_BYTES).enumerate() {
         if place == LINE_PIECES - 1 && line.text.len() > LINE_BYTES * LINE_PIECES {
             let shown = piece.len().saturating_sub(3);
@@ -272,7 +294,9 @@ fn push_notes(
             About::Decided => "decided",
             About::Answered => "answered",
             About::Denied => "denied",
-            About::Daemon => "quiet",
+            About::Printed => "mono",
+            About::Chosen => "chosen",
+            About::Daemon | About::Rest => "quiet",
             About::Refused => "refused",
         };
         push_text(out, class, x, y, note.text.as_bytes())?;
@@ -296,13 +320,14 @@ fn push_marks(
     top: Px,
 ) -> Result<(), OutOfMemory> {
     for happening in &told.happenings {
-        let answers = match happening {
-            Happening::Decided(_) => false,
-            Happening::Answered(_) => true,
+        let (answers, outcome) = match happening {
+            Happening::Decided(outcome) => (false, outcome),
+            Happening::Answered(outcome) => (true, outcome),
             _ => continue,
         };
         if let Some(x) = reached(layout, row) {
-            push_mark(out, answers, x, top + Px(7))?;
+            let class = if outcome.is_denied { " denied" } else { "" };
+            push_mark(out, class, answers, x, top + Px(7))?;
         }
     }
     Ok(())
@@ -373,7 +398,7 @@ pub fn svg_of(alloc: Global, story: &Story) -> Result<String, OutOfMemory> {
     }
     push_rows(alloc, &mut out, story, &layout)?;
     push_rest(alloc, &mut out, story, &layout)?;
-    push_legend(&mut out, layout.bottom)?;
+    push_legend(&mut out, layout.foot)?;
     out.push_str("</svg>\n")?;
     Ok(out)
 }

@@ -37,6 +37,6 @@ pub use news::{News, learn, tell};
 pub use places::{Located, locate};
 pub use pools::view;
 pub use published::{
-    Knowledge, MapReader, MapWriter, PublishedMap, PublishedRule, SeenMap, lay, publish,
-    publish_first,
+    Knowledge, MapReader, MapWriter, PublishedMap, PublishedRule, SeenMap, publish, publish_first,
+    stage,
 };

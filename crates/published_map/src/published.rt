@@ -138,10 +138,10 @@ pub fn publish_first<R: Wait>(
     }
 }
 
-/// Lays a command down, to be published by the next `publish`. At `Err` memory was wanting, and the command comes back.
+/// Stages a command, to be published by the next `publish`. At `Err` memory was wanting, and the command comes back.
 ///
 /// A command that the map refuses is never published, and none after it. So the writer's own map is asked before.
-pub fn lay(writer: &mut MapWriter, command: MapCommand) -> Result<(), MapCommand>
+pub fn stage(writer: &mut MapWriter, command: MapCommand) -> Result<(), MapCommand>
     ensures shown { writer.new.desk ≡ writer.old.desk }
     ensures waiting { MatchResult result (λ _. dropped writer.new.behind writer.new.log.items ≡ dropped writer.old.behind writer.old.log.items ++ command ∷ [])
         (λ back. (back ≡ command) × (dropped writer.new.behind writer.new.log.items ≡ dropped writer.old.behind writer.old.log.items)) }
@@ -149,7 +149,7 @@ pub fn lay(writer: &mut MapWriter, command: MapCommand) -> Result<(), MapCommand
     writer.append(command)
 }
 
-/// Publishes the commands that were laid down, all at once. At `Err` nothing is published, and they are left for the next call.
+/// Publishes the staged commands, all at once. At `Err` nothing is published, and they are left for the next call.
 pub fn publish<R: Wait>(rt: &R, writer: &mut MapWriter) -> Result<(), AllocError>
     ensures ok { OnOk result (writer.new.desk.shown.value.map ≡ with_commands writer.old.desk.shown.value.map (dropped writer.old.behind writer.old.log.items)) }
     ensures none_left { OnOk result (dropped writer.new.behind writer.new.log.items ≡ []) }

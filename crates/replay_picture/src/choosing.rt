@@ -1,9 +1,58 @@
 //! Which group a picture shows where none is named: the one with most messages.
 
-use common_types::{OutOfMemory, TryClone};
-use entry_core::GroupId;
+use common_types::{Name, OutOfMemory, TryClone};
+use entry_core::{GroupId, Id};
+use place_core::group_of;
 use std::alloc::Global;
-use world_core::{Event, World, place_of};
+use world_core::{Event, Told, World, place_of};
+
+/// Where an event submits a request: to a group, or for a list to that one and the next ones.
+#[derive(Drop)]
+pub(crate) struct AskedGroup {
+    pool: Name,
+    first: u32,
+}
+
+/// Where an event submits a request. Nothing for an event that submits none, or in a pool that is not there.
+pub(crate) fn asked_group(world: &World, event: &Event) -> Result<Option<AskedGroup>, OutOfMemory> {
+    match event {
+        Event::Submit { ask, object, .. } => {
+            let Some(pool) = world.map().pool(&ask.pool) else {
+                return Ok(None);
+            };
+            if pool.pg_num == 0 {
+                return Ok(None);
+            }
+            let first = group_of(ask.namespace.as_str(), object.as_str(), pool.pg_num);
+            let pool = ask.pool.copy()?;
+            Ok(Some(AskedGroup { pool, first }))
+        }
+        Event::List(ask) => Ok(Some(AskedGroup {
+            pool: ask.pool.copy()?,
+            first: 0,
+        })),
+        _ => Ok(None),
+    }
+}
+
+impl AskedGroup {
+    /// The group of a request, if it is among those that were submitted here.
+    pub(crate) fn group_of(&self, id: Id, told: Told) -> Result<Option<GroupId>, OutOfMemory> {
+        let (first, count) = match told {
+            Told::Request(first) => (first, 1),
+            Told::List { first, count } => (first, count),
+            _ => return Ok(None),
+        };
+        let behind = id.number().wrapping_sub(first.number());
+        if id.session() != first.session() || behind >= count {
+            return Ok(None);
+        }
+        Ok(Some(GroupId {
+            pool: self.pool.copy()?,
+            number: self.first.saturating_add(behind),
+        }))
+    }
+}
 
 /// How many messages of each group were delivered, dropped or lost, in the order of the groups' creation.
 #[derive(Drop)]

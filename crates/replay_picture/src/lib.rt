@@ -14,9 +14,10 @@
 //!
 //! # Costs
 //!
-//! A script is replayed three times: to choose the group, or to see that it is there, to count the rows, and to make the last
-//! 2,000. Only of those is the audit compared, which copies all entries. A step costs the messages that it takes and sends.
-//! Layout takes time by the messages times those of their row, and tracks by the messages of each lane.
+//! A script is replayed three times: to choose the group, to count the rows, and to make at most 2,000 of them. A step costs the
+//! messages that it takes and sends. A decision is known by the reply that follows it. Only where a daemon may have become active
+//! are all entries compared with those before, which copies them. Layout takes time by the rows, the messages, and the lanes times
+//! the messages.
 //!
 //! # Design
 //!
@@ -29,9 +30,11 @@
 mod choosing;
 mod naming;
 mod outcomes;
+mod peering;
 mod picture;
 mod replaying;
 mod rights;
+mod selection;
 mod watching;
 
-pub use picture::{Format, Picture, draw_script};
+pub use picture::{Drawing, Format, Picture, Wanted, draw_part, draw_script};

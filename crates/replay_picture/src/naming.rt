@@ -1,5 +1,6 @@
 //! The names of groups and of messages.
 
+use crate::selection::Selection;
 use common_types::OutOfMemory;
 use entry_core::{GroupId, Id};
 use group_messages::Party;
@@ -9,13 +10,25 @@ use std::alloc::Global;
 use std::fmt::Write;
 
 /// What a picture is about.
-pub(crate) fn title_of(alloc: Global, group: &Option<GroupId>) -> Result<String, OutOfMemory> {
+pub(crate) fn title_of(
+    alloc: Global,
+    group: &Option<GroupId>,
+    selection: Selection,
+) -> Result<String, OutOfMemory> {
     let Some(group) = group else {
         return String::from_str(alloc, "A script without groups");
     };
     let pool = group.pool.as_str();
     let number = group.number;
-    format!(in alloc; "Group {pool} {number}")
+    let mut title = format!(in alloc; "Group {pool} {number}")?;
+    if let Some(id) = selection.request {
+        title.push_str(", request ")?;
+        push_id(&mut title, id)?;
+    }
+    if let Some((first, last)) = selection.lines {
+        write!(title, ", lines {first} to {last}")?;
+    }
+    Ok(title)
 }
 
 /// Adds a request's session and its number there.
@@ -27,6 +40,16 @@ pub(crate) fn push_id(text: &mut String, id: Id) -> Result<(), OutOfMemory> {
 
 fn of_interval(alloc: Global, kind: &str, interval: u64) -> Result<String, OutOfMemory> {
     format!(in alloc; "{kind} {interval}")
+}
+
+/// The name of a message with a daemon's log, which has `len` entries.
+fn of_log(alloc: Global, kind: &str, interval: u64, len: usize) -> Result<String, OutOfMemory> {
+    format!(in alloc; "{kind} {interval}, log {len}")
+}
+
+/// The name of a daemon's offer: the interval that its log began with, and how many entries that has.
+fn of_offer(alloc: Global, interval: u64, base: u64, len: usize) -> Result<String, OutOfMemory> {
+    format!(in alloc; "Info {interval}, base {base}, log {len}")
 }
 
 fn of_place(alloc: Global, kind: &str, interval: u64, place: usize) -> Result<String, OutOfMemory> {
@@ -51,9 +74,24 @@ fn of_request(alloc: Global, kind: &str, id: Id) -> Result<String, OutOfMemory> 
 pub(crate) fn name_of(alloc: Global, body: &Body) -> Result<String, OutOfMemory> {
     match body {
         Body::Interval(sets) => of_interval(alloc, "Interval", sets.len() as u64),
-        Body::Query { interval, .. } => of_interval(alloc, "Query", *interval),
-        Body::Info { interval, .. } => of_interval(alloc, "Info", *interval),
-        Body::Install { interval, .. } => of_interval(alloc, "Install", *interval),
+        Body::Query { interval, len, .. } => of_log(alloc, "Query", *interval, *len),
+        Body::Info {
+            interval,
+            base,
+            start,
+            part,
+        } => {
+            let len = start.saturating_add(part.as_slice().len());
+            of_offer(alloc, *interval, *base, len)
+        }
+        Body::Install {
+            interval,
+            start,
+            part,
+        } => {
+            let len = start.saturating_add(part.as_slice().len());
+            of_log(alloc, "Install", *interval, len)
+        }
         Body::Installed { interval } => of_interval(alloc, "Installed", *interval),
         Body::Append {
             interval,

@@ -3,9 +3,10 @@
 use crate::naming::push_id;
 use crate::rights::Rights;
 use common_types::{Name, OutOfMemory};
-use entry_core::{Entry, Id, Reply};
+use entry_core::{Id, Reply};
 use grant_core::Path;
 use object_core::Bytes;
+use picture_text::Outcome;
 use script_text::push_quoted;
 use std::alloc::Global;
 use std::fmt::Write;
@@ -80,11 +81,11 @@ fn push_names(alloc: Global, lines: &mut Vec<String>, names: &[Name]) -> Result<
 pub(crate) fn decision(
     alloc: Global,
     rights: &Rights,
-    entry: &Entry,
-) -> Result<Vec<String>, OutOfMemory> {
-    let id = entry.sealed.id();
+    id: Id,
+    reply: &Reply,
+) -> Result<Outcome, OutOfMemory> {
     let mut lines = Vec::new(alloc);
-    match &entry.reply {
+    match reply {
         Reply::Denied(report) => {
             lines.push(headed(alloc, id, " denied")?)?;
             push_report(alloc, &mut lines, report.lines())?;
@@ -95,24 +96,29 @@ pub(crate) fn decision(
             lines.push(text)?;
         }
     }
-    Ok(lines)
+    Ok(Outcome {
+        is_denied: is_denied(reply),
+        lines,
+    })
 }
 
-/// What is said first of an answer.
-fn answered(reply: &Reply) -> &'static str {
+fn is_denied(reply: &Reply) -> bool {
+    matches!(reply, Reply::Denied(_))
+}
+
+/// What is said of an answer behind its id and these words, with what it carries.
+fn reply_lines(
+    alloc: Global,
+    id: Id,
+    words: &str,
+    reply: &Reply,
+) -> Result<Vec<String>, OutOfMemory> {
+    let mut head = headed(alloc, id, words)?;
     match reply {
-        Reply::Denied(_) => " answered: denied",
-        Reply::Done(_) => " answered: ok",
-        Reply::Failed { .. } => " answered: ",
-        Reply::Names(_) => " answered: names",
-    }
-}
-
-/// What is said of an answer.
-pub(crate) fn answer(alloc: Global, id: Id, reply: &Reply) -> Result<Vec<String>, OutOfMemory> {
-    let mut head = headed(alloc, id, answered(reply))?;
-    if let Reply::Failed { place, number } = reply {
-        write!(head, "error {number} at {place}")?;
+        Reply::Denied(_) => head.push_str("denied")?,
+        Reply::Done(_) => head.push_str("ok")?,
+        Reply::Failed { place, number } => write!(head, "error {number} at {place}")?,
+        Reply::Names(_) => head.push_str("names")?,
     }
     let mut lines = vec![in alloc; head]?;
     match reply {
@@ -121,4 +127,39 @@ pub(crate) fn answer(alloc: Global, id: Id, reply: &Reply) -> Result<Vec<String>
         Reply::Denied(_) | Reply::Failed { .. } => (),
     }
     Ok(lines)
+}
+
+/// What is said of an answer.
+pub(crate) fn answer(alloc: Global, id: Id, reply: &Reply) -> Result<Outcome, OutOfMemory> {
+    Ok(Outcome {
+        is_denied: is_denied(reply),
+        lines: reply_lines(alloc, id, " answered: ", reply)?,
+    })
+}
+
+/// What a script prints where it asks for an answer.
+pub(crate) fn printed_answer(
+    alloc: Global,
+    id: Id,
+    reply: Option<&Reply>,
+) -> Result<Outcome, OutOfMemory> {
+    let Some(reply) = reply else {
+        return printed_line(alloc, headed(alloc, id, " waiting")?);
+    };
+    let mut lines = reply_lines(alloc, id, " ", reply)?;
+    if let Reply::Denied(report) = reply {
+        push_report(alloc, &mut lines, report.lines())?;
+    }
+    Ok(Outcome {
+        is_denied: is_denied(reply),
+        lines,
+    })
+}
+
+/// A line that a script prints.
+pub(crate) fn printed_line(alloc: Global, line: String) -> Result<Outcome, OutOfMemory> {
+    Ok(Outcome {
+        is_denied: false,
+        lines: vec![in alloc; line]?,
+    })
 }

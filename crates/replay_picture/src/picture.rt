@@ -1,9 +1,10 @@
 //! A script's bytes as a picture.
 
-use crate::replaying::{busiest_group, has_group, row_counts, story_of};
+use crate::replaying::{row_counts, scout, story_of};
+use crate::selection::Selection;
 use common_types::{OutOfMemory, TryClone};
-use entry_core::GroupId;
-use picture_text::{Story, mermaid_of, svg_of};
+use entry_core::{GroupId, Id};
+use picture_text::{mermaid_of, svg_of};
 use std::alloc::Global;
 
 /// The largest number of rows of a picture, the last ones. They include those of messages on their way at the end.
@@ -29,16 +30,27 @@ impl Drop for Picture {
     }
 }
 
-/// The group that is named, where the script makes it, or else the one with most messages.
-fn chosen_group(
-    alloc: Global,
-    script: &[u8],
-    named: Option<GroupId>,
-) -> Result<Option<GroupId>, OutOfMemory> {
-    match named {
-        None => busiest_group(alloc, script),
-        Some(group) => Ok(Some(group)),
-    }
+/// What a picture is to show.
+#[derive(Drop)]
+pub struct Wanted {
+    /// The group. If it is not named, it is that of the request, or else the one with most messages.
+    pub group: Option<GroupId>,
+    /// The first and the last line of the script, counted from 1. The steps of other lines are left out.
+    pub lines: Option<(usize, usize)>,
+    /// The request. The steps of other requests are left out.
+    pub request: Option<Id>,
+}
+
+/// What became of a picture.
+#[derive(Drop)]
+pub enum Drawing {
+    Drawn(Picture),
+    /// The script makes no group of that name.
+    NoGroup,
+    /// The script makes no such request.
+    NoRequest,
+    /// The script has no such line, or a line before it is no command.
+    NoLine,
 }
 
 fn copy_group(group: &Option<GroupId>) -> Result<Option<GroupId>, OutOfMemory> {
@@ -48,30 +60,33 @@ fn copy_group(group: &Option<GroupId>) -> Result<Option<GroupId>, OutOfMemory> {
     }
 }
 
-/// What happens to a group in the last rows of a script.
-fn last_rows(alloc: Global, script: &[u8], group: &Option<GroupId>) -> Result<Story, OutOfMemory> {
-    let (count, waiting) = row_counts(alloc, script, copy_group(group)?)?;
-    let first = count.saturating_add(waiting).saturating_sub(MAX_ROWS);
-    story_of(alloc, script, copy_group(group)?, first)
-}
-
-/// The picture of a group.
+/// The picture of a group, or nothing where the selected lines are not there.
 fn drawn(
     alloc: Global,
     script: &[u8],
     group: &Option<GroupId>,
+    selection: Selection,
     format: Format,
-) -> Result<String, OutOfMemory> {
-    let story = last_rows(alloc, script, group)?;
+) -> Result<Option<String>, OutOfMemory> {
+    let counts = row_counts(alloc, script, copy_group(group)?, selection)?;
+    let before = match (selection.lines, counts.before_lines) {
+        (None, _) => 0,
+        (Some(_), Some(before)) => before,
+        (Some(_), None) => return Ok(None),
+    };
+    let all = counts.steps.saturating_add(counts.waiting);
+    let first = all.saturating_sub(MAX_ROWS).max(before);
+    let story = story_of(alloc, script, copy_group(group)?, selection, first)?;
     match format {
-        Format::Svg => svg_of(alloc, &story),
-        Format::Mermaid => mermaid_of(alloc, &story),
+        Format::Svg => Ok(Some(svg_of(alloc, &story)?)),
+        Format::Mermaid => Ok(Some(mermaid_of(alloc, &story)?)),
     }
 }
 
 /// Draws what a script does to a group: to the named one, or else to the one with most messages.
 ///
-/// The lines up to the first that is no command are drawn. Nothing is drawn where the script has no group of that name.
+/// The lines up to the first that is no command are drawn. Of more than 2,000 rows the last ones are drawn. Nothing is drawn where
+/// the script has no group of that name.
 ///
 /// The script is replayed in worlds of its own, line by line.
 pub fn draw_script(
@@ -80,12 +95,41 @@ pub fn draw_script(
     named: Option<GroupId>,
     format: Format,
 ) -> Result<Option<Picture>, OutOfMemory> {
-    if let Some(group) = &named {
-        if !has_group(alloc, script, group)? {
-            return Ok(None);
-        }
+    let wanted = Wanted {
+        group: named,
+        lines: None,
+        request: None,
+    };
+    match draw_part(alloc, script, wanted, format)? {
+        Drawing::Drawn(picture) => Ok(Some(picture)),
+        Drawing::NoGroup | Drawing::NoRequest | Drawing::NoLine => Ok(None),
     }
-    let group = chosen_group(alloc, script, named)?;
-    let text = drawn(alloc, script, &group, format)?;
-    Ok(Some(Picture { group, text }))
+}
+
+/// Draws a part of what a script does to a group, as `draw_script` draws all of it.
+pub fn draw_part(
+    alloc: Global,
+    script: &[u8],
+    wanted: Wanted,
+    format: Format,
+) -> Result<Drawing, OutOfMemory> {
+    let mut scouted = scout(alloc, script, &wanted.group, wanted.request)?;
+    if wanted.group.is_some() && !scouted.has_named {
+        return Ok(Drawing::NoGroup);
+    }
+    if wanted.request.is_some() && scouted.of_request.is_none() {
+        return Ok(Drawing::NoRequest);
+    }
+    let selection = Selection {
+        lines: wanted.lines,
+        request: wanted.request,
+    };
+    let group = wanted
+        .group
+        .or(scouted.of_request.take())
+        .or(scouted.busiest.take());
+    match drawn(alloc, script, &group, selection, format)? {
+        None => Ok(Drawing::NoLine),
+        Some(text) => Ok(Drawing::Drawn(Picture { group, text })),
+    }
 }

@@ -1,9 +1,10 @@
 //! The bytes of a script, replayed line by line.
 
 use crate::naming::title_of;
+use crate::selection::{Part, Selection};
 use crate::watching::Watched;
 use common_types::{Name, OutOfMemory, TryClone};
-use entry_core::GroupId;
+use entry_core::{GroupId, Id};
 use picture_text::{Beginning, Happening, Row, ScriptLine, Story};
 use place_core::{ActingSet, DaemonSet};
 use script_text::{Line, Lines};
@@ -23,15 +24,22 @@ struct Replay {
     alloc: Global,
     watched: Option<Box<Watched>>,
     group: Option<GroupId>,
+    selection: Selection,
     tick: u64,
     /// The line whose first row is still to come.
     line: Option<ScriptLine>,
+    /// Whether the line has a row, which may be left out.
+    has_row: bool,
+    /// How many rows there were before the first line of the selection, if that is there.
+    before_lines: Option<usize>,
     /// How many rows there are, those that are left out too.
     count: usize,
     /// The first row that is not left out.
     first: usize,
     beginning: Option<Beginning>,
     rows: Vec<Row>,
+    /// Rows that are shown only if more of the selected request comes.
+    later: Vec<Row>,
 }
 
 impl Drop for Replay {
@@ -40,12 +48,16 @@ impl Drop for Replay {
             alloc: _,
             watched: _,
             group: _,
+            selection: _,
             tick: _,
             line: _,
+            has_row: _,
+            before_lines: _,
             count: _,
             first: _,
             beginning: _,
             rows: _,
+            later: _,
         } = self;
     }
 }
@@ -100,46 +112,106 @@ fn beginning_of(watched: &Option<Box<Watched>>) -> Beginning {
     }
 }
 
+/// Whether a daemon changes or an interval begins.
+fn has_moves(happenings: &[Happening]) -> bool {
+    happenings.iter().any(|happening| {
+        matches!(
+            happening,
+            Happening::Interval { .. } | Happening::Daemon { .. }
+        )
+    })
+}
+
 impl Replay {
-    fn new(alloc: Global, group: Option<GroupId>, first: usize) -> Replay {
+    fn new(alloc: Global, group: Option<GroupId>, selection: Selection, first: usize) -> Replay {
         Replay {
             alloc,
             watched: None,
             group,
+            selection,
             tick: 0,
             line: None,
+            has_row: false,
+            before_lines: None,
             count: 0,
             first,
             beginning: None,
             rows: Vec::new(alloc),
+            later: Vec::new(alloc),
         }
     }
 
-    /// Adds a row, unless it is left out.
+    /// What a row is to the picture.
+    fn part(&self, happenings: &[Happening]) -> Part {
+        match &self.watched {
+            None => Part::Shown,
+            Some(watched) => watched.part(has_moves(happenings)),
+        }
+    }
+
+    /// Adds a row of the present line, unless the row is left out.
     fn push_row(&mut self, happenings: Vec<Happening>) -> Result<(), OutOfMemory> {
-        let line = self.line.take();
+        self.has_row = true;
+        match self.part(happenings.as_slice()) {
+            Part::Shown => {
+                self.push_later()?;
+                self.add_row(happenings)
+            }
+            Part::Later => {
+                let line = self.line.take();
+                self.later.push(Row { line, happenings })?;
+                Ok(())
+            }
+            Part::Apart => {
+                if self.rows.is_empty() {
+                    self.beginning = None;
+                }
+                Ok(())
+            }
+        }
+    }
+
+    /// Adds a row with the line, if it is the first one of the line that is shown.
+    fn add_row(&mut self, happenings: Vec<Happening>) -> Result<(), OutOfMemory> {
         if self.count >= self.first {
+            let line = self.line.take();
             self.rows.push(Row { line, happenings })?;
+        } else if let Some(line) = &mut self.line {
+            line.continues = true;
         }
         self.count = self.count.saturating_add(1);
         Ok(())
     }
 
+    /// Adds the rows that waited for one that is shown.
+    fn push_later(&mut self) -> Result<(), OutOfMemory> {
+        let later = mem::replace(&mut self.later, Vec::new(self.alloc));
+        for row in later {
+            if self.count >= self.first {
+                self.rows.push(row)?;
+            }
+            self.count = self.count.saturating_add(1);
+        }
+        Ok(())
+    }
+
     /// Looks at the world as it is before the first row that is not left out.
-    fn begin_row(&mut self) {
-        if self.count >= self.first {
-            if self.beginning.is_none() {
-                self.beginning = Some(beginning_of(&self.watched));
-            }
-            if let Some(watched) = &mut self.watched {
-                watched.tells_decisions = true;
-            }
+    fn begin_row(&mut self) -> Result<(), OutOfMemory> {
+        if self.count < self.first {
+            return Ok(());
+        }
+        if self.beginning.is_none() {
+            self.beginning = Some(beginning_of(&self.watched));
+        }
+        match &mut self.watched {
+            None => Ok(()),
+            Some(watched) => watched.tell_decisions(),
         }
     }
 
     /// Carries out an event, which has a row where it does something to the group.
     fn happen(&mut self, event: Event) -> Result<(), OutOfMemory> {
-        self.begin_row();
+        self.begin_row()?;
         let Some(watched) = &mut self.watched else {
             return Ok(());
         };
@@ -213,7 +285,7 @@ impl Replay {
             None => None,
             Some(group) => Some(group.copy()?),
         };
-        let watched = Watched::new(self.alloc, daemons, group)?;
+        let watched = Watched::new(self.alloc, daemons, group, self.selection.request)?;
         self.watched = Some(Box::new(self.alloc, watched)?);
         Ok(true)
     }
@@ -229,7 +301,23 @@ impl Replay {
         }
     }
 
-    /// Carries out a command that is not the first. A question does nothing, and where there is no world nothing happens.
+    /// Adds a row with what a question prints of requests or groups.
+    fn print(&mut self, question: &Command) -> Result<(), OutOfMemory> {
+        self.begin_row()?;
+        let Some(watched) = &mut self.watched else {
+            return Ok(());
+        };
+        match watched.printed(question)? {
+            None => Ok(()),
+            Some(outcome) => {
+                let mut happenings = Vec::new(self.alloc);
+                happenings.push(Happening::Printed(outcome))?;
+                self.push_row(happenings)
+            }
+        }
+    }
+
+    /// Carries out a command that is not the first. Where there is no world nothing happens.
     fn go_on(&mut self, command: Command) -> Result<(), OutOfMemory> {
         match command {
             Command::Happens(event) => self.happen(event),
@@ -258,7 +346,7 @@ impl Replay {
             Command::Settle => self.sweep_all(Sweep::Deliver),
             Command::LoseAll => self.sweep_all(Sweep::Lose),
             Command::KickAll => self.kick_all(),
-            _ => Ok(()),
+            question => self.print(&question),
         }
     }
 
@@ -267,29 +355,58 @@ impl Replay {
         self.line = Some(ScriptLine {
             number: line.number,
             text: Vec::from_slice(self.alloc, line.text)?,
+            continues: false,
         });
+        self.has_row = false;
+        self.begin_line(line.number);
         let is_command = match read_line(self.alloc, line.text)? {
             None => false,
             Some(command) => self.carry_out(command)?,
         };
         if !is_command {
             self.line = None;
-        } else if self.line.is_some() {
-            self.begin_row();
+        } else if !self.has_row {
+            self.begin_row()?;
             self.push_row(Vec::new(self.alloc))?;
         }
         Ok(is_command)
     }
 
-    /// Replays all lines up to the first that is no command.
+    /// Notes that a line begins.
+    fn begin_line(&mut self, number: usize) {
+        if self.before_lines.is_none() && !self.selection.is_before(number) {
+            self.before_lines = Some(self.count);
+        }
+        if let Some(watched) = &mut self.watched {
+            watched.begin_line();
+        }
+    }
+
+    /// Replays all lines up to the last one of the selection, or to the first that is no command.
     fn replay(&mut self, script: &[u8]) -> Result<(), OutOfMemory> {
         let mut lines = Lines::new(script);
         while let Some(line) = lines.next_line() {
+            if self.selection.is_behind(line.number) {
+                return Ok(());
+            }
             if !line.is_blank() && !self.replay_line(&line)? {
                 return Ok(());
             }
         }
         Ok(())
+    }
+
+    /// The messages on their way at the end that belong to the picture.
+    fn waiting(&self) -> Result<Vec<usize>, OutOfMemory> {
+        let mut waiting = Vec::new(self.alloc);
+        if let Some(watched) = &self.watched {
+            for message in &watched.waiting {
+                if watched.shows_message(*message) {
+                    waiting.push(*message)?;
+                }
+            }
+        }
+        Ok(waiting)
     }
 
     /// Where the picture begins: where its first row does, or at the end where it has none.
@@ -302,7 +419,10 @@ impl Replay {
 
     /// What was replayed, for good.
     fn take_story(&mut self) -> Result<Story, OutOfMemory> {
-        let title = title_of(self.alloc, &self.group)?;
+        let title = title_of(self.alloc, &self.group, self.selection)?;
+        let mut waiting = self.waiting()?;
+        let waiting_left_out = waiting.len().saturating_sub(MAX_WAITING);
+        waiting.truncate(MAX_WAITING);
         let rows = mem::replace(&mut self.rows, Vec::new(self.alloc));
         let mut story = Story {
             title,
@@ -310,59 +430,93 @@ impl Replay {
             beginning: self.take_beginning(),
             rows,
             messages: Vec::new(self.alloc),
-            waiting: Vec::new(self.alloc),
-            waiting_left_out: 0,
+            waiting,
+            waiting_left_out,
             daemons: DaemonSet::first(0),
         };
         if let Some(watched) = &mut self.watched {
             story.daemons = watched.daemons;
             mem::swap(&mut story.messages, &mut watched.messages);
-            mem::swap(&mut story.waiting, &mut watched.waiting);
-            story.waiting_left_out = story.waiting.len().saturating_sub(MAX_WAITING);
-            story.waiting.truncate(MAX_WAITING);
         }
         Ok(story)
     }
 }
 
-/// The group with most messages, or nothing where the script makes no group.
-pub(crate) fn busiest_group(alloc: Global, script: &[u8]) -> Result<Option<GroupId>, OutOfMemory> {
-    let mut replay = Replay::new(alloc, None, usize::MAX);
-    replay.replay(script)?;
-    let groups = replay.groups()?;
-    match &replay.watched {
-        None => Ok(None),
-        Some(watched) => watched.busiest(groups.as_slice()),
+/// What a script has, as far as it matters to the choice of a group.
+pub(crate) struct Scouted {
+    /// The group with most messages, if there is a group.
+    pub(crate) busiest: Option<GroupId>,
+    /// The group of the request, if the script submits it.
+    pub(crate) of_request: Option<GroupId>,
+    /// Whether the named group is there.
+    pub(crate) has_named: bool,
+}
+
+impl Drop for Scouted {
+    fn drop(self) {
+        let Scouted {
+            busiest: _,
+            of_request: _,
+            has_named: _,
+        } = self;
     }
 }
 
-/// Whether a script makes a group.
-pub(crate) fn has_group(
+/// Replays a script to choose a group of it.
+pub(crate) fn scout(
     alloc: Global,
     script: &[u8],
-    group: &GroupId,
-) -> Result<bool, OutOfMemory> {
-    let mut replay = Replay::new(alloc, None, usize::MAX);
+    named: &Option<GroupId>,
+    request: Option<Id>,
+) -> Result<Scouted, OutOfMemory> {
+    let selection = Selection {
+        lines: None,
+        request,
+    };
+    let mut replay = Replay::new(alloc, None, selection, usize::MAX);
     replay.replay(script)?;
-    match &replay.watched {
-        None => Ok(false),
-        Some(watched) => Ok(watched.world().wire(group).is_ok()),
+    let groups = replay.groups()?;
+    let mut scouted = Scouted {
+        busiest: None,
+        of_request: None,
+        has_named: false,
+    };
+    if let Some(watched) = &mut replay.watched {
+        scouted.busiest = watched.busiest(groups.as_slice())?;
+        scouted.of_request = watched.request_group.take();
+        scouted.has_named = match named {
+            None => false,
+            Some(group) => watched.world().wire(group).is_ok(),
+        };
     }
+    Ok(scouted)
 }
 
-/// How many rows the picture of a group has, and how many more its messages have that are on their way at the end.
+/// How many rows a picture has, if nothing is left out.
+#[derive(Clone, Copy)]
+pub(crate) struct RowCounts {
+    /// Those before the first line of the selection, if that line is there.
+    pub(crate) before_lines: Option<usize>,
+    /// Those of steps.
+    pub(crate) steps: usize,
+    /// Those of messages that are on their way at the end.
+    pub(crate) waiting: usize,
+}
+
+/// How many rows the picture of a group has.
 pub(crate) fn row_counts(
     alloc: Global,
     script: &[u8],
     group: Option<GroupId>,
-) -> Result<(usize, usize), OutOfMemory> {
-    let mut replay = Replay::new(alloc, group, usize::MAX);
+    selection: Selection,
+) -> Result<RowCounts, OutOfMemory> {
+    let mut replay = Replay::new(alloc, group, selection, usize::MAX);
     replay.replay(script)?;
-    let waiting = match &replay.watched {
-        None => 0,
-        Some(watched) => watched.waiting.len().min(MAX_WAITING),
-    };
-    Ok((replay.count, waiting))
+    Ok(RowCounts {
+        before_lines: replay.before_lines,
+        steps: replay.count,
+        waiting: replay.waiting()?.len().min(MAX_WAITING),
+    })
 }
 
 /// What a script does to a group, from a row on.
@@ -370,9 +524,10 @@ pub(crate) fn story_of(
     alloc: Global,
     script: &[u8],
     group: Option<GroupId>,
+    selection: Selection,
     first: usize,
 ) -> Result<Story, OutOfMemory> {
-    let mut replay = Replay::new(alloc, group, first);
+    let mut replay = Replay::new(alloc, group, selection, first);
     replay.replay(script)?;
     replay.take_story()
 }

@@ -1,20 +1,24 @@
 //! The world of a script, and what each event does to one of its groups.
 
-use crate::choosing::{Tally, group_taken_from};
+use crate::choosing::{AskedGroup, Tally, asked_group, group_taken_from};
 use crate::naming::{name_of, party_of, topic_of};
-use crate::outcomes::{answer, decision};
+use crate::outcomes::{answer, decision, printed_answer, printed_line};
+use crate::peering::Peering;
 use crate::rights::{Noted, Rights};
+use crate::selection::{Part, Stage};
 use common_types::OutOfMemory;
-use entry_core::{GroupId, Id};
+use entry_core::{GroupId, Id, Reply};
 use grant_core::ProfileTable;
 use group_messages::{GroupFault, Party};
 use group_story::{GroupStep, WireStep, step_and_tell};
 use map_core::MapCommand;
 use peer_core::{Body, Sent};
-use picture_text::{Change, End, Happening, Message};
+use picture_text::{Change, End, Happening, Message, Outcome};
 use place_core::{ActingSet, DaemonSet};
 use std::alloc::{AllocError, Global};
+use std::mem;
 use world_core::{Event, World, WorldFault};
+use world_script::Command;
 
 /// A world, and what is known of the group that is watched.
 pub(crate) struct Watched {
@@ -23,11 +27,22 @@ pub(crate) struct Watched {
     rights: Rights,
     tally: Tally,
     group: Option<GroupId>,
-    /// Whether decisions are reported. To report them, all entries are looked at.
-    pub(crate) tells_decisions: bool,
+    /// Whether decisions are reported.
+    tells_decisions: bool,
     /// How many entries were decided in all groups, where it is known.
     decided: Option<usize>,
+    /// The requests whose decisions were reported, or were made before that began.
+    reported: Vec<Id>,
+    peering: Peering,
+    /// The request that is looked for, the group that it was submitted to, and how far it is.
+    request: Option<Id>,
+    pub(crate) request_group: Option<GroupId>,
+    stage: Stage,
+    /// Whether the last event did something with that request.
+    touches: bool,
     pub(crate) messages: Vec<Message>,
+    /// Of each message the request that it is about.
+    requests: Vec<Option<Id>>,
     /// The messages on their way, in the order of the wire.
     pub(crate) waiting: Vec<usize>,
     pub(crate) interval: usize,
@@ -46,7 +61,14 @@ impl Drop for Watched {
             group: _,
             tells_decisions: _,
             decided: _,
+            reported: _,
+            peering: _,
+            request: _,
+            request_group: _,
+            stage: _,
+            touches: _,
             messages: _,
+            requests: _,
             waiting: _,
             interval: _,
             acting: _,
@@ -67,6 +89,8 @@ struct Seen {
     change: Option<(u8, Change)>,
     /// Whether a message reaches a daemon or the client.
     delivers: bool,
+    /// Whether the message is one of those that may have entries decided without a reply.
+    peers: bool,
 }
 
 /// What is known of the world before an event.
@@ -77,6 +101,8 @@ struct Before {
     decided: usize,
     /// The request that the event may answer.
     open: Option<Id>,
+    /// The group to which the event submits.
+    asked: Option<AskedGroup>,
 }
 
 fn is_group(watched: &Option<GroupId>, group: &GroupId) -> bool {
@@ -103,6 +129,7 @@ fn see(watched: &Option<GroupId>, event: &Event) -> Seen {
         repeats: false,
         change: None,
         delivers: false,
+        peers: false,
     };
     match event {
         Event::Deliver { group, place } if is_group(watched, group) => {
@@ -129,11 +156,12 @@ fn answered_by(message: &Sent) -> Option<Id> {
 }
 
 impl Watched {
-    /// A new world of `daemons` daemons, of which one group is watched.
+    /// A new world of `daemons` daemons, of which one group is watched, and a request that is looked for.
     pub(crate) fn new(
         alloc: Global,
         daemons: u8,
         group: Option<GroupId>,
+        request: Option<Id>,
     ) -> Result<Watched, OutOfMemory> {
         let table = match ProfileTable::builtin(alloc) {
             Ok(table) => table,
@@ -152,7 +180,14 @@ impl Watched {
             group,
             tells_decisions: false,
             decided: None,
+            reported: Vec::new(alloc),
+            peering: Peering::new(alloc),
+            request,
+            request_group: None,
+            stage: Stage::Before,
+            touches: false,
             messages: Vec::new(alloc),
+            requests: Vec::new(alloc),
             waiting: Vec::new(alloc),
             interval: 0,
             acting: ActingSet::new(),
@@ -180,9 +215,68 @@ impl Watched {
         }
     }
 
-    /// How many entries were decided in all groups, or 0 where the event reports no decisions.
+    /// Begins to report decisions. Those that were made stay unreported.
+    pub(crate) fn tell_decisions(&mut self) -> Result<(), OutOfMemory> {
+        if self.tells_decisions {
+            return Ok(());
+        }
+        let entries = self.world.audit()?;
+        for entry in &entries {
+            self.reported.push(entry.sealed.id())?;
+        }
+        self.decided = Some(entries.len());
+        self.tells_decisions = true;
+        Ok(())
+    }
+
+    /// Begins a line of the script, which did nothing yet.
+    pub(crate) fn begin_line(&mut self) {
+        self.touches = false;
+    }
+
+    /// Notes that something happened with a request.
+    fn touch(&mut self, id: Option<Id>) {
+        if self.request.is_some() && self.request == id {
+            self.touches = true;
+            if self.stage == Stage::Before {
+                self.stage = Stage::Open;
+            }
+        }
+    }
+
+    /// What a row is to the picture. `moves` says whether a daemon changes or an interval begins in it.
+    pub(crate) fn part(&self, moves: bool) -> Part {
+        if self.request.is_none() || self.touches {
+            return Part::Shown;
+        }
+        match self.stage {
+            Stage::Open if moves => Part::Shown,
+            Stage::Answered if moves => Part::Later,
+            _ => Part::Apart,
+        }
+    }
+
+    /// Whether a message on its way belongs to the picture.
+    pub(crate) fn shows_message(&self, message: usize) -> bool {
+        match self.requests.get(message) {
+            Some(id) => self.request.is_none() || self.request == *id,
+            None => false,
+        }
+    }
+
+    /// The request that a message is about.
+    fn request_of(&self, body: &Body) -> Option<Id> {
+        match body {
+            Body::Append { request, .. } | Body::Request(request) => Some(request.id()),
+            Body::Appended { interval, index } => self.peering.request_at(*interval, *index),
+            Body::Reply { id, .. } | Body::NotHere(id) => Some(*id),
+            _ => None,
+        }
+    }
+
+    /// How many entries were decided in all groups, or 0 where the event is not asked for decisions that have no reply.
     fn decided_before(&self, seen: &Seen) -> Result<usize, OutOfMemory> {
-        if !(seen.delivers && self.tells_decisions) {
+        if !(seen.peers && self.tells_decisions) {
             return Ok(0);
         }
         match self.decided {
@@ -207,10 +301,26 @@ impl Watched {
         event: Event,
         told: &mut Vec<Happening>,
     ) -> Result<(), OutOfMemory> {
-        let seen = see(&self.group, &event);
+        self.touches = false;
+        let mut seen = see(&self.group, &event);
+        seen.peers = self.is_of_peering(&seen);
         let before = self.look(&event, &seen)?;
         let step = self.step(event)?;
         self.tell(told, &seen, before, &step)
+    }
+
+    /// Whether an event delivers a message at which a daemon may find that entries are decided: it becomes active without a reply.
+    fn is_of_peering(&self, seen: &Seen) -> bool {
+        let (true, Some(place)) = (seen.delivers, seen.taken) else {
+            return false;
+        };
+        match self.wire().get(place) {
+            None => false,
+            Some(message) => matches!(
+                message.body,
+                Body::Interval(_) | Body::Info { .. } | Body::Installed { .. }
+            ),
+        }
     }
 
     /// What has to be known of the world before an event.
@@ -225,6 +335,10 @@ impl Watched {
             decided: self.decided_before(seen)?,
             open: self.opens(seen),
             noted: self.rights.note(&self.world, event)?,
+            asked: match self.request {
+                None => None,
+                Some(_) => asked_group(&self.world, event)?,
+            },
         })
     }
 
@@ -251,11 +365,13 @@ impl Watched {
         step: &GroupStep,
     ) -> Result<(), OutOfMemory> {
         let (decided, open) = (before.decided, before.open);
+        self.find_request(&before, step)?;
         self.rights.keep(before.noted, step.done)?;
         match step.done {
             Ok(_) => {
                 self.tell_accepted(told, seen, &step.wire)?;
-                self.tell_decided(told, seen, decided)?;
+                self.tell_chosen(told, seen, &step.wire)?;
+                self.tell_decided(told, seen, decided, &step.wire)?;
                 self.tell_answered(told, open)
             }
             Err(WorldFault::OutOfMemory) => Err(AllocError),
@@ -292,6 +408,8 @@ impl Watched {
         match seen.taken {
             Some(place) if step.taken.is_some() && place < self.waiting.len() => {
                 let message = self.waiting.remove(place);
+                let request = self.requests.get(message).copied().unwrap_or(None);
+                self.touch(request);
                 told.push(Happening::Ended { message, end })?;
                 Ok(())
             }
@@ -345,6 +463,10 @@ impl Watched {
     ) -> Result<(), OutOfMemory> {
         for sent in &step.sent {
             let message = self.messages.len();
+            self.peering.hear_sent(sent)?;
+            let request = self.request_of(&sent.body);
+            self.requests.push(request)?;
+            self.touch(request);
             self.messages.push(Message {
                 from: party_of(sent.from),
                 to: party_of(sent.to),
@@ -358,27 +480,134 @@ impl Watched {
         Ok(())
     }
 
-    /// What was decided, by the entries that are there now and were not before.
+    /// Which log an interval begins with, where its primary chooses it.
+    fn tell_chosen(
+        &mut self,
+        told: &mut Vec<Happening>,
+        seen: &Seen,
+        step: &WireStep,
+    ) -> Result<(), OutOfMemory> {
+        let (true, Some(taken)) = (seen.delivers, &step.taken) else {
+            return Ok(());
+        };
+        self.peering.hear_delivered(taken)?;
+        let mut choice = self.peering.chosen(step.sent.as_slice())?;
+        for id in &choice.dropped {
+            self.touch(Some(*id));
+        }
+        if !choice.lines.is_empty() {
+            let lines = mem::replace(&mut choice.lines, Vec::new(self.alloc));
+            told.push(Happening::Chosen(lines))?;
+        }
+        Ok(())
+    }
+
+    /// What was decided: where a daemon became active by the entries that are there now and were not before, else by the replies
+    /// that were sent, each of which follows the decision.
     fn tell_decided(
         &mut self,
         told: &mut Vec<Happening>,
         seen: &Seen,
         before: usize,
+        step: &WireStep,
     ) -> Result<(), OutOfMemory> {
         if !(seen.delivers && self.tells_decisions) {
             return Ok(());
         }
+        if !seen.peers {
+            return self.tell_replied(told, step);
+        }
         let entries = self.world.audit()?;
         self.decided = Some(entries.len());
         for entry in entries.iter().skip(before) {
-            told.push(Happening::Decided(decision(self.alloc, &self.rights, entry)?))?;
+            self.tell_decision(told, entry.sealed.id(), &entry.reply)?;
         }
         Ok(())
     }
 
+    /// The decisions of the requests that are replied to for the first time.
+    fn tell_replied(
+        &mut self,
+        told: &mut Vec<Happening>,
+        step: &WireStep,
+    ) -> Result<(), OutOfMemory> {
+        for sent in &step.sent {
+            if let Body::Reply { id, reply } = &sent.body {
+                if !self.reported.contains(id) {
+                    self.decided = self.decided.map(|count| count.saturating_add(1));
+                    self.tell_decision(told, *id, reply)?;
+                }
+            }
+        }
+        Ok(())
+    }
+
+    fn tell_decision(
+        &mut self,
+        told: &mut Vec<Happening>,
+        id: Id,
+        reply: &Reply,
+    ) -> Result<(), OutOfMemory> {
+        self.reported.push(id)?;
+        self.touch(Some(id));
+        told.push(Happening::Decided(decision(self.alloc, &self.rights, id, reply)?))?;
+        Ok(())
+    }
+
+    /// Keeps the group of the request that is looked for, where the event submitted it.
+    fn find_request(&mut self, before: &Before, step: &GroupStep) -> Result<(), OutOfMemory> {
+        let (Some(id), Some(asked), Ok(told)) = (self.request, &before.asked, step.done) else {
+            return Ok(());
+        };
+        if let Some(group) = asked.group_of(id, told)? {
+            self.request_group = Some(group);
+        }
+        Ok(())
+    }
+
+    /// What a question of the script prints of a request or a group. Nothing for a question about something else.
+    pub(crate) fn printed(&mut self, command: &Command) -> Result<Option<Outcome>, OutOfMemory> {
+        let alloc = self.alloc;
+        match command {
+            Command::Answer(id) => {
+                self.touch(Some(*id));
+                match self.world.answer(*id) {
+                    Ok(reply) => Ok(Some(printed_answer(alloc, *id, reply)?)),
+                    Err(fault) => self.refused_question(fault),
+                }
+            }
+            Command::Listing(id) => {
+                self.touch(Some(*id));
+                match self.world.listing(*id) {
+                    Ok(reply) => Ok(Some(printed_answer(alloc, *id, reply.as_ref())?)),
+                    Err(fault) => self.refused_question(fault),
+                }
+            }
+            Command::Ready(group) => match self.world.ready(group) {
+                Ok(is_ready) => {
+                    let word = if is_ready { "yes" } else { "no" };
+                    Ok(Some(printed_line(alloc, String::from_str(alloc, word)?)?))
+                }
+                Err(fault) => self.refused_question(fault),
+            },
+            _ => Ok(None),
+        }
+    }
+
+    /// What a question prints that is refused.
+    fn refused_question(&self, fault: WorldFault) -> Result<Option<Outcome>, OutOfMemory> {
+        match fault {
+            WorldFault::OutOfMemory => Err(AllocError),
+            fault => {
+                let line = format!(in self.alloc; "refused {fault}")?;
+                Ok(Some(printed_line(self.alloc, line)?))
+            }
+        }
+    }
+
     /// What the message that came to the client answers, where the request had no answer before.
     fn tell_answered(
-        &self,
+        &mut self,
         told: &mut Vec<Happening>,
         open: Option<Id>,
     ) -> Result<(), OutOfMemory> {
@@ -387,6 +616,10 @@ impl Watched {
         };
         if let Ok(Some(reply)) = self.world.answer(id) {
             told.push(Happening::Answered(answer(self.alloc, id, reply)?))?;
+            self.touch(Some(id));
+            if self.request == Some(id) {
+                self.stage = Stage::Answered;
+            }
         }
         Ok(())
     }

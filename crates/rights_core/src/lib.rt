@@ -6,8 +6,6 @@ mod judging;
 mod reporting;
 mod rights;
 mod sampling;
-#[cfg(test)]
-mod tests;
 
 pub use entries::{Entries, Entry};
 pub use judging::{Everywhere, judge_at, judge_everywhere};

@@ -19,13 +19,15 @@ use Rattle.compare_core.proofs.Bools.{any_at, either_first, fails, true_or_false
 use Rattle.share_core.specs.Sharing.{reads_so, writes_so}
 use Rattle.share_core.specs.declared.pools.Pool.{Pool}
 use Rattle.share_core.specs.declared.touches.Touch.{Touch}
+use Rattle.share_core.specs.declared.touches.Touch.TheVariants.{AnyRead, AnyWrite}
 use Rattle.rules_core.specs.Broken.{IsAllowed, IsCrossing}
-use Rattle.rules_core.specs.Breaking.{IsCrossedBy, IsCrossedWith, IsPair, IsPairBy, any_touch, crossing_of}
+use Rattle.rules_core.specs.Breaking.{IsBrokenBy, IsCrossedBy, IsCrossedWith, IsPair, IsPairBy, any_touch, crossing_of}
 use Rattle.rules_core.specs.Demands.{AreApart, CanAsk, IsAt, allow}
 use Rattle.rules_core.specs.Requests.{IsRequestAt}
 use Rattle.rules_core.specs.Touches.{Meets}
 use Rattle.rules_core.specs.declared.apart.Crossing.{Crossing}
 use Rattle.rules_core.specs.declared.apart.Pair.{Pair}
+use Rattle.rules_core.specs.declared.demand.Demand.TheVariants.{Never}
 use Rattle.rules_core.proofs.Addressing.{sample_for}
 use Rattle.rules_core.proofs.Commons.{first_call}
 use Rattle.rules_core.proofs.NeverSteps.{met_some}
@@ -92,6 +94,14 @@ never_crossed pools ones others both writes reads target write touch = (
     | inr so ↦ both target (c.asked.at, (touch, so, c.also), (write, c.writes, c.allowed))
   ],
 )
+
+-- who reads nothing in common, and writes nothing, allows no common request
+pub never_met : (pools : Option (List Pool)) (region entity : Flat) → ((target : Target) → ¬ Meets pools region AnyRead entity AnyRead target)
+    → ((target : Target) → ¬ Meets pools region AnyWrite entity AnyWrite target) → IsBrokenBy Never pools region entity None
+never_met pools region entity reads writes target needs breaks = elim (reads_or_writes needs breaks.0.needed) [
+  | inl so ↦ reads target (breaks.0.at, (needs, so, breaks.1), (needs, so, breaks.2))
+  | inr so ↦ writes target (breaks.0.at, (needs, so, breaks.1), (needs, so, breaks.2))
+]
 
 pub first_writes : (pools : Option (List Pool)) (ones others : Flat) (other_writes : Bool) (pair : Pair) → IsPairBy pools ones true others other_writes (Some pair) → IsCrossedBy pools ones others (Some pair)
 first_writes pools ones others other_writes pair h = record { same = h.0; writes = either_first (writes_so pair.one.needs) _ (h.1 refl); mine = h.3; theirs = h.4 }

@@ -7,3 +7,4 @@ pub mod RequestSteps
 pub mod Addressing
 pub mod CrossingSteps
 pub mod CheckSteps
+pub mod NearSteps

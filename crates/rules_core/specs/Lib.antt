@@ -7,3 +7,4 @@ pub mod Requests
 pub mod Narrowed
 pub mod Breaking
 pub mod Checking
+pub mod Near

@@ -1,12 +1,15 @@
 //! What is found where the entities of a cluster are checked by a rule.
 
-ghost use Rattle.std.specs.Prelude.{IfOk, option_copied};
+ghost use Rattle.std.specs.Prelude.{IfOk, List, Option, option_copied};
+ghost use Rattle.share_core.specs.declared.pools.Pool.{Pool as PoolSeen};
 ghost use Rattle.rules_core.specs.Checking as inside;
+ghost use Rattle.rules_core.specs.Near.{AreEnough};
 ghost use Rattle.rules_core.specs.Rules as spec;
 
 use crate::apart::{Crossing, crossing_between};
 use crate::breaches::breach;
 use crate::demand::Demand;
+use crate::entities::Entities;
 use crate::rule::{Rule, Subject, Who};
 use common_types::OutOfMemory;
 use compare_text::AddressedExample;
@@ -87,14 +90,16 @@ fn crossed(
     pools: Option<&[Pool]>,
     rights: &Rights,
     others: &Who,
-    subjects: &[Subject<'_>],
+    entities: &Entities<'_>,
 ) -> Result<Option<Finding>, OutOfMemory>
-    ensures { IfOk result (inside.IsCrossedFound (option_copied pools.entry) rights.now.grants others.now subjects.now) }
+    ensures { IfOk result (inside.IsCrossedFound (option_copied pools.entry) rights.now.grants others.now entities.now) }
 {
-    for place in 0..subjects.len() {
-        let found = crossing_of(alloc, pools, rights, others, &subjects[place])?;
+    let subjects = entities.subjects();
+    let near = entities.near(alloc, rights)?;
+    for place in &near {
+        let found = crossing_of(alloc, pools, rights, others, &subjects[*place])?;
         if let Some(crossing) = found {
-            return Ok(Some(Finding::Crossed(place, crossing)));
+            return Ok(Some(Finding::Crossed(*place, crossing)));
         }
     }
     Ok(None)
@@ -106,10 +111,10 @@ fn apart_finding(
     pools: Option<&[Pool]>,
     ones: &Who,
     others: &Who,
-    subjects: &[Subject<'_>],
+    entities: &Entities<'_>,
     subject: &Subject<'_>,
 ) -> Result<Option<Finding>, OutOfMemory>
-    ensures { IfOk result (spec.IsFinding (option_copied pools.entry) (Rule.Apart ones.now others.now) subjects.now subject.now) }
+    ensures { IfOk result (spec.IsFinding (option_copied pools.entry) (Rule.Apart ones.now others.now) entities.now subject.now) }
 {
     let name = subject.called();
     let is_one = ones.selects(name);
@@ -120,7 +125,7 @@ fn apart_finding(
         None => Ok(Some(Finding::Unread)),
         Some(rights) => {
             if is_one {
-                crossed(alloc, pools, rights, others, subjects)
+                crossed(alloc, pools, rights, others, entities)
             } else {
                 Ok(None)
             }
@@ -133,10 +138,10 @@ fn finding_of(
     alloc: Global,
     pools: Option<&[Pool]>,
     rule: &Rule,
-    subjects: &[Subject<'_>],
+    entities: &Entities<'_>,
     subject: &Subject<'_>,
 ) -> Result<Option<Finding>, OutOfMemory>
-    ensures { IfOk result (spec.IsFinding (option_copied pools.entry) rule.now subjects.now subject.now) }
+    ensures { IfOk result (spec.IsFinding (option_copied pools.entry) rule.now entities.now subject.now) }
 {
     match rule {
         Rule::Each {
@@ -151,25 +156,48 @@ fn finding_of(
             }
         }
         Rule::Apart { ones, others } => {
-            apart_finding(alloc, pools, ones, others, subjects, subject)
+            apart_finding(alloc, pools, ones, others, entities, subject)
         }
     }
 }
 
-/// What is found of each entity by a rule, in their order.
+/// The indices of the entities that have to be checked by a rule: nothing is found of the others.
+fn places_for(
+    alloc: Global,
+    rule: &Rule,
+    entities: &Entities<'_>,
+) -> Result<Vec<usize>, OutOfMemory>
+    ensures { IfOk result (λ places. (pools : Option (List PoolSeen)) → AreEnough pools rule.now entities.now places.items) }
+{
+    match rule {
+        Rule::Each { demand, region, .. } => match demand {
+            Demand::Never => entities.near(alloc, region),
+            Demand::Always => entities.all(alloc),
+        },
+        Rule::Apart { .. } => entities.all(alloc),
+    }
+}
+
+/// What is found of each entity by a rule, in their order. Those at other indices have no findings.
 fn findings(
     alloc: Global,
     pools: Option<&[Pool]>,
     rule: &Rule,
-    subjects: &[Subject<'_>],
+    entities: &Entities<'_>,
+    places: &[usize],
 ) -> Result<Vec<Found>, OutOfMemory>
-    ensures { IfOk result (λ founds. spec.AreFound (option_copied pools.entry) rule.now subjects.now 0 subjects.now founds.items) }
+    requires { AreEnough (option_copied pools) rule.now entities.now places.now }
+    ensures { IfOk result (λ founds. spec.AreFound (option_copied pools.entry) rule.now entities.now 0 entities.now founds.items) }
 {
+    let subjects = entities.subjects();
     let mut founds = Vec::new(alloc);
-    for place in 0..subjects.len() {
-        let found = finding_of(alloc, pools, rule, subjects, &subjects[place])?;
+    for place in places {
+        let found = finding_of(alloc, pools, rule, entities, &subjects[*place])?;
         if let Some(finding) = found {
-            founds.push(Found { place, finding })?;
+            founds.push(Found {
+                place: *place,
+                finding,
+            })?;
         }
     }
     Ok(founds)
@@ -184,14 +212,15 @@ pub fn check(
     alloc: Global,
     pools: Option<&[Pool]>,
     rule: &Rule,
-    subjects: &[Subject<'_>],
+    entities: &Entities<'_>,
 ) -> Result<Outcome, OutOfMemory>
-    ensures { IfOk result (spec.IsOutcome (option_copied pools.entry) rule.now subjects.now) }
+    ensures { IfOk result (spec.IsOutcome (option_copied pools.entry) rule.now entities.now) }
 {
-    if !rule.is_of_somebody(subjects) {
+    if !rule.is_of_somebody(entities.subjects()) {
         return Ok(Outcome::Nobody);
     }
-    let founds = findings(alloc, pools, rule, subjects)?;
+    let places = places_for(alloc, rule, entities)?;
+    let founds = findings(alloc, pools, rule, entities, places.as_slice())?;
     if founds.is_empty() {
         Ok(Outcome::Kept)
     } else {

@@ -1,12 +1,12 @@
 //! Requests that two tickets both allow.
 
-ghost use Rattle.std.specs.Prelude.{All, IfOk, option_copied};
+ghost use Rattle.std.specs.Prelude.{◌≡◌, All, IfOk, None, false, option_copied};
 ghost use Rattle.share_core.specs.Sharing.{May};
 ghost use Rattle.rules_core.specs.Breaking.{IsBrokenAmong, IsBrokenBy, IsPlain, IsTouchShown};
 
 use crate::demand::Demand;
 use crate::requests::giver;
-use crate::targets::common_target;
+use crate::targets::{common_target, meet};
 use crate::touches::{needs_of, touches};
 use common_types::OutOfMemory;
 use compare_core::{Example, OwnedTarget};
@@ -56,6 +56,14 @@ fn common_among(
     Ok(None)
 }
 
+/// Whether both tickets read, or both write, at a common target. Else they allow no common request.
+fn may_meet(pools: Option<&[Pool]>, region: &Ticket, entity: &Ticket) -> bool
+    ensures { result ≡ false → IsBrokenBy Demand.Never (option_copied pools.entry) region.now.grants entity.now.grants None }
+{
+    meet(pools, region, &Touch::AnyRead, entity, &Touch::AnyRead)
+        || meet(pools, region, &Touch::AnyWrite, entity, &Touch::AnyWrite)
+}
+
 /// A request that both tickets allow, in some of the pools where they are given, with the path of the entity's grant.
 pub(crate) fn common_request(
     alloc: Global,
@@ -65,6 +73,9 @@ pub(crate) fn common_request(
 ) -> Result<Option<Example>, OutOfMemory>
     ensures { IfOk result (IsBrokenBy Demand.Never (option_copied pools.entry) region.now.grants entity.now.grants) }
 {
+    if !may_meet(pools, region, entity) {
+        return Ok(None);
+    }
     let touches = touches(alloc, region, entity)?;
     let found = common_among(alloc, pools, region, entity, touches.as_slice())?;
     Ok(found)

@@ -1,6 +1,6 @@
 //! Targets at which two tickets allow their touches.
 
-ghost use Rattle.std.specs.Prelude.{◌≡◌, ◌≢◌, [], IfOk, MatchOption, Some, None, option_copied};
+ghost use Rattle.std.specs.Prelude.{◌≡◌, ◌≢◌, [], false, IfOk, MatchOption, Some, None, option_copied};
 ghost use Rattle.request_types.specs.Target.{Target as TargetSeen};
 ghost use Rattle.rules_core.specs.Touches.{Meets};
 
@@ -20,6 +20,23 @@ pub(crate) fn copy_target(target: &OwnedTarget) -> Result<OwnedTarget, OutOfMemo
         namespace: target.namespace.copy()?,
         object: target.object.copy()?,
     })
+}
+
+/// Whether `ones` allows `one` and `others` allows `other` at a common target, in one of `pools` if they are given. It takes no
+/// memory.
+pub(crate) fn meet(
+    pools: Option<&[Pool]>,
+    ones: &Ticket,
+    one: &Touch,
+    others: &Ticket,
+    other: &Touch,
+) -> bool
+    ensures { result ≡ false → (target : TargetSeen) → ¬ Meets (option_copied pools.entry) ones.now.grants one.now others.now.grants other.now target }
+{
+    match pools {
+        None => share(ones, one, others, other),
+        Some(pools) => share_in(ones, one, others, other, pools),
+    }
 }
 
 /// An object of any pool at which the one ticket allows a touch and the other another one.

@@ -23,6 +23,7 @@ fault_text fault.StrayQuote = codes "U14 StrayQuote"
 fault_text fault.BadExcept = codes "U15 BadExcept"
 fault_text fault.QuotedName = codes "U16 QuotedName"
 fault_text fault.ExtraWord = codes "U17 ExtraWord"
+fault_text fault.TooManyGroups = codes "U18 TooManyGroups"
 
 abbrev pub expected : RuleFault → List ℕ
 expected fault.UnknownWord = codes "group, never, always or apart"
@@ -42,3 +43,4 @@ expected fault.StrayQuote = codes "a blank behind the word"
 expected fault.BadExcept = codes "a name, and one except in a rule"
 expected fault.QuotedName = codes "a name without quotes"
 expected fault.ExtraWord = codes "the end of the line"
+expected fault.TooManyGroups = codes "at most 1,024 groups"

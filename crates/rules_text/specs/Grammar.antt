@@ -1,6 +1,6 @@
 -- Statement: contracts of public calls use it.
 -- What a line of a file of rules says, or its first fault (this project's profile).
-use Rattle.std.specs.Prelude.{ℕ, ◌≡◌, ◌⊎◌, ◌+◌, ◌==◌, min, Bool, List, [], ◌∷◌, Option, None, Some, is_some, Result, Ok, Err, codes, length, string_bytes, if◌then◌else◌}
+use Rattle.std.specs.Prelude.{ℕ, ◌≡◌, ◌⊎◌, ◌+◌, ◌==◌, min, nat_le, Bool, List, [], ◌∷◌, Option, None, Some, is_some, Result, Ok, Err, codes, length, string_bytes, if◌then◌else◌}
 use Rattle.std.specs.List.{list_any}
 use Rattle.std.specs.Option.{option_map, option_or}
 use Rattle.std.specs.Str.{bytes_eq}
@@ -120,10 +120,15 @@ IsApart groups end (one ∷ other ∷ extra ∷ more) result = result ≡ Err (a
 abbrev pub is_entity : List ReadEntity → List ℕ → Bool
 is_entity entities name = list_any (λ (entity : ReadEntity). bytes_eq (string_bytes entity.name) name) entities
 
--- the fault of a group's words, or that an entity has its name
+-- an entity has the name, or there are too many groups
+abbrev pub group_refusal : List ReadEntity → List Group → List ℕ → Option RuleFault
+group_refusal entities groups name =
+    if is_entity entities name then Some fault.GroupIsEntity else if nat_le 1024 (length groups) then Some fault.TooManyGroups else None
+
+-- the fault of a group's words, or why there may be no such group
 abbrev pub whole_fault : List ReadEntity → List Group → ℕ → Word → List Word → Option LineFault
 whole_fault entities groups end name members =
-    option_or (option_map line_fault (group_fault groups end name members)) (if is_entity entities name.text.now then Some (at name.at fault.GroupIsEntity) else None)
+    option_or (option_map line_fault (group_fault groups end name members)) (option_map (at name.at) (group_refusal entities groups name.text.now))
 
 abbrev pub IsGroupOf : List ReadEntity → List Group → ℕ → Word → List Word → Result Content LineFault → Type 0
 IsGroupOf entities groups end name members (Err why) = whole_fault entities groups end name members ≡ Some why
@@ -145,7 +150,7 @@ IsBegun by entities groups end word words (Some key.Never) result = IsEach by gr
 IsBegun by entities groups end word words (Some key.Always) result = IsEach by groups end Always (front is_named words) (rest is_named words) result
 IsBegun by entities groups end word words (Some key.Apart) result = IsApart groups end words result
 
--- words of a line of so many bytes
+-- the words of a line that ends at a position
 abbrev pub IsContent : Rules → List ReadEntity → List Group → ℕ → List Word → Result Content LineFault → Type 0
 IsContent by entities groups end [] result = result ≡ Err (at end fault.UnknownWord)
 IsContent by entities groups end (word ∷ words) result = IsBegun by entities groups end word words (keyword word) result

@@ -9,7 +9,7 @@ ghost use Rattle.rules_text.specs.Checked.{AreChecked};
 use crate::file::RuleLine;
 use common_types::OutOfMemory;
 use rights_core::Rights;
-use rules_core::{Outcome, Subject, check};
+use rules_core::{Entities, Outcome, Subject, check};
 use share_core::Pool;
 use std::alloc::Global;
 use verdict_text::ReadEntity;
@@ -27,6 +27,17 @@ impl Drop for CheckedRule<'_> {
             outcome: _,
         } = self;
     }
+}
+
+/// What follows the progress of a check.
+pub trait Watch {
+    /// So many rules are checked.
+    fn checked(&mut self, count: usize);
+}
+
+/// Nothing follows it.
+impl Watch for () {
+    fn checked(&mut self, _count: usize) {}
 }
 
 /// The rights of an entity's text, if it could be read.
@@ -60,35 +71,39 @@ fn subjects_of(alloc: Global, entities: &[ReadEntity]) -> Result<Vec<Subject<'_>
     Ok(subjects)
 }
 
-/// Whether each rule holds of some subjects, in order.
-fn outcomes_of<'r>(
+/// Whether each rule holds of the entities, in order.
+fn outcomes_of<'r, W: Watch>(
     alloc: Global,
     pools: Option<&[Pool]>,
     rules: &'r [RuleLine],
-    subjects: &[Subject<'_>],
+    entities: &Entities<'_>,
+    watch: &mut W,
 ) -> Result<Vec<CheckedRule<'r>>, OutOfMemory>
-    ensures { IfOk result (λ all. AreChecked (option_copied pools.entry) subjects.now rules.now all.items) }
+    ensures { IfOk result (λ all. AreChecked (option_copied pools.entry) entities.now rules.now all.items) }
 {
     let mut all = Vec::new(alloc);
     for line in rules {
-        let outcome = check(alloc, pools, &line.rule, subjects)?;
+        let outcome = check(alloc, pools, &line.rule, entities)?;
         all.push(CheckedRule { line, outcome })?;
+        watch.checked(all.len());
     }
     Ok(all)
 }
 
 /// Whether each rule of a file holds of the entities, in order. An entity whose text is refused is not checked, and a rule that
-/// names it does not hold. The only error is out of memory.
-pub fn check_rules<'r>(
+/// names it does not hold. `watch` follows the progress. The only error is out of memory.
+pub fn check_rules<'r, W: Watch>(
     alloc: Global,
     pools: Option<&[Pool]>,
     rules: &'r [RuleLine],
     entities: &[ReadEntity],
+    watch: &mut W,
 ) -> Result<Vec<CheckedRule<'r>>, OutOfMemory>
     ensures { IfOk result (λ all. AreChecked (option_copied pools.entry) (map spec.subject_of entities.now) rules.now all.items) }
 {
     let subjects = subjects_of(alloc, entities)?;
-    outcomes_of(alloc, pools, rules, subjects.as_slice())
+    let entities = Entities::of(alloc, subjects.as_slice())?;
+    outcomes_of(alloc, pools, rules, &entities, watch)
 }
 
 pub(crate) fn is_kept(one: &CheckedRule<'_>) -> bool

@@ -15,6 +15,9 @@ use rules_words::{
 use std::alloc::Global;
 use verdict_text::{ReadEntity, Reader, Reading, TextFault};
 
+/// The most groups.
+const MAX_GROUPS: usize = 1_024;
+
 /// The first word of a line.
 #[derive(Clone, Copy, Drop)]
 pub(crate) enum Keyword {
@@ -242,6 +245,19 @@ fn is_entity(entities: &[ReadEntity], name: &str) -> bool
     entities.iter().any(|entity| entity.name.as_str() == name)
 }
 
+/// Why there may be no group of this name behind these groups.
+fn group_refusal(entities: &[ReadEntity], groups: &[Group], name: &str) -> Option<RuleFault>
+    ensures { result ≡ spec.group_refusal entities.now groups.now name.now }
+{
+    if is_entity(entities, name) {
+        Some(RuleFault::GroupIsEntity)
+    } else if groups.len() >= MAX_GROUPS {
+        Some(RuleFault::TooManyGroups)
+    } else {
+        None
+    }
+}
+
 /// The group of a name and its members, which has the name of no entity.
 fn group_of(
     alloc: Global,
@@ -257,13 +273,9 @@ fn group_of(
         Ok(group) => group,
         Err(why) => return Ok(Err(names_fault(why))),
     };
-    if is_entity(entities, name.text) {
-        Ok(Err(LineFault {
-            at: name.at,
-            fault: RuleFault::GroupIsEntity,
-        }))
-    } else {
-        Ok(Ok(Content::AGroup(group)))
+    match group_refusal(entities, groups, name.text) {
+        Some(fault) => Ok(Err(LineFault { at: name.at, fault })),
+        None => Ok(Ok(Content::AGroup(group))),
     }
 }
 

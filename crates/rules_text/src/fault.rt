@@ -43,6 +43,8 @@ pub enum RuleFault {
     QuotedName,
     /// U17: a word behind the end of the rule.
     ExtraWord,
+    /// U18: there are 1,024 groups before it.
+    TooManyGroups,
 }
 
 impl fmt::Display for RuleFault {
@@ -67,6 +69,7 @@ impl fmt::Display for RuleFault {
             RuleFault::BadExcept => write!(f, "U15 BadExcept"),
             RuleFault::QuotedName => write!(f, "U16 QuotedName"),
             RuleFault::ExtraWord => write!(f, "U17 ExtraWord"),
+            RuleFault::TooManyGroups => write!(f, "U18 TooManyGroups"),
         }
     }
 }
@@ -94,6 +97,7 @@ impl RuleFault {
             RuleFault::BadExcept => "a name, and one except in a rule",
             RuleFault::QuotedName => "a name without quotes",
             RuleFault::ExtraWord => "the end of the line",
+            RuleFault::TooManyGroups => "at most 1,024 groups",
         }
     }
 }

@@ -46,7 +46,7 @@ pub(crate) struct Contents {
     rules: Vec<RuleLine>,
 }
 
-/// Whether the first byte that is no blank is `#`, or there is none.
+/// Whether a line is blank, or a comment: the first byte behind its blanks is `#`.
 fn is_note(line: &[u8]) -> bool
     ensures { result ≡ spec.is_note line.now }
 {

@@ -19,10 +19,8 @@ mod file;
 mod json;
 mod junit;
 mod report;
-#[cfg(test)]
-mod tests;
 
-pub use checked::{CheckedRule, check_rules, some_fail};
+pub use checked::{CheckedRule, Watch, check_rules, some_fail};
 pub use fault::{BadRule, RuleFault};
 pub use file::{RuleLine, read_rules};
 pub use json::check_json;

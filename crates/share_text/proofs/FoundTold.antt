@@ -12,6 +12,7 @@ use Rattle.flow_core.proofs.Walks.{chain_for, no_empty_chain, shortest_for}
 use Rattle.share_core.specs.declared.pools.Pool.{Pool}
 use Rattle.share_text.specs.FlowLines.{IsChainTold, IsFoundTold, IsWriterTold}
 use Rattle.share_text.specs.Flows.{AreReaders, AreReachesTold, IsFlowTold, IsPlaceTold, OfEach, WritesTo, flow_line}
+use Rattle.share_text.specs.declared.detail.Detail.{Detail}
 use Rattle.share_text.specs.declared.tenants.Tenant.{Tenant}
 use Rattle.share_text.proofs.Reaching.{each_for}
 
@@ -21,26 +22,26 @@ front_of chain front end is =
     let long : length chain - 1 ≡ length front = omega (arith, ap length is, length-append front (end ∷ [])) in
     ap (λ n. take n chain) long ∙ (ap (take (length front)) is ∙ take-append_seam front (end ∷ []))
 
-nothing_told : (pools : Option (List Pool)) (check : Bool) (tenants : List Tenant) (writer reader : ℕ) (text : List ℕ) (fails : Bool) → (writer ≡ reader) ⊎ (writer ≡ reader → ⊥)
-    → ((chain : List ℕ) → ¬ IsChain (WritesTo pools tenants) writer reader chain) → text ≡ [] → fails ≡ false → IsPlaceTold pools check tenants writer reader text fails
-nothing_told pools check tenants writer reader text fails (inl same) apart empty ends = inr (same, empty, ends)
-nothing_told pools check tenants writer reader text fails (inr other) apart empty ends = inl (other, inr (apart, empty, ends))
+nothing_told : (detail : Detail) (pools : Option (List Pool)) (check : Bool) (tenants : List Tenant) (writer reader : ℕ) (text : List ℕ) (fails : Bool) → (writer ≡ reader) ⊎ (writer ≡ reader → ⊥)
+    → ((chain : List ℕ) → ¬ IsChain (WritesTo pools tenants) writer reader chain) → text ≡ [] → fails ≡ false → IsPlaceTold detail pools check tenants writer reader text fails
+nothing_told detail pools check tenants writer reader text fails (inl same) apart empty ends = inr (same, empty, ends)
+nothing_told detail pools check tenants writer reader text fails (inr other) apart empty ends = inl (other, inr (apart, empty, ends))
 
-line_told : (pools : Option (List Pool)) (check : Bool) (tenants : List Tenant) (writer reader : ℕ) (chain : List ℕ) (text : List ℕ) (fails : Bool) → (chain ≡ [] → ⊥)
-    → IsShortest (WritesTo pools tenants) writer reader chain → text ≡ flow_line tenants writer reader (take (length chain - 1) chain) → fails ≡ check
-    → IsFlowTold pools check tenants writer reader text fails
-line_told pools check tenants writer reader [] text fails some found is ends = absurd (some refl)
-line_told pools check tenants writer reader (place ∷ rest) text fails some found is ends =
+line_told : (detail : Detail) (pools : Option (List Pool)) (check : Bool) (tenants : List Tenant) (writer reader : ℕ) (chain : List ℕ) (text : List ℕ) (fails : Bool) → (chain ≡ [] → ⊥)
+    → IsShortest (WritesTo pools tenants) writer reader chain → text ≡ flow_line detail tenants writer reader (take (length chain - 1) chain) → fails ≡ check
+    → IsFlowTold detail pools check tenants writer reader text fails
+line_told detail pools check tenants writer reader [] text fails some found is ends = absurd (some refl)
+line_told detail pools check tenants writer reader (place ∷ rest) text fails some found is ends =
     let front = found.is.ends.0 in
     let whole : place ∷ rest ≡ front ++ reader ∷ [] = found.is.ends.1 in
-    inl (front, subst (IsShortest (WritesTo pools tenants) writer reader) whole found, is ∙ ap (flow_line tenants writer reader) (front_of (place ∷ rest) front reader whole), ends)
+    inl (front, subst (IsShortest (WritesTo pools tenants) writer reader) whole found, is ∙ ap (flow_line detail tenants writer reader) (front_of (place ∷ rest) front reader whole), ends)
 
-place_told : (pools : Option (List Pool)) (check : Bool) (tenants : List Tenant) (writer reader : ℕ) (chain : List ℕ) (text : List ℕ) (fails : Bool)
-    → IsShortest (WritesTo pools tenants) writer reader chain → IsChainTold check tenants writer reader chain text fails → IsPlaceTold pools check tenants writer reader text fails
-place_told pools check tenants writer reader chain text fails found (inl (other, some, is, ends)) =
-    inl (other, line_told pools check tenants writer reader chain text fails some found is ends)
-place_told pools check tenants writer reader chain text fails found (inr (inl same, empty, ends)) = inr (same, empty, ends)
-place_told pools check tenants writer reader chain text fails found (inr (inr none, empty, ends)) =
+place_told : (detail : Detail) (pools : Option (List Pool)) (check : Bool) (tenants : List Tenant) (writer reader : ℕ) (chain : List ℕ) (text : List ℕ) (fails : Bool)
+    → IsShortest (WritesTo pools tenants) writer reader chain → IsChainTold detail check tenants writer reader chain text fails → IsPlaceTold detail pools check tenants writer reader text fails
+place_told detail pools check tenants writer reader chain text fails found (inl (other, some, is, ends)) =
+    inl (other, line_told detail pools check tenants writer reader chain text fails some found is ends)
+place_told detail pools check tenants writer reader chain text fails found (inr (inl same, empty, ends)) = inr (same, empty, ends)
+place_told detail pools check tenants writer reader chain text fails found (inr (inr none, empty, ends)) =
     absurd (no_empty_chain (WritesTo pools tenants) writer reader (subst (IsChain (WritesTo pools tenants) writer reader) none found.is))
 
 -- a place of which nothing is reported adds nothing
@@ -168,11 +169,11 @@ found_for pools tenants steps writer found readers are = record {
       chain (chain_for (WritesTo pools tenants) (IsStep steps) (λ one other. (readers.each one other).1) writer place chain is);
 }
 
-found_told : (pools : Option (List Pool)) (check : Bool) (tenants : List Tenant) (writer : ℕ) (found : List Found) (k : ℕ) (text : List ℕ) (fails : Bool) → AreFoundFor pools tenants writer found
-    → IsFoundTold check tenants writer found k text fails → IsPlaceTold pools check tenants writer (end_at found k) text fails
-found_told pools check tenants writer found k text fails are (one, at, told) =
-    subst (λ place. IsPlaceTold pools check tenants writer place text fails) (sym (end_is found k one at))
-    (place_told pools check tenants writer one.end one.chain.items text fails (are.shortest k one at) told)
+found_told : (detail : Detail) (pools : Option (List Pool)) (check : Bool) (tenants : List Tenant) (writer : ℕ) (found : List Found) (k : ℕ) (text : List ℕ) (fails : Bool) → AreFoundFor pools tenants writer found
+    → IsFoundTold detail check tenants writer found k text fails → IsPlaceTold detail pools check tenants writer (end_at found k) text fails
+found_told detail pools check tenants writer found k text fails are (one, at, told) =
+    subst (λ place. IsPlaceTold detail pools check tenants writer place text fails) (sym (end_is found k one at))
+    (place_told detail pools check tenants writer one.end one.chain.items text fails (are.shortest k one at) told)
 
 there : (found : List Found) (k : ℕ) → k < length found → (one : Found) × (slice_get found k ≡ Some one)
 there [] k inside = absurd (omega arith)
@@ -183,15 +184,15 @@ end_below : (pools : Option (List Pool)) (tenants : List Tenant) (writer : ℕ) 
 end_below pools tenants writer found k are (one, at) =
     subst (λ place. place < length tenants) (sym (end_is found k one at)) (end_exists pools tenants writer one.end one.chain.items (are.shortest k one at).is)
 
-writer_told : (pools : Option (List Pool)) (check : Bool) (tenants : List Tenant) (steps : List (List ℕ)) (writer : ℕ) (text : List ℕ) (fails : Bool)
-    → AreReaders pools tenants steps → IsWriterTold check tenants steps writer text fails → OfEach (IsPlaceTold pools check tenants writer) (length tenants) text fails
-writer_told pools check tenants steps writer text fails readers (found, are, told) =
+writer_told : (detail : Detail) (pools : Option (List Pool)) (check : Bool) (tenants : List Tenant) (steps : List (List ℕ)) (writer : ℕ) (text : List ℕ) (fails : Bool)
+    → AreReaders pools tenants steps → IsWriterTold detail check tenants steps writer text fails → OfEach (IsPlaceTold detail pools check tenants writer) (length tenants) text fails
+writer_told detail pools check tenants steps writer text fails readers (found, are, told) =
     let all : AreFoundFor pools tenants writer found = found_for pools tenants steps writer found readers are in
-    all_told (IsPlaceTold pools check tenants writer) (IsFoundTold check tenants writer found) (end_at found) (length found) (length tenants) (length found) text fails
+    all_told (IsPlaceTold detail pools check tenants writer) (IsFoundTold detail check tenants writer found) (end_at found) (length found) (length tenants) (length found) text fails
     (record {
       rise = all.rise;
-      told = λ k t f inside here. found_told pools check tenants writer found k t f all here;
-      silent = λ place none. nothing_told pools check tenants writer place [] false (cases_eq writer place) (all.others place none) refl refl;
+      told = λ k t f inside here. found_told detail pools check tenants writer found k t f all here;
+      silent = λ place none. nothing_told detail pools check tenants writer place [] false (cases_eq writer place) (all.others place none) refl refl;
     })
     (record {
       within = omega arith;
@@ -200,19 +201,19 @@ writer_told pools check tenants steps writer text fails readers (found, are, tol
     })
     told
 
-pub writers_told : (pools : Option (List Pool)) (check : Bool) (tenants : List Tenant) (steps : List (List ℕ)) (text : List ℕ) (fails : Bool)
-    → AreReaders pools tenants steps → OfEach (IsWriterTold check tenants steps) (length steps) text fails → AreReachesTold pools check tenants text fails
-writers_told pools check tenants steps text fails readers told =
-    subst (λ n. OfEach (λ writer. OfEach (IsPlaceTold pools check tenants writer) (length tenants)) n text fails) readers.size
-    (each_for (IsWriterTold check tenants steps) (λ writer. OfEach (IsPlaceTold pools check tenants writer) (length tenants)) (length steps)
-    (λ writer t f below here. writer_told pools check tenants steps writer t f readers here) text fails told)
+pub writers_told : (detail : Detail) (pools : Option (List Pool)) (check : Bool) (tenants : List Tenant) (steps : List (List ℕ)) (text : List ℕ) (fails : Bool)
+    → AreReaders pools tenants steps → OfEach (IsWriterTold detail check tenants steps) (length steps) text fails → AreReachesTold detail pools check tenants text fails
+writers_told detail pools check tenants steps text fails readers told =
+    subst (λ n. OfEach (λ writer. OfEach (IsPlaceTold detail pools check tenants writer) (length tenants)) n text fails) readers.size
+    (each_for (IsWriterTold detail check tenants steps) (λ writer. OfEach (IsPlaceTold detail pools check tenants writer) (length tenants)) (length steps)
+    (λ writer t f below here. writer_told detail pools check tenants steps writer t f readers here) text fails told)
 
-pub slices_told : {X : Type 0} (f : X → List ℕ) (pools : Option (List Pool)) (check : Bool) (tenants one two : List Tenant) (steps three : List X) (text : List ℕ) (fails : Bool)
-    → one ≡ tenants → two ≡ tenants → three ≡ steps → AreReaders pools one (map f steps) → OfEach (IsWriterTold check two (map f three)) (length three) text fails
-    → AreReachesTold pools check tenants text fails
-slices_told f pools check tenants one two steps three text fails same also are readers told =
-    let all : OfEach (IsWriterTold check tenants (map f steps)) (length steps) text fails =
-    subst (λ t. OfEach (IsWriterTold check t (map f steps)) (length steps) text fails) also
-    (subst (λ s. OfEach (IsWriterTold check two (map f s)) (length s) text fails) are told) in
-    writers_told pools check tenants (map f steps) text fails (subst (λ t. AreReaders pools t (map f steps)) same readers)
-    (subst (λ n. OfEach (IsWriterTold check tenants (map f steps)) n text fails) (sym (length-map steps f)) all)
+pub slices_told : {X : Type 0} (f : X → List ℕ) (detail : Detail) (pools : Option (List Pool)) (check : Bool) (tenants one two : List Tenant) (steps three : List X) (text : List ℕ) (fails : Bool)
+    → one ≡ tenants → two ≡ tenants → three ≡ steps → AreReaders pools one (map f steps) → OfEach (IsWriterTold detail check two (map f three)) (length three) text fails
+    → AreReachesTold detail pools check tenants text fails
+slices_told f detail pools check tenants one two steps three text fails same also are readers told =
+    let all : OfEach (IsWriterTold detail check tenants (map f steps)) (length steps) text fails =
+    subst (λ t. OfEach (IsWriterTold detail check t (map f steps)) (length steps) text fails) also
+    (subst (λ s. OfEach (IsWriterTold detail check two (map f s)) (length s) text fails) are told) in
+    writers_told detail pools check tenants (map f steps) text fails (subst (λ t. AreReaders pools t (map f steps)) same readers)
+    (subst (λ n. OfEach (IsWriterTold detail check tenants (map f steps)) n text fails) (sym (length-map steps f)) all)

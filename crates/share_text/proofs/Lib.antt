@@ -5,3 +5,5 @@ pub mod Telling
 pub mod NearTold
 pub mod Given
 pub mod Lives
+pub mod Untagged
+pub mod EveryObject

@@ -1,5 +1,5 @@
 -- What is reported of the near ones alone is what is reported of all.
-use Rattle.std.proofs.Common.{◌≡◌, ◌<◌, ◌≤◌, ℕ, zero, suc, ◌+◌, ◌-◌, List, [], ◌∷◌, ◌++◌, Bool, true, false, ◌||◌, ◌⊎◌, Option, None, Some, drop, get_or, length, slice_get, slice_index, slice_index_or, leb, refl, sym, ap, subst, ◌∙◌, inl, inr, append_assoc, arith}
+use Rattle.std.proofs.Common.{◌≡◌, ◌<◌, ◌≤◌, ℕ, zero, suc, ◌+◌, ◌-◌, List, [], ◌∷◌, ◌++◌, Bool, true, false, ◌&&◌, ◌||◌, ◌⊎◌, Option, None, Some, drop, get_or, length, slice_get, slice_index, slice_index_or, leb, refl, sym, ap, subst, ◌∙◌, inl, inr, append_assoc, arith}
 use Rattle.std.specs.Prelude.{All, AllPairs, Contains}
 use Rattle.std.specs.Option.{option_map}
 use Rattle.std.proofs.lemmas.Bool.{leb-true, leb-false}
@@ -12,7 +12,9 @@ use Rattle.share_core.specs.Near.{AreApart, AreNear}
 use Rattle.share_core.specs.declared.pools.Pool.{Pool}
 use Rattle.share_text.specs.Behind.{grants_of}
 use Rattle.share_text.specs.Kinds.{ShareWithin, one_touch, other_touch}
-use Rattle.share_text.specs.Tenants.{InTurn, IsPairTold}
+use Rattle.share_text.specs.Tenants.{InTurn, IsPairTold, IsPairToldBy, IsToldUnless, is_left_out}
+use Rattle.share_text.specs.Writers.{IsWritersTold}
+use Rattle.share_text.specs.declared.detail.Detail.{Detail}
 use Rattle.share_text.specs.declared.kind.Kind.{Kind}
 use Rattle.share_text.specs.declared.kind.Kind.TheVariants.{WritesWrites, WritesReads, ReadsWrites, ReadsReads}
 use Rattle.share_text.specs.declared.tenants.Strictness.{Strictness}
@@ -24,7 +26,7 @@ pub no_share : (pools : Option (List Pool)) (kind : Kind) (ones others : Flat) �
 no_share None kind ones others apart = (apart.anywhere (one_touch kind) (other_touch kind)).0
 no_share (Some pools) kind ones others apart = (apart.in_pools pools (one_touch kind) (other_touch kind)).0
 
-apart_told : (pools : Option (List Pool)) (strictness : Strictness) (one other : Tenant) → AreApart one.ticket.now.grants other.ticket.now.grants → IsPairTold pools strictness one other [] false
+pub apart_told : (pools : Option (List Pool)) (strictness : Strictness) (one other : Tenant) → AreApart one.ticket.now.grants other.ticket.now.grants → IsPairTold pools strictness one other [] false
 apart_told pools strictness one other apart =
     let none : (kind : Kind) → ¬ ShareWithin pools kind one.ticket.now.grants other.ticket.now.grants = λ kind. no_share pools kind one.ticket.now.grants other.ticket.now.grants apart in
     (None, (none WritesWrites, none WritesReads, none ReadsWrites, λ reads. none ReadsReads), (refl, refl))
@@ -144,9 +146,6 @@ skipped IsTold whole all k (suc n) text fails inside silent so_far =
     subst (λ m. ToldUpTo IsTold whole all m text fails) next
     (one_more IsTold whole all (k + n) other text text [] fails fails false at (silent (k + n) other is here before) (sym (append_nil text)) (sym (or_false fails)) earlier)
 
-abbrev pub TellsPair : Option (List Pool) → Strictness → Tenant → Tenant → List Tenant → List ℕ → Bool → Type 0
-TellsPair pools strictness one other behind text fails = IsPairTold pools strictness one other text fails
-
 grants_at : (all : List Tenant) (q : ℕ) (other : Tenant) → slice_get all q ≡ Some other → slice_get (grants_of all) q ≡ Some other.ticket.now.grants
 grants_at all q other at = slice_get-map (λ (tenant : Tenant). tenant.ticket.now.grants) all q ∙ ap (option_map (λ (tenant : Tenant). tenant.ticket.now.grants)) at
 
@@ -154,56 +153,83 @@ pub length_grants : (all : List Tenant) → length (grants_of all) ≡ length al
 length_grants [] = refl
 length_grants (x ∷ xs) = ap suc (length_grants xs)
 
-skip_to : (pools : Option (List Pool)) (strictness : Strictness) (one : Tenant) (whole all : List Tenant) (k p : ℕ) (text : List ℕ) (fails : Bool) → k ≤ p → p ≤ length all
-    → ((q : ℕ) (other : Flat) → slice_get (grants_of all) q ≡ Some other → k ≤ q → q < p → AreApart one.ticket.now.grants other)
-    → ToldUpTo (TellsPair pools strictness one) whole all k text fails → ToldUpTo (TellsPair pools strictness one) whole all p text fails
-skip_to pools strictness one whole all k p text fails past inside apart so_far =
+grants_with : (all : List Tenant) (q : ℕ) (other : Tenant) (grants : Flat) → slice_get all q ≡ Some other → slice_get (grants_of all) q ≡ Some grants → other.ticket.now.grants ≡ grants
+grants_with all q other grants at is = same (sym (grants_at all q other at) ∙ is)
+  where
+    same : {a b : Flat} → Some a ≡ Some b → a ≡ b
+    same e = cc
+
+-- of those that are apart nothing is reported
+abbrev pub AreSilent : (Tenant → List ℕ → Bool → Type 0) → Flat → List Flat → List Tenant → Type 0
+AreSilent IsTold grants tickets all =
+    (q : ℕ) (other : Tenant) (theirs : Flat) → slice_get all q ≡ Some other → slice_get tickets q ≡ Some theirs → AreApart grants theirs → IsTold other [] false
+
+some_there : {X Y : Type 0} (xs : List X) (ys : List Y) (q : ℕ) (x : X) → length ys ≡ length xs → slice_get xs q ≡ Some x → (y : Y) × (slice_get ys q ≡ Some y)
+some_there [] [] q x size at = absurd (cc)
+some_there [] (y ∷ ys) q x size at = absurd (cc)
+some_there (x ∷ xs) [] q z size at = absurd (omega (arith, size))
+some_there (x ∷ xs) (y ∷ ys) zero z size at = (y, refl)
+some_there (x ∷ xs) (y ∷ ys) (suc q) z size at =
+    let less : length ys ≡ length xs = omega (arith, size) in
+    some_there xs ys q z less at
+
+abbrev Of : (Tenant → List ℕ → Bool → Type 0) → Tenant → List Tenant → List ℕ → Bool → Type 0
+Of IsTold other behind text fails = IsTold other text fails
+
+skip_to : (IsTold : Tenant → List ℕ → Bool → Type 0) (grants : Flat) (tickets : List Flat) (whole all : List Tenant) (k p : ℕ) (text : List ℕ) (fails : Bool)
+    → length tickets ≡ length all → AreSilent IsTold grants tickets all → k ≤ p → p ≤ length all
+    → ((q : ℕ) (other : Flat) → slice_get tickets q ≡ Some other → k ≤ q → q < p → AreApart grants other)
+    → ToldUpTo (Of IsTold) whole all k text fails → ToldUpTo (Of IsTold) whole all p text fails
+skip_to IsTold grants tickets whole all k p text fails size silent past inside apart so_far =
     let same : k + (p - k) ≡ p = omega (arith, past) in
     let within : k + (p - k) ≤ length all = omega (arith, past, inside) in
-    subst (λ m. ToldUpTo (TellsPair pools strictness one) whole all m text fails) same
-    (skipped (TellsPair pools strictness one) whole all k (p - k) text fails within
-    (λ q other at low high. apart_told pools strictness one other (apart q other.ticket.now.grants (grants_at all q other at) low (omega (arith, past, high)))) so_far)
+    subst (λ m. ToldUpTo (Of IsTold) whole all m text fails) same
+    (skipped (Of IsTold) whole all k (p - k) text fails within
+    (λ q other at low high.
+    let theirs = some_there all tickets q other size at in
+    silent q other theirs.0 at theirs.1 (apart q theirs.0 theirs.1 low (omega (arith, past, high)))) so_far)
 
 -- what is reported of those before a place; the near ones from there on are left
-pub record NearTold (pools : Option (List Pool)) (strictness : Strictness) (one : Tenant) (whole all : List Tenant) (near : List ℕ) (text : List ℕ) (fails : Bool) : Type 0 where
+pub record NearTold (IsTold : Tenant → List ℕ → Bool → Type 0) (grants : Flat) (tickets : List Flat) (whole all : List Tenant) (near : List ℕ) (text : List ℕ) (fails : Bool) : Type 0 where
   pub place : ℕ
-  pub steps : NearFrom one.ticket.now.grants (grants_of all) place near
-  pub told : ToldUpTo (TellsPair pools strictness one) whole all place text fails
+  pub steps : NearFrom grants tickets place near
+  pub told : ToldUpTo (Of IsTold) whole all place text fails
 
-pub first_near : (pools : Option (List Pool)) (strictness : Strictness) (one : Tenant) (all : List Tenant) (from : ℕ) (near text : List ℕ) (fails : Bool) → text ≡ [] → fails ≡ false
-    → AreNear one.ticket.now.grants (grants_of all) from near → NearTold pools strictness one (drop from all) all near text fails
-first_near pools strictness one all from near text fails empty passes are =
-    subst (λ t. NearTold pools strictness one (drop from all) all near t fails) (sym empty)
-    (subst (λ f. NearTold pools strictness one (drop from all) all near [] f) (sym passes)
-    (record { place = from; steps = near_from one.ticket.now.grants (grants_of all) from near are; told = λ rest later told. told }))
+pub first_near : (IsTold : Tenant → List ℕ → Bool → Type 0) (grants : Flat) (tickets : List Flat) (all : List Tenant) (from : ℕ) (near text : List ℕ) (fails : Bool) → text ≡ [] → fails ≡ false
+    → AreNear grants tickets from near → NearTold IsTold grants tickets (drop from all) all near text fails
+first_near IsTold grants tickets all from near text fails empty passes are =
+    subst (λ t. NearTold IsTold grants tickets (drop from all) all near t fails) (sym empty)
+    (subst (λ f. NearTold IsTold grants tickets (drop from all) all near [] f) (sym passes)
+    (record { place = from; steps = near_from grants tickets from near are; told = λ rest later told. told }))
 
-one_near : (pools : Option (List Pool)) (strictness : Strictness) (one : Tenant) (whole all : List Tenant) (p : ℕ) (ps : List ℕ) (other : Tenant) (old new front : List ℕ) (fails ends first : Bool)
-    → other ≡ get_or all p other → IsPairTold pools strictness one other front first → new ≡ old ++ front → ends ≡ (fails || first)
-    → NearTold pools strictness one whole all (p ∷ ps) old fails → NearTold pools strictness one whole all ps new ends
-one_near pools strictness one whole all p ps other old new front fails ends first is told text same before =
-    let inside : p < length all = subst (λ n. p < n) (length_grants all) before.steps.1 in
+one_near : (IsTold : Tenant → List ℕ → Bool → Type 0) (grants : Flat) (tickets : List Flat) (whole all : List Tenant) (p : ℕ) (ps : List ℕ) (other : Tenant) (old new front : List ℕ)
+    (fails ends first : Bool) → length tickets ≡ length all → AreSilent IsTold grants tickets all → other ≡ get_or all p other → IsTold other front first → new ≡ old ++ front → ends ≡ (fails || first)
+    → NearTold IsTold grants tickets whole all (p ∷ ps) old fails → NearTold IsTold grants tickets whole all ps new ends
+one_near IsTold grants tickets whole all p ps other old new front fails ends first size silent is told text same before =
+    let inside : p < length all = subst (λ n. p < n) size before.steps.1 in
     let up_to : p ≤ length all = omega (arith, inside) in
     record {
       place = p + 1;
       steps = before.steps.3;
-      told = one_more (TellsPair pools strictness one) whole all p other old new front fails ends first (drop_more all p other inside ∙ ap (λ t. t ∷ drop (p + 1) all) (sym is)) told text same
-          (skip_to pools strictness one whole all before.place p old fails before.steps.0 up_to before.steps.2 before.told);
+      told = one_more (Of IsTold) whole all p other old new front fails ends first (drop_more all p other inside ∙ ap (λ t. t ∷ drop (p + 1) all) (sym is)) told text same
+          (skip_to IsTold grants tickets whole all before.place p old fails size silent before.steps.0 up_to before.steps.2 before.told);
     }
 
-pub next_near : (pools : Option (List Pool)) (strictness : Strictness) (one : Tenant) (whole all : List Tenant) (near : List ℕ) (i : ℕ) (other : Tenant) (old new front : List ℕ) (fails ends first : Bool)
-    → i < length near → other ≡ get_or all (slice_index near i) other → IsPairTold pools strictness one other front first → new ≡ old ++ front → ends ≡ (fails || first)
-    → NearTold pools strictness one whole all (drop i near) old fails → NearTold pools strictness one whole all (drop (i + 1) near) new ends
-next_near pools strictness one whole all near i other old new front fails ends first inside is told text same before =
-    one_near pools strictness one whole all (slice_index near i) (drop (i + 1) near) other old new front fails ends first is told text same
-    (subst (λ l. NearTold pools strictness one whole all l old fails) (drop_more near i 0 inside) before)
+pub next_near : (IsTold : Tenant → List ℕ → Bool → Type 0) (grants : Flat) (tickets : List Flat) (whole all : List Tenant) (near : List ℕ) (i : ℕ) (other : Tenant) (old new front : List ℕ)
+    (fails ends first : Bool) → length tickets ≡ length all → AreSilent IsTold grants tickets all → i < length near → other ≡ get_or all (slice_index near i) other → IsTold other front first
+    → new ≡ old ++ front → ends ≡ (fails || first) → NearTold IsTold grants tickets whole all (drop i near) old fails → NearTold IsTold grants tickets whole all (drop (i + 1) near) new ends
+next_near IsTold grants tickets whole all near i other old new front fails ends first size silent inside is told text same before =
+    one_near IsTold grants tickets whole all (slice_index near i) (drop (i + 1) near) other old new front fails ends first size silent is told text same
+    (subst (λ l. NearTold IsTold grants tickets whole all l old fails) (drop_more near i 0 inside) before)
 
-none_near : (pools : Option (List Pool)) (strictness : Strictness) (one : Tenant) (whole all : List Tenant) (text : List ℕ) (fails : Bool) → NearTold pools strictness one whole all [] text fails
-    → InTurn (TellsPair pools strictness one) whole text fails
-none_near pools strictness one whole all text fails before = elim (true_or_false (leb before.place (length all))) [
+none_near : (IsTold : Tenant → List ℕ → Bool → Type 0) (grants : Flat) (tickets : List Flat) (whole all : List Tenant) (text : List ℕ) (fails : Bool) → length tickets ≡ length all
+    → AreSilent IsTold grants tickets all → NearTold IsTold grants tickets whole all [] text fails → InTurn (Of IsTold) whole text fails
+none_near IsTold grants tickets whole all text fails size silent before = elim (true_or_false (leb before.place (length all))) [
   | inl inside ↦ (
       let low = leb-true before.place (length all) inside in
       let least : length all ≤ length all = omega arith in
-      ended (length all) least (skip_to pools strictness one whole all before.place (length all) text fails low least (λ q other at past below. before.steps q other at past) before.told)
+      ended (length all) least
+      (skip_to IsTold grants tickets whole all before.place (length all) text fails size silent low least (λ q other at past below. before.steps q other at past) before.told)
       )
   | inr past ↦ (
       let high = leb-false before.place (length all) past in
@@ -212,13 +238,38 @@ none_near pools strictness one whole all text fails before = elim (true_or_false
       )
 ]
   where
-    ended : (k : ℕ) → length all ≤ k → ToldUpTo (TellsPair pools strictness one) whole all k text fails → InTurn (TellsPair pools strictness one) whole text fails
+    ended : (k : ℕ) → length all ≤ k → ToldUpTo (Of IsTold) whole all k text fails → InTurn (Of IsTold) whole text fails
     ended k over told =
-        subst (λ t. InTurn (TellsPair pools strictness one) whole t fails) (append_nil text)
-        (subst (λ f. InTurn (TellsPair pools strictness one) whole (text ++ []) f) (or_false fails)
-        (told [] false (subst (λ l. InTurn (TellsPair pools strictness one) l [] false) (sym (drop_all k all over)) (refl, refl))))
+        subst (λ t. InTurn (Of IsTold) whole t fails) (append_nil text)
+        (subst (λ f. InTurn (Of IsTold) whole (text ++ []) f) (or_false fails)
+        (told [] false (subst (λ l. InTurn (Of IsTold) l [] false) (sym (drop_all k all over)) (refl, refl))))
 
-pub last_near : (pools : Option (List Pool)) (strictness : Strictness) (one : Tenant) (whole all : List Tenant) (near : List ℕ) (i : ℕ) (text : List ℕ) (fails : Bool) → length near ≤ i
-    → NearTold pools strictness one whole all (drop i near) text fails → InTurn (TellsPair pools strictness one) whole text fails
-last_near pools strictness one whole all near i text fails past before =
-    none_near pools strictness one whole all text fails (subst (λ l. NearTold pools strictness one whole all l text fails) (drop_all i near past) before)
+pub last_near : (IsTold : Tenant → List ℕ → Bool → Type 0) (grants : Flat) (tickets : List Flat) (whole all : List Tenant) (near : List ℕ) (i : ℕ) (text : List ℕ) (fails : Bool)
+    → length tickets ≡ length all → AreSilent IsTold grants tickets all → length near ≤ i → NearTold IsTold grants tickets whole all (drop i near) text fails → InTurn (Of IsTold) whole text fails
+last_near IsTold grants tickets whole all near i text fails size silent past before =
+    none_near IsTold grants tickets whole all text fails size silent (subst (λ l. NearTold IsTold grants tickets whole all l text fails) (drop_all i near past) before)
+
+apart_left_out : (left_out : Bool) (pools : Option (List Pool)) (strictness : Strictness) (one other : Tenant) → AreApart one.ticket.now.grants other.ticket.now.grants
+    → IsToldUnless left_out pools strictness one other [] false
+apart_left_out false pools strictness one other apart = apart_told pools strictness one other apart
+apart_left_out true pools strictness one other apart =
+    let none : (kind : Kind) → ¬ ShareWithin pools kind one.ticket.now.grants other.ticket.now.grants = λ kind. no_share pools kind one.ticket.now.grants other.ticket.now.grants apart in
+    (refl, None, (none WritesWrites, none WritesReads, none ReadsWrites, λ reads. none ReadsReads), sym (and_false strictness.check))
+  where
+    and_false : (a : Bool) → (a && false) ≡ false
+    and_false true = refl
+    and_false false = refl
+
+-- nothing is reported of a pair that is apart
+pub apart_silent : (detail : Detail) (pools : Option (List Pool)) (strictness : Strictness) (one : Tenant) (all : List Tenant)
+    → AreSilent (IsPairToldBy detail pools strictness one) one.ticket.now.grants (grants_of all) all
+apart_silent detail pools strictness one all q other theirs at is apart =
+    apart_left_out (is_left_out detail one other) pools strictness one other (subst (AreApart one.ticket.now.grants) (sym (grants_with all q other theirs at is)) apart)
+
+-- nor of two that are apart and write the same
+pub apart_writers : (pools : Option (List Pool)) (strictness : Strictness) (one : Tenant) (all : List Tenant)
+    → AreSilent (IsWritersTold pools strictness one) one.ticket.now.grants (grants_of all) all
+apart_writers pools strictness one all q other theirs at is apart =
+    let none : ¬ ShareWithin pools WritesWrites one.ticket.now.grants other.ticket.now.grants =
+    no_share pools WritesWrites one.ticket.now.grants other.ticket.now.grants (subst (AreApart one.ticket.now.grants) (sym (grants_with all q other theirs at is)) apart) in
+    inr (λ only. none only.0, refl, refl)

@@ -13,7 +13,8 @@ use Rattle.grant_core.specs.Flat.{Flat}
 use Rattle.share_core.specs.Near.{AreApart, AreNear}
 use Rattle.share_core.specs.declared.pools.Pool.{Pool}
 use Rattle.share_text.specs.Behind.{grants_of}
-use Rattle.share_text.specs.Flows.{OfEach, grants_at, name_at, through_words}
+use Rattle.share_text.specs.Everybody.{listed}
+use Rattle.share_text.specs.Flows.{OfEach, grants_at, name_at}
 use Rattle.share_text.specs.Kinds.{ShareWithin}
 use Rattle.share_text.specs.declared.kind.Kind.TheVariants.{WritesReads}
 use Rattle.share_text.specs.declared.tenants.Tenant.{Tenant}
@@ -145,12 +146,12 @@ each_for IsTold AlsoTold zero also text fails told = told
 each_for IsTold AlsoTold (suc n) also text fails (front, rest, first, later, before, here, is, ends) =
     (front, rest, first, later, each_for IsTold AlsoTold n (λ place t f below told. also place t f (omega arith) told) front first before, also n rest later (omega arith) here, is, ends)
 
--- one name more of those between
-pub between_more : (tenants : List Tenant) (words places text middle after : List ℕ) (i : ℕ) → i < length places → middle ≡ text ++ words
-    → after ≡ middle ++ shown (name_at tenants (get_or places i 0))
-    → after ++ through_words tenants (codes ", ") (drop (i + 1) places) ≡ text ++ through_words tenants words (drop i places)
-between_more tenants words places text middle after i inside first second =
-    let name = shown (name_at tenants (get_or places i 0)) in
-    let rest = through_words tenants (codes ", ") (drop (i + 1) places) in
+-- one name more of a list
+pub listed_more : {X : Type 0} (f : X → List ℕ) (words : List ℕ) (xs : List X) (text middle after : List ℕ) (i : ℕ) (d : X) → i < length xs → middle ≡ text ++ words
+    → after ≡ middle ++ shown (f (get_or xs i d))
+    → after ++ listed (codes ", ") (map f (drop (i + 1) xs)) ≡ text ++ listed words (map f (drop i xs))
+listed_more f words xs text middle after i d inside first second =
+    let name = shown (f (get_or xs i d)) in
+    let rest = listed (codes ", ") (map f (drop (i + 1) xs)) in
     ap (λ l. l ++ rest) (second ∙ ap (λ l. l ++ name) first) ∙ (append_assoc (text ++ words) name rest ∙ (append_assoc text words (name ++ rest)
-    ∙ sym (ap (λ l. text ++ through_words tenants words l) (drop_more places i 0 inside))))
+    ∙ sym (ap (λ l. text ++ listed words (map f l)) (drop_more xs i d inside))))

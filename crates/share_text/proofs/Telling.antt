@@ -1,7 +1,7 @@
 -- What is reported of tenants, one after another.
 use Rattle.std.proofs.Common.{◌≡◌, ℕ, ◌+◌, ◌<◌, ◌≤◌, zero, suc, List, [], ◌∷◌, ◌++◌, Bool, true, false, ◌||◌, get_or, drop, length, map, refl, sym, ap, subst, ◌∙◌, inl, inr, append_assoc, arith}
 use Rattle.std.proofs.lemmas.List.{drop_all, drop_more, length-map}
-use Rattle.verdict_text.specs.declared.entity.ReadEntity.{ReadEntity}
+use Rattle.share_text.specs.declared.holder.Holder.{Holder}
 use Rattle.share_text.specs.Tenants.{AreTenants, InTurn, IsTenant, IsUnjudged}
 use Rattle.share_text.specs.declared.tenants.Tenant.{Tenant}
 
@@ -21,21 +21,21 @@ at_place : {X : Type 0} (xs : List X) (i : ℕ) (x : X) → i < length xs → x 
 at_place xs i x inside at = drop_more xs i x inside ∙ ap (λ y. y ∷ drop (i + 1) xs) (sym at)
 
 -- the tenants so far, and those of the rest, are those of all
-abbrev pub SoFar : List ReadEntity → ℕ → List Tenant → Type 0
+abbrev pub SoFar : List Holder → ℕ → List Tenant → Type 0
 SoFar entities i before = (rest : List Tenant) → AreTenants (drop i entities) rest → AreTenants entities (before ++ rest)
 
-pub one_tenant : (entities : List ReadEntity) (i : ℕ) (entity : ReadEntity) (before after : List Tenant) (tenant : Tenant) → i < length entities → entity ≡ get_or entities i entity
+pub one_tenant : (entities : List Holder) (i : ℕ) (entity : Holder) (before after : List Tenant) (tenant : Tenant) → i < length entities → entity ≡ get_or entities i entity
     → IsTenant entity tenant → after ≡ before ++ tenant ∷ [] → SoFar entities i before → SoFar entities (i + 1) after
 one_tenant entities i entity before after tenant inside at is same so_far rest told =
     subst (AreTenants entities) (sym (ap (λ l. l ++ rest) same ∙ append_assoc before (tenant ∷ []) rest))
     (so_far (tenant ∷ rest) (subst (λ l. AreTenants l (tenant ∷ rest)) (sym (at_place entities i entity inside at)) (inl (tenant, rest, is, told, refl))))
 
-pub one_left_out : (entities : List ReadEntity) (i : ℕ) (entity : ReadEntity) (before : List Tenant) → i < length entities → entity ≡ get_or entities i entity
+pub one_left_out : (entities : List Holder) (i : ℕ) (entity : Holder) (before : List Tenant) → i < length entities → entity ≡ get_or entities i entity
     → IsUnjudged entity → SoFar entities i before → SoFar entities (i + 1) before
 one_left_out entities i entity before inside at is so_far rest told =
     so_far rest (subst (λ l. AreTenants l rest) (sym (at_place entities i entity inside at)) (inr (is, told)))
 
-pub all_tenants : (entities : List ReadEntity) (i : ℕ) (tenants : List Tenant) → length entities ≤ i → SoFar entities i tenants → AreTenants entities tenants
+pub all_tenants : (entities : List Holder) (i : ℕ) (tenants : List Tenant) → length entities ≤ i → SoFar entities i tenants → AreTenants entities tenants
 all_tenants entities i tenants past so_far =
     subst (AreTenants entities) (append_nil tenants) (so_far [] (subst (λ l. AreTenants l []) (sym (drop_all i entities past)) refl))
 
@@ -68,15 +68,15 @@ seen_at f (y ∷ ys) (suc i) x inside at =
     seen_at f ys i x within at
 
 -- the entities of a list of more than entities, seen so far
-pub seen_tenant : {X : Type 0} (f : X → ReadEntity) (all : List X) (i : ℕ) (one : X) (before after : List Tenant) (tenant : Tenant) → i < length all → one ≡ get_or all i one
+pub seen_tenant : {X : Type 0} (f : X → Holder) (all : List X) (i : ℕ) (one : X) (before after : List Tenant) (tenant : Tenant) → i < length all → one ≡ get_or all i one
     → IsTenant (f one) tenant → after ≡ before ++ tenant ∷ [] → SoFar (map f all) i before → SoFar (map f all) (i + 1) after
 seen_tenant f all i one before after tenant inside at is same so_far =
     one_tenant (map f all) i (f one) before after tenant (subst (λ n. i < n) (sym (length-map all f)) inside) (seen_at f all i one inside at) is same so_far
 
-pub seen_left_out : {X : Type 0} (f : X → ReadEntity) (all : List X) (i : ℕ) (one : X) (before : List Tenant) → i < length all → one ≡ get_or all i one
+pub seen_left_out : {X : Type 0} (f : X → Holder) (all : List X) (i : ℕ) (one : X) (before : List Tenant) → i < length all → one ≡ get_or all i one
     → IsUnjudged (f one) → SoFar (map f all) i before → SoFar (map f all) (i + 1) before
 seen_left_out f all i one before inside at is so_far =
     one_left_out (map f all) i (f one) before (subst (λ n. i < n) (sym (length-map all f)) inside) (seen_at f all i one inside at) is so_far
 
-pub seen_all : {X : Type 0} (f : X → ReadEntity) (all : List X) (i : ℕ) (tenants : List Tenant) → length all ≤ i → SoFar (map f all) i tenants → AreTenants (map f all) tenants
+pub seen_all : {X : Type 0} (f : X → Holder) (all : List X) (i : ℕ) (tenants : List Tenant) → length all ≤ i → SoFar (map f all) i tenants → AreTenants (map f all) tenants
 seen_all f all i tenants past so_far = all_tenants (map f all) i tenants (subst (λ n. n ≤ i) (sym (length-map all f)) past) so_far

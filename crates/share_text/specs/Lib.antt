@@ -6,3 +6,10 @@ pub mod Texts
 pub mod Behind
 pub mod Addresses
 pub mod Live
+pub mod Retags
+pub mod Writers
+pub mod Untagged
+pub mod Holders
+pub mod Details
+pub mod Everywhere
+pub mod Everybody

@@ -1,6 +1,6 @@
 -- Statement: contracts of public calls use it.
 -- What is printed of what the entities of a file share (this project's profile). Every line ends with byte 10.
-use Rattle.std.specs.Prelude.{ℕ, ◌≡◌, ◌⊎◌, ◌&&◌, ◌||◌, List, [], ◌∷◌, ◌++◌, Bool, true, false, Option, Some, None, Result, Ok, Err, codes, string_bytes}
+use Rattle.std.specs.Prelude.{ℕ, ◌≡◌, ◌⊎◌, ◌&&◌, ◌||◌, List, [], ◌∷◌, ◌++◌, Bool, true, false, Option, Some, None, Result, Ok, Err, ◌↔◌, IsTrue, codes}
 use Rattle.serde_json.specs.Data.{Data, object, string, member, no_members}
 use Rattle.grant_core.specs.Flat.{Flat}
 use Rattle.request_types.specs.Target.{Target}
@@ -9,32 +9,35 @@ use Rattle.verdict_text.specs.Caret.{shown}
 use Rattle.verdict_text.specs.Documents.{list_by, piece}
 use Rattle.compare_text.specs.Request.{target_words}
 use Rattle.verdict_text.specs.declared.reading.TextFault.{TextFault}
-use Rattle.verdict_text.specs.declared.entity.ReadEntity.{ReadEntity}
+use Rattle.share_text.specs.declared.holder.Holder.{Holder}
 use Rattle.verdict_text.specs.declared.format.Format.{Format}
 use Rattle.verdict_text.specs.declared.format.Format.TheVariants.{Text, Json}
 use Rattle.share_core.specs.declared.pools.Pool.{Pool}
+use Rattle.share_text.specs.Details.{is_brief}
+use Rattle.share_text.specs.Everywhere.{ReadsAndWritesAll}
 use Rattle.share_text.specs.Kinds.{IsSharedWithin, ShareWithin, is_written, kind_words}
+use Rattle.share_text.specs.declared.detail.Detail.{Detail}
 use Rattle.share_text.specs.declared.kind.Kind.{Kind}
 use Rattle.share_text.specs.declared.kind.Kind.TheVariants.{WritesWrites, WritesReads, ReadsWrites, ReadsReads}
 use Rattle.share_text.specs.declared.tenants.Strictness.{Strictness}
 use Rattle.share_text.specs.declared.tenants.Tenant.{Tenant}
 
--- the tenant has the entity's name, and a ticket of the grants that some address has
-abbrev pub IsTenant : ReadEntity → Tenant → Type 0
+-- the tenant has the entity's name, a ticket of the grants that some address has, and a mark if these reach every object
+abbrev pub IsTenant : Holder → Tenant → Type 0
 IsTenant entity tenant =
-    (tenant.name.now ≡ string_bytes entity.name) × (rights : Rights) × (entity.osd.read ≡ Ok rights)
-    × (tenant.ticket.now.grants ≡ live_grants rights.grants)
+    (tenant.name.now ≡ entity.name.now) × (rights : Rights) × (entity.read.now ≡ Ok rights)
+    × (tenant.ticket.now.grants ≡ live_grants rights.grants) × (IsTrue tenant.everywhere ↔ ReadsAndWritesAll (live_grants rights.grants))
 
 -- the entity's text grants nothing
-abbrev pub IsUnjudged : ReadEntity → Type 0
-IsUnjudged entity = (fault : TextFault) × (entity.osd.read ≡ Err fault)
+abbrev pub IsUnjudged : Holder → Type 0
+IsUnjudged entity = (fault : TextFault) × (entity.read.now ≡ Err fault)
 
-abbrev pub IsTenantOrNone : ReadEntity → Option Tenant → Type 0
+abbrev pub IsTenantOrNone : Holder → Option Tenant → Type 0
 IsTenantOrNone entity (Some tenant) = IsTenant entity tenant
 IsTenantOrNone entity None = IsUnjudged entity
 
 -- the entities whose texts have rights, in order; the others are left out
-abbrev pub AreTenants : List ReadEntity → List Tenant → Type 0
+abbrev pub AreTenants : List Holder → List Tenant → Type 0
 AreTenants [] tenants = tenants ≡ []
 AreTenants (entity ∷ entities) tenants =
     ((tenant : Tenant) × (rest : List Tenant) × IsTenant entity tenant × AreTenants entities rest × (tenants ≡ tenant ∷ rest))
@@ -95,13 +98,31 @@ InTurn IsTold (one ∷ others) text fails =
     (front rest : List ℕ) × (first later : Bool) × IsTold one others front first × InTurn IsTold others rest later
     × (text ≡ front ++ rest) × (fails ≡ (first || later))
 
+-- of two tenants of whom one reaches every object nothing is reported, where that is asked for
+abbrev pub is_left_out : Detail → Tenant → Tenant → Bool
+is_left_out detail one other = is_brief detail && (one.everywhere || other.everywhere)
+
+-- whether a kind makes a check fail
+abbrev pub is_some_written : Option Kind → Bool
+is_some_written None = false
+is_some_written (Some kind) = is_written kind
+
+-- two that are left out fail as they do else, and no others are left out
+abbrev pub IsToldUnless : Bool → Option (List Pool) → Strictness → Tenant → Tenant → List ℕ → Bool → Type 0
+IsToldUnless true pools strictness one other text fails =
+    (text ≡ []) × (found : Option Kind) × IsStrongest pools strictness.reads one.ticket.now.grants other.ticket.now.grants found × (fails ≡ (strictness.check && is_some_written found))
+IsToldUnless false pools strictness one other text fails = IsPairTold pools strictness one other text fails
+
+abbrev pub IsPairToldBy : Detail → Option (List Pool) → Strictness → Tenant → Tenant → List ℕ → Bool → Type 0
+IsPairToldBy detail pools strictness one other text fails = IsToldUnless (is_left_out detail one other) pools strictness one other text fails
+
 -- what is reported of a tenant with each of some others
-abbrev pub IsToldWith : Option (List Pool) → Strictness → Tenant → List Tenant → List ℕ → Bool → Type 0
-IsToldWith pools strictness one others text fails = InTurn (λ other behind. IsPairTold pools strictness one other) others text fails
+abbrev pub IsToldWith : Detail → Option (List Pool) → Strictness → Tenant → List Tenant → List ℕ → Bool → Type 0
+IsToldWith detail pools strictness one others text fails = InTurn (λ other behind. IsPairToldBy detail pools strictness one other) others text fails
 
 -- what is printed of some entities, and whether the command fails: each pair once, in the file's order; where pools are given,
 -- of their targets alone
-abbrev pub AreTenantsTold : Option (List Pool) → Strictness → List ReadEntity → List ℕ → Bool → Type 0
-AreTenantsTold pools strictness entities text fails =
-    (tenants : List Tenant) × AreTenants entities tenants × (told : List ℕ) × InTurn (IsToldWith pools strictness) tenants told fails
+abbrev pub AreTenantsTold : Detail → Option (List Pool) → Strictness → List Holder → List ℕ → Bool → Type 0
+AreTenantsTold detail pools strictness entities text fails =
+    (tenants : List Tenant) × AreTenants entities tenants × (told : List ℕ) × InTurn (IsToldWith detail pools strictness) tenants told fails
     × (text ≡ list_by (codes "pairs") strictness.format told)

@@ -1,6 +1,8 @@
 //! What two texts share, and where data may flow, as JSON documents: of the same values as the lines.
 
+use crate::detail::Detail;
 use crate::flows::steps_of;
+use crate::holder::Holder;
 use crate::kind::Kind;
 use crate::live::{live_ticket, ticket_in};
 use crate::tenants::{Tenant, lives_of, tenants_of, words_of};
@@ -11,7 +13,7 @@ use rights_core::Rights;
 use serde_json::{Value, json};
 use share_core::{Pool, Shared};
 use std::alloc::Global;
-use verdict_text::{Printed, ReadEntity};
+use verdict_text::Printed;
 
 /// A document on a line, which has a list of these items under a name.
 fn list_line(alloc: Global, name: &str, items: Vec<Value>) -> Result<String, OutOfMemory> {
@@ -121,17 +123,28 @@ fn between_value(
     Ok(Value::from(names))
 }
 
-/// The document of a writer and a reader, with those between.
+/// The document of a writer and a reader, with the first step and the number of steps, and in whole with those between.
 fn flow_value(
     alloc: Global,
     tenants: &[Tenant<'_>],
     writer: usize,
     found: &Found,
+    detail: Detail,
 ) -> Result<Value, OutOfMemory> {
-    let through = between_value(alloc, tenants, found.chain.as_slice())?;
+    let chain = found.chain.as_slice();
+    let first = name_at(tenants, chain.first().copied().unwrap_or(found.end));
     let reader = name_at(tenants, found.end);
+    let steps = chain.len();
     let writer = name_at(tenants, writer);
-    json!(in alloc; {"reader": reader, "through": through, "writer": writer})
+    match detail {
+        Detail::Brief => {
+            json!(in alloc; {"first": first, "reader": reader, "steps": steps, "writer": writer})
+        }
+        Detail::Whole => {
+            let through = between_value(alloc, tenants, chain)?;
+            json!(in alloc; {"first": first, "reader": reader, "steps": steps, "through": through, "writer": writer})
+        }
+    }
 }
 
 /// Adds the documents of a writer with each other tenant to which a chain was found.
@@ -141,10 +154,11 @@ fn push_flows(
     tenants: &[Tenant<'_>],
     writer: usize,
     chains: &[Found],
+    detail: Detail,
 ) -> Result<(), OutOfMemory> {
     for found in chains {
         if found.end != writer && !found.chain.is_empty() {
-            items.push(flow_value(alloc, tenants, writer, found)?)?;
+            items.push(flow_value(alloc, tenants, writer, found, detail)?)?;
         }
     }
     Ok(())
@@ -155,30 +169,40 @@ fn flow_values(
     alloc: Global,
     tenants: &[Tenant<'_>],
     steps: &[Vec<usize>],
+    detail: Detail,
 ) -> Result<Vec<Value>, OutOfMemory> {
     let mut items = Vec::new(alloc);
     for writer in 0..steps.len() {
         let chains = chains_from(alloc, steps, writer)?;
-        push_flows(&mut items, alloc, tenants, writer, chains.as_slice())?;
+        push_flows(
+            &mut items,
+            alloc,
+            tenants,
+            writer,
+            chains.as_slice(),
+            detail,
+        )?;
     }
     Ok(items)
 }
 
 /// What the program prints of where the data that an entity writes may flow, as a JSON document on a line.
 ///
-/// Its member `flows` has an item for each line of [`crate::flow_entities`]: `writer`, `reader`, and `through`, a list
-/// of the entities between them. Names are as they are. With a check it fails where there is an item. The only error
-/// is `OutOfMemory`, which leaves nothing. The members are this project's profile.
+/// Its member `flows` has an item for each line of [`crate::flow_entities`]: `writer`, `reader`, `first`, which is the first one
+/// behind the writer, and `steps`, the length of the chain. In whole it has `through`, too, a list of the entities between them.
+/// Names are as they are. With a check it fails where there is an item. The only error is `OutOfMemory`, which leaves nothing.
+/// The members are this project's profile.
 pub fn flow_document(
     alloc: Global,
-    entities: &[ReadEntity],
+    entities: &[Holder<'_>],
     pools: Option<&[Pool]>,
+    detail: Detail,
     check: bool,
 ) -> Result<Printed, OutOfMemory> {
     let lives = lives_of(alloc, entities)?;
     let tenants = tenants_of(alloc, lives.as_slice())?;
     let steps = steps_of(alloc, tenants.as_slice(), pools)?;
-    let items = flow_values(alloc, tenants.as_slice(), steps.as_slice())?;
+    let items = flow_values(alloc, tenants.as_slice(), steps.as_slice(), detail)?;
     let fails = check && !items.is_empty();
     Ok(Printed {
         text: list_line(alloc, "flows", items)?,

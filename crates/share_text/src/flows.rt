@@ -1,23 +1,26 @@
 //! Where the data that an entity of a file writes may flow.
 
-ghost use Rattle.std.specs.Prelude.{ℕ, ◌≡◌, ◌++◌, ◌<◌, ◌↔◌, map, length, codes, string_bytes, option_copied, IfOk, OnOk};
-ghost use Rattle.std.specs.List.{Contains};
+ghost use Rattle.std.specs.Prelude.{ℕ, ◌≡◌, ◌++◌, ◌<◌, ◌↔◌, map, length, slice_get, string_bytes, option_copied, IfOk, OnOk};
+ghost use Rattle.std.specs.List.{Contains, flat_map};
 ghost use Rattle.verdict_text.specs.Caret.{shown};
 ghost use Rattle.share_core.specs.Near.{AreNear};
 ghost use Rattle.share_text.specs.Behind.{grants_of};
 ghost use Rattle.share_text.specs.Kinds.{ShareWithin};
 ghost use Rattle.share_text.specs.Flows as spec;
-ghost use Rattle.share_text.specs.Flows.{AreFlowsTold, AreReaders, OfEach, grants_at, name_at, through_words};
+ghost use Rattle.share_text.specs.Flows.{AreFlowsTold, AreReaders, OfEach, between_words, first_between, grants_at, name_at, step_to, steps_words};
 ghost use Rattle.share_text.specs.FlowLines.{AreChainsTold, IsChainTold, IsWriterTold};
 
+use crate::detail::Detail;
+use crate::holder::Holder;
 use crate::kind::Kind;
 use crate::tenants::{Tenant, index_of, lives_of, nothing, push_told, share_within, tenants_of};
 use common_types::OutOfMemory;
 use flow_core::{Found, chains_from};
 use share_core::Pool;
 use std::alloc::Global;
+use std::fmt::Write;
 use verdict_core::Ticket;
-use verdict_text::{Printed, ReadEntity, push_shown_text};
+use verdict_text::{Printed, push_shown_text};
 
 /// The places of the tenants that read what one writes, in some of the pools where they are given. The near ones are given: the
 /// others share nothing with it.
@@ -69,21 +72,74 @@ fn push_name(text: &mut String, tenants: &[Tenant<'_>], place: usize) -> Result<
     }
 }
 
-/// Adds the names of those between.
-fn push_between(
+/// Adds a step to the tenant at a place.
+fn push_step(text: &mut String, tenants: &[Tenant<'_>], place: usize) -> Result<(), OutOfMemory>
+    ensures { OnOk result (string_bytes text.new ≡ string_bytes text.old ++ step_to tenants.now place) }
+{
+    text.push_str(" -> ")?;
+    push_name(text, tenants, place)
+}
+
+/// Adds steps to all of those between.
+fn push_steps(
     text: &mut String,
     tenants: &[Tenant<'_>],
     between: &[usize],
 ) -> Result<(), OutOfMemory>
-    ensures { OnOk result (string_bytes text.new ≡ string_bytes text.old ++ through_words tenants.now (codes " through ") between.now) }
+    ensures { OnOk result (string_bytes text.new ≡ string_bytes text.old ++ flat_map (step_to tenants.now) between.now) }
 {
-    let mut words = " through ";
     for place in between {
-        text.push_str(words)?;
-        push_name(text, tenants, *place)?;
-        words = ", ";
+        push_step(text, tenants, *place)?;
     }
     Ok(())
+}
+
+/// Adds a step to the first of those between, and that others are left out.
+fn push_first(
+    text: &mut String,
+    tenants: &[Tenant<'_>],
+    between: &[usize],
+) -> Result<(), OutOfMemory>
+    ensures { OnOk result (string_bytes text.new ≡ string_bytes text.old ++ first_between tenants.now (slice_get between.now 0)) }
+{
+    match between.first() {
+        None => text.push_str(" -> "),
+        Some(place) => {
+            push_step(text, tenants, *place)?;
+            text.push_str(" .. ")
+        }
+    }
+}
+
+/// Adds those between, up to the words before the reader.
+fn push_between(
+    text: &mut String,
+    tenants: &[Tenant<'_>],
+    between: &[usize],
+    detail: Detail,
+) -> Result<(), OutOfMemory>
+    ensures { OnOk result (string_bytes text.new ≡ string_bytes text.old ++ between_words detail tenants.now between.now) }
+{
+    match detail {
+        Detail::Brief => push_first(text, tenants, between),
+        Detail::Whole => {
+            push_steps(text, tenants, between)?;
+            text.push_str(" -> ")
+        }
+    }
+}
+
+/// Adds the number of steps, with this many between, where some are left out.
+fn push_count(text: &mut String, between: &[usize], detail: Detail) -> Result<(), OutOfMemory>
+    ensures { OnOk result (string_bytes text.new ≡ string_bytes text.old ++ steps_words detail (length between.now)) }
+{
+    match detail {
+        Detail::Brief if !between.is_empty() => {
+            let steps = between.len() + 1;
+            write!(text, ", {steps} steps")
+        }
+        Detail::Brief | Detail::Whole => Ok(()),
+    }
 }
 
 /// The line of a writer and a reader, with those between.
@@ -93,14 +149,15 @@ fn flow_line(
     writer: usize,
     reader: usize,
     between: &[usize],
+    detail: Detail,
 ) -> Result<String, OutOfMemory>
-    ensures { IfOk result (λ text. string_bytes text ≡ spec.flow_line tenants.now writer reader between.now) }
+    ensures { IfOk result (λ text. string_bytes text ≡ spec.flow_line detail tenants.now writer reader between.now) }
 {
     let mut text = String::new(alloc);
     push_name(&mut text, tenants, writer)?;
-    text.push_str(" reaches ")?;
+    push_between(&mut text, tenants, between, detail)?;
     push_name(&mut text, tenants, reader)?;
-    push_between(&mut text, tenants, between)?;
+    push_count(&mut text, between, detail)?;
     text.push_str("\n")?;
     Ok(text)
 }
@@ -113,15 +170,16 @@ fn told_chain(
     writer: usize,
     reader: usize,
     chain: &[usize],
+    detail: Detail,
     check: bool,
 ) -> Result<Printed, OutOfMemory>
-    ensures { IfOk result (λ printed. IsChainTold check tenants.now writer reader chain.now (string_bytes printed.text) printed.fails) }
+    ensures { IfOk result (λ printed. IsChainTold detail check tenants.now writer reader chain.now (string_bytes printed.text) printed.fails) }
 {
     if writer == reader || chain.is_empty() {
         return Ok(nothing(alloc));
     }
     let between = &chain[..chain.len() - 1];
-    let text = flow_line(alloc, tenants, writer, reader, between)?;
+    let text = flow_line(alloc, tenants, writer, reader, between, detail)?;
     Ok(Printed { text, fails: check })
 }
 
@@ -131,14 +189,15 @@ fn told_chains(
     tenants: &[Tenant<'_>],
     writer: usize,
     chains: &[Found],
+    detail: Detail,
     check: bool,
 ) -> Result<Printed, OutOfMemory>
-    ensures { IfOk result (λ printed. AreChainsTold check tenants.now writer chains.now (string_bytes printed.text) printed.fails) }
+    ensures { IfOk result (λ printed. AreChainsTold detail check tenants.now writer chains.now (string_bytes printed.text) printed.fails) }
 {
     let mut printed = nothing(alloc);
     for found in chains {
         let chain = found.chain.as_slice();
-        let told = told_chain(alloc, tenants, writer, found.end, chain, check)?;
+        let told = told_chain(alloc, tenants, writer, found.end, chain, detail, check)?;
         push_told(&mut printed, &told)?;
     }
     Ok(printed)
@@ -149,14 +208,15 @@ fn told_writers(
     alloc: Global,
     tenants: &[Tenant<'_>],
     steps: &[Vec<usize>],
+    detail: Detail,
     check: bool,
 ) -> Result<Printed, OutOfMemory>
-    ensures { IfOk result (λ printed. OfEach (IsWriterTold check tenants.now (map (λ readers. readers.items) steps.now)) (length steps.now) (string_bytes printed.text) printed.fails) }
+    ensures { IfOk result (λ printed. OfEach (IsWriterTold detail check tenants.now (map (λ readers. readers.items) steps.now)) (length steps.now) (string_bytes printed.text) printed.fails) }
 {
     let mut printed = nothing(alloc);
     for writer in 0..steps.len() {
         let chains = chains_from(alloc, steps, writer)?;
-        let told = told_chains(alloc, tenants, writer, chains.as_slice(), check)?;
+        let told = told_chains(alloc, tenants, writer, chains.as_slice(), detail, check)?;
         push_told(&mut printed, &told)?;
     }
     Ok(printed)
@@ -164,10 +224,11 @@ fn told_writers(
 
 /// What the program prints of where the data that an entity writes may flow.
 ///
-/// For each who writes and each other who reads, in the file's order, it prints at most one line:
-/// - `WRITER reaches READER` where the one writes what the other reads;
-/// - else `WRITER reaches READER through MIDDLE, MIDDLE` where each of these writes what the next one reads, with as
-///   few between as possible.
+/// For each who writes and each other who reads, in the file's order, it prints at most one line, with as few between as
+/// possible, of whom each writes what the next one reads:
+/// - `WRITER -> READER` where the one writes what the other reads;
+/// - else, in whole, `WRITER -> MIDDLE -> MIDDLE -> READER`;
+/// - else, in brief, `WRITER -> MIDDLE .. READER, 3 steps`, with the first one between and the number of steps.
 ///
 /// Who calls a method that reads or writes counts as one who reads or writes. With a check it fails where there is a
 /// line.
@@ -190,14 +251,15 @@ fn told_writers(
 /// The lines are this project's profile.
 pub fn flow_entities(
     alloc: Global,
-    entities: &[ReadEntity],
+    entities: &[Holder<'_>],
     pools: Option<&[Pool]>,
+    detail: Detail,
     check: bool,
 ) -> Result<Printed, OutOfMemory>
-    ensures { IfOk result (λ printed. AreFlowsTold (option_copied pools.entry) check entities.now (string_bytes printed.text) printed.fails) }
+    ensures { IfOk result (λ printed. AreFlowsTold detail (option_copied pools.entry) check entities.now (string_bytes printed.text) printed.fails) }
 {
     let lives = lives_of(alloc, entities)?;
     let tenants = tenants_of(alloc, lives.as_slice())?;
     let steps = steps_of(alloc, tenants.as_slice(), pools)?;
-    told_writers(alloc, tenants.as_slice(), steps.as_slice(), check)
+    told_writers(alloc, tenants.as_slice(), steps.as_slice(), detail, check)
 }

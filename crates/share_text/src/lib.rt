@@ -23,16 +23,27 @@
 //! chains, and none for the other tenants.
 #![tactic(auto)]
 
+mod detail;
 mod documents;
+mod everybody;
+mod everywhere;
 mod flows;
+mod holder;
 mod kind;
 mod laws;
 mod live;
+mod retags;
 mod tenants;
 mod texts;
+mod writers;
 
+pub use detail::Detail;
 pub use documents::{flow_document, share_document};
+pub use everybody::everybody_entities;
 pub use flows::flow_entities;
-pub use laws::shares_are_from_addresses;
+pub use holder::{Holder, holders_of};
+pub use laws::{retags_are_of_two_targets, shares_are_from_addresses};
+pub use retags::{retag_entities, retag_rights};
 pub use tenants::{Strictness, share_entities};
 pub use texts::{share_read, share_texts};
+pub use writers::writer_entities;

@@ -1,28 +1,34 @@
 //! What the entities of a file share.
 
-ghost use Rattle.std.specs.Prelude.{◌≡◌, ◌++◌, ◌&&◌, ◌||◌, [], false, None, Some, codes, drop, map, string_bytes, All, option_copied, IfOk, OnOk, ◌↔◌, IsTrue};
+ghost use Rattle.std.specs.Prelude.{◌≡◌, ◌++◌, ◌&&◌, ◌||◌, [], false, None, Some, codes, drop, map, string_bytes, true, All, option_copied, IfOk, OnOk, ◌↔◌, IsTrue};
 ghost use Rattle.serde_json.specs.View.{view};
 ghost use Rattle.verdict_text.specs.Documents.{piece};
 ghost use Rattle.compare_text.specs.Request.{target_words};
 ghost use Rattle.share_core.specs.Near.{AreNear};
 ghost use Rattle.share_core.specs.Sharing.{IsExampleIn, ShareIn};
 ghost use Rattle.share_text.specs.Behind.{grants_of};
-ghost use Rattle.share_text.specs.Live.{IsLiveOf};
+ghost use Rattle.rights_core.specs.Rights.{live_grants};
+ghost use Rattle.share_text.specs.Everywhere.{ReadsAndWritesAll};
+ghost use Rattle.share_text.specs.Live.{IsLive, IsLiveOf};
 ghost use Rattle.share_text.specs.Kinds.{ShareSo, ShareWithin, is_written, one_touch, other_touch};
 ghost use Rattle.share_text.specs.Tenants as spec;
-ghost use Rattle.share_text.specs.Tenants.{AreTenants, AreTenantsTold, InTurn, IsPairTold, IsStrongest, IsTenantOrNone, IsToldBy, IsToldWith, pair_document};
+ghost use Rattle.share_text.specs.Tenants.{AreTenants, AreTenantsTold, InTurn, IsPairTold, IsPairToldBy, IsStrongest, IsTenantOrNone, IsToldBy, IsToldUnless, IsToldWith, pair_document};
 
+use crate::detail::Detail;
+use crate::everywhere::reads_and_writes_all;
+use crate::holder::Holder;
 use crate::kind::Kind;
 use crate::live::{live_ticket, ticket_in};
 use crate::texts::examples_of;
 use common_types::OutOfMemory;
 use compare_core::OwnedTarget;
 use compare_text::push_target;
+use rights_core::Rights;
 use serde_json::{Value, json};
 use share_core::{Pool, PoolIndex, example_in, share, share_in};
 use std::alloc::Global;
 use verdict_core::Ticket;
-use verdict_text::{Format, Printed, ReadEntity, list_by, push_shown_text};
+use verdict_text::{Format, Printed, list_by, push_shown_text};
 
 /// How much of what entities share is reported, what fails, and in which format it is printed.
 #[derive(Clone, Copy, Debug)]
@@ -40,39 +46,62 @@ pub struct Strictness {
 pub(crate) struct Tenant<'a> {
     pub(crate) name: &'a str,
     pub(crate) ticket: &'a Ticket,
+    /// Whether it counts as one that reads and writes every object of every pool.
+    pub(crate) everywhere: bool,
 }
 
-/// An entity, and the ticket that is made of its rights where they have networks.
+/// An entity, the ticket that is made of its rights where they have networks, and whether these reach every object.
 #[derive(Drop)]
 pub(crate) struct Live<'a> {
-    entity: &'a ReadEntity,
+    entity: Holder<'a>,
     ticket: Option<Ticket>,
+    everywhere: bool,
 }
 
-/// An entity with the ticket that is made of its rights.
-#[tactic(auto, using(crate::proofs::Lives::live_read, crate::proofs::Lives::live_unread))]
-fn live_of<'a>(alloc: Global, entity: &'a ReadEntity) -> Result<Live<'a>, OutOfMemory>
-    ensures entity { IfOk result (λ live. live.entity.now ≡ entity.now) }
-    ensures live { IfOk result (λ live. IsLiveOf live.entity.now live.ticket) }
+/// The ticket that is made of rights where they have networks, and whether they reach every object.
+fn seen_of(alloc: Global, rights: &Rights) -> Result<(Option<Ticket>, bool), OutOfMemory>
+    ensures live { IfOk result (λ seen. IsLive rights.now.grants seen.0) }
+    ensures everywhere { IfOk result (λ seen. IsTrue seen.1 ↔ ReadsAndWritesAll (live_grants rights.now.grants)) }
 {
-    let ticket = match entity.osd.read() {
-        Ok(rights) => live_ticket(alloc, rights)?,
-        Err(_) => None,
-    };
-    Ok(Live { entity, ticket })
+    let ticket = live_ticket(alloc, rights)?;
+    let everywhere = reads_and_writes_all(alloc, ticket_in(rights, &ticket))?;
+    Ok((ticket, everywhere))
 }
 
-/// The entities with the tickets that are made of their rights.
+/// An entity with what is seen of its rights.
+#[tactic(auto, using(crate::proofs::Lives::live_read, crate::proofs::Lives::live_unread))]
+fn live_of<'a>(alloc: Global, entity: Holder<'a>) -> Result<Live<'a>, OutOfMemory>
+    ensures entity { IfOk result (λ live. live.entity ≡ entity.entry) }
+    ensures live { IfOk result (λ live. IsLiveOf live.entity live.ticket live.everywhere) }
+{
+    match entity.read {
+        Ok(rights) => {
+            let (ticket, everywhere) = seen_of(alloc, rights)?;
+            Ok(Live {
+                entity,
+                ticket,
+                everywhere,
+            })
+        }
+        Err(_) => Ok(Live {
+            entity,
+            ticket: None,
+            everywhere: false,
+        }),
+    }
+}
+
+/// The entities with what is seen of their rights.
 pub(crate) fn lives_of<'a>(
     alloc: Global,
-    entities: &'a [ReadEntity],
+    entities: &[Holder<'a>],
 ) -> Result<Vec<Live<'a>>, OutOfMemory>
-    ensures entities { IfOk result (λ lives. map (λ live. live.entity.now) lives.items ≡ entities.now) }
-    ensures live { IfOk result (λ lives. All (λ live. IsLiveOf live.entity.now live.ticket) lives.items) }
+    ensures entities { IfOk result (λ lives. map (λ live. live.entity) lives.items ≡ entities.now) }
+    ensures live { IfOk result (λ lives. All (λ live. IsLiveOf live.entity live.ticket live.everywhere) lives.items) }
 {
     let mut lives = Vec::new(alloc);
     for entity in entities {
-        let live = live_of(alloc, entity)?;
+        let live = live_of(alloc, *entity)?;
         lives.push(live)?;
     }
     Ok(lives)
@@ -80,13 +109,14 @@ pub(crate) fn lives_of<'a>(
 
 /// The tenant that an entity is, or nothing if its text has no rights.
 fn tenant_of<'a>(live: &'a Live<'_>) -> Option<Tenant<'a>>
-    requires { IsLiveOf live.now.entity.now live.now.ticket }
-    ensures { IsTenantOrNone live.now.entity.now result }
+    requires { IsLiveOf live.now.entity live.now.ticket live.now.everywhere }
+    ensures { IsTenantOrNone live.now.entity result }
 {
-    match live.entity.osd.read() {
+    match live.entity.read {
         Ok(rights) => Some(Tenant {
-            name: live.entity.name.as_str(),
+            name: live.entity.name,
             ticket: ticket_in(rights, &live.ticket),
+            everywhere: live.everywhere,
         }),
         Err(_) => None,
     }
@@ -97,8 +127,8 @@ pub(crate) fn tenants_of<'a>(
     alloc: Global,
     lives: &'a [Live<'_>],
 ) -> Result<Vec<Tenant<'a>>, OutOfMemory>
-    requires { All (λ live. IsLiveOf live.entity.now live.ticket) lives.now }
-    ensures { IfOk result (λ tenants. AreTenants (map (λ live. live.entity.now) lives.now) tenants.items) }
+    requires { All (λ live. IsLiveOf live.entity live.ticket live.everywhere) lives.now }
+    ensures { IfOk result (λ tenants. AreTenants (map (λ live. live.entity) lives.now) tenants.items) }
 {
     let mut tenants = Vec::new(alloc);
     for live in lives {
@@ -143,7 +173,12 @@ pub(crate) fn share_within(
 }
 
 /// The strongest kind in which two tickets share something. It takes no memory.
-fn strongest(reads: bool, ones: &Ticket, others: &Ticket, pools: Option<&[Pool]>) -> Option<Kind>
+pub(crate) fn strongest(
+    reads: bool,
+    ones: &Ticket,
+    others: &Ticket,
+    pools: Option<&[Pool]>,
+) -> Option<Kind>
     ensures { IsStrongest (option_copied pools.entry) reads ones.now.grants others.now.grants result }
 {
     if share_within(Kind::WritesWrites, ones, others, pools) {
@@ -337,7 +372,7 @@ fn told_so_in(
 }
 
 /// What is reported of two tenants that share something of a kind: in some of the pools, where pools are given.
-fn told_within(
+pub(crate) fn told_within(
     alloc: Global,
     kind: Kind,
     one: &Tenant<'_>,
@@ -355,7 +390,7 @@ fn told_within(
 }
 
 /// What is reported of two tenants.
-fn told_pair(
+pub(crate) fn told_pair(
     alloc: Global,
     strictness: Strictness,
     pools: Option<&[Pool]>,
@@ -367,6 +402,52 @@ fn told_pair(
     match strongest(strictness.reads, one.ticket, other.ticket, pools) {
         None => Ok(nothing(alloc)),
         Some(kind) => told_within(alloc, kind, one, other, strictness, pools),
+    }
+}
+
+/// Whether a pair with a kind makes a check fail.
+fn is_some_written(kind: Option<Kind>) -> bool
+    ensures { result ≡ spec.is_some_written kind }
+{
+    match kind {
+        None => false,
+        Some(kind) => kind.is_written(),
+    }
+}
+
+/// What is reported of two tenants of whom one reaches every object: nothing, and it fails as it does else.
+fn told_silently(
+    alloc: Global,
+    strictness: Strictness,
+    pools: Option<&[Pool]>,
+    one: &Tenant<'_>,
+    other: &Tenant<'_>,
+) -> Printed
+    ensures { IsToldUnless true (option_copied pools.entry) strictness one.now other.now (string_bytes result.text) result.fails }
+{
+    let kind = strongest(strictness.reads, one.ticket, other.ticket, pools);
+    let is_written = is_some_written(kind);
+    Printed {
+        text: String::new(alloc),
+        fails: strictness.check && is_written,
+    }
+}
+
+/// What is reported of two tenants, of which some pairs may be left out.
+fn told_pair_by(
+    alloc: Global,
+    detail: Detail,
+    strictness: Strictness,
+    pools: Option<&[Pool]>,
+    one: &Tenant<'_>,
+    other: &Tenant<'_>,
+) -> Result<Printed, OutOfMemory>
+    ensures { IfOk result (λ printed. IsPairToldBy detail (option_copied pools.entry) strictness one.now other.now (string_bytes printed.text) printed.fails) }
+{
+    if detail.is_brief() && (one.everywhere || other.everywhere) {
+        Ok(told_silently(alloc, strictness, pools, one, other))
+    } else {
+        told_pair(alloc, strictness, pools, one, other)
     }
 }
 
@@ -384,6 +465,7 @@ pub(crate) fn push_told(printed: &mut Printed, told: &Printed) -> Result<(), Out
 /// nothing with it, so nothing is reported of them.
 fn told_with(
     alloc: Global,
+    detail: Detail,
     strictness: Strictness,
     pools: Option<&[Pool]>,
     one: &Tenant<'_>,
@@ -392,11 +474,11 @@ fn told_with(
     near: &[usize],
 ) -> Result<Printed, OutOfMemory>
     requires { AreNear one.now.ticket.now.grants (grants_of tenants.now) from near.now }
-    ensures { IfOk result (λ printed. IsToldWith (option_copied pools.entry) strictness one.now (drop from tenants.now) (string_bytes printed.text) printed.fails) }
+    ensures { IfOk result (λ printed. IsToldWith detail (option_copied pools.entry) strictness one.now (drop from tenants.now) (string_bytes printed.text) printed.fails) }
 {
     let mut printed = nothing(alloc);
     for place in near {
-        let told = told_pair(alloc, strictness, pools, one, &tenants[*place])?;
+        let told = told_pair_by(alloc, detail, strictness, pools, one, &tenants[*place])?;
         push_told(&mut printed, &told)?;
     }
     Ok(printed)
@@ -419,11 +501,12 @@ pub(crate) fn index_of<'a>(
 /// What is reported of each two tenants.
 fn told_each(
     alloc: Global,
+    detail: Detail,
     strictness: Strictness,
     pools: Option<&[Pool]>,
     tenants: &[Tenant<'_>],
 ) -> Result<Printed, OutOfMemory>
-    ensures { IfOk result (λ printed. InTurn (IsToldWith (option_copied pools.entry) strictness) tenants.now (string_bytes printed.text) printed.fails) }
+    ensures { IfOk result (λ printed. InTurn (IsToldWith detail (option_copied pools.entry) strictness) tenants.now (string_bytes printed.text) printed.fails) }
 {
     let index = index_of(alloc, tenants)?;
     let mut printed = nothing(alloc);
@@ -433,6 +516,7 @@ fn told_each(
         let near = index.near(one.ticket, from)?;
         let told = told_with(
             alloc,
+            detail,
             strictness,
             pools,
             one,
@@ -458,6 +542,9 @@ fn told_each(
 /// Where pools are given, a target counts only if it is of one of them, with exactly its tags. A line then has a target
 /// of the first pool in which the two share by that kind. Without pools, each possible target counts.
 ///
+/// In brief, no line is printed of two entities of whom one reads and writes every object of every pool. They fail as in whole.
+/// [`crate::everybody_entities`] prints who these are.
+///
 /// A grant counts at the addresses of its network. Two entities share something if they do from some address of each.
 ///
 /// An entity whose text has no rights is left out. A name's bytes outside 32 to 126 are shown as `\x` and two
@@ -469,15 +556,16 @@ fn told_each(
 /// are looked at where two grants meet. The lines are this project's profile.
 pub fn share_entities(
     alloc: Global,
-    entities: &[ReadEntity],
+    entities: &[Holder<'_>],
     strictness: Strictness,
     pools: Option<&[Pool]>,
+    detail: Detail,
 ) -> Result<Printed, OutOfMemory>
-    ensures { IfOk result (λ printed. AreTenantsTold (option_copied pools.entry) strictness entities.now (string_bytes printed.text) printed.fails) }
+    ensures { IfOk result (λ printed. AreTenantsTold detail (option_copied pools.entry) strictness entities.now (string_bytes printed.text) printed.fails) }
 {
     let lives = lives_of(alloc, entities)?;
     let tenants = tenants_of(alloc, lives.as_slice())?;
-    let told = told_each(alloc, strictness, pools, tenants.as_slice())?;
+    let told = told_each(alloc, detail, strictness, pools, tenants.as_slice())?;
     Ok(Printed {
         text: list_by(alloc, "pairs", told.text, strictness.format)?,
         fails: told.fails,

@@ -1,6 +1,6 @@
 -- A text of the grain that allows all requests seen allows all that the suggestion allows.
-use Rattle.std.proofs.Common.{◌≡◌, ℕ, List, [], ◌∷◌, Bool, true, false, not, ◌&&◌, ◌||◌, cond, Option, Some, refl, sym, ap, subst, ◌∙◌, ◌⊎◌, inl, inr}
-use Rattle.std.specs.List.{list_any, list_all, Contains}
+use Rattle.std.proofs.Common.{◌≡◌, ℕ, List, Bool, true, false, not, ◌&&◌, ◌||◌, cond, Some, refl, sym, ap, subst, ◌∙◌, inl, inr}
+use Rattle.std.specs.List.{list_any, Contains}
 use Rattle.std.proofs.lemmas.Bool.{false≢true}
 use Rattle.cap_grants.specs.declared.grant.AllowGrant.{AllowGrant}
 use Rattle.cap_grants.specs.declared.grant.Access.{Access}
@@ -9,15 +9,17 @@ use Rattle.cap_grants.specs.declared.grant.Flags.{Flags as FlagSet}
 use Rattle.request_types.specs.Target.{Target}
 use Rattle.request_types.specs.declared.request.Needs.{Needs}
 use Rattle.request_types.specs.declared.request.ClassCall.{ClassCall}
-use Rattle.verdict_core.specs.Verdict.{can_read, can_write, covers, grants_allow, is_covered, is_usable, matches, names}
-use Rattle.compare_core.proofs.Bools.{both, both_left, both_right, true_or_false, negated}
+use Rattle.verdict_core.specs.Verdict.{can_read, can_write, covers, is_covered, is_usable, matches}
+use Rattle.compare_core.proofs.Bools.{both, both_left, both_right, negated}
 use Rattle.suggest_core.specs.declared.grain.Grain.{Grain}
 use Rattle.suggest_core.specs.declared.seen.Seen.{Seen}
-use Rattle.suggest_core.specs.Grain.{IsOfGrain, Region, access_for, grant_for, is_class, is_in, moves, region_of, some_moving}
-use Rattle.suggest_core.specs.Suggestion.{AgreesWith, AllowsSeen, IsLeast, IsSeenCall}
+use Rattle.suggest_core.specs.Grain.{IsOfGrain, access_for, is_class, moves, some_moving}
+use Rattle.suggest_core.specs.Region.{grant_for, is_in, region_of}
+use Rattle.suggest_core.specs.declared.region.Region.{Region}
+use Rattle.suggest_core.specs.Suggestion.{AllowsSeen, IsLeast, IsSeenCall}
 use Rattle.suggest_core.specs.Parts.{Comes, IsCallGrant, IsMovingGrant}
 use Rattle.suggest_core.proofs.Members.{all_contains, all_from, any_contains, some_contains}
-use Rattle.suggest_core.proofs.Regions.{in_own, matched_region, same_bytes, same_region, usable_from, usable_matches, usable_reads, usable_writes}
+use Rattle.suggest_core.proofs.Regions.{matched_region, same_bytes, same_region, usable_from, usable_matches, usable_reads, usable_writes}
 use Rattle.suggest_core.proofs.Serving.{Serves, implies_or, no_class, or_implies}
 
 abbrev Entry : Type 0
@@ -25,20 +27,20 @@ Entry = List ℕ × AllowGrant
 
 -- a grant of the text that is usable for a request is for the request's region
 in_region : (grain : Grain) (seen : List Seen) (text : List Entry) (entry : Entry) (request : Seen) → IsOfGrain grain seen text → Contains text entry → is_usable entry.1 request.target request.needs ≡ true
-    → entry.1 ≡ grant_for (region_of grain request.target) entry.1.access
+    → entry.1 ≡ grant_for (region_of grain seen request.target) entry.1.access
 in_region grain seen text entry request of_grain there useful =
     let from = of_grain.regions entry there in
-    let matched : matches (grant_for (region_of grain from.0.target) entry.1.access) request.target ≡ true =
+    let matched : matches (grant_for (region_of grain seen from.0.target) entry.1.access) request.target ≡ true =
     subst (λ g. matches g request.target ≡ true) from.2 (usable_matches entry.1 request.target request.needs useful) in
-    from.2 ∙ ap (λ region. grant_for region entry.1.access) (sym (matched_region grain entry.1.access request.target from.0.target matched))
+    from.2 ∙ ap (λ region. grant_for region entry.1.access) (sym (matched_region grain seen entry.1.access request.target from.0.target matched))
 
 -- two grants of the text that are usable for requests of one region that read or write give the same
 same_access : (grain : Grain) (seen : List Seen) (text : List Entry) (entry other : Entry) (one two : Seen) → IsOfGrain grain seen text → Contains text entry → Contains text other
     → is_usable entry.1 one.target one.needs ≡ true → is_usable other.1 two.target two.needs ≡ true → moves one.needs ≡ true → moves two.needs ≡ true
-    → region_of grain two.target ≡ region_of grain one.target → other.1.access ≡ entry.1.access
+    → region_of grain seen two.target ≡ region_of grain seen one.target → other.1.access ≡ entry.1.access
 same_access grain seen text entry other one two of_grain there there_too useful useful_too moving moving_too same =
-    let is : entry.1 ≡ grant_for (region_of grain one.target) entry.1.access = in_region grain seen text entry one of_grain there useful in
-    let is_too : other.1 ≡ grant_for (region_of grain one.target) other.1.access =
+    let is : entry.1 ≡ grant_for (region_of grain seen one.target) entry.1.access = in_region grain seen text entry one of_grain there useful in
+    let is_too : other.1 ≡ grant_for (region_of grain seen one.target) other.1.access =
     in_region grain seen text other two of_grain there_too useful_too ∙ ap (λ region. grant_for region other.1.access) same in
     of_grain.one other entry there_too there (no_class other.1 two.target two.needs useful_too moving_too) (no_class entry.1 one.target one.needs useful moving)
     (ap (λ (g : AllowGrant). g.pool) is_too ∙ sym (ap (λ (g : AllowGrant). g.pool) is))
@@ -46,7 +48,7 @@ same_access grain seen text entry other one two of_grain there there_too useful 
 
 -- the text's access for a region serves each request seen there that reads or writes
 serves_there : (grain : Grain) (seen : List Seen) (text : List Entry) (entry : Entry) (one two : Seen) → IsOfGrain grain seen text → AllowsSeen seen text → Contains text entry
-    → is_usable entry.1 one.target one.needs ≡ true → moves one.needs ≡ true → Contains seen two → moves two.needs ≡ true → region_of grain two.target ≡ region_of grain one.target
+    → is_usable entry.1 one.target one.needs ≡ true → moves one.needs ≡ true → Contains seen two → moves two.needs ≡ true → region_of grain seen two.target ≡ region_of grain seen one.target
     → Serves entry.1.access two.needs
 serves_there grain seen text entry one two of_grain allows there useful moving seen_too moving_too same =
     let allowed = allows two seen_too in
@@ -155,12 +157,12 @@ record StandsIn (seen : List Seen) (text : List Entry) (grant : AllowGrant) : Ty
 moving_stands : (grain : Grain) (seen : List Seen) (text : List Entry) (grant : AllowGrant) → IsOfGrain grain seen text → AllowsSeen seen text → IsMovingGrant grain seen grant → StandsIn seen text grant
 moving_stands grain seen text grant of_grain allows comes =
     let one : Seen = comes.request in
-    let region : Region = region_of grain one.target in
+    let region : Region = region_of grain seen one.target in
     let found = some_contains (λ (e : Entry). is_usable e.1 one.target one.needs) text (both_left _ _ (allows one comes.there)) in
     let is : found.0.1 ≡ grant_for region found.0.1.access = in_region grain seen text found.0 one of_grain found.1 found.2 in
     let least : AtLeast (access_for seen region) found.0.1.access =
     access_least seen region found.0.1.access (no_class found.0.1 one.target one.needs found.2 comes.moving)
-    (λ two there inside moving. serves_there grain seen text found.0 one two of_grain allows found.1 found.2 comes.moving there moving (same_region grain one.target two.target inside)) in
+    (λ two there inside moving. serves_there grain seen text found.0 one two of_grain allows found.1 found.2 comes.moving there moving (same_region grain seen one.target two.target inside)) in
     record {
       entry = found.0;
       there = found.1;
@@ -176,7 +178,7 @@ moving_stands grain seen text grant of_grain allows comes =
 call_stands : (grain : Grain) (seen : List Seen) (text : List Entry) (grant : AllowGrant) → IsOfGrain grain seen text → AllowsSeen seen text → IsCallGrant grain seen grant → StandsIn seen text grant
 call_stands grain seen text grant of_grain allows comes =
     let one : Seen = comes.request in
-    let region : Region = region_of grain one.target in
+    let region : Region = region_of grain seen one.target in
     let method : Access = Class comes.call.class (Some comes.call.method) in
     let covered = all_contains (is_covered text one.target one.needs) one.needs.calls comes.call (both_right (list_any (λ (e : Entry). is_usable e.1 one.target one.needs) text) _ (allows one comes.there)) comes.called in
     let found = some_contains (λ (e : Entry). is_usable e.1 one.target one.needs && covers e.1.access comes.call) text covered in

@@ -1,4 +1,6 @@
 pub mod Members
+pub mod Beginnings
+pub mod Longest
 pub mod Regions
 pub mod Serving
 pub mod Steps

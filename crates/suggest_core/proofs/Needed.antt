@@ -1,23 +1,24 @@
 -- A whole suggestion is of its grain, allows what was seen, and needs each of its grants.
-use Rattle.std.proofs.Common.{◌≡◌, ℕ, zero, suc, List, [], ◌∷◌, ◌++◌, length, Bool, true, false, not, ◌&&◌, ◌||◌, eqb, cond, ◌+◌, Some, None, refl, sym, ap, subst, ◌∙◌, ◌⊎◌, inl, inr}
-use Rattle.std.specs.List.{list_any, list_all, position, position_from, Contains}
+use Rattle.std.proofs.Common.{◌≡◌, ℕ, List, [], ◌∷◌, ◌++◌, length, Bool, true, false, not, ◌&&◌, ◌||◌, eqb, cond, ◌+◌, Some, None, refl, sym, ap, subst, ◌∙◌, inl, inr}
+use Rattle.std.specs.List.{list_any, position, position_from, Contains}
 use Rattle.std.proofs.lemmas.Iterator.Adapters.{position_from-zero}
 use Rattle.std.specs.Str.{bytes_eq}
 use Rattle.std.proofs.lemmas.Bool.{false≢true}
 use Rattle.cap_grants.specs.declared.grant.AllowGrant.{AllowGrant}
 use Rattle.cap_grants.specs.declared.grant.Access.{Access}
 use Rattle.cap_grants.specs.declared.grant.Access.TheVariants.{Class}
-use Rattle.request_types.specs.declared.request.Needs.{Needs}
 use Rattle.request_types.specs.declared.request.ClassCall.{ClassCall}
 use Rattle.verdict_core.specs.Verdict.{covers, grants_allow, is_covered, is_usable, matches}
 use Rattle.compare_core.proofs.Bools.{both, both_left, both_right, fails, true_or_false}
 use Rattle.suggest_core.specs.declared.grain.Grain.{Grain}
 use Rattle.suggest_core.specs.declared.seen.Seen.{Seen}
-use Rattle.suggest_core.specs.Grain.{IsOfGrain, Region, access_for, grant_for, is_class, is_in, moves, region_of, some_moving}
-use Rattle.suggest_core.specs.Suggestion.{AllowsSeen, EachIsNeeded, IsSuggested, asks_nothing, is_left_out}
+use Rattle.suggest_core.specs.Grain.{IsOfGrain, access_for, is_class, moves, some_moving}
+use Rattle.suggest_core.specs.Region.{grant_for, is_in, region_of}
+use Rattle.suggest_core.specs.declared.region.Region.{Region}
+use Rattle.suggest_core.specs.Suggestion.{AllowsSeen, EachIsNeeded, HasLongestPrefix, IsSuggested, asks_nothing, is_left_out}
 use Rattle.suggest_core.specs.Parts.{AreApart, Comes, HasCalls, IsCallGrant, IsMovingGrant}
-use Rattle.suggest_core.proofs.Members.{all_contains, all_from, any_contains, contains_beside, contains_between, contains_first, not_all, some_contains}
-use Rattle.suggest_core.proofs.Regions.{in_own, matched_region, regions_from, same_bytes, usable_matches}
+use Rattle.suggest_core.proofs.Members.{all_contains, all_from, any_contains, contains_beside, contains_between, contains_first, some_contains}
+use Rattle.suggest_core.proofs.Regions.{in_own, longest_there, matched_region, matches_in, regions_from, same_bytes, usable_matches}
 use Rattle.suggest_core.proofs.Serving.{allowed_by_flags, moving_there, usable_comes}
 use Rattle.suggest_core.proofs.Steps.{apart_from}
 use Rattle.suggest_core.proofs.Least.{is_least}
@@ -30,7 +31,7 @@ Entry = List ℕ × AllowGrant
 own_access : (region : Region) (access : Access) (grant : AllowGrant) → grant ≡ grant_for region access → grant ≡ grant_for region grant.access
 own_access region access grant is = is ∙ ap (grant_for region) (sym (ap (λ (g : AllowGrant). g.access) is))
 
-comes_from : (grain : Grain) (seen : List Seen) (grant : AllowGrant) → Comes grain seen grant → (request : Seen) × Contains seen request × (grant ≡ grant_for (region_of grain request.target) grant.access)
+comes_from : (grain : Grain) (seen : List Seen) (grant : AllowGrant) → Comes grain seen grant → (request : Seen) × Contains seen request × (grant ≡ grant_for (region_of grain seen request.target) grant.access)
 comes_from grain seen grant (inl comes) = (comes.request, comes.there, own_access _ _ grant comes.is)
 comes_from grain seen grant (inr comes) = (comes.request, comes.there, own_access _ _ grant comes.is)
 
@@ -40,9 +41,9 @@ comes_moving grain seen grant (inr comes) k = absurd (false≢true (sym k ∙ ap
 
 one_access : (grain : Grain) (seen : List Seen) (one other : AllowGrant) → IsMovingGrant grain seen one → IsMovingGrant grain seen other → one.pool ≡ other.pool → one.namespace ≡ other.namespace → one.access ≡ other.access
 one_access grain seen one other first second pools namespaces =
-    let here : Region = region_of grain first.request.target in
-    let there : Region = region_of grain second.request.target in
-    let same : here ≡ there = regions_from here there
+    let here : Region = region_of grain seen first.request.target in
+    let there : Region = region_of grain seen second.request.target in
+    let same : here ≡ there = regions_from grain seen first.request.target second.request.target
     (sym (ap (λ (g : AllowGrant). g.pool) first.is) ∙ (pools ∙ ap (λ (g : AllowGrant). g.pool) second.is))
     (sym (ap (λ (g : AllowGrant). g.namespace) first.is) ∙ (namespaces ∙ ap (λ (g : AllowGrant). g.namespace) second.is)) in
     ap (λ (g : AllowGrant). g.access) first.is ∙ (ap (access_for seen) same ∙ sym (ap (λ (g : AllowGrant). g.access) second.is))
@@ -90,19 +91,19 @@ covered_none entries request call called none = fails _
 same_call : (grain : Grain) (seen : List Seen) (grant other : AllowGrant) (comes : IsCallGrant grain seen grant) → Comes grain seen other → is_usable other comes.request.target comes.request.needs ≡ true
     → covers other.access comes.call ≡ true → other ≡ grant
 same_call grain seen grant other comes (inl its) useful covered =
-    let region : Region = region_of grain comes.request.target in
-    let its_region : Region = region_of grain its.request.target in
-    let same : region ≡ its_region = matched_region grain (access_for seen its_region) comes.request.target its.request.target
+    let region : Region = region_of grain seen comes.request.target in
+    let its_region : Region = region_of grain seen its.request.target in
+    let same : region ≡ its_region = matched_region grain seen (access_for seen its_region) comes.request.target its.request.target
     (subst (λ g. matches g comes.request.target ≡ true) its.is (usable_matches other comes.request.target comes.request.needs useful)) in
     let covers_it : covers (access_for seen region) comes.call ≡ true =
     subst (λ (r : Region). covers (access_for seen r) comes.call ≡ true) (sym same) (subst (λ (g : AllowGrant). covers g.access comes.call ≡ true) its.is covered) in
     let moving : some_moving seen region (λ needs. true) ≡ true =
-    moving_there seen region (λ needs. true) its.request its.there (subst (λ (r : Region). is_in r its.request.target ≡ true) (sym same) (in_own grain its.request.target)) its.moving refl in
+    moving_there seen region (λ needs. true) its.request its.there (subst (λ (r : Region). is_in r its.request.target ≡ true) (sym same) (in_own grain seen its.request its.there)) its.moving refl in
     absurd (false≢true (sym (comes.uncovered moving) ∙ covers_it))
 same_call grain seen grant other comes (inr its) useful covered =
-    let region : Region = region_of grain comes.request.target in
-    let its_region : Region = region_of grain its.request.target in
-    let same : region ≡ its_region = matched_region grain (Class its.call.class (Some its.call.method)) comes.request.target its.request.target
+    let region : Region = region_of grain seen comes.request.target in
+    let its_region : Region = region_of grain seen its.request.target in
+    let same : region ≡ its_region = matched_region grain seen (Class its.call.class (Some its.call.method)) comes.request.target its.request.target
     (subst (λ g. matches g comes.request.target ≡ true) its.is (usable_matches other comes.request.target comes.request.needs useful)) in
     let covers_it : covers (Class its.call.class (Some its.call.method)) comes.call ≡ true = subst (λ (g : AllowGrant). covers g.access comes.call ≡ true) its.is covered in
     let class_is : its.call.class ≡ comes.call.class = same_bytes its.call.class comes.call.class (both_left _ _ covers_it) in
@@ -132,6 +133,17 @@ each_needed grain seen entries comes apart front behind entry is = by (all entry
           (λ other h useful covered. others other h (same_call grain seen entry.1 other.1 its (all other (contains_beside front behind entry other h)) useful covered)),
     )
 
+-- ---- prefixes are the longest
+
+longest : (grain : Grain) (seen : List Seen) (grant : AllowGrant) → Comes grain seen grant → HasLongestPrefix seen grant
+longest grain seen grant comes prefix other is ascii each =
+    let from = comes_from grain seen grant comes in
+    let region : Region = region_of grain seen from.0.target in
+    let its : region.prefix ≡ Some prefix = sym (ap (λ (g : AllowGrant). g.prefix) from.2) ∙ is in
+    longest_there grain seen from.0.target prefix other its ascii
+    (λ request there inside. each request there
+    (subst (λ (g : AllowGrant). matches g request.target ≡ true) (sym from.2) (matches_in region grant.access request.target ∙ inside)))
+
 -- where no request is left out, each asks for something
 something : (allow_all : Bool) (seen : List Seen) → list_any (is_left_out allow_all) seen ≡ false → (request : Seen) → Contains seen request → asks_nothing request.needs ≡ false
 something allow_all seen none request there = fails _
@@ -147,6 +159,7 @@ suggested grain allow_all seen entries none has = record {
   allows = allows_seen grain seen entries has (something allow_all seen none);
   least = is_least grain seen entries has.comes;
   needed = each_needed grain seen entries has.comes has.apart;
+  longest = λ entry h. longest grain seen entry.1 (has.comes entry h);
   numbered = has.numbered;
 }
 

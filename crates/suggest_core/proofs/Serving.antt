@@ -1,7 +1,6 @@
 -- The flags of a region serve each request seen there that reads or writes.
-use Rattle.std.proofs.Common.{◌≡◌, ℕ, List, [], ◌∷◌, Bool, true, false, not, ◌&&◌, ◌||◌, cond, Option, Some, None, refl, sym, ap, subst, ◌∙◌, ◌⊎◌, inl, inr}
-use Rattle.std.specs.List.{list_any, list_all, Contains}
-use Rattle.std.specs.Str.{bytes_eq}
+use Rattle.std.proofs.Common.{◌≡◌, ℕ, List, Bool, true, false, not, ◌&&◌, ◌||◌, cond, refl, sym, ap, subst, ◌∙◌, inl, inr}
+use Rattle.std.specs.List.{list_any, Contains}
 use Rattle.std.proofs.lemmas.Bool.{false≢true}
 use Rattle.cap_grants.specs.declared.grant.AllowGrant.{AllowGrant}
 use Rattle.cap_grants.specs.declared.grant.Access.{Access}
@@ -11,12 +10,14 @@ use Rattle.request_types.specs.Target.{Target}
 use Rattle.request_types.specs.declared.request.Needs.{Needs}
 use Rattle.request_types.specs.declared.request.ClassCall.{ClassCall}
 use Rattle.verdict_core.specs.Verdict.{can_read, can_write, covers, grants_allow, is_covered, is_usable, matches}
-use Rattle.compare_core.proofs.Bools.{both, both_left, both_right, fails, true_or_false}
+use Rattle.compare_core.proofs.Bools.{both}
 use Rattle.suggest_core.specs.declared.grain.Grain.{Grain}
 use Rattle.suggest_core.specs.declared.seen.Seen.{Seen}
-use Rattle.suggest_core.specs.Grain.{Region, access_for, grant_for, is_class, is_in, moves, region_of, some_moving}
-use Rattle.suggest_core.specs.Parts.{Comes, HasFlags, IsCallGrant, IsMovingGrant}
-use Rattle.suggest_core.proofs.Members.{all_contains, all_from, any_contains, some_contains}
+use Rattle.suggest_core.specs.Grain.{access_for, is_class, moves, some_moving}
+use Rattle.suggest_core.specs.Region.{grant_for, is_in, region_of}
+use Rattle.suggest_core.specs.declared.region.Region.{Region}
+use Rattle.suggest_core.specs.Parts.{Comes, HasFlags, IsMovingGrant}
+use Rattle.suggest_core.proofs.Members.{all_from, any_contains}
 use Rattle.suggest_core.proofs.Regions.{in_own, matched_region, matches_own, usable_from, usable_matches, usable_reads, usable_writes}
 
 pub implies_or : (a b : Bool) → (a ≡ true → b ≡ true) → (not a || b) ≡ true
@@ -56,11 +57,11 @@ not_false : (a : Bool) → (not a ≡ true → ⊥) → a ≡ true
 not_false true h = refl
 not_false false h = absurd (h refl)
 
-pub serves : (grain : Grain) (seen : List Seen) (request : Seen) → Contains seen request → moves request.needs ≡ true → Serves (access_for seen (region_of grain request.target)) request.needs
+pub serves : (grain : Grain) (seen : List Seen) (request : Seen) → Contains seen request → moves request.needs ≡ true → Serves (access_for seen (region_of grain seen request.target)) request.needs
 serves grain seen request there moving =
-    let region : Region = region_of grain request.target in
+    let region : Region = region_of grain seen request.target in
     let here : (test : Needs → Bool) → test request.needs ≡ true → some_moving seen region test ≡ true =
-    λ test passes. moving_there seen region test request there (in_own grain request.target) moving passes in
+    λ test passes. moving_there seen region test request there (in_own grain seen request there) moving passes in
     let all : Bool = some_moving seen region (λ needs. list_any (λ (call : ClassCall). not call.listed) needs.calls) in
     let flags : FlagSet = record {
       read = some_moving seen region (λ needs. needs.reads);
@@ -78,17 +79,17 @@ serves grain seen request there moving =
     }
 
 -- a grant of a request's region whose access serves it is usable
-pub usable_served : (grain : Grain) (access : Access) (request : Seen) → Serves access request.needs → is_usable (grant_for (region_of grain request.target) access) request.target request.needs ≡ true
-usable_served grain access request served = usable_from (grant_for (region_of grain request.target) access) request.target request.needs (matches_own grain access request.target) served.reads served.writes
+pub usable_served : (grain : Grain) (seen : List Seen) (access : Access) (request : Seen) → Contains seen request → Serves access request.needs → is_usable (grant_for (region_of grain seen request.target) access) request.target request.needs ≡ true
+usable_served grain seen access request there served = usable_from (grant_for (region_of grain seen request.target) access) request.target request.needs (matches_own grain seen access request there) served.reads served.writes
 
 -- grants that have the flags of its region allow a request
 pub allowed_by_flags : (grain : Grain) (seen : List Seen) (entries : List (List ℕ × AllowGrant)) (request : Seen) → Contains seen request → moves request.needs ≡ true → HasFlags grain seen entries request
     → grants_allow entries request.target request.needs ≡ true
 allowed_by_flags grain seen entries request there moving has =
     let served = serves grain seen request there moving in
-    let access : Access = access_for seen (region_of grain request.target) in
+    let access : Access = access_for seen (region_of grain seen request.target) in
     let useful : is_usable has.0.1 request.target request.needs ≡ true =
-    subst (λ g. is_usable g request.target request.needs ≡ true) (sym has.2) (usable_served grain access request served) in
+    subst (λ g. is_usable g request.target request.needs ≡ true) (sym has.2) (usable_served grain seen access request there served) in
     let same : has.0.1.access ≡ access = ap (λ (g : AllowGrant). g.access) has.2 in
     both _ _
     (any_contains (λ (entry : List ℕ × AllowGrant). is_usable entry.1 request.target request.needs) entries has.0 has.1 useful)
@@ -112,14 +113,14 @@ no_class g target needs useful moving = is_class_by g.access needs (usable_reads
 
 -- a grant of the suggestion that is usable for a request that reads or writes is that of the request's region
 pub usable_is_moving : (grain : Grain) (seen : List Seen) (grant : AllowGrant) (request : Seen) → IsMovingGrant grain seen grant → is_usable grant request.target request.needs ≡ true
-    → grant ≡ grant_for (region_of grain request.target) (access_for seen (region_of grain request.target))
+    → grant ≡ grant_for (region_of grain seen request.target) (access_for seen (region_of grain seen request.target))
 usable_is_moving grain seen grant request comes useful =
-    let matched : matches (grant_for (region_of grain comes.request.target) (access_for seen (region_of grain comes.request.target))) request.target ≡ true =
+    let matched : matches (grant_for (region_of grain seen comes.request.target) (access_for seen (region_of grain seen comes.request.target))) request.target ≡ true =
     subst (λ g. matches g request.target ≡ true) comes.is (usable_matches grant request.target request.needs useful) in
-    comes.is ∙ ap (λ region. grant_for region (access_for seen region)) (sym (matched_region grain (access_for seen (region_of grain comes.request.target)) request.target comes.request.target matched))
+    comes.is ∙ ap (λ region. grant_for region (access_for seen region)) (sym (matched_region grain seen (access_for seen (region_of grain seen comes.request.target)) request.target comes.request.target matched))
 
 pub usable_comes : (grain : Grain) (seen : List Seen) (grant : AllowGrant) (request : Seen) → Comes grain seen grant → moves request.needs ≡ true → is_usable grant request.target request.needs ≡ true
-    → grant ≡ grant_for (region_of grain request.target) (access_for seen (region_of grain request.target))
+    → grant ≡ grant_for (region_of grain seen request.target) (access_for seen (region_of grain seen request.target))
 usable_comes grain seen grant request (inl comes) moving useful = usable_is_moving grain seen grant request comes useful
 usable_comes grain seen grant request (inr comes) moving useful =
     absurd (false≢true (sym (no_class grant request.target request.needs useful moving) ∙ ap (λ (g : AllowGrant). is_class g.access) comes.is))

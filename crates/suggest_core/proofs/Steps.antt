@@ -1,6 +1,6 @@
 -- The steps of making a suggestion.
-use Rattle.std.proofs.Common.{◌≡◌, ℕ, zero, suc, ◌+◌, List, [], ◌∷◌, ◌++◌, length, Bool, true, false, not, ◌&&◌, ◌||◌, Some, refl, sym, ap, subst, ◌∙◌, ◌⊎◌, inl, inr, arith, Result, Ok, Err, OnOk}
-use Rattle.std.specs.List.{list_any, list_all, Contains, slice_get}
+use Rattle.std.proofs.Common.{◌≡◌, ℕ, zero, suc, ◌+◌, List, [], ◌∷◌, ◌++◌, length, Bool, true, false, not, ◌&&◌, ◌||◌, Some, refl, sym, ap, subst, ◌∙◌, inl, inr, arith, Result, Ok, Err, OnOk}
+use Rattle.std.specs.List.{list_any, Contains, slice_get}
 use Rattle.std.proofs.lemmas.Bool.{false≢true}
 use Rattle.std.proofs.lemmas.List.Elements.{Contains-append_left, Contains-push, Contains-push_cases}
 use Rattle.cap_grants.specs.declared.grant.AllowGrant.{AllowGrant}
@@ -10,15 +10,17 @@ use Rattle.request_types.specs.Target.{Target}
 use Rattle.request_types.specs.declared.request.Needs.{Needs}
 use Rattle.request_types.specs.declared.request.ClassCall.{ClassCall}
 use Rattle.verdict_core.specs.Verdict.{can_read, can_write, covers, grants_allow, is_covered, is_usable, matches}
-use Rattle.compare_core.proofs.Bools.{both, both_left, both_right, either_first, fails, true_or_false}
+use Rattle.compare_core.proofs.Bools.{both, both_left, both_right, fails}
 use Rattle.suggest_core.specs.declared.grain.Grain.{Grain}
 use Rattle.suggest_core.specs.declared.seen.Seen.{Seen}
-use Rattle.suggest_core.specs.Grain.{Region, access_for, grant_for, is_in, moves, region_of, some_moving}
+use Rattle.suggest_core.specs.Grain.{access_for, moves, some_moving}
+use Rattle.suggest_core.specs.Region.{grant_for, is_in, region_of}
+use Rattle.suggest_core.specs.declared.region.Region.{Region}
 use Rattle.suggest_core.specs.Suggestion.{AreNumbered}
-use Rattle.suggest_core.specs.Parts.{AreApart, Comes, HasCalls, HasFlags, HasMoving, HasSome, IsCallGrant, IsMovingGrant}
-use Rattle.suggest_core.proofs.Members.{all_from, any_contains, contains_beside, contains_between, contains_cases, contains_first, contains_later, contains_none, some_contains}
+use Rattle.suggest_core.specs.Parts.{AreApart, Comes, HasCalls, HasFlags, HasMoving, HasSome, IsMovingGrant}
+use Rattle.suggest_core.proofs.Members.{any_contains, contains_between, contains_cases, contains_first, contains_later, contains_none, some_contains}
 use Rattle.suggest_core.proofs.Regions.{itself, matches_own, same_region, usable_from}
-use Rattle.suggest_core.proofs.Serving.{allowed_by_flags, serves, usable_is_moving}
+use Rattle.suggest_core.proofs.Serving.{allowed_by_flags, usable_is_moving}
 
 abbrev Entry : Type 0
 Entry = List ℕ × AllowGrant
@@ -105,7 +107,7 @@ moving_allowed grain seen far entries next has moves_on allowed =
 
 -- the next request is denied, and its region's flags are added
 pub moving_added : (grain : Grain) (seen far : List Seen) (entries : List Entry) (next : Seen) (entry : Entry) → HasMoving grain seen far entries → Contains seen next → moves next.needs ≡ true
-    → grants_allow entries next.target next.needs ≡ false → entry.0 ≡ (length entries + 1) ∷ [] → entry.1 ≡ grant_for (region_of grain next.target) (access_for seen (region_of grain next.target))
+    → grants_allow entries next.target next.needs ≡ false → entry.0 ≡ (length entries + 1) ∷ [] → entry.1 ≡ grant_for (region_of grain seen next.target) (access_for seen (region_of grain seen next.target))
     → HasMoving grain seen (far ++ next ∷ []) (entries ++ entry ∷ [])
 moving_added grain seen far entries next entry has there moves_on denied number is = record {
   comes = λ other h.
@@ -216,35 +218,35 @@ some_covered grain seen far request calls next entries has still allowed = recor
 }
 
 -- the grant of a request's region covers what its access covers, where the request does not read or write
-still_usable : (grain : Grain) (access : Access) (request : Seen) → moves request.needs ≡ false → is_usable (grant_for (region_of grain request.target) access) request.target request.needs ≡ true
-still_usable grain access request still =
+still_usable : (grain : Grain) (seen : List Seen) (access : Access) (request : Seen) → Contains seen request → moves request.needs ≡ false → is_usable (grant_for (region_of grain seen request.target) access) request.target request.needs ≡ true
+still_usable grain seen access request known still =
     let no = neither request.needs.reads request.needs.writes still in
-    usable_from (grant_for (region_of grain request.target) access) request.target request.needs (matches_own grain access request.target)
+    usable_from (grant_for (region_of grain seen request.target) access) request.target request.needs (matches_own grain seen access request known)
     (ap (λ b. not b || can_read access) no.0) (ap (λ b. not b || can_write access) no.1)
 
-pub covered_there : (grain : Grain) (access : Access) (request : Seen) (call : ClassCall) (entries : List Entry) (entry : Entry) → moves request.needs ≡ false → Contains entries entry
-    → entry.1 ≡ grant_for (region_of grain request.target) access → covers access call ≡ true → is_covered entries request.target request.needs call ≡ true
-covered_there grain access request call entries entry still there is covered =
+pub covered_there : (grain : Grain) (seen : List Seen) (access : Access) (request : Seen) → Contains seen request → (call : ClassCall) (entries : List Entry) (entry : Entry) → moves request.needs ≡ false → Contains entries entry
+    → entry.1 ≡ grant_for (region_of grain seen request.target) access → covers access call ≡ true → is_covered entries request.target request.needs call ≡ true
+covered_there grain seen access request known call entries entry still there is covered =
     any_contains (λ (entry : Entry). is_usable entry.1 request.target request.needs && covers entry.1.access call) entries entry there
-    (subst (λ (g : AllowGrant). (is_usable g request.target request.needs && covers g.access call) ≡ true) (sym is) (both _ _ (still_usable grain access request still) covered))
+    (subst (λ (g : AllowGrant). (is_usable g request.target request.needs && covers g.access call) ≡ true) (sym is) (both _ _ (still_usable grain seen access request known still) covered))
 
 -- the flags of the region do not cover a call that is not covered
-uncovered_by : (grain : Grain) (seen far : List Seen) (request : Seen) (next : ClassCall) (entries : List Entry) → HasCalls grain seen far entries → moves request.needs ≡ false
-    → grants_allow entries request.target (one_call next) ≡ false → some_moving seen (region_of grain request.target) (λ needs. true) ≡ true → covers (access_for seen (region_of grain request.target)) next ≡ false
-uncovered_by grain seen far request next entries has still denied some =
-    let region : Region = region_of grain request.target in
+uncovered_by : (grain : Grain) (seen far : List Seen) (request : Seen) → Contains seen request → (next : ClassCall) (entries : List Entry) → HasCalls grain seen far entries → moves request.needs ≡ false
+    → grants_allow entries request.target (one_call next) ≡ false → some_moving seen (region_of grain seen request.target) (λ needs. true) ≡ true → covers (access_for seen (region_of grain seen request.target)) next ≡ false
+uncovered_by grain seen far request known next entries has still denied some =
+    let region : Region = region_of grain seen request.target in
     let found = some_contains (λ (other : Seen). (is_in region other.target && moves other.needs) && true) seen some in
     let inside = both_left _ _ (both_left (is_in region found.0.target && moves found.0.needs) _ found.2) in
     let moving = both_right (is_in region found.0.target) _ (both_left (is_in region found.0.target && moves found.0.needs) _ found.2) in
     let flags = has.given found.0 found.1 moving in
-    let same : region_of grain found.0.target ≡ region = same_region grain request.target found.0.target inside in
+    let same : region_of grain seen found.0.target ≡ region = same_region grain seen request.target found.0.target inside in
     let is : flags.0.1 ≡ grant_for region (access_for seen region) = flags.2 ∙ ap (λ region. grant_for region (access_for seen region)) same in
-    fails _ (λ covered. false≢true (sym denied ∙ covers_allowed entries request next still (covered_there grain (access_for seen region) request next entries flags.0 still flags.1 is covered)))
+    fails _ (λ covered. false≢true (sym denied ∙ covers_allowed entries request next still (covered_there grain seen (access_for seen region) request known next entries flags.0 still flags.1 is covered)))
 
 -- the next call is denied, and a grant of its method is added
 pub some_added : (grain : Grain) (seen far : List Seen) (request : Seen) (calls : List ClassCall) (next : ClassCall) (entries : List Entry) (entry : Entry) → HasSome grain seen far request calls entries
     → Contains seen request → Contains request.needs.calls next → moves request.needs ≡ false
-    → grants_allow entries request.target (one_call next) ≡ false → entry.0 ≡ (length entries + 1) ∷ [] → entry.1 ≡ grant_for (region_of grain request.target) (Class next.class (Some next.method))
+    → grants_allow entries request.target (one_call next) ≡ false → entry.0 ≡ (length entries + 1) ∷ [] → entry.1 ≡ grant_for (region_of grain seen request.target) (Class next.class (Some next.method))
     → HasSome grain seen far request (calls ++ next ∷ []) (entries ++ entry ∷ [])
 some_added grain seen far request calls next entries entry has there called still denied number is =
     let method : Access = Class next.class (Some next.method) in
@@ -255,10 +257,10 @@ some_added grain seen far request calls next entries entry has there called stil
             elim (Contains-push_cases entries entry other h) [
               | inl before ↦ has.before.comes other before
               | inr last ↦ subst (λ (e : Entry). Comes grain seen e.1) last
-                  (inr (record { request = request; there = there; still = still; call = next; called = called; is = is; uncovered = uncovered_by grain seen far request next entries has.before still denied }))
+                  (inr (record { request = request; there = there; still = still; call = next; called = called; is = is; uncovered = uncovered_by grain seen far request there next entries has.before still denied }))
             ];
         apart = apart_push entries entry has.before.apart
-            (λ other h same. false≢true (sym denied ∙ covers_allowed entries request next still (covered_there grain method request next entries other still h (same ∙ is) covers_it)));
+            (λ other h same. false≢true (sym denied ∙ covers_allowed entries request next still (covered_there grain seen method request there next entries other still h (same ∙ is) covers_it)));
         numbered = numbered_push entries entry has.before.numbered number;
         given = λ other h moving. flags_more grain seen entries entry other (has.before.given other h moving);
         covered = λ other h quiet call asked. covered_more entries entry other.target other.needs call (has.before.covered other h quiet call asked);
@@ -267,7 +269,7 @@ some_added grain seen far request calls next entries entry has there called stil
           elim (Contains-push_cases calls next call h) [
             | inl before ↦ covered_more entries entry request.target request.needs call (has.also call before)
             | inr last ↦ subst (λ call. is_covered (entries ++ entry ∷ []) request.target request.needs call ≡ true) last
-                (covered_there grain method request next (entries ++ entry ∷ []) entry still (Contains-push entries entry) is covers_it)
+                (covered_there grain seen method request there next (entries ++ entry ∷ []) entry still (Contains-push entries entry) is covers_it)
           ];
     }
 

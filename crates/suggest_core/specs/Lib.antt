@@ -1,4 +1,5 @@
+pub mod Region
 pub mod Grain
 pub mod Suggestion
-pub mod Parts
 pub mod Outcome
+pub mod Parts

@@ -8,7 +8,8 @@ use Rattle.request_types.specs.declared.request.ClassCall.{ClassCall}
 use Rattle.verdict_core.specs.Verdict.{covers, is_covered}
 use Rattle.suggest_core.specs.declared.grain.Grain.{Grain}
 use Rattle.suggest_core.specs.declared.seen.Seen.{Seen}
-use Rattle.suggest_core.specs.Grain.{access_for, grant_for, moves, region_of, some_moving}
+use Rattle.suggest_core.specs.Grain.{access_for, moves, some_moving}
+use Rattle.suggest_core.specs.Region.{grant_for, region_of}
 use Rattle.suggest_core.specs.Suggestion.{AreNumbered}
 
 -- the grant of all flags of a region, in which this request reads or writes
@@ -16,7 +17,7 @@ pub record IsMovingGrant (grain : Grain) (seen : List Seen) (grant : AllowGrant)
   pub request : Seen
   pub there : Contains seen request
   pub moving : moves request.needs ≡ true
-  pub is : grant ≡ grant_for (region_of grain request.target) (access_for seen (region_of grain request.target))
+  pub is : grant ≡ grant_for (region_of grain seen request.target) (access_for seen (region_of grain seen request.target))
 
 -- the grant of a method, which this request calls and the region's flags do not cover
 pub record IsCallGrant (grain : Grain) (seen : List Seen) (grant : AllowGrant) : Type 0 where
@@ -25,8 +26,8 @@ pub record IsCallGrant (grain : Grain) (seen : List Seen) (grant : AllowGrant) :
   pub still : moves request.needs ≡ false
   pub call : ClassCall
   pub called : Contains request.needs.calls call
-  pub is : grant ≡ grant_for (region_of grain request.target) (Class call.class (Some call.method))
-  pub uncovered : some_moving seen (region_of grain request.target) (λ needs. true) ≡ true → covers (access_for seen (region_of grain request.target)) call ≡ false
+  pub is : grant ≡ grant_for (region_of grain seen request.target) (Class call.class (Some call.method))
+  pub uncovered : some_moving seen (region_of grain seen request.target) (λ needs. true) ≡ true → covers (access_for seen (region_of grain seen request.target)) call ≡ false
 
 abbrev pub Comes : Grain → List Seen → AllowGrant → Type 0
 Comes grain seen grant = IsMovingGrant grain seen grant ⊎ IsCallGrant grain seen grant
@@ -39,7 +40,7 @@ AreApart (entry ∷ entries) = ((other : List ℕ × AllowGrant) → Contains en
 -- the grant of a request's region is there
 abbrev pub HasFlags : Grain → List Seen → List (List ℕ × AllowGrant) → Seen → Type 0
 HasFlags grain seen entries request =
-    (entry : List ℕ × AllowGrant) × Contains entries entry × (entry.1 ≡ grant_for (region_of grain request.target) (access_for seen (region_of grain request.target)))
+    (entry : List ℕ × AllowGrant) × Contains entries entry × (entry.1 ≡ grant_for (region_of grain seen request.target) (access_for seen (region_of grain seen request.target)))
 
 -- the flags of the requests so far
 pub record HasMoving (grain : Grain) (seen far : List Seen) (entries : List (List ℕ × AllowGrant)) : Type 0 where

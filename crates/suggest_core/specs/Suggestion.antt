@@ -1,12 +1,12 @@
 -- Statement: contracts of public calls use it.
 -- What a suggested text is: of its grain, enough for the requests seen, least, and without a redundant grant (this project's profile).
-use Rattle.std.specs.Prelude.{◌≡◌, ℕ, ◌+◌, ◌∷◌, ◌++◌, [], List, Bool, true, false, not, ◌&&◌, ◌||◌, ◌==◌, length, Option, Some}
-use Rattle.std.specs.List.{list_any, Contains, slice_get}
+use Rattle.std.specs.Prelude.{◌≡◌, ℕ, ◌+◌, ◌∷◌, ◌++◌, [], List, Bool, true, false, not, ◌&&◌, ◌||◌, ◌==◌, length, nat_eq, nat_le, Some}
+use Rattle.std.specs.List.{list_all, list_any, starts_with, Contains, slice_get}
 use Rattle.cap_grants.specs.declared.grant.AllowGrant.{AllowGrant}
 use Rattle.request_types.specs.Target.{Target}
 use Rattle.request_types.specs.declared.request.Needs.{Needs}
 use Rattle.request_types.specs.declared.request.ClassCall.{ClassCall}
-use Rattle.verdict_core.specs.Verdict.{grants_allow}
+use Rattle.verdict_core.specs.Verdict.{grants_allow, matches}
 use Rattle.suggest_core.specs.declared.grain.Grain.{Grain}
 use Rattle.suggest_core.specs.declared.seen.Seen.{Seen}
 use Rattle.suggest_core.specs.Grain.{IsOfGrain, moves}
@@ -47,6 +47,12 @@ EachIsNeeded seen text =
     (front behind : List (List ℕ × AllowGrant)) (entry : List ℕ × AllowGrant) → text ≡ front ++ entry ∷ behind
     → (request : Seen) × Contains seen request × (grants_allow (front ++ behind) request.target request.needs ≡ false)
 
+-- no longer beginning of ASCII bytes is one of all names seen where a grant with a prefix applies
+abbrev pub HasLongestPrefix : List Seen → AllowGrant → Type 0
+HasLongestPrefix seen grant =
+    (prefix other : List ℕ) → grant.prefix ≡ Some prefix → list_all (λ byte. nat_le byte 127) other ≡ true
+    → ((request : Seen) → Contains seen request → matches grant request.target ≡ true → starts_with nat_eq request.target.object other ≡ true) → starts_with nat_eq prefix other ≡ true
+
 -- the paths are the numbers from 1
 abbrev pub AreNumbered : List (List ℕ × AllowGrant) → Type 0
 AreNumbered text = (place : ℕ) (entry : List ℕ × AllowGrant) → slice_get text place ≡ Some entry → entry.0 ≡ (place + 1) ∷ []
@@ -56,4 +62,5 @@ pub record IsSuggested (grain : Grain) (seen : List Seen) (text : List (List ℕ
   pub allows : AllowsSeen seen text
   pub least : IsLeast grain seen text
   pub needed : EachIsNeeded seen text
+  pub longest : (entry : List ℕ × AllowGrant) → Contains text entry → HasLongestPrefix seen entry.1
   pub numbered : AreNumbered text

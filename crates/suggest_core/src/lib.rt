@@ -1,13 +1,13 @@
 //! The narrowest capability text, at a grain, that allows every request that was seen.
 //!
-//! A grain divides targets into regions: pools, or namespaces of pools. A text of the grain has at most one grant of flags for
-//! each region, and grants of class methods. Of those texts that allow all requests seen there is a least one, and `suggest`
-//! returns it.
+//! A grain divides targets into regions: pools, namespaces of pools, or in these the names that begin as all names seen there
+//! do. A tag that all pools seen share replaces their names. A text of the grain has at most one grant of flags for each region,
+//! and grants of class methods. Of those texts that allow all requests seen there is a least one, and `suggest` returns it.
 //!
 //! # What contracts see
 //!
-//! A request seen is its target and its needs. A text is a list of grants, each with its number as its path. `specs/Grain.antt`
-//! says which texts are of a grain, and `specs/Suggestion.antt` what a suggestion is.
+//! A request seen is its target and its needs. A text is a list of grants, each with its number as its path. `specs/Region.antt`
+//! says which regions there are, `specs/Grain.antt` which texts are of a grain, and `specs/Suggestion.antt` what a suggestion is.
 //!
 //! # Costs
 //!
@@ -22,9 +22,10 @@
 
 mod access;
 mod grain;
+mod region;
 mod seen;
 mod suggesting;
 
-pub use grain::Grain;
+pub use grain::{Division, Grain};
 pub use seen::{Seen, asks_nothing, needs_all};
 pub use suggesting::{Suggestion, suggest};

@@ -12,6 +12,7 @@ ghost use Rattle.suggest_core.specs.Suggestion as suggestion;
 
 use crate::access::access_for;
 use crate::grain::Grain;
+use crate::region::Region;
 use crate::seen::{Seen, is_left_out, moves};
 use cap_text::{Access, AllowGrant};
 use common_types::{OutOfMemory, TryClone};
@@ -62,12 +63,12 @@ fn push_grant(grants: &mut Vec<(Path, AllowGrant)>, grant: AllowGrant) -> Result
 /// Adds the flags of the region of a request that reads or writes, if the grants deny it.
 fn add_flags(
     grants: &mut Vec<(Path, AllowGrant)>,
-    grain: Grain,
+    grain: &Grain,
     seen: &[Seen],
     request: &Seen,
 ) -> Result<(), OutOfMemory>
     requires { Contains seen.now request.now }
-    ensures { OnOk result ((far : List Seen) → HasMoving grain seen.now far grants.old.items → HasMoving grain seen.now (far ++ request.now ∷ []) grants.new.items) }
+    ensures { OnOk result ((far : List Seen) → HasMoving grain.now seen.now far grants.old.items → HasMoving grain.now seen.now (far ++ request.now ∷ []) grants.new.items) }
 {
     if !moves(&request.needs) {
         return Ok(());
@@ -75,8 +76,9 @@ fn add_flags(
     if grants_allow(grants, &request.target.as_target(), &request.needs) {
         return Ok(());
     }
-    let access = access_for(grain, seen, &request.target);
-    push_grant(grants, grain.grant_for(&request.target, access)?)
+    let region = Region::of(*grants.allocator(), grain, seen, &request.target)?;
+    let access = access_for(seen, &region);
+    push_grant(grants, region.into_grant(access))
 }
 
 /// Needs of one call alone.
@@ -105,36 +107,40 @@ fn method_of(call: &ClassCall) -> Result<Access, OutOfMemory>
 /// Adds a grant of the method of a request's call, if the grants do not cover the call.
 fn add_method(
     grants: &mut Vec<(Path, AllowGrant)>,
-    grain: Grain,
+    grain: &Grain,
+    seen: &[Seen],
     request: &Seen,
     call: &ClassCall,
 ) -> Result<(), OutOfMemory>
     requires called { Contains request.now.needs.calls call.now }
     requires still { spec.moves request.now.needs ≡ false }
-    ensures { OnOk result ((seen far : List Seen) (calls : List ClassCall) → Contains seen request.now → HasSome grain seen far request.now calls grants.old.items
-        → HasSome grain seen far request.now (calls ++ call.now ∷ []) grants.new.items) }
+    requires there { Contains seen.now request.now }
+    ensures { OnOk result ((far : List Seen) (calls : List ClassCall) → HasSome grain.now seen.now far request.now calls grants.old.items
+        → HasSome grain.now seen.now far request.now (calls ++ call.now ∷ []) grants.new.items) }
 {
     let needs = one_call(*grants.allocator(), call)?;
     if grants_allow(grants, &request.target.as_target(), &needs) {
         return Ok(());
     }
-    let access = method_of(call)?;
-    push_grant(grants, grain.grant_for(&request.target, access)?)
+    let region = Region::of(*grants.allocator(), grain, seen, &request.target)?;
+    push_grant(grants, region.into_grant(method_of(call)?))
 }
 
 /// Adds a grant of each method that a request of calls alone calls and the grants do not cover.
 fn add_methods(
     grants: &mut Vec<(Path, AllowGrant)>,
-    grain: Grain,
+    grain: &Grain,
+    seen: &[Seen],
     request: &Seen,
 ) -> Result<(), OutOfMemory>
-    ensures { OnOk result ((seen far : List Seen) → Contains seen request.now → HasCalls grain seen far grants.old.items → HasCalls grain seen (far ++ request.now ∷ []) grants.new.items) }
+    requires { Contains seen.now request.now }
+    ensures { OnOk result ((far : List Seen) → HasCalls grain.now seen.now far grants.old.items → HasCalls grain.now seen.now (far ++ request.now ∷ []) grants.new.items) }
 {
     if moves(&request.needs) {
         return Ok(());
     }
     for call in request.needs.calls.as_slice() {
-        add_method(grants, grain, request, call)?;
+        add_method(grants, grain, seen, request, call)?;
     }
     Ok(())
 }
@@ -142,17 +148,17 @@ fn add_methods(
 /// The grants for all requests: first the flags, then the methods.
 fn all_grants(
     alloc: Global,
-    grain: Grain,
+    grain: &Grain,
     seen: &[Seen],
 ) -> Result<Vec<(Path, AllowGrant)>, OutOfMemory>
-    ensures { IfOk result (λ grants. HasCalls grain seen.now seen.now grants.items) }
+    ensures { IfOk result (λ grants. HasCalls grain.now seen.now seen.now grants.items) }
 {
     let mut grants = Vec::new(alloc);
     for request in seen {
         add_flags(&mut grants, grain, seen, request)?;
     }
     for request in seen {
-        add_methods(&mut grants, grain, request)?;
+        add_methods(&mut grants, grain, seen, request)?;
     }
     Ok(grants)
 }
@@ -172,11 +178,11 @@ fn first_left_out(allow_all: bool, seen: &[Seen]) -> Option<usize>
 /// seen is taken to read, to write and to be listed as it was seen. The only error is out of memory.
 pub fn suggest(
     alloc: Global,
-    grain: Grain,
+    grain: &Grain,
     allow_all: bool,
     seen: &[Seen],
 ) -> Result<Suggestion, OutOfMemory>
-    ensures { IfOk result (λ suggestion. IsOutcome grain allow_all seen.now suggestion) }
+    ensures { IfOk result (λ suggestion. IsOutcome grain.now allow_all seen.now suggestion) }
 {
     if let Some(index) = first_left_out(allow_all, seen) {
         return Ok(Suggestion::LeftOut(index));

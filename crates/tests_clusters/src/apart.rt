@@ -7,7 +7,7 @@ use crate::begun::{Wish, begun, open, submit, two_passes};
 use crate::failover::{
     add_user, catch_up, delete_user, expect_one, goes_on, move_and_untag, set_tag,
 };
-use cluster::{Asked, Cluster, Monitor, Pass};
+use cluster::{Cluster, Monitor, Pass, Submitted};
 use std::alloc::Global;
 use std::process::Abort;
 use std::sync::Wait;
@@ -40,7 +40,7 @@ fn move_meanwhile<R: Threads + Wait + Abort + Sync>(
     cluster: &Cluster,
     monitor: &mut Monitor,
     first: &mut Pass,
-    asked: &Asked,
+    submitted: &Submitted,
 )
     requires monitor { IsMonitorOf cluster.now monitor.old }
     requires pass { IsPassOf cluster.now first.old }
@@ -49,7 +49,7 @@ fn move_meanwhile<R: Threads + Wait + Abort + Sync>(
 {
     join_mut(
         rt,
-        &mut || expect_one(rt, cluster, first, asked),
+        &mut || expect_one(rt, cluster, first, submitted),
         &mut || move_and_untag(rt, alloc, cluster, monitor),
     );
 }
@@ -61,14 +61,14 @@ fn delete_meanwhile<R: Threads + Wait + Abort + Sync>(
     cluster: &Cluster,
     first: &mut Pass,
     second: &mut Pass,
-    asked: &Asked,
+    submitted: &Submitted,
 )
     requires { IsPassOf cluster.now first.old × IsPassOf cluster.now second.old }
     ensures { IsPassOf cluster.now first.new × IsPassOf cluster.now second.new }
 {
     join_mut(
         rt,
-        &mut || expect_one(rt, cluster, first, asked),
+        &mut || expect_one(rt, cluster, first, submitted),
         &mut || delete_user(rt, alloc, cluster, second),
     );
 }
@@ -81,12 +81,12 @@ fn a_tag_and_a_user_go_by_other_threads(rt: HostRuntime) {
     prepare(&rt, alloc, &cluster, &mut monitor, &mut second);
     catch_up(&rt, alloc, &cluster, &mut monitor, &mut first, &mut second);
     let session = open(&rt, alloc, &cluster, &mut first, None);
-    let asked = submit(&rt, alloc, &cluster, &mut first, session, "x", Wish::Add, 0).expect(
+    let submitted = submit(&rt, alloc, &cluster, &mut first, session, "x", Wish::Add, 0).expect(
         &rt,
         "a request",
     );
-    move_meanwhile(&rt, alloc, &cluster, &mut monitor, &mut first, &asked);
-    delete_meanwhile(&rt, alloc, &cluster, &mut first, &mut second, &asked);
+    move_meanwhile(&rt, alloc, &cluster, &mut monitor, &mut first, &submitted);
+    delete_meanwhile(&rt, alloc, &cluster, &mut first, &mut second, &submitted);
     catch_up(&rt, alloc, &cluster, &mut monitor, &mut first, &mut second);
     goes_on(&rt, alloc, &cluster, &mut first, session);
     monitor.end(&rt);

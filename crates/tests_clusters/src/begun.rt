@@ -6,7 +6,8 @@ ghost use Rattle.cluster.specs.Monitors.{IsMonitorOf, FollowsStart};
 
 use auth_db::Caps;
 use cluster::{
-    Asked, Asking, Cluster, ClusterFault, Monitor, News, Pass, PoolSpec, TellFault, UserSpec, start,
+    Cluster, ClusterFault, Monitor, NewRequest, News, Pass, PoolSpec, Submitted, TellFault,
+    UserSpec, start,
 };
 use common_types::Name;
 use entry_core::Reply;
@@ -118,14 +119,14 @@ pub(crate) fn open<R: Wait + Abort>(
 }
 
 // Who asks, in a namespace of the pool `data`, at a tick.
-pub(crate) fn asking<R: Abort>(
+pub(crate) fn new_request<R: Abort>(
     rt: &R,
     alloc: Global,
     session: u32,
     namespace: &str,
     tick: u64,
-) -> Asking {
-    Asking {
+) -> NewRequest {
+    NewRequest {
         session,
         tick,
         pool: name_of(rt, alloc, "data"),
@@ -172,14 +173,14 @@ pub(crate) fn submit<R: Wait + Abort>(
     object: &str,
     wish: Wish,
     tick: u64,
-) -> Result<Asked, ClusterFault>
+) -> Result<Submitted, ClusterFault>
     requires { IsPassOf cluster.now pass.old }
     ensures { IsPassOf cluster.now pass.new }
 {
     for _try in 0..MAX_TRIES {
-        let asking = asking(rt, alloc, session, "", tick);
+        let new_request = new_request(rt, alloc, session, "", tick);
         let object = name_of(rt, alloc, object);
-        match cluster.submit(rt, pass, asking, object, ops_of(rt, alloc, wish)) {
+        match cluster.submit(rt, pass, new_request, object, ops_of(rt, alloc, wish)) {
             Err(ClusterFault::NoReader) => {}
             answer => return answer,
         }
@@ -222,12 +223,12 @@ pub(crate) fn reply_of<R: Wait + Abort>(
     rt: &R,
     cluster: &Cluster,
     pass: &mut Pass,
-    asked: &Asked,
+    submitted: &Submitted,
 ) -> Reply
     requires { IsPassOf cluster.now pass.old }
     ensures { IsPassOf cluster.now pass.new }
 {
-    let reply = cluster.answer(rt, pass, asked).expect(rt, "a request");
+    let reply = cluster.answer(rt, pass, submitted).expect(rt, "a request");
     reply.expect(rt, "a reply")
 }
 
@@ -236,18 +237,18 @@ pub(crate) fn answered<R: Wait + Abort>(
     rt: &R,
     cluster: &Cluster,
     pass: &mut Pass,
-    asked: &Asked,
+    submitted: &Submitted,
 ) -> Reply
     requires { IsPassOf cluster.now pass.old }
     ensures { IsPassOf cluster.now pass.new }
 {
     for _delivery in 0..MAX_DELIVERIES {
-        match cluster.work(rt, pass, &asked.group) {
+        match cluster.work(rt, pass, &submitted.group) {
             Ok(_) | Err(ClusterFault::World(WorldFault::Group(GroupFault::Unreachable))) => {}
             Err(fault) => panic!(rt; "no delivery: {fault}"),
         }
     }
-    reply_of(rt, cluster, pass, asked)
+    reply_of(rt, cluster, pass, submitted)
 }
 
 // Whether a reply is a denial by this condition of grant 1.

@@ -10,7 +10,7 @@ use crate::begun::{
     tell, two_passes,
 };
 use auth_db::{AuthFault, Caps};
-use cluster::{Asked, Cluster, ClusterFault, Monitor, Pass};
+use cluster::{Cluster, ClusterFault, Monitor, Pass, Submitted};
 use map_core::MapCommand;
 use std::alloc::Global;
 use std::process::Abort;
@@ -116,7 +116,7 @@ pub(crate) fn catch_up<R: Abort>(
     ensures passes { IsPassOf cluster.now first.new × IsPassOf cluster.now second.new }
 {
     let note = second.note(cluster, alloc).expect(rt, "a note");
-    first.hear(cluster, note);
+    first.read_note(cluster, note);
     let news = tell(cluster, monitor).expect(rt, "news");
     expect_so(rt, learn(cluster, first, news), "news that are learned");
 }
@@ -137,11 +137,11 @@ pub(crate) fn goes_on<R: Wait + Abort>(
         Err(ClusterFault::World(WorldFault::Auth(AuthFault::NoEntity)))
     );
     expect_so(rt, gone, "a user who is gone");
-    let asked = submit(rt, alloc, cluster, first, session, "x", Wish::Add, 0).expect(
+    let submitted = submit(rt, alloc, cluster, first, session, "x", Wish::Add, 0).expect(
         rt,
         "a request",
     );
-    let reply = answered(rt, cluster, first, &asked);
+    let reply = answered(rt, cluster, first, &submitted);
     expect_so(rt, is_denied(&reply, Condition::Tag), "a denial");
 }
 
@@ -150,12 +150,12 @@ pub(crate) fn expect_one<R: Wait + Abort>(
     rt: &R,
     cluster: &Cluster,
     first: &mut Pass,
-    asked: &Asked,
+    submitted: &Submitted,
 )
     requires { IsPassOf cluster.now first.old }
     ensures { IsPassOf cluster.now first.new }
 {
-    let reply = answered(rt, cluster, first, asked);
+    let reply = answered(rt, cluster, first, submitted);
     expect_so(rt, is_output(&reply, "1"), "an output");
 }
 
@@ -169,13 +169,13 @@ fn a_tag_and_a_user_go_while_a_group_moves(rt: HostRuntime) {
     set_tag(&rt, alloc, &cluster, &mut monitor);
     catch_up(&rt, alloc, &cluster, &mut monitor, &mut first, &mut second);
     let session = open(&rt, alloc, &cluster, &mut first, None);
-    let asked = submit(&rt, alloc, &cluster, &mut first, session, "x", Wish::Add, 0).expect(
+    let submitted = submit(&rt, alloc, &cluster, &mut first, session, "x", Wish::Add, 0).expect(
         &rt,
         "a request",
     );
     move_and_untag(&rt, alloc, &cluster, &mut monitor);
     delete_user(&rt, alloc, &cluster, &mut second);
-    expect_one(&rt, &cluster, &mut first, &asked);
+    expect_one(&rt, &cluster, &mut first, &submitted);
     catch_up(&rt, alloc, &cluster, &mut monitor, &mut first, &mut second);
     goes_on(&rt, alloc, &cluster, &mut first, session);
     monitor.end(&rt);

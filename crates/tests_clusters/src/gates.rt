@@ -32,7 +32,9 @@ impl Meeting {
 }
 
 impl Gate for Meeting {
-    fn enter(&self, worker: u32, _round: u32) -> bool {
+    ghost refuses = { λ _ _ _. ⊥ };
+
+    fn enter(&self, worker: usize, _round: u32) -> bool {
         if worker == 0 {
             self.wait();
         } else {
@@ -49,7 +51,7 @@ fn two_workers_run(rt: HostRuntime) {
     let (cluster, monitor, mut passes) = begun(&rt, alloc, 1, "client.a", "allow rw pool=data", 2);
     let mut last = take_pass(&cluster, &mut passes).expect(&rt, "a pass");
     let session = open(&rt, alloc, &cluster, &mut last, None);
-    let asked = submit(
+    let submitted = submit(
         &rt,
         alloc,
         &cluster,
@@ -77,7 +79,7 @@ fn two_workers_run(rt: HostRuntime) {
         "that worker 1 came",
     );
     let mut last = take_pass(&cluster, &mut passes).expect(&rt, "a pass");
-    let reply = reply_of(&rt, &cluster, &mut last, &asked);
+    let reply = reply_of(&rt, &cluster, &mut last, &submitted);
     expect_so(&rt, is_output(&reply, ""), "an output");
     monitor.end(&rt);
 }

@@ -2,8 +2,8 @@
 
 ghost use Rattle.cluster.specs.Asks.{IsPassOf};
 
-use crate::begun::{answered, asking, begun, expect_so, open, take_pass};
-use cluster::{Asked, Cluster, Pass};
+use crate::begun::{answered, begun, expect_so, new_request, open, take_pass};
+use cluster::{Cluster, Pass, Submitted};
 use entry_core::Reply;
 use std::alloc::Global;
 use std::process::Abort;
@@ -36,7 +36,7 @@ fn are_answered<R: Wait + Abort>(
     rt: &R,
     cluster: &Cluster,
     pass: &mut Pass,
-    pieces: &[Asked],
+    pieces: &[Submitted],
     expected: Expected,
 )
     requires { IsPassOf cluster.now pass.old }
@@ -53,8 +53,10 @@ fn check<R: Wait + Abort>(rt: &R, alloc: Global, osd: &str, namespace: &str, exp
     let (cluster, monitor, mut passes) = begun(rt, alloc, 4, "client.a", osd, 1);
     let mut pass = take_pass(&cluster, &mut passes).expect(rt, "a pass");
     let session = open(rt, alloc, &cluster, &mut pass, None);
-    let asking = asking(rt, alloc, session, namespace, 0);
-    let pieces = cluster.list(rt, &mut pass, asking).expect(rt, "a list");
+    let new_request = new_request(rt, alloc, session, namespace, 0);
+    let pieces = cluster
+        .list(rt, &mut pass, new_request)
+        .expect(rt, "a list");
     expect_so(rt, pieces.len() == 4, "four pieces");
     are_answered(rt, &cluster, &mut pass, pieces.as_slice(), expected);
     monitor.end(rt);

@@ -23,8 +23,11 @@ fn ask_once<R: Wait + Abort>(
     ensures { IsPassOf cluster.now pass.new }
 {
     let session = open(rt, alloc, cluster, pass, None);
-    let asked = submit(rt, alloc, cluster, pass, session, object, wish, 0).expect(rt, "a request");
-    let reply = answered(rt, cluster, pass, &asked);
+    let submitted = submit(rt, alloc, cluster, pass, session, object, wish, 0).expect(
+        rt,
+        "a request",
+    );
+    let reply = answered(rt, cluster, pass, &submitted);
     expect_so(rt, is_output(&reply, output), "an output");
     session
 }
@@ -50,7 +53,7 @@ fn ask_both<R: Threads + Wait + Abort + Sync>(
     );
 }
 
-// Both append, hear each other's note, and read what the other appended.
+// Both append, read each other's note, and read what the other appended.
 #[test]
 fn passes_on_threads_hear_each_other(rt: HostRuntime) {
     let alloc = rt.alloc();
@@ -68,8 +71,8 @@ fn passes_on_threads_hear_each_other(rt: HostRuntime) {
     );
     let by_first = first.note(&cluster, alloc).expect(&rt, "a note");
     let by_second = second.note(&cluster, alloc).expect(&rt, "a note");
-    first.hear(&cluster, by_second);
-    second.hear(&cluster, by_first);
+    first.read_note(&cluster, by_second);
+    second.read_note(&cluster, by_first);
     ask_both(
         &rt,
         alloc,
@@ -91,7 +94,7 @@ fn a_pass_hears_what_another_did(rt: HostRuntime) {
     let (mut first, mut second) = two_passes(&rt, &cluster, passes);
     let session = ask_once(&rt, alloc, &cluster, &mut first, "x", Wish::Append, "");
     let note = first.note(&cluster, alloc).expect(&rt, "a note");
-    second.hear(&cluster, note);
+    second.read_note(&cluster, note);
     let other = ask_once(&rt, alloc, &cluster, &mut second, "x", Wish::Read, "a");
     expect_so(&rt, session == 1 && other == 2, "numbers of sessions");
     monitor.end(&rt);

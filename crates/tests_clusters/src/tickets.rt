@@ -60,7 +60,7 @@ fn is_so<R: Wait + Abort>(
     ensures { IsPassOf cluster.now pass.new }
 {
     match submit(rt, alloc, cluster, pass, session, "x", row.1, row.0) {
-        Ok(asked) => is_expected(&answered(rt, cluster, pass, &asked), row.2),
+        Ok(submitted) => is_expected(&answered(rt, cluster, pass, &submitted), row.2),
         Err(ClusterFault::World(WorldFault::StaleTick)) => matches!(row.2, Stale),
         Err(_) => false,
     }

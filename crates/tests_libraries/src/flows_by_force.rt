@@ -6,7 +6,7 @@ use crate::pieces::{
 };
 use flow_core::{Found, chains_from};
 use share_core::{Pool, Touch, share, share_in};
-use share_text::flow_entities;
+use share_text::{Detail, flow_entities, holders_of};
 use std::alloc::Global;
 use std::process::Abort;
 use verdict_core::Ticket;
@@ -137,20 +137,12 @@ fn walked(steps: &Distances, start: usize, places: &[usize]) -> u8 {
     count
 }
 
-/// The writer, those between and the reader of a line: the reader stands second in it.
+/// The writer, those between and the reader of a line.
 fn places_of<R: Abort>(rt: &R, alloc: Global, line: &str) -> Vec<usize> {
     let mut places = Vec::new(alloc);
-    let mut reader = None;
     for digit in line.bytes().filter(|byte| byte.is_ascii_digit()) {
         let place = (digit as usize).saturating_sub(48);
-        if places.len() == 1 && reader.is_none() {
-            reader = Some(place);
-        } else {
-            places.push(place).expect(rt, "memory");
-        }
-    }
-    if let Some(reader) = reader {
-        places.push(reader).expect(rt, "memory");
+        places.push(place).expect(rt, "memory");
     }
     places
 }
@@ -203,7 +195,9 @@ fn are_flows_right<R: Abort>(
     let tickets = tickets_of(rt, alloc, entities);
     let steps = direct(&tickets, pools);
     let read = read_entities(rt, alloc, entities);
-    let printed = flow_entities(alloc, read.as_slice(), pools, true).expect(rt, "memory");
+    let holders = holders_of(alloc, read.as_slice()).expect(rt, "memory");
+    let holders = holders.as_slice();
+    let printed = flow_entities(alloc, holders, pools, Detail::Whole, true).expect(rt, "memory");
     printed.fails != printed.text.is_empty()
         && are_lines_right(rt, alloc, printed.text.as_str(), &steps)
 }
@@ -292,18 +286,31 @@ const CLUSTER: &[(&str, &str); 6] = &[
 ];
 
 const FLOWS: &str = "\
-client.database reaches client.lake
-client.database reaches client.report through client.lake
-client.database reaches client.reader through client.lake, client.report
-client.lake reaches client.report
-client.lake reaches client.reader through client.report
-client.report reaches client.reader
+client.database -> client.lake
+client.database -> client.lake -> client.report
+client.database -> client.lake -> client.report -> client.reader
+client.lake -> client.report
+client.lake -> client.report -> client.reader
+client.report -> client.reader
+";
+
+const FIRST_STEPS: &str = "\
+client.database -> client.lake
+client.database -> client.lake .. client.report, 2 steps
+client.database -> client.lake .. client.reader, 3 steps
+client.lake -> client.report
+client.lake -> client.report .. client.reader, 2 steps
+client.report -> client.reader
 ";
 
 #[test]
 fn flows_print(rt: HostRuntime) {
     let entities = entities_of(&rt, rt.alloc(), CLUSTER);
     let read = read_entities(&rt, rt.alloc(), &entities);
-    let printed = flow_entities(rt.alloc(), read.as_slice(), None, false).expect(&rt, "memory");
-    expect_printed(&rt, &printed, FLOWS, false);
+    let holders = holders_of(rt.alloc(), read.as_slice()).expect(&rt, "memory");
+    let holders = holders.as_slice();
+    for (detail, lines) in [(Detail::Whole, FLOWS), (Detail::Brief, FIRST_STEPS)] {
+        let printed = flow_entities(rt.alloc(), holders, None, detail, false).expect(&rt, "memory");
+        expect_printed(&rt, &printed, lines, false);
+    }
 }

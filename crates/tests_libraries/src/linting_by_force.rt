@@ -4,16 +4,18 @@ use crate::alphabets::{ALL_TAGS, all_needs, all_targets};
 use crate::comparisons_by_force::{TAGS, gains};
 use crate::drawing::draw_text;
 use crate::pieces::{
-    entities_of, expect_printed, expect_so, expect_text, pools_of, tags_of_each, ticket,
+    entities_of, expect_printed, expect_so, expect_text, pools_of, read_entities, tags_of_each,
+    ticket,
 };
 use cap_text::{CapList, parse, print};
 use compare_core::Registry;
 use grant_core::ProfileTable;
 use lint_core::{Standing, redundancy, tidied};
-use lint_text::{lint_caps, lint_entities, tidy_caps};
+use lint_text::{lint_caps, lint_entities, lint_read, lint_read_entities, tidy_caps, tidy_read};
 use std::alloc::Global;
 use std::process::Abort;
 use verdict_core::{Needs, Target};
+use verdict_text::{Reader, Rules};
 
 /// The text of a list without the grant at a place.
 fn text_without<R: Abort>(rt: &R, alloc: Global, list: &CapList, place: usize) -> String {
@@ -60,7 +62,7 @@ fn are_right<R: Abort>(
         let needed = denies_some(rt, alloc, rest.as_str(), whole.as_str(), targets, needs);
         let right = match standing {
             Standing::Needed => needed,
-            Standing::Needless => false,
+            Standing::CoveredTogether => false,
             Standing::Covered(_) => !needed,
         };
         if !right {
@@ -128,7 +130,7 @@ fn are_covered(told: &[Standing]) -> bool {
     matches!(
         told,
         [
-            Standing::Needless,
+            Standing::CoveredTogether,
             Standing::Covered(1),
             Standing::Covered(1)
         ]
@@ -164,4 +166,21 @@ fn lines_are_printed(rt: HostRuntime) {
     let linted = lint_entities(alloc, &entities, None, true).expect(&rt, "memory");
     let lines = "client.a 1 every pool\nclient.a 2 redundant, by 1\n";
     expect_printed(&rt, &linted, lines, true);
+}
+
+#[test]
+fn lines_of_texts_that_were_read_are_printed(rt: HostRuntime) {
+    let alloc = rt.alloc();
+    let reader = Reader::of(alloc, Rules::Project).expect(&rt, "memory");
+    let entities = entities_of(&rt, alloc, &[("client.a", CAPS)]);
+    let read = read_entities(&rt, alloc, &entities);
+    let linted = lint_read_entities(alloc, &reader, &read, None, true).expect(&rt, "memory");
+    let lines = "client.a 1 every pool\nclient.a 2 redundant, by 1\n";
+    expect_printed(&rt, &linted, lines, true);
+    for entity in &read {
+        let linted = lint_read(alloc, &reader, &entity.osd, None, true).expect(&rt, "memory");
+        expect_printed(&rt, &linted, "1 every pool\n2 redundant, by 1\n", true);
+        let tidied = tidy_read(alloc, &reader, &entity.osd, false).expect(&rt, "memory");
+        expect_printed(&rt, &tidied, "allow rw\n", false);
+    }
 }

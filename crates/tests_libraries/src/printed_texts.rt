@@ -3,13 +3,16 @@
 use crate::pieces::{entities_of, expect_printed, expect_so, expect_text, name, read_entities};
 use common_types::Tags;
 use compare_core::{OwnedTarget, Registry};
-use compare_text::{Comparison, compare_entities, compare_text, push_target};
+use compare_text::{
+    Comparison, compare_entities, compare_pairs, compare_text, push_target, read_pairs,
+};
 use std::alloc::Global;
 use std::process::Abort;
 use verdict_core::Target;
 use verdict_text::{
-    Asked, Entity, Format, NamedEntities, Reader, Rules, TextFault, answer, explain_text, list_by,
-    point_at_fault, push_shown_text, text_of, verdict_text,
+    Asked, Entity, Explained, Format, NamedEntities, Printing, Reader, Rules, TextFault, answer,
+    explain_ceph, explain_text, list_by, point_at_fault, push_shown_text, read_explained, text_of,
+    verdict_by, verdict_text,
 };
 use who_text::{who_table, who_text};
 
@@ -50,8 +53,8 @@ fn verdict<R: Abort>(rt: &R, alloc: Global, pool: &str, tick: u64) -> String {
 /// Pools that are written to, when, and the verdict.
 const VERDICTS: &[(&str, u64, &str); 3] = &[
     ("data", 9, "allow\n"),
-    ("logs", 9, "deny\n1 pool\n"),
-    ("data", 10, "deny\n1 expired\n"),
+    ("logs", 9, "deny\n1 pool   allow rw pool=data\n"),
+    ("data", 10, "deny\n1 expired   allow rw pool=data\n"),
 ];
 
 #[test]
@@ -62,23 +65,34 @@ fn verdicts_print(rt: HostRuntime) {
     }
 }
 
+/// What explains a text by this project's rules.
+fn explained<R: Abort>(rt: &R, alloc: Global, caps: &str) -> Explained {
+    let reader = Reader::of(alloc, Rules::Project).expect(rt, "memory");
+    let caps = String::from_str(alloc, caps).expect(rt, "memory");
+    read_explained(alloc, &reader, caps, Format::Text).expect(rt, "memory")
+}
+
 /// Whether what points at the fault of a text is this.
-fn is_pointed_at(alloc: Global, caps: &str, below: &str) -> bool {
+fn is_pointed_at<R: Abort>(rt: &R, alloc: Global, caps: &str, below: &str) -> bool {
     let mut pointed: Vec<u8> = Vec::new(alloc);
-    point_at_fault(alloc, caps, &mut pointed);
+    let text = explained(rt, alloc, caps).text;
+    point_at_fault(alloc, &text, &mut pointed);
     pointed.as_slice() == below.as_bytes()
 }
 
 #[test]
 fn texts_print(rt: HostRuntime) {
     let alloc = rt.alloc();
-    let explained = explain_text(alloc, CAPS, Format::Text).expect(&rt, "memory");
     let lines = "allow rw pool=data\n1 allow rw pool=data\n";
+    expect_printed(&rt, &explained(&rt, alloc, CAPS).printed, lines, false);
+    let explained = explain_text(alloc, CAPS, Format::Text).expect(&rt, "memory");
     expect_printed(&rt, &explained, lines, false);
+    let explained = explain_ceph(alloc, CAPS, Format::Text).expect(&rt, "memory");
+    expect_printed(&rt, &explained, "1 allow rw pool=data\n", false);
     let more = "allow rw pool=data, allow r pool=data";
     let compared = compare_text(alloc, CAPS, more, CHECKED).expect(&rt, "memory");
     expect_printed(&rt, &compared, "same\n", false);
-    let is_pointed_at = is_pointed_at(alloc, "deny r", "deny r\n^\n");
+    let is_pointed_at = is_pointed_at(&rt, alloc, "deny r", "deny r\n^\n");
     expect_so(&rt, is_pointed_at, "a fault");
 }
 
@@ -93,11 +107,51 @@ fn table<R: Abort>(rt: &R, alloc: Global, entities: &[Entity], format: Format) -
     who_table(alloc, read.as_slice(), requests.as_slice(), format).expect(rt, "memory")
 }
 
-/// The document of a verdict on a write to the pool data.
+/// The document of a verdict on a write to the pool data, without grants.
 fn document<R: Abort>(rt: &R, alloc: Global) -> String {
     let tags = Tags::from_vec(Vec::new(alloc));
     let answer = answer(alloc, CAPS, None, &write("data", &tags, 0)).expect(rt, "memory");
     text_of(alloc, &answer, Format::Json).expect(rt, "memory")
+}
+
+/// The verdict on a write to a pool, with the grants.
+fn reasoned<R: Abort>(rt: &R, alloc: Global, pool: &str, format: Format) -> String {
+    let tags = Tags::from_vec(Vec::new(alloc));
+    let asked = write(pool, &tags, 0);
+    let read = explained(rt, alloc, CAPS).text;
+    let answer = answer(alloc, CAPS, None, &asked).expect(rt, "memory");
+    let how = Printing {
+        rules: Rules::Project,
+        why: true,
+        format,
+    };
+    verdict_by(alloc, how, read.read(), &asked, &answer).expect(rt, "memory")
+}
+
+/// A pool that is written to, a format, and what is printed with the grants.
+type ReasonedRow = (&'static str, Format, &'static str);
+
+const REASONED: &[ReasonedRow; 4] = &[
+    ("data", Format::Text, "allow\n1   allow rw pool=data\n"),
+    ("logs", Format::Text, "deny\n1 pool   allow rw pool=data\n"),
+    (
+        "data",
+        Format::Json,
+        "{\"grants\":[{\"grant\":\"allow rw pool=data\",\"path\":\"1\"}],\"verdict\":\"allow\"}\n",
+    ),
+    (
+        "logs",
+        Format::Json,
+        "{\"report\":[{\"condition\":\"pool\",\"grant\":\"allow rw pool=data\",\"path\":\"1\"}],\"verdict\":\"deny\"}\n",
+    ),
+];
+
+#[test]
+fn grants_are_printed(rt: HostRuntime) {
+    for (pool, format, want) in REASONED {
+        let text = reasoned(&rt, rt.alloc(), pool, *format);
+        expect_text(&rt, text.as_str(), want, pool);
+    }
 }
 
 /// The table of an entity as a document.
@@ -112,7 +166,7 @@ fn tables_and_documents_print(rt: HostRuntime) {
     expect_text(
         &rt,
         text.as_str(),
-        "entity 1 2\nclient.app allow deny\n",
+        "entity            1        2\nclient.app    allow     deny\n",
         "a table",
     );
     let text = table(&rt, alloc, &app, Format::Json);
@@ -149,6 +203,23 @@ fn entities_print(rt: HostRuntime) {
     let named = NamedEntities::of(alloc, &app).expect(&rt, "memory");
     expect_so(&rt, is_found(&named, "client.app"), "an entity");
     expect_so(&rt, !is_found(&named, "client"), "no entity");
+}
+
+#[test]
+fn pairs_print(rt: HostRuntime) {
+    let alloc = rt.alloc();
+    let reader = Reader::of(alloc, Rules::Project).expect(&rt, "memory");
+    let old = entities_of(
+        &rt,
+        alloc,
+        &[("client.a", "allow r pool=data"), ("client.b", CAPS)],
+    );
+    let new = entities_of(&rt, alloc, &[("client.a", CAPS), ("client.b", CAPS)]);
+    let pairs = read_pairs(alloc, &reader, &old, &new).expect(&rt, "memory");
+    expect_so(&rt, pairs.len() == 1, "one pair");
+    let printed = compare_pairs(alloc, pairs.as_slice(), CHECKED).expect(&rt, "memory");
+    let lines = "client.a wider\n  + 1 --pool data --namespace a --object a --write\n";
+    expect_printed(&rt, &printed, lines, true);
 }
 
 /// A name as it is shown, and then a target without tags of the pool data.

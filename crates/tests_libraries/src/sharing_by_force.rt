@@ -8,7 +8,7 @@ use crate::pieces::{
 };
 use compare_core::Registry;
 use share_core::{Shared, Touch, share, sharing};
-use share_text::{Strictness, share_entities, share_texts};
+use share_text::{Detail, Strictness, everybody_entities, holders_of, share_entities, share_texts};
 use std::alloc::Global;
 use std::process::Abort;
 use verdict_core::{Needs, Target, Ticket, grants_allow};
@@ -270,9 +270,52 @@ fn shared_entities_print(rt: HostRuntime) {
         format: Format::Text,
     };
     let read = read_entities(&rt, rt.alloc(), &two);
-    let printed = share_entities(rt.alloc(), read.as_slice(), strictness, None).expect(
+    let holders = holders_of(rt.alloc(), read.as_slice()).expect(&rt, "memory");
+    let holders = holders.as_slice();
+    let whole = Detail::Whole;
+    let printed = share_entities(rt.alloc(), holders, strictness, None, whole).expect(
         &rt, "memory",
     );
     let line = "client.web writes what client.backup reads --pool web --object a\n";
     expect_printed(&rt, &printed, line, true);
+}
+
+/// Four that read and write every object, of whom one does so by two grants, and three that do not.
+const EVERYBODY: &[(&str, &str); 7] = &[
+    ("client.admin", "allow *"),
+    ("client.web", "allow rw pool=web"),
+    ("client.both", "allow r, allow w"),
+    ("client.part", "allow rw namespace=a"),
+    ("osd.0", "allow *"),
+    ("client.reader", "allow r pool=web"),
+    ("osd.1", "profile read-write"),
+];
+
+const EVERYBODY_LINE: &str =
+    "client.admin, client.both, osd.0 and 1 more read and write every object of every pool, their pairs are left out\n";
+
+const OTHERS: &str = "\
+client.web and client.part write --pool web --namespace a --object a
+client.web writes what client.reader reads --pool web --object a
+client.part writes what client.reader reads --pool web --namespace a --object a
+";
+
+#[test]
+fn everybody_prints(rt: HostRuntime) {
+    let entities = entities_of(&rt, rt.alloc(), EVERYBODY);
+    let strictness = Strictness {
+        reads: false,
+        check: true,
+        format: Format::Text,
+    };
+    let read = read_entities(&rt, rt.alloc(), &entities);
+    let holders = holders_of(rt.alloc(), read.as_slice()).expect(&rt, "memory");
+    let holders = holders.as_slice();
+    let line = everybody_entities(rt.alloc(), holders, Format::Text).expect(&rt, "memory");
+    expect_text(&rt, line.as_str(), EVERYBODY_LINE, "everybody");
+    let brief = Detail::Brief;
+    let printed = share_entities(rt.alloc(), holders, strictness, None, brief).expect(
+        &rt, "memory",
+    );
+    expect_printed(&rt, &printed, OTHERS, true);
 }

@@ -3,7 +3,7 @@
 use crate::drawing::pick;
 use crate::pieces::{expect_so, read_entities, ticket};
 use share_core::PoolIndex;
-use share_text::{Strictness, share_entities, share_texts};
+use share_text::{Detail, Strictness, holders_of, share_entities, share_texts};
 use std::alloc::Global;
 use std::process::Abort;
 use verdict_core::Ticket;
@@ -176,7 +176,9 @@ fn is_each_pair_told<R: Abort>(rt: &R, alloc: Global, entities: &[Entity]) -> bo
         format: Format::Text,
     };
     let read = read_entities(rt, alloc, entities);
-    let told = share_entities(alloc, read.as_slice(), strictness, None).expect(rt, "memory");
+    let holders = holders_of(alloc, read.as_slice()).expect(rt, "memory");
+    let holders = holders.as_slice();
+    let told = share_entities(alloc, holders, strictness, None, Detail::Whole).expect(rt, "memory");
     let lines = lines_of_all(rt, alloc, entities);
     told.text.as_str() == lines.as_str() && !lines.is_empty()
 }

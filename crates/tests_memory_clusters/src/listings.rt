@@ -4,8 +4,8 @@ ghost use Rattle.std.specs.Prelude.{All};
 ghost use Rattle.cluster.specs.Asks.{IsPassOf};
 
 use crate::begun::{USER, begun, group, take_pass};
-use crate::steps::asking;
-use cluster::{Asked, Cluster, ClusterFault, Pass};
+use crate::steps::new_request;
+use cluster::{Cluster, ClusterFault, Pass, Submitted};
 use common_types::{Name, OutOfMemory};
 use entry_core::Id;
 use std::alloc::Global;
@@ -41,10 +41,10 @@ fn is_opened<R: Wait>(rt: &R, alloc: Global, cluster: &Cluster, pass: &mut Pass)
 }
 
 // The pieces 1 to 4 of session 1, one for each group.
-fn pieces(alloc: Global) -> Result<Vec<Asked>, OutOfMemory> {
+fn pieces(alloc: Global) -> Result<Vec<Submitted>, OutOfMemory> {
     let mut pieces = Vec::with_capacity(alloc, 4)?;
     for number in 0..GROUPS {
-        pieces.push(Asked {
+        pieces.push(Submitted {
             id: Id::new(1, number + 1),
             group: group(alloc, number)?,
         })?;
@@ -52,7 +52,7 @@ fn pieces(alloc: Global) -> Result<Vec<Asked>, OutOfMemory> {
     Ok(pieces)
 }
 
-fn pieces_again(alloc: Global) -> Result<Vec<Asked>, OutOfMemory> {
+fn pieces_again(alloc: Global) -> Result<Vec<Submitted>, OutOfMemory> {
     match pieces(alloc) {
         Ok(pieces) => Ok(pieces),
         Err(_) => pieces(alloc),
@@ -64,16 +64,21 @@ fn list<R: Wait>(
     alloc: Global,
     cluster: &Cluster,
     pass: &mut Pass,
-) -> Result<Vec<Asked>, ClusterFault>
+) -> Result<Vec<Submitted>, ClusterFault>
     requires { IsPassOf cluster.now pass.old }
     ensures { IsPassOf cluster.now pass.new }
 {
-    let asking = asking(alloc, 1)?;
-    cluster.list(rt, pass, asking)
+    let new_request = new_request(alloc, 1)?;
+    cluster.list(rt, pass, new_request)
 }
 
 // How many of the pieces stand submitted, where those are the first ones. None of them is answered yet, so this takes no memory.
-fn standing<R: Wait>(rt: &R, cluster: &Cluster, pass: &mut Pass, pieces: &[Asked]) -> Option<u32>
+fn standing<R: Wait>(
+    rt: &R,
+    cluster: &Cluster,
+    pass: &mut Pass,
+    pieces: &[Submitted],
+) -> Option<u32>
     requires { IsPassOf cluster.now pass.old }
     ensures { IsPassOf cluster.now pass.new }
 {
@@ -89,9 +94,9 @@ fn standing<R: Wait>(rt: &R, cluster: &Cluster, pass: &mut Pass, pieces: &[Asked
 }
 
 // Whether these are four pieces of session 1, one for each group, numbered from `behind` + 1 on.
-fn are_pieces(asked: &[Asked], behind: u32) -> bool {
+fn are_pieces(submitted: &[Submitted], behind: u32) -> bool {
     let mut number: u32 = 0;
-    for piece in asked {
+    for piece in submitted {
         let id = Id::new(1, behind.saturating_add(number).saturating_add(1));
         if piece.id != id || piece.group.number != number {
             return false;
@@ -108,19 +113,19 @@ fn listed<R: Wait>(
     alloc: Global,
     cluster: &Cluster,
     pass: &mut Pass,
-    pieces: &[Asked],
+    pieces: &[Submitted],
 ) -> Option<u32>
     requires { IsPassOf cluster.now pass.old }
     ensures { IsPassOf cluster.now pass.new }
 {
     match list(rt, alloc, cluster, pass) {
-        Ok(asked) if are_pieces(asked.as_slice(), 0) => Some(0),
+        Ok(submitted) if are_pieces(submitted.as_slice(), 0) => Some(0),
         Err(ClusterFault::OutOfMemory) => {
             let Some(count) = standing(rt, cluster, pass, pieces) else {
                 return None;
             };
             match list(rt, alloc, cluster, pass) {
-                Ok(asked) if are_pieces(asked.as_slice(), count) => Some(count),
+                Ok(submitted) if are_pieces(submitted.as_slice(), count) => Some(count),
                 _ => None,
             }
         }
@@ -134,7 +139,7 @@ fn opened_and_listed<R: Wait>(
     alloc: Global,
     cluster: &Cluster,
     passes: Vec<Pass>,
-    pieces: &[Asked],
+    pieces: &[Submitted],
 ) -> Option<u32>
     requires { All (IsPassOf cluster.now) passes.items }
 {

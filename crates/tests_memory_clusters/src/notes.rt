@@ -135,7 +135,7 @@ fn append_and_read<R: Wait>(
     let Some(note) = note_again(rt, alloc, cluster, first, seats) else {
         return false;
     };
-    second.hear(cluster, note);
+    second.read_note(cluster, note);
     are_made(rt, alloc, cluster, second, seats, READ)
 }
 

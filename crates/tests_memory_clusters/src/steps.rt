@@ -4,7 +4,7 @@ ghost use Rattle.cluster.specs.Asks.{IsPassOf};
 
 use crate::begun::{POOL, USER, group};
 use Step::{Answer, Append, Open, Read, Work};
-use cluster::{Asked, Asking, Cluster, ClusterFault, Pass};
+use cluster::{Cluster, ClusterFault, NewRequest, Pass, Submitted};
 use common_types::Name;
 use entry_core::{Id, Reply};
 use object_core::{Bytes, Op};
@@ -31,7 +31,7 @@ pub(crate) enum Step {
 #[derive(Drop)]
 pub(crate) enum Told {
     Session(u32),
-    Asked(Id),
+    Submitted(Id),
     Worked,
     Reply(Option<Reply>),
 }
@@ -73,8 +73,8 @@ pub(crate) fn times(step: Step) -> u32 {
 }
 
 /// Who asks, in the default namespace of the pool.
-pub(crate) fn asking(alloc: Global, session: u32) -> Result<Asking, ClusterFault> {
-    Ok(Asking {
+pub(crate) fn new_request(alloc: Global, session: u32) -> Result<NewRequest, ClusterFault> {
+    Ok(NewRequest {
         session,
         tick: 0,
         pool: Name::new(alloc, POOL)?,
@@ -103,12 +103,12 @@ fn submit<R: Wait>(
     requires { IsPassOf cluster.now pass.old }
     ensures { IsPassOf cluster.now pass.new }
 {
-    let asking = asking(alloc, session)?;
+    let new_request = new_request(alloc, session)?;
     let object = Name::new(alloc, "x")?;
     let mut ops = Ops::new(alloc);
     ops.push(op(alloc, step)?)?;
-    let asked = cluster.submit(rt, pass, asking, object, ops)?;
-    Ok(Told::Asked(asked.id))
+    let submitted = cluster.submit(rt, pass, new_request, object, ops)?;
+    Ok(Told::Submitted(submitted.id))
 }
 
 fn answer<R: Wait>(
@@ -121,11 +121,11 @@ fn answer<R: Wait>(
     requires { IsPassOf cluster.now pass.old }
     ensures { IsPassOf cluster.now pass.new }
 {
-    let asked = Asked {
+    let submitted = Submitted {
         id: Id::new(session, 1),
         group: group(alloc, 0)?,
     };
-    Ok(Told::Reply(cluster.answer(rt, pass, &asked)?))
+    Ok(Told::Reply(cluster.answer(rt, pass, &submitted)?))
 }
 
 /// Makes a call.
@@ -174,7 +174,7 @@ pub(crate) fn is_output(reply: Option<&Reply>, text: &str) -> bool {
 pub(crate) fn is_expected(told: &Result<Told, ClusterFault>, expected: Expected) -> bool {
     match (told, expected) {
         (Ok(Told::Session(number)), Expected::Session(wanted)) => *number == wanted,
-        (Ok(Told::Asked(id)), Expected::First(session)) => *id == Id::new(session, 1),
+        (Ok(Told::Submitted(id)), Expected::First(session)) => *id == Id::new(session, 1),
         (Ok(Told::Worked), Expected::Worked) => true,
         (Ok(Told::Reply(reply)), Expected::Output(text)) => is_output(reply.as_ref(), text),
         _ => false,

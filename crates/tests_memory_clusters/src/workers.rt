@@ -40,7 +40,7 @@ struct Count {
 }
 
 impl Gate for Count {
-    fn enter(&self, _worker: u32, _round: u32) -> bool {
+    fn enter(&self, _worker: usize, _round: u32) -> bool {
         self.entries.fetch_add(1, Ordering::SeqCst);
         true
     }
@@ -101,8 +101,8 @@ fn ask_and_run<R: Threads + Wait + Sync>(
     let Some(mut pass) = take_pass(cluster, &mut passes) else {
         return None;
     };
-    let asked = are_made(rt, alloc, cluster, &mut pass, ASK);
-    if !put_pass(cluster, &mut passes, pass) || !asked {
+    let submitted = are_made(rt, alloc, cluster, &mut pass, ASK);
+    if !put_pass(cluster, &mut passes, pass) || !submitted {
         return None;
     }
     let (mut passes, ended) = run_again(rt, alloc, cluster, passes);

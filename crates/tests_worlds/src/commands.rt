@@ -28,7 +28,7 @@ const ROWS: &[Row; 16] = &[
         &[
             "osdgate", "verdict", "--caps", "allow r", "--pool", "data", "--object", "x", "--write",
         ],
-        "deny\n1 write\n",
+        "deny\n1 write   allow r\n",
         "",
         0,
     ),
@@ -95,7 +95,7 @@ const ROWS: &[Row; 16] = &[
             "--requests",
             "requests",
         ],
-        "entity 1\nclient.app allow\n",
+        "entity            1\nclient.app    allow\n",
         BY_CEPH,
         0,
     ),

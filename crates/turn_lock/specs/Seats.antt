@@ -49,9 +49,13 @@ module _ {E : Type 0} where
 abbrev pub IsSeatOf : {S E : Type 0} → Locked S → Seated E → Type 0
 IsSeatOf l s = s.lock ≡ l.table
 
--- a seat of the lock which has seen nothing and made nothing, and to which none was joined
+-- the seat may draw every number that was given to it
+abbrev pub HasDrawnNone : {E : Type 0} → Seated E → Type 0
+HasDrawnNone s = s.draws ≡ s.share
+
+-- a seat of the lock which has seen nothing, made nothing and drawn no number, and to which none was joined
 abbrev pub IsFresh : {E : Type 0} → TableId → Seated E → Type 0
-IsFresh table s = (s.lock ≡ table) × (s.seen ≡ []) × (s.mine ≡ []) × (s.joined ≡ [])
+IsFresh table s = (s.lock ≡ table) × (s.seen ≡ []) × (s.mine ≡ []) × (s.joined ≡ []) × HasDrawnNone s
 
 abbrev pub IsNewSeatOf : {S E : Type 0} → Locked S → Seated E → Type 0
 IsNewSeatOf l s = IsFresh l.table s
@@ -63,10 +67,6 @@ module _ {E : Type 0} where
   -- no number was given away or taken in
   abbrev pub HasSameShare : Seated E → Seated E → Type 0
   HasSameShare old new = (new.share ≡ old.share) × (new.joined ≡ old.joined)
-
-  -- the seat may draw every number that was given to it
-  abbrev pub HasDrawnNone : Seated E → Type 0
-  HasDrawnNone s = s.draws ≡ s.share
 
   -- A new seat gets `part` of the numbers that a seat may still draw, and has drawn none. That seat keeps all others
   pub record GivesPart (part : ℕ) (old new given : Seated E) : Type 0 where

@@ -1,6 +1,6 @@
 //! The lock and its seats.
 ghost use Rattle.std.specs.Prelude.{◌≡◌, ◌+◌, ◌/◌, ◌<◌, [], All, IfOk, IfErr, min, vec_len};
-ghost use Rattle.turn_lock.specs.Seats.{IsSeatOf, IsNewSeatOf, IsSameSeat, HasSameShare, HasDrawnNone, HasItsOwn, AreShared, GivesPart, joined_after};
+ghost use Rattle.turn_lock.specs.Seats.{IsSeatOf, IsNewSeatOf, IsSameSeat, HasSameShare, HasItsOwn, AreShared, GivesPart, joined_after};
 ghost use Rattle.turn_lock.specs.Turns.{StartsWith, last_word, longer};
 ghost use Rattle.turn_lock.specs.Turned.{Turned, Closes};
 
@@ -83,7 +83,6 @@ impl<T: Recorded> TurnLock<T> {
         ensures first { IfOk result (λ r. r.0.first ≡ T.state value) }
         ensures seats { IfOk result (λ r. (vec_len r.1 ≡ seats) × All (IsNewSeatOf r.0) r.1.items) }
         ensures shares { IfOk result (λ r. AreShared seats r.1.items) }
-        ensures draws { IfOk result (λ r. All HasDrawnNone r.1.items) }
         ensures err { IfErr result (λ e. e.0 ≡ value) }
     {
         let Ok(mut all) = Vec::with_capacity(alloc, seats) else {

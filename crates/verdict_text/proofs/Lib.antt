@@ -4,3 +4,4 @@ pub mod Pieces
 pub mod EachTold
 pub mod Results
 pub mod CephGrants
+pub mod KeptSpelling

@@ -1,5 +1,5 @@
 -- No document of an answer or an explanation has a float.
-use Rattle.std.proofs.Common.{◌≡◌, ℕ, List, [], ◌∷◌, ◌||◌, false, Option, None, Some, Result, Ok, Err, codes, map, refl, ap, ◌∙◌}
+use Rattle.std.proofs.Common.{◌≡◌, ℕ, List, [], ◌∷◌, ◌++◌, ◌||◌, false, Option, None, Some, Result, Ok, Err, codes, flat_map, map, refl, ap, ◌∙◌}
 use Rattle.serde_json.specs.Data.{Data, object, string, member, no_members}
 use Rattle.serde_json.specs.View.{items_of}
 use Rattle.serde_json.specs.Written.{has_float, items_have_float}
@@ -7,8 +7,12 @@ use Rattle.cap_grants.specs.declared.grant.Grant.{Grant}
 use Rattle.ceph_text.specs.Profiles.{ceph_flat, unknown_from}
 use Rattle.ceph_text.specs.declared.grant.CephGrant.{CephGrant}
 use Rattle.grant_core.specs.Flat.{Flat}
+use Rattle.request_types.specs.declared.request.Condition.{Condition}
+use Rattle.rights_core.specs.Rights.{NetworkGrant}
 use Rattle.verdict_text.specs.CephExplained.{ceph_document, entry_document, fault_document, number_document}
 use Rattle.verdict_text.specs.Documents.{answer_document, byte_member, verdict_members, condition_document, entity_document, explained_document, grant_document, row_document}
+use Rattle.verdict_text.specs.Reasons.{Reason, allowed_document, allowed_items, allowing_items, denied_document, denied_items, failed_items}
+use Rattle.verdict_text.specs.declared.reading.Rules.{Rules}
 use Rattle.verdict_text.specs.declared.verdict.Verdict.{Verdict}
 use Rattle.verdict_text.specs.declared.verdict.Verdict.TheVariants.{Allowed, Denied, Depends}
 use Rattle.verdict_text.specs.declared.verdict.VerdictFault.{VerdictFault}
@@ -52,3 +56,23 @@ of_byte None fault = refl
 
 pub of_fault : (fault : TextFault) → has_float (fault_document fault) ≡ false
 of_fault fault = of_byte (fault_byte fault) (fault_text fault)
+
+-- what each of some things adds
+pub all : {X : Type 0} (items : X → List Data) → ((x : X) (more : List Data) → items_have_float (items_of (items x ++ more)) ≡ items_have_float (items_of more)) → (xs : List X)
+    → items_have_float (items_of (flat_map items xs)) ≡ false
+all items none [] = refl
+all items none (x ∷ xs) = none x (flat_map items xs) ∙ all items none xs
+
+failed : (rules : Rules) (g : NetworkGrant) (condition : Option Condition) (more : List Data) → items_have_float (items_of (failed_items rules g condition ++ more)) ≡ items_have_float (items_of more)
+failed rules g None more = refl
+failed rules g (Some condition) more = refl
+
+allowing : (rules : Rules) (g : NetworkGrant) (condition : Option Condition) (more : List Data) → items_have_float (items_of (allowing_items rules g condition ++ more)) ≡ items_have_float (items_of more)
+allowing rules g None more = refl
+allowing rules g (Some condition) more = refl
+
+pub of_denied : (rules : Rules) (reasons : List Reason) → has_float (denied_document rules reasons) ≡ false
+of_denied rules reasons = ap (λ b. b || false) (all (denied_items rules) (λ r. failed rules r.grant r.condition) reasons)
+
+pub of_allowed : (rules : Rules) (reasons : List Reason) → has_float (allowed_document rules reasons) ≡ false
+of_allowed rules reasons = ap (λ b. b || false) (all (allowed_items rules) (λ r. allowing rules r.grant r.condition) reasons)

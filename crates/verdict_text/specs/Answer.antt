@@ -11,7 +11,6 @@ use Rattle.rights_core.specs.Rights.{Rights}
 use Rattle.object_core.specs.declared.needs.NeedsFault.{NeedsFault}
 use Rattle.verdict_text.specs.Asked.{Asked, asked_needs, calls_fault}
 use Rattle.verdict_text.specs.Reading.{IsReading, Reading}
-use Rattle.verdict_text.specs.Text.{answer_text}
 use Rattle.verdict_text.specs.declared.reading.Rules.{Rules}
 use Rattle.verdict_text.specs.declared.verdict.Verdict.{Verdict}
 use Rattle.verdict_text.specs.declared.verdict.Verdict.TheVariants.{Allowed, Denied, Depends}
@@ -47,7 +46,3 @@ IsAnswerOf (Ok rights) asked answer = IsNeeded (calls_fault asked) rights asked 
 -- the answer of a text whose rights end at this tick
 abbrev pub IsAnswer : Rules → List ℕ → Option ℕ → Asked → Result Verdict VerdictFault → Type 0
 IsAnswer rules caps until asked answer = (read : Reading) × IsReading rules caps until read × IsAnswerOf read asked answer
-
--- the text is that of the answer
-abbrev pub IsVerdictText : Rules → List ℕ → Option ℕ → Asked → List ℕ → Type 0
-IsVerdictText rules caps until asked text = (answer : Result Verdict VerdictFault) × IsAnswer rules caps until asked answer × (text ≡ answer_text answer)

@@ -7,6 +7,9 @@ pub mod Named
 pub mod Documents
 pub mod FirstPlaces
 pub mod Reading
+pub mod Spelled
 pub mod EachTold
 pub mod CephExplained
+pub mod Explained
+pub mod Reasons
 pub mod RulesMember

@@ -3,7 +3,7 @@
 ghost use Rattle.std.specs.Prelude.{◌≡◌, ◌++◌, ◌&&◌, IfOk, IsTrue, OnOk, nat_le, replicate, string_bytes, take, ◌<◌};
 ghost use Rattle.verdict_text.specs.Caret.{pointed_text, shown, shown_byte};
 
-use cap_text::{CapFault, FaultKind, parse};
+use crate::reading::ReadText;
 use common_types::{OutOfMemory, push_escape};
 use std::alloc::Global;
 use std::io::Write;
@@ -78,18 +78,16 @@ fn cut(bytes: &[u8], position: usize) -> (&[u8], &[u8])
     bytes.split_at(position.min(bytes.len()))
 }
 
-/// Shows on `err` where the first fault of a capability text is: the text, and a caret under the fault's byte.
-/// Nothing is shown for a text without a fault, or when out of memory. A failed write is not reported.
-///
-/// The text is read again, so that no answer has to carry its fault.
-pub fn point_at_fault<W: Write>(alloc: Global, caps: &str, err: &mut W) {
-    let Err(CapFault { kind, at }) = parse(alloc, caps) else {
+/// Shows on `err` where the fault of a capability text is: the text, and a caret under the fault's byte. Nothing is shown for a
+/// text without a fault, for a fault that has no byte, or when out of memory. A failed write is not reported.
+pub fn point_at_fault<W: Write>(alloc: Global, text: &ReadText, err: &mut W) {
+    let Err(fault) = text.read() else {
         return;
     };
-    if kind == FaultKind::OutOfMemory {
+    let Some(at) = fault.byte() else {
         return;
-    }
-    if let Ok(lines) = pointed_text(alloc, caps, at) {
+    };
+    if let Ok(lines) = pointed_text(alloc, text.text(), at) {
         let _ = err.write_all(lines.as_slice());
     }
 }

@@ -1,19 +1,22 @@
 //! What a capability text expands to by Ceph's rules.
 
-ghost use Rattle.std.specs.Prelude.{◌≡◌, ◌++◌, true, IfOk, OnOk, string_bytes, flat_map};
+ghost use Rattle.std.specs.Prelude.{◌≡◌, ◌++◌, true, None, IfOk, OnOk, string_bytes, flat_map};
 ghost use Rattle.ceph_text.specs.Profiles.{ceph_flat};
 ghost use Rattle.verdict_text.specs.CephExplained as spec;
 ghost use Rattle.verdict_text.specs.CephExplained.{IsCephExplainText, IsListExplained, entry_line, entry_text, network_clause, unknown_line};
+ghost use Rattle.verdict_text.specs.Reading.{IsCephListReading, IsCephReading, IsCephTextReading};
 
 use crate::caret::push_shown_text;
 use crate::document_ceph::{ceph_json, fault_json};
 use crate::format::Format;
 use crate::printed::Printed;
-use crate::reading::TextFault;
+use crate::reading::{Reading, TextFault, rights_of_entries};
 use ceph_text::{CephEntry, CephFault, CephList, expand_ceph, push_ceph_grant, unknown_profiles};
 use common_types::{Name, OutOfMemory};
+use rights_core::Rights;
 use std::alloc::{AllocError, Global};
 use std::fmt::Write;
+use verdict_core::Ticket;
 
 /// Adds the network clause of a grant, if it has one.
 fn push_network(text: &mut String, network: &Option<Name>) -> Result<(), OutOfMemory>
@@ -122,34 +125,63 @@ fn refused(alloc: Global, fault: TextFault, format: Format) -> Result<Printed, O
     })
 }
 
-/// What is printed of a list that Ceph reads: its expansion, or that it has too many grants.
-fn explained(alloc: Global, list: &CephList, format: Format) -> Result<Printed, OutOfMemory>
-    ensures { IfOk result (λ printed. IsListExplained format list.now (string_bytes printed.text) printed.fails) }
+/// What is printed of a list that Ceph reads: its expansion, or that it has too many grants. With it the rights of the list, or
+/// why it has none.
+fn explained(
+    alloc: Global,
+    list: &CephList,
+    format: Format,
+) -> Result<(Printed, Reading), OutOfMemory>
+    ensures text { IfOk result (λ found. IsListExplained format list.now (string_bytes found.0.text) found.0.fails) }
+    ensures read { IfOk result (λ found. IsCephListReading list.now None found.1) }
 {
     match expand_ceph(alloc, list) {
-        Ok(entries) => Ok(Printed {
-            text: ceph_by(alloc, list, entries.as_slice(), format)?,
-            fails: false,
-        }),
+        Ok(entries) => {
+            let text = ceph_by(alloc, list, entries.as_slice(), format)?;
+            let printed = Printed { text, fails: false };
+            Ok((printed, Ok(rights_of_entries(alloc, entries, None)?)))
+        }
         Err(CephFault::OutOfMemory) => Err(AllocError),
-        Err(_) => refused(alloc, TextFault::Unread(CephFault::TooLarge), format),
+        Err(_) => {
+            let fault = TextFault::Unread(CephFault::TooLarge);
+            Ok((refused(alloc, fault, format)?, Err(fault)))
+        }
     }
 }
 
-/// What the program prints to explain a capability text by Ceph's rules. Every line ends with a line feed.
-///
-/// - A line `PATH GRANT` for each grant that the text expands to, with the network to which the grant is limited.
-/// - A line for each grant of the text that uses a profile unknown to Ceph, which grants nothing.
-/// - Or `refused FAULT` where Ceph refuses the text. Then the command fails.
-///
-/// Bytes outside 32 to 126 are shown as `\x` and two hexadecimal digits. As a document it has the members `grants` and
-/// `unknown_profiles`, or `fault`, and `byte` where one is at fault.
-pub fn explain_ceph(alloc: Global, caps: &str, format: Format) -> Result<Printed, OutOfMemory>
-    ensures { IfOk result (λ printed. IsCephExplainText format caps.now (string_bytes printed.text) printed.fails) }
+/// What is printed of a text by Ceph's rules, and the rights that Ceph reads, or why it reads none.
+fn explained_text(
+    alloc: Global,
+    caps: &str,
+    format: Format,
+) -> Result<(Printed, Reading), OutOfMemory>
+    ensures text { IfOk result (λ found. IsCephExplainText format caps.now (string_bytes found.0.text) found.0.fails) }
+    ensures read { IfOk result (λ found. IsCephTextReading caps.now None found.1) }
 {
     match ceph_text::read(alloc, caps) {
         Ok(list) => explained(alloc, &list, format),
         Err(CephFault::OutOfMemory) => Err(AllocError),
-        Err(fault) => refused(alloc, TextFault::Unread(fault), format),
+        Err(fault) => {
+            let fault = TextFault::Unread(fault);
+            Ok((refused(alloc, fault, format)?, Err(fault)))
+        }
     }
+}
+
+/// What is printed of a text by Ceph's rules, and its rights or its fault. Ceph refuses the empty text, but an entity without a
+/// text has no fault.
+pub(crate) fn explained_ceph(
+    alloc: Global,
+    caps: &str,
+    format: Format,
+) -> Result<(Printed, Reading), OutOfMemory>
+    ensures text { IfOk result (λ found. IsCephExplainText format caps.now (string_bytes found.0.text) found.0.fails) }
+    ensures read { IfOk result (λ found. IsCephReading caps.now None found.1) }
+{
+    let (printed, read) = explained_text(alloc, caps, format)?;
+    if caps.is_empty() {
+        let nothing = Rights::from_ticket(alloc, Ticket::empty(alloc, None));
+        return Ok((printed, Ok(nothing)));
+    }
+    Ok((printed, read))
 }

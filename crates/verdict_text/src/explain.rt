@@ -1,18 +1,24 @@
 //! What a capability text expands to.
 
-ghost use Rattle.std.specs.Prelude.{◌≡◌, ◌++◌, true, is_some, IfOk, OnOk, string_bytes, flat_map};
+ghost use Rattle.std.specs.Prelude.{◌≡◌, ◌++◌, true, None, is_some, IfOk, OnOk, string_bytes, flat_map};
 ghost use Rattle.grant_core.specs.BuiltIn.{built_in};
 ghost use Rattle.grant_core.specs.Refusal.{expand_refusal};
+ghost use Rattle.verdict_text.specs.CephExplained.{IsCephExplainText};
 ghost use Rattle.verdict_text.specs.Explain as spec;
 ghost use Rattle.verdict_text.specs.Explain.{IsExplainText, explained_text, grant_line, list_by};
+ghost use Rattle.verdict_text.specs.Explained.{IsExplainedBy};
+ghost use Rattle.verdict_text.specs.Reading.{IsListReading, IsProjectReading, IsReading};
 
+use crate::ceph_lines::explained_ceph;
 use crate::document::{expansion_json, explained_json, spelling_json};
 use crate::expanded::ticket_of;
 use crate::format::Format;
 use crate::printed::Printed;
+use crate::reading::{ReadText, Reader, Reading, Rules, TextFault};
 use cap_text::{AllowGrant, CapFault, CapList, FaultKind, parse, print, push_allow};
 use common_types::OutOfMemory;
 use grant_core::{ExpandFault, Path, ProfileTable};
+use rights_core::Rights;
 use std::alloc::{AllocError, Global};
 use std::fmt::{Display, Write};
 
@@ -85,37 +91,32 @@ fn spelling_by(alloc: Global, fault: CapFault, format: Format) -> Result<String,
     }
 }
 
-/// What is printed of a list: its expansion, or why that is refused.
-fn expanded_list(
+/// What is printed of a list: its expansion with the built-in profiles, or why that is refused. With it the rights of the list,
+/// or why it has none.
+fn explained_list(
     alloc: Global,
     profiles: &ProfileTable,
     list: &CapList,
     format: Format,
-) -> Result<Printed, OutOfMemory>
+) -> Result<(Printed, Reading), OutOfMemory>
     requires { profiles.now ≡ built_in }
-    ensures text { IfOk result (λ printed. string_bytes printed.text ≡ list_by format (expand_refusal built_in list.now) list.now) }
-    ensures fails { IfOk result (λ printed. printed.fails ≡ is_some (expand_refusal built_in list.now)) }
+    ensures text { IfOk result (λ found. string_bytes found.0.text ≡ list_by format (expand_refusal built_in list.now) list.now) }
+    ensures fails { IfOk result (λ found. found.0.fails ≡ is_some (expand_refusal built_in list.now)) }
+    ensures read { IfOk result (λ found. IsListReading list.now None found.1) }
 {
     match ticket_of(alloc, profiles, list, None) {
-        Ok(ticket) => Ok(Printed {
-            text: explained_by(alloc, list, ticket.grants(), format)?,
-            fails: false,
-        }),
+        Ok(ticket) => {
+            let text = explained_by(alloc, list, ticket.grants(), format)?;
+            let printed = Printed { text, fails: false };
+            Ok((printed, Ok(Rights::from_ticket(alloc, ticket))))
+        }
         Err(ExpandFault::OutOfMemory) => Err(AllocError),
-        Err(fault) => Ok(Printed {
-            text: expansion_by(alloc, fault, format)?,
-            fails: true,
-        }),
+        Err(fault) => {
+            let text = expansion_by(alloc, fault, format)?;
+            let printed = Printed { text, fails: true };
+            Ok((printed, Err(TextFault::Expansion(fault))))
+        }
     }
-}
-
-/// What is printed of a list: its expansion with the built-in profiles, or why that is refused.
-fn explained_list(alloc: Global, list: &CapList, format: Format) -> Result<Printed, OutOfMemory>
-    ensures text { IfOk result (λ printed. string_bytes printed.text ≡ list_by format (expand_refusal built_in list.now) list.now) }
-    ensures fails { IfOk result (λ printed. printed.fails ≡ is_some (expand_refusal built_in list.now)) }
-{
-    let profiles = ProfileTable::builtin(alloc)?;
-    expanded_list(alloc, &profiles, list, format)
 }
 
 /// What is printed of a text that spells no list.
@@ -128,7 +129,76 @@ fn refused_text_of(alloc: Global, fault: CapFault, format: Format) -> Result<Pri
     })
 }
 
-/// What the program prints to explain a capability text. Every line ends with a line feed.
+/// What is printed of a text by this project's rules, and its rights or its first fault.
+fn explain_project(
+    alloc: Global,
+    profiles: &ProfileTable,
+    caps: &str,
+    format: Format,
+) -> Result<(Printed, Reading), OutOfMemory>
+    requires { profiles.now ≡ built_in }
+    ensures text { IfOk result (λ found. IsExplainText format caps.now (string_bytes found.0.text) found.0.fails) }
+    ensures read { IfOk result (λ found. IsProjectReading caps.now None found.1) }
+{
+    match parse(alloc, caps) {
+        Ok(list) => explained_list(alloc, profiles, &list, format),
+        Err(
+            CapFault {
+                kind: FaultKind::OutOfMemory,
+                ..
+            },
+        ) => Err(AllocError),
+        Err(fault) => {
+            let printed = refused_text_of(alloc, fault, format)?;
+            Ok((printed, Err(TextFault::Spelling(fault))))
+        }
+    }
+}
+
+/// What is printed of a text by the rules of a reader, and its rights or its first fault.
+fn explain_by(
+    alloc: Global,
+    reader: &Reader,
+    caps: &str,
+    format: Format,
+) -> Result<(Printed, Reading), OutOfMemory>
+    ensures text { IfOk result (λ found. IsExplainedBy reader.now format caps.now (string_bytes found.0.text) found.0.fails) }
+    ensures read { IfOk result (λ found. IsReading reader.now caps.now None found.1) }
+{
+    match reader.rules() {
+        Rules::Project => explain_project(alloc, reader.profiles(), caps, format),
+        Rules::Ceph => explained_ceph(alloc, caps, format),
+    }
+}
+
+/// What is printed to explain a capability text, and the text as it was read.
+#[derive(Debug, Drop)]
+pub struct Explained {
+    pub printed: Printed,
+    pub text: ReadText,
+}
+
+/// What the program prints to explain a capability text, as [`explain_text`] and [`explain_ceph`] say, and the text. It is read
+/// once, by the rules of the reader. The only error is out of memory, which drops the text.
+pub fn read_explained(
+    alloc: Global,
+    reader: &Reader,
+    caps: String,
+    format: Format,
+) -> Result<Explained, OutOfMemory>
+    ensures printed { IfOk result (λ explained. IsExplainedBy reader.now format (string_bytes caps) (string_bytes explained.printed.text) explained.printed.fails) }
+    ensures rules { IfOk result (λ explained. explained.text.rules ≡ reader.now) }
+    ensures text { IfOk result (λ explained. explained.text.text ≡ string_bytes caps) }
+    ensures until { IfOk result (λ explained. explained.text.until ≡ None) }
+{
+    let (printed, read) = explain_by(alloc, reader, caps.as_str(), format)?;
+    Ok(Explained {
+        printed,
+        text: ReadText::from_reading(reader.rules(), caps, read),
+    })
+}
+
+/// What the program prints to explain a capability text by this project's rules. Every line ends with a line feed.
 ///
 /// - The canonical form of the text on a line, which is empty where the text spells no grants.
 /// - A line `PATH GRANT` for each grant that the text expands to with the built-in profiles.
@@ -138,14 +208,22 @@ fn refused_text_of(alloc: Global, fault: CapFault, format: Format) -> Result<Pri
 pub fn explain_text(alloc: Global, caps: &str, format: Format) -> Result<Printed, OutOfMemory>
     ensures { IfOk result (λ printed. IsExplainText format caps.now (string_bytes printed.text) printed.fails) }
 {
-    match parse(alloc, caps) {
-        Ok(list) => explained_list(alloc, &list, format),
-        Err(
-            CapFault {
-                kind: FaultKind::OutOfMemory,
-                ..
-            },
-        ) => Err(AllocError),
-        Err(fault) => refused_text_of(alloc, fault, format),
-    }
+    let profiles = ProfileTable::builtin(alloc)?;
+    let (printed, _) = explain_project(alloc, &profiles, caps, format)?;
+    Ok(printed)
+}
+
+/// What the program prints to explain a capability text by Ceph's rules. Every line ends with a line feed.
+///
+/// - A line `PATH GRANT` for each grant that the text expands to, with the network to which the grant is limited.
+/// - A line for each grant of the text that uses a profile unknown to Ceph, which grants nothing.
+/// - Or `refused FAULT` where Ceph refuses the text. Then the command fails.
+///
+/// Bytes outside 32 to 126 are shown as `\x` and two hexadecimal digits. As a document it has the members `grants` and
+/// `unknown_profiles`, or `fault`, and `byte` where one is at fault.
+pub fn explain_ceph(alloc: Global, caps: &str, format: Format) -> Result<Printed, OutOfMemory>
+    ensures { IfOk result (λ printed. IsCephExplainText format caps.now (string_bytes printed.text) printed.fails) }
+{
+    let (printed, _) = explained_ceph(alloc, caps, format)?;
+    Ok(printed)
 }

@@ -6,14 +6,13 @@
 //!
 //! # What contracts see
 //!
-//! An `Answer` is a `Verdict` or a `VerdictFault`, and stays a value until it is written: `answer` makes it, `text_of` gives its
-//! bytes. What any other command prints is a `Printed`: a text, and whether the command fails.
+//! An `Answer` is a `Verdict` or a `VerdictFault`, and stays a value until it is written: `answer` makes it, `verdict_by` gives
+//! its bytes, with the grants of the rights. What any other command prints is a `Printed`: a text, and whether the command fails.
 //!
 //! # Costs
 //!
 //! The cost of what is printed of entities is linear in their number. Names are found by their hash (`NamedEntities`),
-//! and the built-in profiles are made once for all texts. `pointed_text` reads a refused text a second time, so that no
-//! answer has to carry a fault.
+//! and the built-in profiles are made once for all texts. Each text is read once by each set of rules.
 //!
 //! # Documents
 //!
@@ -39,23 +38,25 @@ mod format;
 mod named;
 mod printed;
 mod reading;
+mod reasons;
+mod reasons_json;
 mod rules_member;
 mod verdict;
 
 pub use asked::{Asked, needs_asked};
 pub use caret::{point_at_fault, push_shown_text};
-pub use ceph_lines::explain_ceph;
 pub use document::{
     calls_json, entities_by, entity_piece, json_line, list_by, piece_of, row_piece,
 };
 pub use entity::{Entity, ReadEntity};
-pub use explain::explain_text;
+pub use explain::{Explained, explain_ceph, explain_text, read_explained};
 pub use format::Format;
 pub use named::NamedEntities;
 pub use printed::Printed;
 pub use reading::{
-    CephRights, ReadText, Reader, Reading, Rules, TextFault, first_word, push_fault_number,
-    read_ceph_rights,
+    CephRights, ReadText, Reader, Reading, Rules, Spelled, TextFault, first_word,
+    push_fault_number, read_ceph_rights,
 };
+pub use reasons::{Printing, verdict_by};
 pub use rules_member::{rules_word, with_rules};
 pub use verdict::{Answer, Verdict, VerdictFault, answer, answer_of, text_of, verdict_text};

@@ -1,9 +1,10 @@
 //! Capability texts that were read, each once.
 
-ghost use Rattle.std.specs.Prelude.{◌≡◌, ◌≤◌, ◌++◌, length, IfOk, OnOk, string_bytes};
+ghost use Rattle.std.specs.Prelude.{◌≡◌, ◌≤◌, ◌++◌, None, length, IfOk, OnOk, string_bytes};
 ghost use Rattle.grant_core.specs.BuiltIn.{built_in};
 ghost use Rattle.verdict_text.specs.Reading.{AreGrantsOf, IsCephListReading, IsCephReading, IsCephRights, IsCephTextReading, IsCounted, IsListReading, IsNetworkOf, IsProjectReading, IsReading};
 ghost use Rattle.verdict_text.specs.Reading as spec;
+ghost use Rattle.verdict_text.specs.Spelled.{IsCephListSpelling, IsCephSpelling, IsCephTextSpelling, IsKept, IsListSpelling, IsProjectSpelling, IsSpelling};
 
 use cap_text::{CapFault, CapList, FaultKind, parse};
 use ceph_text::{CephEntry, CephFault, CephList, expand_ceph};
@@ -95,20 +96,62 @@ pub fn push_fault_number(
 /// The rights of a text, or why it has none.
 pub type Reading = Result<Rights, TextFault>;
 
+/// What a capability text spells.
+#[derive(Debug, Drop)]
+pub enum Spelled {
+    /// Nothing that is kept. Nothing is spelled by a text with a fault, and by the empty text where Ceph's rules read it.
+    Nothing,
+    /// This list, by this project's rules.
+    Listed(CapList),
+    /// This many grants, by Ceph's rules.
+    Counted(usize),
+}
+
+/// The rights of a text or its fault, and what it spells.
+#[derive(Drop)]
+struct SpelledReading {
+    read: Reading,
+    spelled: Spelled,
+}
+
+impl SpelledReading {
+    /// That of a text with a fault.
+    fn refused(fault: TextFault) -> SpelledReading
+        ensures { result ≡ record { read = Err fault; spelled = Spelled.Nothing } }
+    {
+        SpelledReading {
+            read: Err(fault),
+            spelled: Spelled::Nothing,
+        }
+    }
+
+    /// The rights or the fault alone.
+    fn into_read(self) -> Reading
+        ensures { result ≡ self.read }
+    {
+        let SpelledReading { read, spelled: _ } = self;
+        read
+    }
+}
+
 /// The rights of a list by this project's rules, or why it is not expanded.
 fn read_list(
     alloc: Global,
     profiles: &ProfileTable,
-    list: &CapList,
+    list: CapList,
     until: Option<u64>,
-) -> Result<Reading, OutOfMemory>
+) -> Result<SpelledReading, OutOfMemory>
     requires { profiles.now ≡ built_in }
-    ensures { IfOk result (λ read. IsListReading list.now until read) }
+    ensures read { IfOk result (λ whole. IsListReading list until whole.read) }
+    ensures spelled { IfOk result (λ whole. IsListSpelling list until whole.read whole.spelled) }
 {
-    match expand(alloc, profiles, list) {
-        Ok(tree) => Ok(Ok(Rights::of(alloc, tree, until))),
+    match expand(alloc, profiles, &list) {
+        Ok(tree) => Ok(SpelledReading {
+            read: Ok(Rights::of(alloc, tree, until)),
+            spelled: Spelled::Listed(list),
+        }),
         Err(ExpandFault::OutOfMemory) => Err(AllocError),
-        Err(fault) => Ok(Err(TextFault::Expansion(fault))),
+        Err(fault) => Ok(SpelledReading::refused(TextFault::Expansion(fault))),
     }
 }
 
@@ -118,19 +161,20 @@ fn read_project(
     profiles: &ProfileTable,
     text: &str,
     until: Option<u64>,
-) -> Result<Reading, OutOfMemory>
+) -> Result<SpelledReading, OutOfMemory>
     requires { profiles.now ≡ built_in }
-    ensures { IfOk result (λ read. IsProjectReading text.now until read) }
+    ensures read { IfOk result (λ whole. IsProjectReading text.now until whole.read) }
+    ensures spelled { IfOk result (λ whole. IsProjectSpelling text.now until whole.read whole.spelled) }
 {
     match parse(alloc, text) {
-        Ok(list) => read_list(alloc, profiles, &list, until),
+        Ok(list) => read_list(alloc, profiles, list, until),
         Err(
             CapFault {
                 kind: FaultKind::OutOfMemory,
                 ..
             },
         ) => Err(AllocError),
-        Err(fault) => Ok(Err(TextFault::Spelling(fault))),
+        Err(fault) => Ok(SpelledReading::refused(TextFault::Spelling(fault))),
     }
 }
 
@@ -146,7 +190,7 @@ fn network_of(text: &Option<Name>) -> Option<Network>
 
 /// The rights of grants that Ceph's profiles expanded.
 #[tactic(auto, using(crate::proofs::CephGrants::one_more))]
-fn rights_of_entries(
+pub(crate) fn rights_of_entries(
     alloc: Global,
     entries: Vec<CephEntry>,
     until: Option<u64>,
@@ -179,23 +223,51 @@ fn read_ceph_list(
     }
 }
 
+/// The rights of a list by Ceph's rules with its number of grants, or that it expands to too many.
+fn spelled_ceph_list(
+    alloc: Global,
+    list: &CephList,
+    until: Option<u64>,
+) -> Result<SpelledReading, OutOfMemory>
+    ensures read { IfOk result (λ whole. IsCephListReading list.now until whole.read) }
+    ensures spelled { IfOk result (λ whole. IsCephListSpelling list.now whole.read whole.spelled) }
+{
+    let grants = list.grants();
+    match read_ceph_list(alloc, list, until)? {
+        Ok(rights) => Ok(SpelledReading {
+            read: Ok(rights),
+            spelled: Spelled::Counted(grants.len()),
+        }),
+        Err(fault) => Ok(SpelledReading::refused(fault)),
+    }
+}
+
 /// The rights of a text that is not empty, by Ceph's rules.
-fn read_ceph_text(alloc: Global, text: &str, until: Option<u64>) -> Result<Reading, OutOfMemory>
-    ensures { IfOk result (IsCephTextReading text.now until) }
+fn read_ceph_text(
+    alloc: Global,
+    text: &str,
+    until: Option<u64>,
+) -> Result<SpelledReading, OutOfMemory>
+    ensures read { IfOk result (λ whole. IsCephTextReading text.now until whole.read) }
+    ensures spelled { IfOk result (λ whole. IsCephTextSpelling text.now whole.read whole.spelled) }
 {
     match ceph_text::read(alloc, text) {
-        Ok(list) => read_ceph_list(alloc, &list, until),
+        Ok(list) => spelled_ceph_list(alloc, &list, until),
         Err(CephFault::OutOfMemory) => Err(AllocError),
-        Err(fault) => Ok(Err(TextFault::Unread(fault))),
+        Err(fault) => Ok(SpelledReading::refused(TextFault::Unread(fault))),
     }
 }
 
 /// The rights of a text by Ceph's rules. No text grants nothing, which is no fault.
-fn read_ceph(alloc: Global, text: &str, until: Option<u64>) -> Result<Reading, OutOfMemory>
-    ensures { IfOk result (IsCephReading text.now until) }
+fn read_ceph(alloc: Global, text: &str, until: Option<u64>) -> Result<SpelledReading, OutOfMemory>
+    ensures read { IfOk result (λ whole. IsCephReading text.now until whole.read) }
+    ensures spelled { IfOk result (λ whole. IsCephSpelling text.now whole.read whole.spelled) }
 {
     if text.is_empty() {
-        return Ok(Ok(Rights::from_ticket(alloc, Ticket::empty(alloc, until))));
+        return Ok(SpelledReading {
+            read: Ok(Rights::from_ticket(alloc, Ticket::empty(alloc, until))),
+            spelled: Spelled::Nothing,
+        });
     }
     read_ceph_text(alloc, text, until)
 }
@@ -290,6 +362,29 @@ impl Reader {
         self.rules
     }
 
+    /// The built-in profiles, which a reader makes once.
+    pub fn profiles(&self) -> &ProfileTable
+        ensures { result.now ≡ built_in }
+    {
+        &self.profiles
+    }
+
+    /// Reads a capability text: its rights or its first fault, and what it spells.
+    fn spelled(
+        &self,
+        alloc: Global,
+        text: &str,
+        until: Option<u64>,
+    ) -> Result<SpelledReading, OutOfMemory>
+        ensures read { IfOk result (λ whole. IsReading self.now text.now until whole.read) }
+        ensures spelled { IfOk result (λ whole. IsSpelling self.now text.now until whole.read whole.spelled) }
+    {
+        match self.rules {
+            Rules::Project => read_project(alloc, &self.profiles, text, until),
+            Rules::Ceph => read_ceph(alloc, text, until),
+        }
+    }
+
     /// Reads a capability text: its rights, which end at tick `until`, if at any, or its first fault. An `Err` is out of
     /// memory alone.
     pub fn read(
@@ -300,20 +395,19 @@ impl Reader {
     ) -> Result<Reading, OutOfMemory>
         ensures { IfOk result (IsReading self.now text.now until) }
     {
-        match self.rules {
-            Rules::Project => read_project(alloc, &self.profiles, text, until),
-            Rules::Ceph => read_ceph(alloc, text, until),
-        }
+        let whole = self.spelled(alloc, text, until)?;
+        Ok(whole.into_read())
     }
 }
 
-/// A capability text that was read: the text, and its rights or its first fault.
+/// A capability text that was read: the text, its rights or its first fault, and what it spells.
 #[derive(Debug)]
 pub struct ReadText {
     rules: Rules,
     text: String,
     until: Option<u64>,
     read: Reading,
+    spelled: Spelled,
 }
 
 impl Drop for ReadText {
@@ -323,6 +417,7 @@ impl Drop for ReadText {
             text: _,
             until: _,
             read: _,
+            spelled: _,
         } = self;
     }
 }
@@ -331,16 +426,18 @@ impl Model for ReadText {
     ghost use Rattle.std.specs.Prelude.{string_bytes};
     ghost use Rattle.verdict_text.specs.Reading.{IsReading};
     ghost use Rattle.verdict_text.specs.Reading as seen;
+    ghost use Rattle.verdict_text.specs.Spelled.{IsKept};
 
     ghost Value = { seen.ReadText };
 
     ghost view = { λ t. record { rules = t.rules; text = string_bytes t.text; until = t.until; read = t.read } };
 
-    ghost invariant = { λ t. IsReading t.rules (string_bytes t.text) t.until t.read };
+    ghost invariant = { λ t. IsReading t.rules (string_bytes t.text) t.until t.read × IsKept t.rules (string_bytes t.text) t.until t.read t.spelled };
 }
 
 impl ReadText {
-    /// Reads a capability text and keeps it, as [`Reader::read`] does. An `Err` is out of memory alone, and drops the text.
+    /// Reads a capability text and keeps it and what it spells, as [`Reader::read`] does. An `Err` is out of memory alone, and drops the text.
+    #[tactic(auto, using(crate::proofs::KeptSpelling::kept))]
     pub fn of(
         alloc: Global,
         reader: &Reader,
@@ -351,13 +448,35 @@ impl ReadText {
         ensures text { IfOk result (λ read. read.text ≡ string_bytes text) }
         ensures until { IfOk result (λ read. read.until ≡ until) }
     {
-        let read = reader.read(alloc, text.as_str(), until)?;
+        let SpelledReading { read, spelled } = reader.spelled(alloc, text.as_str(), until)?;
         Ok(ReadText {
             rules: reader.rules,
             text,
             until,
             read,
+            spelled,
         })
+    }
+
+    /// The rules by which it was read.
+    pub fn rules(&self) -> Rules
+        ensures { result ≡ self.now.rules }
+    {
+        self.rules
+    }
+
+    /// A text whose rights never end, or its fault, as these rules read it. Nothing is kept of what it spells.
+    pub(crate) fn from_reading(rules: Rules, text: String, read: Reading) -> ReadText
+        requires { IsReading rules (string_bytes text) None read }
+        ensures { result ≡ record { rules = rules; text = string_bytes text; until = None; read = read } }
+    {
+        ReadText {
+            rules,
+            text,
+            until: None,
+            read,
+            spelled: Spelled::Nothing,
+        }
     }
 
     /// The text.
@@ -373,5 +492,11 @@ impl ReadText {
         ensures of_text { IsReading self.now.rules self.now.text self.now.until self.now.read }
     {
         &self.read
+    }
+    /// What it spells, as far as that is kept.
+    pub fn spelled(&self) -> &Spelled
+        ensures { IsKept self.now.rules self.now.text self.now.until self.now.read result.now }
+    {
+        &self.spelled
     }
 }

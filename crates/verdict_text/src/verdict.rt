@@ -1,18 +1,21 @@
 //! The answer of a capability text to a request, as a value and as a text.
 
-ghost use Rattle.std.specs.Prelude.{◌≡◌, IfOk, None, Some, string_bytes};
+ghost use Rattle.std.specs.Prelude.{◌≡◌, IfOk, None, Some, false, string_bytes};
 ghost use Rattle.rights_core.specs.Reports.{report_from};
 ghost use Rattle.verdict_text.specs.Answer as spec;
-ghost use Rattle.verdict_text.specs.Answer.{IsAnswer, IsAnswerOf, IsJudged, IsNeeded, IsVerdictText};
+ghost use Rattle.verdict_text.specs.Answer.{IsAnswer, IsAnswerOf, IsJudged, IsNeeded};
 ghost use Rattle.verdict_text.specs.Asked.{calls_fault};
 ghost use Rattle.verdict_text.specs.Documents.{answer_by};
+ghost use Rattle.verdict_text.specs.Reasons.{IsVerdictText};
 ghost use Rattle.verdict_text.specs.Text as printed;
+ghost use Rattle.verdict_text.specs.declared.format.Format.TheVariants as formats;
 ghost use Rattle.verdict_text.specs.declared.verdict.Verdict.TheVariants.{Denied};
 
 use crate::asked::{Asked, needs_asked};
 use crate::document::answer_json;
 use crate::format::Format;
 use crate::reading::{Reader, Reading, Rules, TextFault};
+use crate::reasons::{Printing, verdict_by};
 use common_types::OutOfMemory;
 use network_core::Address;
 use object_core::NeedsFault;
@@ -212,9 +215,9 @@ fn lines_of(alloc: Global, answer: &Answer) -> Result<String, OutOfMemory>
     }
 }
 
-/// What is printed of an answer: as a text the verdict's, or a line `refused FAULT`. As a document it has the member
-/// `verdict`; `report` at a denial, with `path` and `condition` of each grant; and `fault` at a refusal, and `byte` where one
-/// is at fault.
+/// An answer without the grants for which it holds: as a text the verdict's, or a line `refused FAULT`. As a document it has the
+/// member `verdict`; `report` at a denial, with `path` and `condition` of each grant; and `fault` at a refusal, and `byte` where
+/// one is at fault.
 pub fn text_of(alloc: Global, answer: &Answer, format: Format) -> Result<String, OutOfMemory>
     ensures { IfOk result (λ text. string_bytes text ≡ answer_by format answer.now) }
 {
@@ -224,15 +227,24 @@ pub fn text_of(alloc: Global, answer: &Answer, format: Format) -> Result<String,
     }
 }
 
-/// The whole text that the program prints for a capability text and a request: that of their answer.
+/// How the program prints the answer by this project's rules where the arguments do not say it.
+const USUAL: Printing = Printing {
+    rules: Rules::Project,
+    why: false,
+    format: Format::Text,
+};
+
+/// The whole text that the program prints for a capability text and a request: that of their answer, as [`verdict_by`] gives it.
 pub fn verdict_text(
     alloc: Global,
     caps: &str,
     until: Option<u64>,
     asked: &Asked<'_>,
 ) -> Result<String, OutOfMemory>
-    ensures { IfOk result (λ text. IsVerdictText Rules.Project caps.now until asked.now (string_bytes text)) }
+    ensures { IfOk result (λ text. IsVerdictText (record { rules = Rules.Project; why = false; format = formats.Text }) caps.now until asked.now (string_bytes text)) }
 {
-    let answer = answer(alloc, caps, until, asked)?;
-    lines_of(alloc, &answer)
+    let reader = Reader::of(alloc, Rules::Project)?;
+    let read = reader.read(alloc, caps, until)?;
+    let answer = answer_of(alloc, &read, asked)?;
+    verdict_by(alloc, USUAL, &read, asked, &answer)
 }

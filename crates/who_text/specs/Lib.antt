@@ -1,2 +1,3 @@
 pub mod Who
 pub mod Table
+pub mod Brief

@@ -1,7 +1,7 @@
 -- Statement: contracts of public calls use it.
 -- What is printed of some entities and some requests: a table, with a row for each entity and in it an answer to each request
 -- (this project's profile).
-use Rattle.std.specs.Prelude.{ℕ, zero, suc, ◌≡◌, List, [], ◌∷◌, ◌++◌, Result, Ok, Err, codes, decimal, flat_map, length, string_bytes}
+use Rattle.std.specs.Prelude.{ℕ, zero, suc, ◌≡◌, ◌-◌, List, [], ◌∷◌, ◌++◌, Result, Ok, Err, codes, decimal, flat_map, length, max, replicate, string_bytes}
 use Rattle.verdict_text.specs.Answer.{IsAnswerOf}
 use Rattle.verdict_text.specs.Asked.{Asked}
 use Rattle.verdict_text.specs.Caret.{shown}
@@ -16,19 +16,37 @@ use Rattle.verdict_text.specs.declared.verdict.Verdict.{Verdict}
 use Rattle.verdict_text.specs.declared.verdict.Verdict.TheVariants.{Allowed, Denied, Depends}
 use Rattle.verdict_text.specs.declared.verdict.VerdictFault.{VerdictFault}
 
--- an answer's word, or its fault's number, behind a blank
+-- ---- columns: a name's is as wide as the longest name, an answer's as the longest word
+
+-- the largest of a width and those of the names of some entities
+abbrev pub widest : ℕ → List ReadEntity → ℕ
+widest width [] = width
+widest width (entity ∷ entities) = widest (max (length (shown (string_bytes entity.name))) width) entities
+
+abbrev pub name_width : List ReadEntity → ℕ
+name_width entities = widest (length (codes "entity")) entities
+
+-- a name at the left of its column
+abbrev pub padded : ℕ → List ℕ → List ℕ
+padded width text = text ++ replicate (width - length text) 32
+
+-- a word behind two blanks, at the right of its column, where `depends` is the longest
+abbrev pub aligned : List ℕ → List ℕ
+aligned word = codes "  " ++ (replicate (7 - length word) 32 ++ word)
+
+-- an answer's word, or its fault's number
 abbrev pub cell : Result Verdict VerdictFault → List ℕ
-cell (Ok Allowed) = codes " allow"
-cell (Ok (Denied report)) = codes " deny"
-cell (Ok (Depends allowed denied)) = codes " depends"
-cell (Err fault) = codes " " ++ first_word (fault_text fault)
+cell (Ok Allowed) = aligned (codes "allow")
+cell (Ok (Denied report)) = aligned (codes "deny")
+cell (Ok (Depends allowed denied)) = aligned (codes "depends")
+cell (Err fault) = aligned (first_word (fault_text fault))
 
-abbrev pub row_line : List ℕ → List (Result Verdict VerdictFault) → List ℕ
-row_line name answers = shown name ++ (flat_map cell answers ++ codes "\n")
+abbrev pub row_line : ℕ → List ℕ → List (Result Verdict VerdictFault) → List ℕ
+row_line width name answers = padded width (shown name) ++ (flat_map cell answers ++ codes "\n")
 
-abbrev pub row_by : Format → List ℕ → List (Result Verdict VerdictFault) → List ℕ
-row_by Text name answers = row_line name answers
-row_by Json name answers = piece (row_document name answers)
+abbrev pub row_by : Format → ℕ → List ℕ → List (Result Verdict VerdictFault) → List ℕ
+row_by Text width name answers = row_line width name answers
+row_by Json width name answers = piece (row_document name answers)
 
 -- the answers of a text that was read to some requests, in order
 abbrev pub AreAnswers : Reading → List Asked → List (Result Verdict VerdictFault) → Type 0
@@ -37,25 +55,30 @@ AreAnswers read (asked ∷ requests) answers =
     (answer : Result Verdict VerdictFault) × (rest : List (Result Verdict VerdictFault)) × IsAnswerOf read asked answer × AreAnswers read requests rest
     × (answers ≡ answer ∷ rest)
 
--- an entity's row
-abbrev pub IsRow : Format → List Asked → ReadEntity → List ℕ → Type 0
-IsRow format requests entity text =
-    (answers : List (Result Verdict VerdictFault)) × AreAnswers entity.osd.read requests answers × (text ≡ row_by format (string_bytes entity.name) answers)
+-- the row of a text that was read, behind a name
+abbrev pub IsRowBy : Format → ℕ → Reading → List Asked → List ℕ → List ℕ → Type 0
+IsRowBy format width read requests name text =
+    (answers : List (Result Verdict VerdictFault)) × AreAnswers read requests answers × (text ≡ row_by format width name answers)
 
--- the numbers from 1 on, each behind a blank
+-- an entity's row
+abbrev pub IsRow : Format → ℕ → List Asked → ReadEntity → List ℕ → Type 0
+IsRow format width requests entity text = IsRowBy format width entity.osd.read requests (string_bytes entity.name) text
+
+-- the numbers from 1 on, each in its column
 abbrev pub numbers_to : ℕ → List ℕ
 numbers_to zero = []
-numbers_to (suc n) = numbers_to n ++ (codes " " ++ decimal (suc n))
+numbers_to (suc n) = numbers_to n ++ aligned (decimal (suc n))
 
 -- in front of the rows stands a line that numbers the requests
-abbrev pub head_line : ℕ → List ℕ
-head_line count = codes "entity" ++ (numbers_to count ++ codes "\n")
+abbrev pub head_line : ℕ → ℕ → List ℕ
+head_line width count = padded width (codes "entity") ++ (numbers_to count ++ codes "\n")
 
-abbrev pub table_by : Format → ℕ → List ℕ → List ℕ
-table_by Text count rows = head_line count ++ rows
-table_by Json count rows = entities_by Json rows
+abbrev pub table_by : Format → ℕ → ℕ → List ℕ → List ℕ
+table_by Text width count rows = head_line width count ++ rows
+table_by Json width count rows = entities_by Json rows
 
 -- the whole table
 abbrev pub IsTable : Format → List ReadEntity → List Asked → List ℕ → Type 0
 IsTable format entities requests text =
-    (rows : List ℕ) × AreInOrder (IsRow format requests) entities rows × (text ≡ table_by format (length requests) rows)
+    (rows : List ℕ) × AreInOrder (IsRow format (name_width entities) requests) entities rows
+    × (text ≡ table_by format (name_width entities) (length requests) rows)

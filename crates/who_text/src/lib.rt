@@ -4,6 +4,8 @@
 //! part of what is printed. The forms of the lines are this project's profile.
 #![tactic(auto)]
 
+mod brief;
+mod columns;
 mod table;
 mod who;
 

@@ -2,7 +2,7 @@
 
 ghost use Rattle.cluster.specs.Asks.{IsPassOf};
 
-use cluster::{Asked, Asking, Cluster, ClusterFault, Pass, Worked};
+use cluster::{Cluster, ClusterFault, NewRequest, Pass, Submitted, Worked};
 use common_types::Name;
 use entry_core::GroupId;
 use group_messages::GroupFault;
@@ -45,8 +45,8 @@ pub(crate) fn ops_of(alloc: Global, wish: Wish) -> Result<Ops, ClusterFault> {
 }
 
 // Who asks, and where.
-fn asking_of(alloc: Global, session: u32) -> Result<Asking, ClusterFault> {
-    Ok(Asking {
+fn new_request_of(alloc: Global, session: u32) -> Result<NewRequest, ClusterFault> {
+    Ok(NewRequest {
         session,
         tick: 0,
         pool: Name::new(alloc, POOL)?,
@@ -63,15 +63,15 @@ pub(crate) fn submit_one<R: Wait>(
     session: u32,
     object: &str,
     wish: Wish,
-) -> Result<Asked, ClusterFault>
+) -> Result<Submitted, ClusterFault>
     requires { IsPassOf cluster.now pass.old }
     ensures { IsPassOf cluster.now pass.new }
 {
     for _try in 0..MAX_TRIES {
-        let asking = asking_of(alloc, session)?;
+        let new_request = new_request_of(alloc, session)?;
         let object = Name::new(alloc, object)?;
         let ops = ops_of(alloc, wish)?;
-        match cluster.submit(rt, pass, asking, object, ops) {
+        match cluster.submit(rt, pass, new_request, object, ops) {
             Err(ClusterFault::NoReader) => {}
             answer => return answer,
         }
@@ -108,7 +108,7 @@ pub(crate) fn ask<R: Wait>(
     requires { IsPassOf cluster.now pass.old }
     ensures { IsPassOf cluster.now pass.new }
 {
-    let asked = submit_one(rt, alloc, cluster, pass, session, OBJECT, wish)?;
-    deliver(rt, cluster, pass, &asked.group)?;
+    let submitted = submit_one(rt, alloc, cluster, pass, session, OBJECT, wish)?;
+    deliver(rt, cluster, pass, &submitted.group)?;
     Ok(())
 }

@@ -87,13 +87,13 @@ fn is_done<R: Wait>(
     requires { IsPassOf cluster.now pass.old }
     ensures { IsPassOf cluster.now pass.new }
 {
-    let asked = submit_one(rt, alloc, cluster, pass, session, object, Wish::Addition)?;
+    let submitted = submit_one(rt, alloc, cluster, pass, session, object, Wish::Addition)?;
     for _delivery in 0..MAX_DELIVERIES {
-        if !deliver(rt, cluster, pass, &asked.group)? {
+        if !deliver(rt, cluster, pass, &submitted.group)? {
             break;
         }
     }
-    Ok(matches!(cluster.answer(rt, pass, &asked)?, Some(Reply::Done(..))))
+    Ok(matches!(cluster.answer(rt, pass, &submitted)?, Some(Reply::Done(..))))
 }
 
 // So many additions to a counter of the group with this number, of those that the pool has: how many are done.

@@ -56,13 +56,13 @@ fn is_done(alloc: Global, world: &mut World) -> Result<bool, WorkloadFault> {
         pool: Name::new(alloc, POOL)?,
         namespace: Name::new(alloc, "")?,
     };
-    let asked = world.apply(Event::Submit {
+    let submitted = world.apply(Event::Submit {
         ask,
         object: Name::new(alloc, OBJECT)?,
         ops: ops_of(alloc, Wish::Addition)?,
     })?;
     settle(alloc, world, 1)?;
-    match asked {
+    match submitted {
         Told::Request(id) => Ok(matches!(world.answer(id)?, Some(Reply::Done(_)))),
         _ => Ok(false),
     }

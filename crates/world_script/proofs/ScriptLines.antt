@@ -1,14 +1,16 @@
 -- The lines of a script, one after another.
-use Rattle.std.proofs.Common.{◌≡◌, ◌∙◌, ℕ, ◌+◌, List, [], ◌∷◌, ◌++◌, Bool, true, false, Option, Some, Result, Ok, Err, OnOk, IfErr, refl, sym, ap, subst, fold, append-nil, append_assoc, if◌then◌else◌}
+use Rattle.std.proofs.Common.{◌≡◌, ◌∙◌, ℕ, suc, ◌+◌, ◌-◌, ◌≤◌, List, [], ◌∷◌, ◌++◌, Bool, true, false, Option, None, Some, IfSome, Result, Ok, Err, OnOk, IfErr, refl, sym, ap, subst, fold, append-nil, append_assoc, length, take, length-append, arith, if◌then◌else◌}
+use Rattle.std.proofs.Math.Seq.{take-append_seam}
 use Rattle.std.specs.Prelude.{codes}
-use Rattle.std.specs.Io.KnownBytes.{Appends}
-use Rattle.script_text.specs.Streams.{AppendsPart, EndsLine}
+use Rattle.std.specs.Io.KnownBytes.{Appends, Keeps}
+use Rattle.script_text.specs.Lines.{script_lines}
+use Rattle.script_text.specs.Streams.{AppendsPart, EndsLine, IsUnread, fits}
 use Rattle.script_text.specs.Text.{line, numeral}
 use Rattle.script_text.specs.declared.fault.ScriptFault.{ScriptFault}
 use Rattle.script_text.specs.declared.fault.ScriptFault.TheVariants as ends
 use Rattle.script_text.specs.declared.fault.LineFault.{LineFault}
 use Rattle.script_text.specs.declared.fault.LineFault.TheVariants as line_fault
-use Rattle.script_text.proofs.Known.{appends_kept, appends_more}
+use Rattle.script_text.proofs.Known.{appends_kept, appends_more, appends_nil}
 use Rattle.object_core.specs.declared.op.Op.{Op}
 use Rattle.store_core.specs.declared.sealed.GroupId.{GroupId}
 use Rattle.world_events.specs.declared.event.Ask.{Ask}
@@ -19,8 +21,8 @@ use Rattle.world_core.specs.World.{World, world_step, refusal_of, is_drop}
 use Rattle.world_script.specs.declared.command.Command.{Command}
 use Rattle.world_script.specs.declared.command.Command.TheVariants.{Submit, List as ListNames, Ready}
 use Rattle.script_printing.specs.Text.{refused_text}
-use Rattle.world_script.specs.Script.{Step, Goes, IsBad, IsOther, BadAt, Output, Machine, event_told, event_line, line_step, script_step, onward, behind, outputs, script_output, WroteOf, ask_now, ready_line_text, unrefused, settle_events, settle_line}
-use Rattle.world_script.specs.Steps.{Does, at, GoesTo, IsFaultOf, LineWrote}
+use Rattle.world_script.specs.Script.{Step, Goes, IsBad, IsOther, BadAt, Output, Machine, event_told, event_line, line_step, script_step, onward, behind, outputs, output_before, script_output, Whole, WroteOf, RunsOutAt, EndsFor, ask_now, ready_line_text, unrefused, settle_events, settle_line}
+use Rattle.world_script.specs.Steps.{Does, at, GoesTo, IsFaultOf, IsOfLines, LineWrote, RunsOut}
 
 pub on_ok : {A E : Type 0} {P Q : Type 0} (r : Result A E) → (P → Q) → OnOk r P → OnOk r Q
 on_ok (Ok x) f p = f p
@@ -52,6 +54,71 @@ pub line_is_bad : (whole : Output) (done line : List ℕ) (rest all : List (List
     → whole ≡ behind done (outputs script_step all taken s) → line_step script_step s line ≡ IsBad → whole ≡ behind done (record { text = []; ending = BadAt (taken + 1) })
 line_is_bad whole done line rest all taken s cut is bad =
     is ∙ ap (λ ls. behind done (outputs script_step ls taken s)) cut ∙ ap (λ st. behind done (onward st (taken + 1) (outputs script_step rest (taken + 1)))) bad
+
+-- ---- how far a script came
+
+-- the lines before these of a script, with what they print, whatever is behind them
+pub record IsBehind (script done : List ℕ) (lines : List (List ℕ)) (taken : ℕ) (s : Option Machine) : Type 0 where
+  pub before : List (List ℕ)
+  pub cut : script_lines script ≡ before ++ lines
+  pub long : length before ≡ taken
+  pub goes : (rest : List (List ℕ)) → outputs script_step (before ++ rest) 0 None ≡ behind done (outputs script_step rest taken s)
+
+pub behind_none : (script : List ℕ) → IsBehind script [] (script_lines script) 0 None
+behind_none script = record { before = []; cut = refl; long = refl; goes = λ rest. refl }
+
+pub behind_more : (script done text line : List ℕ) (rest lines : List (List ℕ)) (taken : ℕ) (s next : Option Machine) → lines ≡ line ∷ rest → line_step script_step s line ≡ Goes text next
+    → IsBehind script done lines taken s → IsBehind script (done ++ text) rest (taken + 1) next
+behind_more script done text line rest lines taken s next is goes h = record {
+  before = h.before ++ line ∷ [];
+  cut = h.cut ∙ ap (λ ls. h.before ++ ls) is ∙ sym (append_assoc h.before (line ∷ []) rest);
+  long = length-append h.before (line ∷ []) ∙ ap (λ n. n + 1) h.long;
+  goes = λ more. line_goes (outputs script_step ((h.before ++ line ∷ []) ++ more) 0 None) done text line more (line ∷ more) taken s next refl
+      (ap (λ ls. outputs script_step ls 0 None) (append_assoc h.before (line ∷ []) more) ∙ h.goes (line ∷ more)) goes;
+}
+
+-- what the lines before print, where nothing more was written
+pub ran_out : (script done line : List ℕ) (rest lines : List (List ℕ)) (taken number : ℕ) (s : Option Machine) (old mid new : Option (List ℕ)) → lines ≡ line ∷ rest → number ≡ taken + 1
+    → IsBehind script done lines taken s → Appends old mid done → Keeps mid new → RunsOutAt script old new number
+ran_out script done line rest lines taken number s old mid new is counted h app kept =
+    let there : number - 1 ≡ length h.before = let e = h.long in omega arith in
+    let first : take (number - 1) (script_lines script) ≡ h.before = (λ i. take (there i) (h.cut i)) ∙ take-append_seam h.before lines in
+    let out : output_before number script ≡ record { text = done ++ []; ending = Whole } =
+    ap (λ ls. outputs script_step ls 0 None) (first ∙ sym (append-nil h.before)) ∙ h.goes [] in
+    let whole : length (script_lines script) ≡ length h.before + suc (length rest) = ap length h.cut ∙ length-append h.before lines ∙ ap (λ ls. length h.before + length ls) is in
+    record {
+      inside = let e = h.long in omega arith;
+      goes = ap (λ (o : Output). o.ending) out;
+      wrote = subst (Appends old new) (sym (ap (λ (o : Output). o.text) out ∙ append-nil done)) (appends_kept old mid new done app kept);
+    }
+
+pub runs_out : (script done line : List ℕ) (rest lines : List (List ℕ)) (taken number : ℕ) (s after : Option Machine) (old mid new : Option (List ℕ)) (fault : ScriptFault) → lines ≡ line ∷ rest → number ≡ taken + 1
+    → IsBehind script done lines taken s → Appends old mid done → LineWrote s line number after mid new (Err fault) → RunsOut script old new fault
+runs_out script done line rest lines taken number s after old mid new (ends.OutOfMemory n) is counted h app wrote =
+    ran_out script done line rest lines taken n s old mid new is (wrote.0 ∙ counted) h app wrote.1
+runs_out script done line rest lines taken number s after old mid new (ends.BadLine n) is counted h app wrote = tt
+runs_out script done line rest lines taken number s after old mid new ends.Write is counted h app wrote = tt
+runs_out script done line rest lines taken number s after old mid new ends.Read is counted h app wrote = tt
+runs_out script done line rest lines taken number s after old mid new ends.TooMuch is counted h app wrote = tt
+
+-- a script that was read, and how its lines ended
+pub ends_for : (input : List ℕ) (old new : Option (List ℕ)) (result : Result (Unit {0}) ScriptFault) → fits input → IfErr result IsOfLines → IfErr result (RunsOut input old new) → EndsFor input old new result
+ends_for input old new (Ok done) fine lines out = fine
+ends_for input old new (Err (ends.BadLine n)) fine lines out = fine
+ends_for input old new (Err (ends.OutOfMemory n)) fine lines out = (λ least. fine, out)
+ends_for input old new (Err ends.Write) fine lines out = fine
+ends_for input old new (Err ends.Read) fine lines out = tt
+ends_for input old new (Err ends.TooMuch) fine lines out = absurd lines
+
+-- a script that was not read
+pub unread_ends : (remaining same : Option (List ℕ)) (fault : ScriptFault) → IsUnread remaining fault → IfSome remaining (λ input. EndsFor input same same (Err fault))
+unread_ends None same fault unread = tt
+unread_ends (Some input) same (ends.BadLine n) unread = absurd unread
+unread_ends (Some input) same (ends.OutOfMemory n) unread =
+    subst (λ m. EndsFor input same same (Err (ends.OutOfMemory m))) (sym unread) (λ least. absurd (omega arith), record { inside = omega arith; goes = refl; wrote = appends_nil same })
+unread_ends (Some input) same ends.Write unread = absurd unread
+unread_ends (Some input) same ends.Read unread = tt
+unread_ends (Some input) same ends.TooMuch unread = unread
 
 -- ---- what was written
 

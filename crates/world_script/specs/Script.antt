@@ -1,12 +1,12 @@
 -- Statement: contracts of public calls use it.
 -- What a script writes: line by line, what its events and questions answer.
 use Prim.Native.Nat.{zero, suc}
-use Rattle.std.specs.Prelude.{◌≡◌, ℕ, ◌+◌, List, [], ◌∷◌, ◌++◌, Bool, true, false, ◌&&◌, if◌then◌else◌, Option, None, Some, Result, Ok, Err, length, fold, nat_lt, codes, decimal}
+use Rattle.std.specs.Prelude.{◌≡◌, ℕ, ◌+◌, ◌-◌, ◌<◌, ◌≤◌, List, [], ◌∷◌, ◌++◌, Bool, true, false, ◌&&◌, if◌then◌else◌, Option, None, Some, Result, Ok, Err, length, take, fold, nat_lt, codes, decimal}
 use Rattle.std.specs.List.{flat_map}
 use Rattle.std.specs.Option.{option_map, option_or}
 use Rattle.std.specs.Io.KnownBytes.{Appends, Keeps}
 use Rattle.script_text.specs.Lines.{script_lines, is_blank}
-use Rattle.script_text.specs.Streams.{AppendsPart}
+use Rattle.script_text.specs.Streams.{AppendsPart, fits}
 use Rattle.script_text.specs.Text.{line, numeral}
 use Rattle.script_text.specs.declared.fault.ScriptFault.{ScriptFault}
 use Rattle.script_text.specs.declared.fault.ScriptFault.TheVariants as ends
@@ -278,6 +278,28 @@ Wrote output old new (Err ends.TooMuch) = Keeps old new
 -- what the script of an input has written
 abbrev pub WroteOf : List ℕ → Option (List ℕ) → Option (List ℕ) → Result (Unit {0}) ScriptFault → Type 0
 WroteOf input old new result = Wrote (script_output input) old new result
+
+-- ---- why a script ended
+
+-- what the lines before the line of this number write: lines count from 1
+abbrev pub output_before : ℕ → List ℕ → Output
+output_before number bytes = outputs script_step (take (number - 1) (script_lines bytes)) 0 None
+
+-- memory ran out at this line, or at 0 while the script was read: what the lines before it print was written
+pub record RunsOutAt (input : List ℕ) (old new : Option (List ℕ)) (number : ℕ) : Type 0 where
+  pub inside : number ≤ length (script_lines input)
+  pub goes : (output_before number input).ending ≡ Whole
+  pub wrote : Appends old new (output_before number input).text
+
+-- Only a script of at most 1,048,576 bytes is carried out, and only a longer one is too much. Where memory runs out,
+-- the number says how far the script came
+abbrev pub EndsFor : List ℕ → Option (List ℕ) → Option (List ℕ) → Result (Unit {0}) ScriptFault → Type 0
+EndsFor input old new (Ok done) = fits input
+EndsFor input old new (Err (ends.BadLine number)) = fits input
+EndsFor input old new (Err ends.Write) = fits input
+EndsFor input old new (Err (ends.OutOfMemory number)) = (1 ≤ number → fits input) × RunsOutAt input old new number
+EndsFor input old new (Err ends.Read) = Unit {0}
+EndsFor input old new (Err ends.TooMuch) = 1048576 < length input
 
 -- the script was not read: nothing was written
 abbrev pub KeepsUnread : Option (List ℕ) → Option (List ℕ) → ScriptFault → Type 0

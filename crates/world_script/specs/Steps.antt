@@ -8,7 +8,7 @@ use Rattle.script_text.specs.declared.fault.ScriptFault.TheVariants as ends
 use Rattle.world_core.specs.World.{World}
 use Rattle.world_script.specs.declared.command.Command.{Command}
 use Rattle.world_script.specs.declared.command.Command.TheVariants.{Osds}
-use Rattle.world_script.specs.Script.{Step, Goes, IsBad, IsOther, Machine, Line, after_line, line_step, script_step}
+use Rattle.world_script.specs.Script.{Step, Goes, IsBad, IsOther, Machine, Line, after_line, line_step, script_step, RunsOutAt}
 use Rattle.script_text.specs.declared.fault.LineFault.{LineFault}
 use Rattle.script_text.specs.declared.fault.LineFault.TheVariants.{BadLine, OutOfMemory}
 
@@ -51,3 +51,11 @@ IsOfLines (ends.OutOfMemory number) = 1 ≤ number
 IsOfLines ends.Write = Unit {0}
 IsOfLines ends.Read = ⊥
 IsOfLines ends.TooMuch = ⊥
+
+-- memory ran out at a line, if it did
+abbrev pub RunsOut : List ℕ → Option (List ℕ) → Option (List ℕ) → ScriptFault → Type 0
+RunsOut input old new (ends.OutOfMemory number) = RunsOutAt input old new number
+RunsOut input old new (ends.BadLine number) = Unit {0}
+RunsOut input old new ends.Write = Unit {0}
+RunsOut input old new ends.Read = Unit {0}
+RunsOut input old new ends.TooMuch = Unit {0}

@@ -1,4 +1,4 @@
-use Rattle.std.proofs.Common.{◌∙◌, ◌+◌, ◌<◌, sym, ap, subst, arith}
+use Rattle.std.proofs.Common.{◌∙◌, ◌+◌, ◌<◌, sym, ap, subst}
 use Rattle.std.specs.Prelude.{slice_set}
 use Rattle.world_front.specs.ControlPlane.{asks_more}
 use Rattle.world_front.specs.declared.session.Session.{Session}

@@ -7,9 +7,10 @@ use Rattle.cluster_locks.specs.declared.users.UserTable.{UserTable}
 use Rattle.cluster_locks.specs.Groups.{group_in}
 use Rattle.cluster_locks.specs.Shares.{monitor_share, pass_share}
 use Rattle.cluster.specs.declared.cluster.Cluster.{Cluster}
-use Rattle.cluster.specs.Passes.{AreFreshOf, firsts_of, start_of}
+use Rattle.cluster.specs.Passes.{AreFreshOf, HaveDrawnNone, firsts_of, start_of}
 use Rattle.cluster.specs.Monitors.{Follows}
 use Rattle.cluster.specs.Begun.{AreIdle, HasChangedNothing, HasParts, HasWorld}
+use Rattle.cluster.proofs.Begun.{fresh_numbers}
 use Rattle.cluster.proofs.starting.cluster_of.Goals as goal
 
 has_parts : (p : WorldParts) (c : Cluster) → HasWorld p → start_of c ≡ p.map → firsts_of c ≡ p.groups.items → c.users.first ≡ record { db = p.users; sessions = 0 } → HasParts p c
@@ -45,6 +46,7 @@ with_passes-requires-clause-monitor g c =
       whole = watched.whole.0;
       map_is = watched.whole.2 ∙ sym start;
       follows = subst (λ h. Follows h c.in-Ok.monitor) (sym start) (watched.follows (monitor_share c.args.passes) opened.fresh.0);
+      numbers = subst HaveDrawnNone (sym watched.whole.1) (fresh_numbers c.in_ok-cluster.cluster (monitor_share c.args.passes) c.in_ok-cluster.seats opened.fresh.0);
     }
 
 pub with_passes-requires-clause-begun : goal.with_passes-requires-clause-begun

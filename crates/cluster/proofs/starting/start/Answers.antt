@@ -1,4 +1,4 @@
-use Rattle.std.proofs.Common.{ap, ◌∙◌, subst}
+use Rattle.std.proofs.Common.{◌∙◌, subst}
 use Rattle.std.proofs.lemmas.Result.{MatchResult-weaker}
 use Rattle.world_core.specs.Holds.{Holds}
 use Rattle.cluster_locks.specs.Beginning.{events_of}
@@ -47,6 +47,9 @@ returns-in-Ok-clause-passes g c = MatchResult-weaker c.cluster_of.result c.clust
 
 pub returns-in-Ok-clause-idle : goal.returns-in-Ok-clause-idle
 returns-in-Ok-clause-idle g c = MatchResult-weaker c.cluster_of.result c.cluster_of.ensures (λ r h. h.3.idle) (λ fault h. tt)
+
+pub returns-in-Ok-clause-numbers : goal.returns-in-Ok-clause-numbers
+returns-in-Ok-clause-numbers g c = MatchResult-weaker c.cluster_of.result c.cluster_of.ensures (λ r h. (h.1.numbers, h.3.numbers)) (λ fault h. tt)
 
 pub returns-in-Ok-clause-err : goal.returns-in-Ok-clause-err
 returns-in-Ok-clause-err g c = MatchResult-weaker c.cluster_of.result c.cluster_of.ensures (λ r h. tt)

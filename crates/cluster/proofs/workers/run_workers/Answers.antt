@@ -1,8 +1,8 @@
 use Rattle.std.proofs.Common.{arith, refl, sym, ap, subst, ◌∙◌, ◌≡◌, map, length, inl, inr}
 use Rattle.std.specs.Prelude.{All}
-use Rattle.cluster_locks.specs.Places.{Beside, InStep}
+use Rattle.cluster_locks.specs.Places.{Beside}
 use Rattle.cluster.specs.Asks.{IsPassOf}
-use Rattle.cluster.specs.Workers.{EndsBy, HasWorked, first_fault, pass_of, fault_of}
+use Rattle.cluster.specs.Workers.{HasWorked, HaveEnded, first_fault, pass_of, fault_of}
 use Rattle.cluster_locks.proofs.Places.{spliced}
 use Rattle.cluster.proofs.Rounds.{beside_itself, at_work, passes_after, passes_worked}
 use Rattle.cluster.proofs.FirstFaults.{all_end}
@@ -33,13 +33,13 @@ came_back g c =
 
 pub returns-clause-passes : goal.returns-clause-passes
 returns-clause-passes g c = subst (All (IsPassOf c.args.cluster.now)) (sym (came_back g c))
-    (passes_after c.args.cluster.now c.args.rounds c.as_mut_slice.result.now c.work_all.new.workers c.work_all.ensures.count c.work_all.ensures.each)
+    (passes_after c.args.cluster.now (g.G.Gate.refuses c.args.gate.now) c.args.rounds c.as_mut_slice.result.now c.work_all.new.workers c.work_all.ensures.count c.work_all.ensures.each)
 
 pub returns-clause-worked : goal.returns-clause-worked
 returns-clause-worked g c =
     let before : map pass_of c.as_mut_slice.result.now ≡ c.args.passes.items = ap (map pass_of) c.as_mut_slice.ensures.value ∙ c.enlist-workers.ensures in
     subst (λ ps. Beside (HasWorked c.args.rounds) ps c.dismiss.result.0.items) before
-    (subst (Beside (HasWorked c.args.rounds) (map pass_of c.as_mut_slice.result.now)) (sym (came_back g c)) (passes_worked c.args.cluster.now c.args.rounds c.as_mut_slice.result.now c.work_all.new.workers c.work_all.ensures.count c.work_all.ensures.each))
+    (subst (Beside (HasWorked c.args.rounds) (map pass_of c.as_mut_slice.result.now)) (sym (came_back g c)) (passes_worked c.args.cluster.now (g.G.Gate.refuses c.args.gate.now) c.args.rounds c.as_mut_slice.result.now c.work_all.new.workers c.work_all.ensures.count c.work_all.ensures.each))
 
 pub returns-clause-fault : goal.returns-clause-fault
 returns-clause-fault g c =
@@ -47,9 +47,9 @@ returns-clause-fault g c =
     let long : length c.work_all.new.workers ≡ c.enlist-workers.result.len = c.work_all.ensures.count ∙ (ap length c.as_mut_slice.ensures.value ∙ sym c.enlist-workers.result.ok.0) in
     let faults = map fault_of c.work_all.new.workers in inr (
       faults,
-      subst (λ ps. InStep (λ p q f. EndsBy c.args.cluster.now f p q) ps c.dismiss.result.0.items faults) before
-          (subst (λ ps. InStep (λ p q f. EndsBy c.args.cluster.now f p q) (map pass_of c.as_mut_slice.result.now) ps faults) (sym (came_back g c))
-          (all_end c.args.cluster.now c.args.rounds c.as_mut_slice.result.now c.work_all.new.workers c.work_all.ensures.count c.work_all.ensures.each)),
+      subst (λ ps. HaveEnded c.args.cluster.now (g.G.Gate.refuses c.args.gate.now) c.args.rounds ps c.dismiss.result.0.items faults) before
+          (subst (λ ps. HaveEnded c.args.cluster.now (g.G.Gate.refuses c.args.gate.now) c.args.rounds (map pass_of c.as_mut_slice.result.now) ps faults) (sym (came_back g c))
+          (all_end c.args.cluster.now (g.G.Gate.refuses c.args.gate.now) c.args.rounds c.as_mut_slice.result.now c.work_all.new.workers c.work_all.ensures.count c.work_all.ensures.each)),
       c.dismiss.ensures.fault ∙ ap (λ ws. first_fault (map fault_of ws)) (spliced c.work_all.new.workers _ c.enlist-workers.result.len long),
     )
 

@@ -1,5 +1,5 @@
 use Rattle.cluster.specs.Asks.{IsPassOf}
-use Rattle.cluster.specs.Workers.{HasGoneOn}
+use Rattle.cluster.specs.Workers.{HasDelivered}
 use Rattle.cluster.proofs.Rounds.{HasCome}
 use Rattle.cluster.proofs.workers.work_round.Given as goal
 
@@ -7,5 +7,5 @@ abbrev pub invariant-loop-place : goal.invariant-loop-place
 invariant-loop-place g l = record {
   pass : IsPassOf l.cluster l.pass;
   come : HasCome l.place l.initial.pass l.pass;
-  on : HasGoneOn l.cluster l.initial.pass l.pass;
+  on : HasDelivered l.cluster l.place l.initial.pass l.pass;
 }

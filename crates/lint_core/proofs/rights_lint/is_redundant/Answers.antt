@@ -11,7 +11,7 @@ pub returns-then-not-branch : goal.returns-then-not-branch
 returns-then-not-branch c =
     let t = c.ticket-item.result in
     let fails : ¬ AllowsAll (part false c.args.number t.grants) t.grants =
-    answer_no (part false c.args.number t.grants) t.grants _ _ c.in_ok-allows_all.field-0 c.in_ok-allows_all.ensures c.in_ok-others.ensures refl c.if-not-branch.true in
+    answer_no (part false c.args.number t.grants) t.grants _ _ c.in_ok-others_allow_all.field-0 c.in_ok-others_allow_all.ensures refl refl c.if-not-branch.true in
     said_no (IsRedundantIn c.args.rights.now c.args.number)
     (not_redundant c.args.rights.now c.args.tickets.now c.args.number c.requires c.loop-ticket.ticket-index t c.loop-ticket-test.true c.ticket-item.is fails)
 
@@ -19,7 +19,7 @@ pub loop-ticket-preserved : goal.loop-ticket-preserved
 loop-ticket-preserved c =
     let t = c.ticket-item.result in
     let holds : AllowsAll (part false c.args.number t.grants) t.grants =
-    answer_yes (part false c.args.number t.grants) t.grants _ _ c.in_ok-allows_all.field-0 c.in_ok-allows_all.ensures c.in_ok-others.ensures refl c.if-not-branch.false in
+    answer_yes (part false c.args.number t.grants) t.grants _ _ c.in_ok-others_allow_all.field-0 c.in_ok-others_allow_all.ensures refl refl c.if-not-branch.false in
     All-more (λ t. AllowsAll (part false c.args.number t.grants) t.grants) c.args.tickets.now c.loop-ticket.ticket-index t c.loop-ticket-test.true c.loop-ticket.invariant (rw (← c.ticket-item.is) holds)
 
 pub returns : goal.returns

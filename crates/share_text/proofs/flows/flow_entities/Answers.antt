@@ -7,16 +7,16 @@ use Rattle.share_text.proofs.FoundTold.{slices_told}
 use Rattle.share_text.proofs.flows.flow_entities.Goals as goal
 
 pub tenants_of-requires : goal.tenants_of-requires
-tenants_of-requires c = subst (All (λ (live : Live). IsLiveOf live.entity.now live.ticket)) (sym c.as_slice.ensures.value) c.in_ok-lives.ensures.live
+tenants_of-requires c = subst (All (λ (live : Live). IsLiveOf live.entity live.ticket live.everywhere)) (sym c.as_slice.ensures.value) c.in_ok-lives.ensures.live
 
 pub returns : goal.returns
 returns c =
     ok_also c.told_writers.result
     (λ printed h. (
       c.in_ok-tenants.tenants.items,
-      subst (λ entities. AreTenants entities c.in_ok-tenants.tenants.items) (ap (map (λ (live : Live). live.entity.now)) c.as_slice.ensures.value ∙ c.in_ok-lives.ensures.entities)
+      subst (λ entities. AreTenants entities c.in_ok-tenants.tenants.items) (ap (map (λ (live : Live). live.entity)) c.as_slice.ensures.value ∙ c.in_ok-lives.ensures.entities)
           c.in_ok-tenants.ensures,
-      slices_told (λ readers. readers.items) (option_copied c.args.pools) c.args.check c.in_ok-tenants.tenants.items c.as_slice-2.result.now c.as_slice-3.result.now c.in_ok-steps.steps.items
+      slices_told (λ readers. readers.items) c.args.detail (option_copied c.args.pools) c.args.check c.in_ok-tenants.tenants.items c.as_slice-2.result.now c.as_slice-3.result.now c.in_ok-steps.steps.items
           c.as_slice-4.result.now (string_bytes printed.text) printed.fails c.as_slice-2.ensures.value c.as_slice-3.ensures.value c.as_slice-4.ensures.value c.in_ok-steps.ensures h,
     ))
     c.told_writers.ensures

@@ -5,6 +5,6 @@ use Rattle.share_text.proofs.tenants.lives_of.Given as goal
 -- the entities so far, each with the ticket that is made of its rights
 abbrev pub invariant-loop-entity : goal.invariant-loop-entity
 invariant-loop-entity l = record {
-  entities : map (λ live. live.entity.now) l.lives.items ≡ take l.entity-index l.entities;
-  live : All (λ live. IsLiveOf live.entity.now live.ticket) l.lives.items;
+  entities : map (λ live. live.entity) l.lives.items ≡ take l.entity-index l.entities;
+  live : All (λ live. IsLiveOf live.entity live.ticket live.everywhere) l.lives.items;
 }

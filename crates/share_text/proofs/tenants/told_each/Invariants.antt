@@ -5,4 +5,4 @@ use Rattle.share_text.proofs.tenants.told_each.Given as goal
 
 -- what is reported so far, followed by what is reported of the rest, is what is reported of all
 abbrev pub invariant-loop-place : goal.invariant-loop-place
-invariant-loop-place l = ToldSoFar (IsToldWith (option_copied l.pools) l.strictness) l.tenants l.place (string_bytes l.printed.text) l.printed.fails
+invariant-loop-place l = ToldSoFar (IsToldWith l.detail (option_copied l.pools) l.strictness) l.tenants l.place (string_bytes l.printed.text) l.printed.fails

@@ -13,12 +13,12 @@ loop-call-preserved c =
     let item : c.call-item.result ≡ get_or calls c.loop-call.call-index c.call-item.result = c.call-item.is ∙ ap (λ (l : List ClassCall). get_or l c.loop-call.call-index c.call-item.result) list in
     let next : take (c.loop-call.call-index + 1) calls ≡ take c.loop-call.call-index calls ++ c.call-item.result ∷ [] =
     take_more calls c.loop-call.call-index c.call-item.result within ∙ ap (λ (x : ClassCall). take c.loop-call.call-index calls ++ x ∷ []) (sym item) in
-    λ seen far there has. subst (λ (l : List ClassCall). HasSome c.args.grain seen far c.args.request.now l c.add_method.new.grants.items) (sym next)
-    (c.in_ok-add_method.ensures seen far (take c.loop-call.call-index calls) there (c.loop-call.invariant seen far there has))
+    λ far has. subst (λ (l : List ClassCall). HasSome c.args.grain.now c.args.seen.now far c.args.request.now l c.add_method.new.grants.items) (sym next)
+    (c.in_ok-add_method.ensures far (take c.loop-call.call-index calls) (c.loop-call.invariant far has))
 
 pub returns : goal.returns
 returns c =
     let calls : List ClassCall = c.args.request.now.needs.calls in
     let past : length calls ≤ c.loop-call.call-index = subst (λ (l : List ClassCall). length l ≤ c.loop-call.call-index) c.as_slice-call-items.ensures c.loop-call-test.false in
-    λ seen far there has. calls_next c.args.grain seen far c.loop-call.grants.items c.args.request.now
-    (subst (λ (l : List ClassCall). HasSome c.args.grain seen far c.args.request.now l c.loop-call.grants.items) (take_all c.loop-call.call-index calls past) (c.loop-call.invariant seen far there has))
+    λ far has. calls_next c.args.grain.now c.args.seen.now far c.loop-call.grants.items c.args.request.now
+    (subst (λ (l : List ClassCall). HasSome c.args.grain.now c.args.seen.now far c.args.request.now l c.loop-call.grants.items) (take_all c.loop-call.call-index calls past) (c.loop-call.invariant far has))

@@ -5,4 +5,4 @@ use Rattle.who_text.proofs.table.rows_of.Given as goal
 
 -- the rows of the entities so far
 abbrev pub invariant-loop-entity : goal.invariant-loop-entity
-invariant-loop-entity l = AreInOrder (IsRow l.format l.requests) (take l.entity-index l.entities) (string_bytes l.text)
+invariant-loop-entity l = AreInOrder (IsRow l.format l.width l.requests) (take l.entity-index l.entities) (string_bytes l.text)

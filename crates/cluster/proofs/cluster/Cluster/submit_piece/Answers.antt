@@ -1,4 +1,4 @@
-use Rattle.std.proofs.Common.{◌≡◌, ◌<◌, ◌+◌, inl, refl, sym, subst, arith, Some}
+use Rattle.std.proofs.Common.{◌≡◌, ◌<◌, ◌+◌, inl, refl, sym, subst, Some}
 use Rattle.store_core.specs.Request.{Sealed}
 use Rattle.world_front.specs.declared.session.Session.{Session}
 use Rattle.cluster.specs.Sessions.{own_session}

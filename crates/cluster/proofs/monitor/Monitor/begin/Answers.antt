@@ -31,48 +31,48 @@ admitted c command old new places mid free same room goes = record {
       (none_through c old.map command places (group_count c) old.seats old.seats mid new.seats (goes_nowhere old.seats) room goes);
 }
 
-pub returns-in-Ok-go_on-clause-ok : goal.returns-in-Ok-go_on-clause-ok
-returns-in-Ok-go_on-clause-ok g c = let old = c.args.self.now in let new = c.go_on.new.self in let world = c.args.cluster.now in let count = group_count world in
+pub returns-in-Ok-resume-clause-ok : goal.returns-in-Ok-resume-clause-ok
+returns-in-Ok-resume-clause-ok g c = let old = c.args.self.now in let new = c.resume.new.self in let world = c.args.cluster.now in let count = group_count world in
     let mid : Monitor = record old { map = c.apply.new.self; seats = c.any_full.new.seats } in
-    let begun : HasBegun c.args.command count old new = started c.args.command c.in-Ok.kept count old mid new c.in-Ok.ensures c.any_full.ensures.looked c.in-Ok-apply.ensures.accepted refl (c.in-Ok-go_on.ensures.begun old) in (
-      admitted world c.args.command old new c.as_slice-places.result.now c.any_full.new.seats c.requires.free c.as_slice-places.ensures.value c.if-any_full.ensures.found c.go_on.ensures.goes,
+    let begun : HasBegun c.args.command count old new = started c.args.command c.in-Ok.kept count old mid new c.in-Ok.ensures c.any_full.ensures.looked c.in-Ok-apply.ensures.accepted refl (c.in-Ok-resume.ensures.begun old) in (
+      admitted world c.args.command old new c.as_slice-places.result.now c.any_full.new.seats c.requires.free c.as_slice-places.ensures.value c.if-any_full.ensures.found c.resume.ensures.goes,
       record {
         begun = begun;
         before = stands_whole old.unfinished count old.map (published_of old) _ c.requires.whole c.requires.monitor.stands;
-        shown = stands_whole new.unfinished count new.map (published_of new) _ c.in-Ok-go_on.ensures.ok c.go_on.ensures.monitor.stands ∙ begun.map_is;
-        done = c.in-Ok-go_on.ensures.ok;
+        shown = stands_whole new.unfinished count new.map (published_of new) _ c.in-Ok-resume.ensures.ok c.resume.ensures.monitor.stands ∙ begun.map_is;
+        done = c.in-Ok-resume.ensures.ok;
       },
     )
 
-pub returns-in-Err-go_on-clause-err : goal.returns-in-Err-go_on-clause-err
-returns-in-Err-go_on-clause-err g c = let old = c.args.self.now in let new = c.go_on.new.self in let world = c.args.cluster.now in let count = group_count world in
-    let at = c.in-Err-go_on.at in
+pub returns-in-Err-resume-clause-err : goal.returns-in-Err-resume-clause-err
+returns-in-Err-resume-clause-err g c = let old = c.args.self.now in let new = c.resume.new.self in let world = c.args.cluster.now in let count = group_count world in
+    let at = c.in-Err-resume.at in
     let mid : Monitor = record old { map = c.apply.new.self; seats = c.any_full.new.seats } in
     let before : published_of old ≡ old.map = stands_whole old.unfinished count old.map (published_of old) _ c.requires.whole c.requires.monitor.stands in
     let left : IsLeft world c.args.command at old new = record {
-      begun = started c.args.command c.in-Ok.kept at old mid new c.in-Ok.ensures c.any_full.ensures.looked c.in-Ok-apply.ensures.accepted refl (c.in-Err-go_on.ensures.begun old);
+      begun = started c.args.command c.in-Ok.kept at old mid new c.in-Ok.ensures c.any_full.ensures.looked c.in-Ok-apply.ensures.accepted refl (c.in-Err-resume.ensures.begun old);
       before = before;
-      shown = c.in-Err-go_on.ensures.err.0 ∙ before;
-      left = subst (λ (x : MapCommand). IsLeftBy world x at new.unfinished) c.in-Ok.ensures c.in-Err-go_on.ensures.err.1;
+      shown = c.in-Err-resume.ensures.err.0 ∙ before;
+      left = subst (λ (x : MapCommand). IsLeftBy world x at new.unfinished) c.in-Ok.ensures c.in-Err-resume.ensures.err.1;
     } in
     where_none old.unfinished (λ u. (at ≡ left_at world u) × (new ≡ old)) (IsAdmitted world c.args.command old new × IsLeft world c.args.command at old new) c.requires.whole
-    (admitted world c.args.command old new c.as_slice-places.result.now c.any_full.new.seats c.requires.free c.as_slice-places.ensures.value c.if-any_full.ensures.found c.go_on.ensures.goes, left)
+    (admitted world c.args.command old new c.as_slice-places.result.now c.any_full.new.seats c.requires.free c.as_slice-places.ensures.value c.if-any_full.ensures.found c.resume.ensures.goes, left)
 
-pub returns-in-Ok-go_on-clause-goes : goal.returns-in-Ok-go_on-clause-goes
-returns-in-Ok-go_on-clause-goes g c = goes_through c.args.self.now.seats c.any_full.new.seats c.go_on.new.self.seats c.any_full.ensures.looked.goes c.go_on.ensures.goes
+pub returns-in-Ok-resume-clause-goes : goal.returns-in-Ok-resume-clause-goes
+returns-in-Ok-resume-clause-goes g c = goes_through c.args.self.now.seats c.any_full.new.seats c.resume.new.self.seats c.any_full.ensures.looked.goes c.resume.ensures.goes
 
-pub returns-in-Ok-go_on-clause-follows : goal.returns-in-Ok-go_on-clause-follows
-returns-in-Ok-go_on-clause-follows g c first h = let old = c.args.self.now in
+pub returns-in-Ok-resume-clause-follows : goal.returns-in-Ok-resume-clause-follows
+returns-in-Ok-resume-clause-follows g c first h = let old = c.args.self.now in
     let mid : Monitor = record old { map = c.apply.new.self; seats = c.any_full.new.seats } in
-    c.go_on.ensures.follows first (follows_begun first c.args.command c.in-Ok.kept old mid c.requires.whole c.requires.free c.in-Ok.ensures c.any_full.ensures.looked c.in-Ok-apply.ensures.accepted refl h)
+    c.resume.ensures.follows first (follows_begun first c.args.command c.in-Ok.kept old mid c.requires.whole c.requires.free c.in-Ok.ensures c.any_full.ensures.looked c.in-Ok-apply.ensures.accepted refl h)
 
-pub returns-in-Err-go_on-clause-goes : goal.returns-in-Err-go_on-clause-goes
-returns-in-Err-go_on-clause-goes g c = goes_through c.args.self.now.seats c.any_full.new.seats c.go_on.new.self.seats c.any_full.ensures.looked.goes c.go_on.ensures.goes
+pub returns-in-Err-resume-clause-goes : goal.returns-in-Err-resume-clause-goes
+returns-in-Err-resume-clause-goes g c = goes_through c.args.self.now.seats c.any_full.new.seats c.resume.new.self.seats c.any_full.ensures.looked.goes c.resume.ensures.goes
 
-pub returns-in-Err-go_on-clause-follows : goal.returns-in-Err-go_on-clause-follows
-returns-in-Err-go_on-clause-follows g c first h = let old = c.args.self.now in
+pub returns-in-Err-resume-clause-follows : goal.returns-in-Err-resume-clause-follows
+returns-in-Err-resume-clause-follows g c first h = let old = c.args.self.now in
     let mid : Monitor = record old { map = c.apply.new.self; seats = c.any_full.new.seats } in
-    c.go_on.ensures.follows first (follows_begun first c.args.command c.in-Ok.kept old mid c.requires.whole c.requires.free c.in-Ok.ensures c.any_full.ensures.looked c.in-Ok-apply.ensures.accepted refl h)
+    c.resume.ensures.follows first (follows_begun first c.args.command c.in-Ok.kept old mid c.requires.whole c.requires.free c.in-Ok.ensures c.any_full.ensures.looked c.in-Ok-apply.ensures.accepted refl h)
 
 pub any_full-requires-clause-places : goal.any_full-requires-clause-places
 any_full-requires-clause-places g c = grind (arith, common_steps)
@@ -80,8 +80,8 @@ any_full-requires-clause-places g c = grind (arith, common_steps)
 pub any_full-requires-clause-own : goal.any_full-requires-clause-own
 any_full-requires-clause-own g c = c.requires.monitor.seats
 
-pub go_on-requires : goal.go_on-requires
-go_on-requires g c = (
+pub resume-requires : goal.resume-requires
+resume-requires g c = (
   owns_begun c.args.cluster.now c.args.command c.in-Ok.kept c.args.self.now c.apply.new.self c.any_full.new.seats c.requires.monitor c.requires.whole c.any_full.ensures.own c.in-Ok.ensures c.in-Ok-apply.ensures.accepted,
   c.requires.whole,
 )
@@ -129,11 +129,11 @@ pub returns-in-Err-clause-err : goal.returns-in-Err-clause-err
 returns-in-Err-clause-err g c = let old = c.args.self.now in
     (c.requires.whole, refused_for_want c.args.command old _ c.requires.free (only_looked old c.apply.new.self c.any_full.new.seats c.in-Err.ensures.unchanged c.any_full.ensures.looked))
 
-pub returns-in-Ok-go_on-clause-monitor : goal.returns-in-Ok-go_on-clause-monitor
-returns-in-Ok-go_on-clause-monitor g c = c.go_on.ensures.monitor
+pub returns-in-Ok-resume-clause-monitor : goal.returns-in-Ok-resume-clause-monitor
+returns-in-Ok-resume-clause-monitor g c = c.resume.ensures.monitor
 
-pub returns-in-Ok-go_on-clause-epoch : goal.returns-in-Ok-go_on-clause-epoch
-returns-in-Ok-go_on-clause-epoch g c = c.in-Ok-apply.ensures.epoch ∙ ap epoch_of (sym c.go_on.ensures.map)
+pub returns-in-Ok-resume-clause-epoch : goal.returns-in-Ok-resume-clause-epoch
+returns-in-Ok-resume-clause-epoch g c = c.in-Ok-apply.ensures.epoch ∙ ap epoch_of (sym c.resume.ensures.map)
 
-pub returns-in-Err-go_on-clause-monitor : goal.returns-in-Err-go_on-clause-monitor
-returns-in-Err-go_on-clause-monitor g c = c.go_on.ensures.monitor
+pub returns-in-Err-resume-clause-monitor : goal.returns-in-Err-resume-clause-monitor
+returns-in-Err-resume-clause-monitor g c = c.resume.ensures.monitor

@@ -1,5 +1,5 @@
 use Rattle.std.proofs.Common.{rules, ◌≡◌, ℕ, suc, ◌+◌, ◌-◌, ◌*◌, ◌/◌, ◌<◌, vec_len, ap, ◌∙◌, arith, refl}
-use Rattle.turn_lock.specs.Seats.{IsFresh, HasDrawnNone}
+use Rattle.turn_lock.specs.Seats.{IsFresh}
 use Rattle.turn_lock.specs.Turns.{last_word}
 use Rattle.turn_lock.proofs.Shares.{one_part_more, all_after}
 use Rattle.std.proofs.lemmas.Grind.{common_steps}
@@ -23,8 +23,7 @@ loop-preserved g c =
       draws = search rules;
       left = ap (λ k. c.loop.draws - part + k * part) longer ∙ (one_part_more last_word c.args.seats (vec_len c.loop.all) c.loop.draws few i.left).1;
       cut = all_after (λ s. IsFresh table s × (s.share ≡ part)) c.loop.all.items c.push_reserved.new.self.items _ c.push_reserved.ensures.items i.cut
-          ((search rules, search rules, search rules, search rules), search rules);
-      free = all_after HasDrawnNone c.loop.all.items c.push_reserved.new.self.items _ c.push_reserved.ensures.items i.free (search rules);
+          ((search rules, search rules, search rules, search rules, search rules), search rules);
     }
 
 pub returns-after-loop-clause-seats : goal.returns-after-loop-clause-seats
@@ -32,12 +31,8 @@ returns-after-loop-clause-seats g c =
     let table = c.in-Ok-new.turnstile.table.shared.table_id in (
       search rules,
       all_after (IsFresh table) c.loop.all.items c.push_reserved-in-Ok-new.new.self.items _ c.push_reserved-in-Ok-new.ensures.items
-          (λ k d h. (c.loop.invariant.cut k d h).0) (search rules, search rules, search rules, search rules),
+          (λ k d h. (c.loop.invariant.cut k d h).0) (search rules, search rules, search rules, search rules, search rules),
     )
-
-pub returns-after-loop-clause-draws : goal.returns-after-loop-clause-draws
-returns-after-loop-clause-draws g c =
-    all_after HasDrawnNone c.loop.all.items c.push_reserved-in-Ok-new.new.self.items _ c.push_reserved-in-Ok-new.ensures.items c.loop.invariant.free (search rules)
 
 pub split-other-requires-clause-ready : goal.split-other-requires-clause-ready
 split-other-requires-clause-ready g c = grind (arith, common_steps)

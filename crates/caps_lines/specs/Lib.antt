@@ -1,0 +1,3 @@
+pub mod Shell
+pub mod Laws
+pub mod Lines
