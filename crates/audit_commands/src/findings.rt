@@ -7,7 +7,7 @@ use common_types::OutOfMemory;
 use lint_core::{GrantLint, Pool, Standing, lint_rights};
 use std::alloc::Global;
 use std::fmt::Write;
-use verdict_text::{ReadEntity, Spelled, push_shown_text};
+use verdict_text::{ReadEntity, Spelled, push_name};
 
 /// What is wrong with a grant.
 #[derive(Clone, Copy, PartialEq, Eq)]
@@ -55,7 +55,7 @@ impl Finding<'_> {
     /// Adds the entity, the grant's number and what is wrong.
     pub(crate) fn push_line(&self, text: &mut String) -> Result<(), OutOfMemory> {
         let number = self.grant;
-        push_shown_text(text, self.entity)?;
+        push_name(text, self.entity)?;
         write!(text, " {number} ")?;
         self.mistake.push_words(text)
     }

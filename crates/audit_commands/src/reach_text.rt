@@ -4,12 +4,11 @@ use crate::reached_pools::{Giving, ReachedPool};
 use audit_text::push_cell_word;
 use ceph_text::push_ceph_grant;
 use common_types::OutOfMemory;
-use gate_files::push_name;
 use network_core::Network;
 use serde_json::{Value, json};
 use std::alloc::Global;
 use std::fmt::Write;
-use verdict_text::push_shown_text;
+use verdict_text::{push_name, push_shown_text};
 
 /// Adds the network of a grant, if it has one.
 fn push_network(text: &mut String, network: Option<Network>) -> Result<(), OutOfMemory> {

@@ -2,14 +2,13 @@
 -- What entities reach, as a JSON document (this project's profile): a line without blanks, whose members are in the order of
 -- their names. The cells of an entity are in the order of the pools.
 use Rattle.std.specs.Prelude.{ℕ, ◌≡◌, ◌==◌, List, [], ◌∷◌, ◌++◌, Result, Ok, Err, codes, flat_map, map, string_bytes}
-use Rattle.std.specs.List.{after_first}
 use Rattle.serde_json.specs.Data.{Data, array, object, string, member, no_members}
 use Rattle.serde_json.specs.View.{items_of}
 use Rattle.audit_core.specs.declared.cell.Cell.{Cell}
 use Rattle.rights_core.specs.Rights.{Rights}
 use Rattle.share_core.specs.declared.pools.Pool.{Pool}
-use Rattle.verdict_text.specs.Documents.{byte_member, piece, without_comma}
-use Rattle.verdict_text.specs.Reading.{fault_byte, fault_text, first_word}
+use Rattle.verdict_text.specs.Documents.{fault_value, piece, without_comma}
+use Rattle.verdict_text.specs.Reading.{fault_byte, fault_text}
 use Rattle.verdict_text.specs.declared.entity.ReadEntity.{ReadEntity}
 use Rattle.verdict_text.specs.declared.reading.Rules.{Rules}
 use Rattle.verdict_text.specs.declared.reading.Rules.TheVariants as by
@@ -29,14 +28,8 @@ abbrev pub reached_document : Reached → Data
 reached_document one =
     object (member (codes "cells") (array (items_of (map cell_document one.cells.items))) (member (codes "entity") (string (string_bytes one.entity.now.name)) no_members))
 
--- what is behind the first blank
-abbrev pub behind_blank : List ℕ → List ℕ
-behind_blank text = after_first (λ byte. byte == 32) text
-
--- a fault: its byte, if it has one, its name, and its number, with which its printed form begins
 abbrev pub fault_document : TextFault → Data
-fault_document fault =
-    object (byte_member (fault_byte fault) (member (codes "name") (string (first_word (behind_blank (fault_text fault)))) (member (codes "number") (string (first_word (fault_text fault))) no_members)))
+fault_document fault = fault_value (fault_text fault) (fault_byte fault)
 
 abbrev pub unread_document : List ℕ → TextFault → Data
 unread_document name fault = object (member (codes "entity") (string name) (member (codes "fault") (fault_document fault) no_members))

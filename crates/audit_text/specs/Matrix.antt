@@ -8,7 +8,7 @@ use Rattle.audit_core.specs.declared.cell.Cell.{Cell}
 use Rattle.audit_core.specs.declared.cell.Extent.{Extent}
 use Rattle.audit_core.specs.declared.cell.Extent.TheVariants.{Nothing, Part, Whole}
 use Rattle.share_core.specs.declared.pools.Pool.{Pool}
-use Rattle.verdict_text.specs.Caret.{shown}
+use Rattle.verdict_text.specs.ShownName.{shown_name}
 use Rattle.verdict_text.specs.Reading.{fault_text}
 use Rattle.verdict_text.specs.declared.entity.ReadEntity.{ReadEntity}
 use Rattle.verdict_text.specs.declared.reading.Rules.{Rules}
@@ -21,7 +21,7 @@ use Rattle.audit_text.specs.declared.reached.Reached.{Reached}
 -- ---- lines: a label, and a word for each pool
 
 abbrev pub pool_word : Pool → List ℕ
-pool_word pool = shown pool.name
+pool_word pool = shown_name pool.name
 
 abbrev pub head_line : List Pool → Line
 head_line pools = record { label = codes "entity"; words = map pool_word pools }
@@ -40,7 +40,7 @@ lines pools all = head_line pools ∷ row_lines all all
 
 -- the longest word of a cell has 6 letters and brackets
 abbrev pub column_width : Pool → ℕ
-column_width pool = max (length (shown pool.name)) 6
+column_width pool = max (length (shown_name pool.name)) 6
 
 -- a word behind two blanks, at the right of its column
 abbrev pub aligned : ℕ → List ℕ → List ℕ

@@ -8,7 +8,7 @@ use Rattle.audit_core.specs.Reached.{AreCells}
 use Rattle.audit_core.specs.declared.cell.Cell.{Cell}
 use Rattle.rights_core.specs.Rights.{Rights}
 use Rattle.share_core.specs.declared.pools.Pool.{Pool}
-use Rattle.verdict_text.specs.Caret.{shown}
+use Rattle.verdict_text.specs.ShownName.{shown_name}
 use Rattle.verdict_text.specs.declared.entity.ReadEntity.{ReadEntity}
 use Rattle.audit_text.specs.Words.{cell_word}
 use Rattle.audit_text.specs.declared.reached.Reached.{Reached}
@@ -57,4 +57,4 @@ abbrev pub more : ℕ → List ℕ
 more count = if nat_le count 1 then [] else codes " +" ++ decimal (count - 1)
 
 abbrev pub label : List ℕ → ℕ → List ℕ
-label name count = shown name ++ more count
+label name count = shown_name name ++ more count

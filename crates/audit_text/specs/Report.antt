@@ -8,7 +8,7 @@ use Rattle.audit_core.specs.declared.cell.Extent.{Extent}
 use Rattle.audit_core.specs.declared.cell.Extent.TheVariants.{Nothing, Part, Whole}
 use Rattle.rights_core.specs.Rights.{Rights}
 use Rattle.share_core.specs.declared.pools.Pool.{Pool}
-use Rattle.verdict_text.specs.Caret.{shown}
+use Rattle.verdict_text.specs.ShownName.{shown_name}
 use Rattle.verdict_text.specs.Reading.{fault_text}
 use Rattle.verdict_text.specs.declared.entity.ReadEntity.{ReadEntity}
 use Rattle.verdict_text.specs.declared.reading.Rules.{Rules}
@@ -35,7 +35,7 @@ section title (byte ∷ bytes) = title ++ (codes ":\n" ++ (byte ∷ bytes))
 -- an entity whose text is refused, and the fault
 abbrev pub unread_line : ReadEntity → Result Rights TextFault → List ℕ
 unread_line entity (Ok rights) = []
-unread_line entity (Err fault) = codes "  " ++ (shown (string_bytes entity.name) ++ (codes " " ++ (fault_text fault ++ codes "\n")))
+unread_line entity (Err fault) = codes "  " ++ (shown_name (string_bytes entity.name) ++ (codes " " ++ (fault_text fault ++ codes "\n")))
 
 abbrev pub unread_lines : List ReadEntity → List ℕ
 unread_lines entities = flat_map (λ entity. unread_line entity entity.osd.read) entities
@@ -71,14 +71,14 @@ abbrev pub is_unwritten : List Reached → ℕ → Bool
 is_unwritten all number = list_all (leaves_unwritten number) all
 
 abbrev pub unwritten_line : List Reached → ℕ → Pool → List ℕ
-unwritten_line all number pool = if is_unwritten all number then codes "  " ++ (shown pool.name ++ codes "\n") else []
+unwritten_line all number pool = if is_unwritten all number then codes "  " ++ (shown_name pool.name ++ codes "\n") else []
 
 abbrev pub unwritten_lines : List Reached → ℕ → List Pool → List ℕ
 unwritten_lines all number [] = []
 unwritten_lines all number (pool ∷ pools) = unwritten_line all number pool ++ unwritten_lines all (number + 1) pools
 
 abbrev pub member_name : Reached → List ℕ
-member_name one = codes " " ++ shown (string_bytes one.entity.now.name)
+member_name one = codes " " ++ shown_name (string_bytes one.entity.now.name)
 
 -- the names in a row, if it has several
 abbrev pub member_line : List Reached → Reached → List ℕ

@@ -15,7 +15,7 @@ use common_types::OutOfMemory;
 use serde_json::{Value, json};
 use share_core::Pool;
 use std::alloc::Global;
-use verdict_text::{ReadEntity, Rules, TextFault, first_word, piece_of};
+use verdict_text::{ReadEntity, Rules, TextFault, fault_value, piece_of};
 
 fn cell_value(alloc: Global, cell: &Cell) -> Result<Value, OutOfMemory>
     ensures { IfOk result (λ value. view value ≡ cell_document cell.now) }
@@ -60,32 +60,17 @@ fn reached_pieces(alloc: Global, all: &[Reached<'_>]) -> Result<String, OutOfMem
     Ok(text)
 }
 
-/// What is behind the first blank of a text.
-fn behind_blank(text: &str) -> &str
-    ensures { result.now ≡ spec.behind_blank text.now }
-{
-    match text.split_once(' ') {
-        Some((_, rest)) => rest,
-        None => "",
-    }
-}
-
-fn fault_value(alloc: Global, fault: TextFault) -> Result<Value, OutOfMemory>
+fn value_of_fault(alloc: Global, fault: TextFault) -> Result<Value, OutOfMemory>
     ensures { IfOk result (λ value. view value ≡ fault_document fault) }
 {
     let printed = format!(in alloc; "{fault}")?;
-    let number = first_word(printed.as_str());
-    let name = first_word(behind_blank(printed.as_str()));
-    match fault.byte() {
-        Some(byte) => json!(in alloc; {"byte": byte, "name": name, "number": number}),
-        None => json!(in alloc; {"name": name, "number": number}),
-    }
+    fault_value(alloc, printed.as_str(), fault.byte())
 }
 
 fn unread_value(alloc: Global, name: &str, fault: TextFault) -> Result<Value, OutOfMemory>
     ensures { IfOk result (λ value. view value ≡ unread_document name.now fault) }
 {
-    let fault = fault_value(alloc, fault)?;
+    let fault = value_of_fault(alloc, fault)?;
     json!(in alloc; {"entity": name, "fault": fault})
 }
 

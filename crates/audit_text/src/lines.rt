@@ -4,7 +4,7 @@ ghost use Rattle.std.specs.Prelude.{◌≡◌, ◌++◌, ◌∷◌, [], IfOk, On
 ghost use Rattle.audit_text.specs.Matrix as spec;
 ghost use Rattle.audit_text.specs.Reached.{label, more};
 ghost use Rattle.audit_text.specs.Words.{cell_word};
-ghost use Rattle.verdict_text.specs.Caret.{shown};
+ghost use Rattle.verdict_text.specs.ShownName as names;
 
 use crate::reached::{Reached, is_first, row_count};
 use crate::words::push_cell_word;
@@ -13,7 +13,7 @@ use common_types::{Items, Name, OutOfMemory};
 use share_core::Pool;
 use std::alloc::Global;
 use std::fmt::Write;
-use verdict_text::push_shown_text;
+use verdict_text::push_name;
 
 /// A line of the matrix: a label, and a word for each pool.
 #[derive(Debug, Drop)]
@@ -24,10 +24,10 @@ pub(crate) struct Line {
 
 /// A text as it is shown.
 fn shown_name(alloc: Global, text: &str) -> Result<Name, OutOfMemory>
-    ensures { IfOk result (λ name. name ≡ shown text.now) }
+    ensures { IfOk result (λ name. name ≡ names.shown_name text.now) }
 {
     let mut shown = String::new(alloc);
-    push_shown_text(&mut shown, text)?;
+    push_name(&mut shown, text)?;
     Ok(Name::from_string(shown))
 }
 
@@ -54,7 +54,7 @@ fn push_more(text: &mut String, count: usize) -> Result<(), OutOfMemory>
 pub(crate) fn push_label(text: &mut String, name: &str, count: usize) -> Result<(), OutOfMemory>
     ensures { OnOk result (string_bytes text.new ≡ string_bytes text.old ++ label name.now count) }
 {
-    push_shown_text(text, name)?;
+    push_name(text, name)?;
     push_more(text, count)
 }
 

@@ -4,13 +4,13 @@ ghost use Rattle.std.specs.Prelude.{◌≡◌, ◌≤◌, ◌<◌, ◌-◌, ◌+
 ghost use Rattle.std.specs.List.{slice_range, All};
 ghost use Rattle.audit_text.specs.Matrix as spec;
 ghost use Rattle.audit_text.specs.Matrix.{AreParts, IsPart, IsMatrix};
-ghost use Rattle.verdict_text.specs.Caret.{shown};
+ghost use Rattle.verdict_text.specs.ShownName.{shown_name};
 
 use crate::lines::Line;
 use common_types::{Name, OutOfMemory};
 use share_core::Pool;
 use std::alloc::Global;
-use verdict_text::push_shown_text;
+use verdict_text::push_name;
 
 /// The longest word of a cell: letters and brackets.
 const MAX_WORD_LENGTH: usize = 6;
@@ -29,7 +29,7 @@ fn column_width(alloc: Global, pool: &Pool) -> Result<usize, OutOfMemory>
     ensures { IfOk result (λ width. width ≡ spec.column_width pool.now) }
 {
     let mut name = String::new(alloc);
-    push_shown_text(&mut name, pool.name.as_str())?;
+    push_name(&mut name, pool.name.as_str())?;
     Ok(name.len().max(MAX_WORD_LENGTH))
 }
 

@@ -14,7 +14,7 @@ use common_types::OutOfMemory;
 use share_core::Pool;
 use std::alloc::Global;
 use std::fmt::Write;
-use verdict_text::{ReadEntity, Rules, push_shown_text};
+use verdict_text::{ReadEntity, Rules, push_name};
 
 /// What stands below the rules.
 const LEGEND: &str =
@@ -59,7 +59,7 @@ fn push_unread(text: &mut String, entity: &ReadEntity) -> Result<(), OutOfMemory
         Ok(_) => Ok(()),
         Err(fault) => {
             text.push_str("  ")?;
-            push_shown_text(text, entity.name.as_str())?;
+            push_name(text, entity.name.as_str())?;
             write!(text, " {fault}\n")
         }
     }
@@ -168,7 +168,7 @@ fn push_unwritten(
 {
     if is_unwritten(all, number) {
         text.push_str("  ")?;
-        push_shown_text(text, pool.name.as_str())?;
+        push_name(text, pool.name.as_str())?;
         return text.push_str("\n");
     }
     Ok(())
@@ -195,7 +195,7 @@ fn push_names(text: &mut String, all: &[Reached<'_>], one: &Reached<'_>) -> Resu
     for other in all {
         if is_alike(one, other) {
             text.push_str(" ")?;
-            push_shown_text(text, other.entity.name.as_str())?;
+            push_name(text, other.entity.name.as_str())?;
         }
     }
     Ok(())
@@ -261,8 +261,8 @@ fn push_lists(
 /// entity and a column for each pool, in their orders, and lists below it. Entities with one text are one row, with their number
 /// behind the first name; a list below names them. The columns are in blocks that fit into a width, in bytes.
 ///
-/// An entity whose text is refused has no row and stands in a list of its own. A name's bytes outside 32 to 126 are shown as `\x`
-/// and two hexadecimal digits. The only error is out of memory.
+/// An entity whose text is refused has no row and stands in a list of its own. Names are written by
+/// [`verdict_text::push_name`]. The only error is out of memory.
 pub fn audit_text(
     alloc: Global,
     rules: Rules,

@@ -2,12 +2,12 @@
 
 use command_steps::NoAnswer;
 use common_types::OutOfMemory;
-use gate_files::{FileFault, InputFiles, Screen, pointed_line, push_name, read_text, without_mark};
+use gate_files::{FileFault, InputFiles, Screen, pointed_line, read_text, without_mark};
 use rules_text::{BadRule, RuleLine, read_rules};
 use std::alloc::Global;
 use std::fmt::Write;
 use std::io::Read;
-use verdict_text::{ReadEntity, Reader};
+use verdict_text::{ReadEntity, Reader, push_name};
 
 /// The words for a file in front of what is wrong with it.
 fn file_words(alloc: Global, path: &str) -> Result<String, OutOfMemory> {

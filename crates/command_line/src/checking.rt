@@ -2,10 +2,11 @@
 
 use crate::bad_line::slip_of;
 use common_types::OutOfMemory;
-use gate_files::{Screen, pointed_line, push_name};
+use gate_files::{Screen, pointed_line};
 use script_text::{Line, Lines};
 use std::alloc::Global;
 use std::fmt::Write;
+use verdict_text::push_name;
 use world_script::{Command, read_line};
 
 const OSDS_FIRST: &str =

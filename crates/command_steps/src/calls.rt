@@ -7,11 +7,10 @@ use clap::ArgMatches;
 use class_table::{MethodFlags, RELEASE, default_list, find, is_listed};
 use command_arguments::is_option;
 use common_types::OutOfMemory;
-use gate_files::push_name;
 use object_core::Op;
 use std::alloc::Global;
 use verdict_core::ClassCall;
-use verdict_text::Rules;
+use verdict_text::{Rules, push_name};
 
 /// Where methods are looked up, and which classes are listed.
 #[derive(Clone, Copy)]

@@ -4,32 +4,19 @@ use common_types::OutOfMemory;
 use gate_files::Unchecked;
 use serde_json::{Value, json};
 use std::alloc::Global;
-use verdict_text::{Printed, TextFault, first_word};
+use verdict_text::{Printed, TextFault, fault_value};
 
 /// How a line on standard error begins that is a note.
 const NOTE: &str = "osdgate: ";
 
-/// The name of a fault, which its printed form has behind the number.
-fn name_of(printed: &str) -> &str {
-    match printed.split_once(' ') {
-        Some((_, behind)) => first_word(behind),
-        None => "",
-    }
-}
-
-/// A fault: its number, its name, and its byte if it has one.
-fn fault_value(alloc: Global, fault: TextFault) -> Result<Value, OutOfMemory> {
+/// A fault as a JSON object, as [`verdict_text::fault_value`] makes it. The only error is out of memory.
+pub fn text_fault_value(alloc: Global, fault: TextFault) -> Result<Value, OutOfMemory> {
     let printed = format!(in alloc; "{fault}")?;
-    let number = first_word(printed.as_str());
-    let name = name_of(printed.as_str());
-    match fault.byte() {
-        Some(byte) => json!(in alloc; {"byte": byte, "name": name, "number": number}),
-        None => json!(in alloc; {"name": name, "number": number}),
-    }
+    fault_value(alloc, printed.as_str(), fault.byte())
 }
 
 fn entity_value(alloc: Global, unchecked: &Unchecked) -> Result<Value, OutOfMemory> {
-    let fault = fault_value(alloc, unchecked.fault)?;
+    let fault = text_fault_value(alloc, unchecked.fault)?;
     let name = unchecked.name.as_str();
     json!(in alloc; {"entity": name, "fault": fault})
 }
@@ -54,13 +41,10 @@ pub fn notes_value(alloc: Global, lines: &str) -> Result<Value, OutOfMemory> {
     Ok(Value::from(items))
 }
 
-/// The document of a text that is refused, on a line: its fault, and its byte if a byte is at fault.
+/// The document of a text that is refused, on a line: its fault.
 pub fn refused_text(alloc: Global, fault: TextFault) -> Result<Printed, OutOfMemory> {
-    let printed = format!(in alloc; "{fault}")?;
-    let document: Value = match fault.byte() {
-        Some(byte) => json!(in alloc; {"byte": byte, "fault": printed})?,
-        None => json!(in alloc; {"fault": printed})?,
-    };
+    let fault = text_fault_value(alloc, fault)?;
+    let document: Value = json!(in alloc; {"fault": fault})?;
     let mut text = document.to_string(alloc)?;
     text.push_str("\n")?;
     Ok(Printed { text, fails: true })

@@ -3,10 +3,11 @@
 use crate::no_answer::NoAnswer;
 use clap::ArgMatches;
 use common_types::OutOfMemory;
-use gate_files::{Choice, FileFault, InputFiles, push_name, read_text, without_mark};
+use gate_files::{Choice, FileFault, InputFiles, read_text, without_mark};
 use std::alloc::Global;
 use std::fmt::Write;
 use std::io::Read;
+use verdict_text::push_name;
 
 /// What is before the path of a file of patterns. No entity's name begins so.
 const FILE_MARK: char = '@';

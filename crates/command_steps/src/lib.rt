@@ -28,7 +28,7 @@ pub use bad_words::{BadWords, NoRequest};
 pub use by_rules::{rules_note, with_rules_of};
 pub use calls::CallRules;
 pub use colours::{Colours, colours_of};
-pub use documents::{notes_value, refused_text};
+pub use documents::{notes_value, refused_text, text_fault_value};
 pub use finishing::{
     DONE, FOUND, TROUBLE, finish_answer, finish_unanswered, refuse_command, refuse_words, write_out,
 };

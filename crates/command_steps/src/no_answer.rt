@@ -2,9 +2,10 @@
 
 use crate::bad_words::{BadWords, NoRequest};
 use common_types::OutOfMemory;
-use gate_files::{FileFault, Purpose, push_name};
+use gate_files::{FileFault, Purpose};
 use std::alloc::{AllocError, AllocFailed, Global};
 use std::fmt;
+use verdict_text::push_name;
 
 /// A file that is not what it is read for.
 #[derive(Drop)]

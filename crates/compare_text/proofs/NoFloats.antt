@@ -1,19 +1,46 @@
 -- No document of a comparison has a float.
-use Rattle.std.proofs.Common.{◌≡◌, ℕ, List, ◌||◌, false, Option, None, Some, codes, refl, ap, ◌∙◌}
-use Rattle.serde_json.specs.Data.{member, no_members, object, string}
-use Rattle.serde_json.specs.Written.{has_float}
-use Rattle.verdict_text.proofs.NoFloats.{each}
+use Rattle.std.proofs.Common.{◌≡◌, ℕ, List, ◌||◌, false, Option, None, Some, map, refl, ap, ◌∙◌}
+use Rattle.serde_json.specs.Data.{Members, array}
+use Rattle.serde_json.specs.View.{items_of}
+use Rattle.serde_json.specs.Written.{has_float, members_have_float}
+use Rattle.verdict_text.proofs.NoFloats.{each, of_fault_value}
+use Rattle.common_types.specs.declared.tags.AppTags.{AppTags}
+use Rattle.network_core.specs.declared.address.Address.{Address}
+use Rattle.request_types.specs.Target.{Target}
 use Rattle.compare_text.specs.Compared.{compared_document, example_document, examples_document, side_document}
-use Rattle.compare_text.specs.Entities.{became, change_document, unjudged_document}
+use Rattle.compare_text.specs.Entities.{change_document, unjudged_document}
+use Rattle.compare_text.specs.RequestDocument.{addressed_document, call_document, from_member, key_document, request_members, tag_document, target_document}
 use Rattle.compare_text.specs.declared.relation.Relation.{Relation}
 use Rattle.compare_text.specs.declared.widening.AddressedExample.{AddressedExample}
 use Rattle.verdict_text.specs.declared.reading.TextFault.{TextFault}
-use Rattle.verdict_text.specs.Documents.{byte_member}
 use Rattle.verdict_text.specs.Reading.{fault_byte, fault_text}
 use Rattle.compare_text.specs.declared.relation.Presence.{Presence}
 
+from_free : (from : Option Address) (members : Members) → members_have_float (from_member from members) ≡ members_have_float members
+from_free None members = refl
+from_free (Some address) members = refl
+
+of_tag : (app : AppTags) → has_float (tag_document app) ≡ false
+of_tag app = ap (λ b. b || false) (each key_document (λ _. refl) app.pairs)
+
+-- a target's tags have none
+tags_free : (tags : List AppTags) → has_float (array (items_of (map tag_document tags))) ≡ false
+tags_free tags = each tag_document of_tag tags
+
+-- nor has the object of a target
+pub of_target : (target : Target) → has_float (target_document target) ≡ false
+of_target target = ap (λ b. b || false) (tags_free target.tags)
+
+pub of_addressed : (found : AddressedExample) → has_float (addressed_document found) ≡ false
+of_addressed found =
+    ap (λ b. b || members_have_float (from_member found.from (request_members found.example))) (each call_document (λ _. refl) found.example.needs.calls)
+    ∙ (from_free found.from (request_members found.example) ∙ ap (λ b. b || false) (tags_free found.example.target.tags))
+
+of_example : (found : AddressedExample) → has_float (example_document found) ≡ false
+of_example found = ap (λ b. b || false) (of_addressed found)
+
 pub of_examples : (examples : List AddressedExample) → has_float (examples_document examples) ≡ false
-of_examples examples = each example_document (λ _. refl) examples
+of_examples examples = each example_document of_example examples
 
 both : (gained lost : List AddressedExample) → (has_float (examples_document gained) || (has_float (examples_document lost) || false)) ≡ false
 both gained lost = ap (λ b. b || (has_float (examples_document lost) || false)) (of_examples gained) ∙ ap (λ b. b || false) (of_examples lost)
@@ -21,21 +48,11 @@ both gained lost = ap (λ b. b || (has_float (examples_document lost) || false))
 pub of_compared : (relation : Relation) (gained lost : List AddressedExample) → has_float (compared_document relation gained lost) ≡ false
 of_compared relation gained lost = both gained lost
 
-side_with : (byte : Option ℕ) (fault side : List ℕ)
-    → has_float (object (byte_member byte (member (codes "fault") (string fault) (member (codes "side") (string side) no_members)))) ≡ false
-side_with (Some at) fault side = refl
-side_with None fault side = refl
-
 pub of_side : (side : List ℕ) (fault : TextFault) → has_float (side_document side fault) ≡ false
-of_side side fault = side_with (fault_byte fault) (fault_text fault) side
+of_side side fault = ap (λ b. b || false) (of_fault_value (fault_text fault) (fault_byte fault))
 
 pub of_change : (name word : List ℕ) (gained lost : List AddressedExample) → has_float (change_document name word gained lost) ≡ false
 of_change name word gained lost = both gained lost
 
-unjudged_with : (byte : Option ℕ) (change name fault : List ℕ)
-    → has_float (object (byte_member byte (member (codes "change") (string change) (member (codes "entity") (string name) (member (codes "fault") (string fault) no_members))))) ≡ false
-unjudged_with (Some at) change name fault = refl
-unjudged_with None change name fault = refl
-
 pub of_unjudged : (name : List ℕ) (presence : Presence) (fault : TextFault) → has_float (unjudged_document name presence fault) ≡ false
-of_unjudged name presence fault = unjudged_with (fault_byte fault) (became presence) name (fault_text fault)
+of_unjudged name presence fault = ap (λ b. b || false) (of_fault_value (fault_text fault) (fault_byte fault))

@@ -7,10 +7,11 @@ use Rattle.compare_core.specs.declared.registry.Registry.{Registry}
 use Rattle.rights_core.specs.Rights.{NetworkGrant}
 use Rattle.serde_json.specs.Data.{Data, array, object, string, member, no_members}
 use Rattle.serde_json.specs.View.{items_of}
-use Rattle.verdict_text.specs.Documents.{byte_member, json_line}
+use Rattle.verdict_text.specs.Documents.{fault_value, json_line}
 use Rattle.compare_text.specs.Addresses.{AnswersFrom, WidensFrom}
 use Rattle.compare_text.specs.Relation.{is_wider, relation_word}
-use Rattle.compare_text.specs.Request.{addressed_words, example_lines}
+use Rattle.compare_text.specs.Request.{example_lines}
+use Rattle.compare_text.specs.RequestDocument.{addressed_document}
 use Rattle.verdict_text.specs.declared.format.Format.{Format}
 use Rattle.verdict_text.specs.declared.format.Format.TheVariants.{Text, Json}
 use Rattle.compare_text.specs.declared.relation.Relation.{Relation}
@@ -46,7 +47,7 @@ compared_text relation gained lost = relation_word relation ++ (codes "\n" ++ ex
 -- an example's request, and the path of its grant
 abbrev pub example_document : AddressedExample → Data
 example_document found =
-    object (member (codes "example") (string (addressed_words found)) (member (codes "path") (string (printed_path found.example.path)) no_members))
+    object (member (codes "example") (addressed_document found) (member (codes "path") (string (printed_path found.example.path)) no_members))
 
 abbrev pub examples_document : List AddressedExample → Data
 examples_document examples = array (items_of (map example_document examples))
@@ -76,7 +77,7 @@ pub record IsCompared (how : Comparison) (old new : List NetworkGrant) (text : L
 -- the fault of a side
 abbrev pub side_document : List ℕ → TextFault → Data
 side_document side fault =
-    object (byte_member (fault_byte fault) (member (codes "fault") (string (fault_text fault)) (member (codes "side") (string side) no_members)))
+    object (member (codes "fault") (fault_value (fault_text fault) (fault_byte fault)) (member (codes "side") (string side) no_members))
 
 abbrev pub side_by : Format → List ℕ → TextFault → List ℕ
 side_by Text side fault = refused_side side fault

@@ -6,7 +6,7 @@ use Rattle.std.specs.Prelude.{ℕ, ◌≡◌, ◌&&◌, ◌||◌, List, [], ◌�
 use Rattle.std.specs.Str.{bytes_eq}
 use Rattle.rights_core.specs.Rights.{NetworkGrant, Rights}
 use Rattle.serde_json.specs.Data.{Data, object, string, member, no_members}
-use Rattle.verdict_text.specs.Caret.{shown}
+use Rattle.verdict_text.specs.ShownName.{shown_name}
 use Rattle.verdict_text.specs.EachTold.{AreAllTold}
 use Rattle.verdict_text.specs.Named.{entity_in}
 use Rattle.compare_text.specs.Relation.{is_wider, word_of}
@@ -14,7 +14,7 @@ use Rattle.compare_text.specs.Request.{indented_lines}
 use Rattle.verdict_text.specs.Reading.{IsReading, Reading, fault_byte, fault_number, fault_text}
 use Rattle.compare_text.specs.Addresses.{AnswersFrom}
 use Rattle.compare_text.specs.Compared.{IsRelation, examples_document}
-use Rattle.verdict_text.specs.Documents.{byte_member, entities_by, piece}
+use Rattle.verdict_text.specs.Documents.{entities_by, fault_value, piece}
 use Rattle.compare_text.specs.declared.comparison.Comparison.{Comparison}
 use Rattle.verdict_text.specs.declared.format.Format.{Format}
 use Rattle.verdict_text.specs.declared.format.Format.TheVariants.{Text, Json}
@@ -29,7 +29,7 @@ use Rattle.compare_text.specs.declared.relation.Presence.TheVariants.{Both, New,
 -- a line, and below it the examples, indented; without a word there is nothing
 abbrev pub change_lines : List ℕ → Option (List ℕ) → List AddressedExample → List AddressedExample → List ℕ
 change_lines name None gained lost = []
-change_lines name (Some word) gained lost = shown name ++ (codes " " ++ (word ++ (codes "\n" ++ indented_lines gained lost)))
+change_lines name (Some word) gained lost = shown_name name ++ (codes " " ++ (word ++ (codes "\n" ++ indented_lines gained lost)))
 
 -- what became of the text of an entity that is not checked
 abbrev pub became : Presence → List ℕ
@@ -40,7 +40,7 @@ became Gone = codes "gone"
 -- the line of an entity of which a text has no grants here: the number of the fault, and what became of the text
 abbrev pub unjudged_line : List ℕ → Presence → TextFault → List ℕ
 unjudged_line name presence fault =
-    shown name ++ (codes " not checked: " ++ (fault_number fault ++ (codes ", " ++ (became presence ++ codes "\n"))))
+    shown_name name ++ (codes " not checked: " ++ (fault_number fault ++ (codes ", " ++ (became presence ++ codes "\n"))))
 
 -- the same as a piece of a document
 abbrev pub change_document : List ℕ → List ℕ → List AddressedExample → List AddressedExample → Data
@@ -60,9 +60,7 @@ change_by Json name word gained lost = change_piece name word gained lost
 -- the whole fault
 abbrev pub unjudged_document : List ℕ → Presence → TextFault → Data
 unjudged_document name presence fault =
-    object
-    (byte_member (fault_byte fault)
-    (member (codes "change") (string (became presence)) (member (codes "entity") (string name) (member (codes "fault") (string (fault_text fault)) no_members))))
+    object (member (codes "change") (string (became presence)) (member (codes "entity") (string name) (member (codes "fault") (fault_value (fault_text fault) (fault_byte fault)) no_members)))
 
 abbrev pub unjudged_by : Format → List ℕ → Presence → TextFault → List ℕ
 unjudged_by Text name presence fault = unjudged_line name presence fault

@@ -3,6 +3,7 @@ pub mod Calls
 pub mod Addresses
 pub mod Deciding
 pub mod Request
+pub mod RequestDocument
 pub mod Relation
 pub mod Compared
 pub mod Entities

@@ -19,8 +19,7 @@ use rights_core::Rights;
 use std::alloc::Global;
 use std::fmt::Write;
 use verdict_text::{
-    Entity, Format, Printed, Reader, Reading, TextFault, entities_by, push_fault_number,
-    push_shown_text,
+    Entity, Format, Printed, Reader, Reading, TextFault, entities_by, push_fault_number, push_name,
 };
 
 /// The lines of an entity's change, or nothing where there is no word for it.
@@ -34,7 +33,7 @@ fn change_lines(
 {
     let mut text = String::new(alloc);
     if let Some(word) = word_of(pair.presence, relation) {
-        push_shown_text(&mut text, pair.name)?;
+        push_name(&mut text, pair.name)?;
         write!(text, " {word}\n")?;
         push_indented_lines(&mut text, &change.gained, &change.lost)?;
     }
@@ -93,7 +92,7 @@ fn unjudged_line(
     ensures { IfOk result (λ text. string_bytes text ≡ spec.unjudged_line name.now presence fault) }
 {
     let mut text = String::new(alloc);
-    push_shown_text(&mut text, name)?;
+    push_name(&mut text, name)?;
     text.push_str(" not checked: ")?;
     push_fault_number(&mut text, alloc, fault)?;
     text.push_str(", ")?;
@@ -274,8 +273,8 @@ pub fn compare_pairs(
 /// of the first fault. Then the command fails. With a check it also fails where an entity's new text allows something
 /// that its old one denies.
 ///
-/// Where a list has a name twice, an entity of the other list is compared with the first of them. A name's bytes
-/// outside 32 to 126 are shown as `\x` and two hexadecimal digits.
+/// Where a list has a name twice, an entity of the other list is compared with the first of them. Names are
+/// written by [`verdict_text::push_name`].
 ///
 /// As a document it has the member `entities`. Each item has `entity`, `change`, which is WORD, `gained` and `lost`.
 /// Each item of the latter two has `path` and `example`. Where a text is refused, the entity's item has `entity`,

@@ -9,12 +9,12 @@ ghost use Rattle.compare_text.specs.Entities.{change_document, unjudged_document
 use crate::compare::Change;
 use crate::compare_auth::became;
 use crate::relation::{Presence, Relation};
-use crate::request::push_addressed;
+use crate::request_json::addressed_value;
 use crate::widening::AddressedExample;
 use common_types::OutOfMemory;
 use serde_json::{Value, json};
 use std::alloc::Global;
-use verdict_text::{TextFault, json_line, piece_of};
+use verdict_text::{TextFault, fault_value, json_line, piece_of};
 
 /// An example, and the path of its grant.
 fn example_value(alloc: Global, found: &AddressedExample) -> Result<Value, OutOfMemory>
@@ -22,8 +22,7 @@ fn example_value(alloc: Global, found: &AddressedExample) -> Result<Value, OutOf
 {
     let path = &found.example.path;
     let path = format!(in alloc; "{path}")?;
-    let mut request = String::new(alloc);
-    push_addressed(&mut request, found)?;
+    let request = addressed_value(alloc, found)?;
     json!(in alloc; {"example": request, "path": path})
 }
 
@@ -62,10 +61,8 @@ fn side_value(alloc: Global, side: &str, fault: TextFault) -> Result<Value, OutO
     ensures { IfOk result (λ value. view value ≡ side_document side.now fault) }
 {
     let text = format!(in alloc; "{fault}")?;
-    match fault.byte() {
-        Some(byte) => json!(in alloc; {"byte": byte, "fault": text, "side": side}),
-        None => json!(in alloc; {"fault": text, "side": side}),
-    }
+    let fault = fault_value(alloc, text.as_str(), fault.byte())?;
+    json!(in alloc; {"fault": fault, "side": side})
 }
 
 /// The document of a side that is refused, on a line.
@@ -111,13 +108,9 @@ fn unjudged_value(
     ensures { IfOk result (λ value. view value ≡ unjudged_document name.now presence fault) }
 {
     let text = format!(in alloc; "{fault}")?;
+    let fault = fault_value(alloc, text.as_str(), fault.byte())?;
     let change = became(presence);
-    match fault.byte() {
-        Some(byte) => {
-            json!(in alloc; {"byte": byte, "change": change, "entity": name, "fault": text})
-        }
-        None => json!(in alloc; {"change": change, "entity": name, "fault": text}),
-    }
+    json!(in alloc; {"change": change, "entity": name, "fault": fault})
 }
 
 /// The piece of an entity one of whose texts is refused.

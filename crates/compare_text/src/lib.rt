@@ -12,6 +12,7 @@ mod comparison;
 mod pairs;
 mod relation;
 mod request;
+mod request_json;
 mod widening;
 
 pub use compare::{Change, compare_read, compare_text, print_change};
@@ -20,4 +21,5 @@ pub use comparison::Comparison;
 pub use pairs::{ReadPair, read_pairs};
 pub use relation::{Presence, Relation};
 pub use request::{push_request, push_target};
+pub use request_json::{addressed_value, target_value};
 pub use widening::{AddressedExample, widening_from};

@@ -6,10 +6,10 @@ use clap::ArgMatches;
 use command_steps::{BadWords, NoAnswer, RequestWords, value_of};
 use common_types::{Name, OutOfMemory, Tags, TryClone};
 use compare_core::{Example, OwnedTarget};
-use compare_text::push_request;
+use compare_text::{AddressedExample, addressed_value, push_request};
 use grant_core::Path;
-use network_core::Address;
 use rights_core::{Rights, addresses, tickets};
+use serde_json::Value;
 use share_core::{Pool, Touch, example_in, share_in, sharing};
 use std::alloc::{AllocError, Global};
 use std::fmt::Write;
@@ -44,13 +44,6 @@ impl Drop for AnyRequest {
             lists: _,
         } = self;
     }
-}
-
-/// An allowed request: where it goes, and the address that it comes from if that matters.
-#[derive(Drop)]
-pub(crate) struct Allowed {
-    target: OwnedTarget,
-    from: Option<Address>,
 }
 
 /// The one thing that is requested: a read, a write or a call.
@@ -150,7 +143,7 @@ impl AnyRequest {
         &self,
         alloc: Global,
         rights: &Rights,
-    ) -> Result<Option<Allowed>, OutOfMemory> {
+    ) -> Result<Option<AddressedExample>, OutOfMemory> {
         let samples = addresses(alloc, &[rights])?;
         let tickets = tickets(alloc, rights, samples.as_slice())?;
         for (address, ticket) in samples.iter().zip(tickets.iter()) {
@@ -160,7 +153,8 @@ impl AnyRequest {
                 } else {
                     None
                 };
-                return Ok(Some(Allowed { target, from }));
+                let example = self.example(alloc, target)?;
+                return Ok(Some(AddressedExample { from, example }));
             }
         }
         Ok(None)
@@ -206,44 +200,50 @@ impl AnyRequest {
         })
     }
 
-    /// The request at a target in words of a shell.
-    fn words(&self, alloc: Global, target: OwnedTarget) -> Result<String, OutOfMemory> {
-        let example = Example {
+    /// The request at a target.
+    fn example(&self, alloc: Global, target: OwnedTarget) -> Result<Example, OutOfMemory> {
+        Ok(Example {
             path: Path::of(alloc, &[])?,
             target,
             needs: self.needs()?,
-        };
+        })
+    }
+
+    /// An allowed request in words of a shell.
+    pub(crate) fn words(
+        &self,
+        alloc: Global,
+        allowed: &AddressedExample,
+    ) -> Result<String, OutOfMemory> {
         let mut words = String::new(alloc);
-        push_request(&mut words, &example)?;
+        push_request(&mut words, &allowed.example)?;
+        if self.lists {
+            words = listing_words(alloc, words.as_str())?;
+        }
+        if let Some(address) = &allowed.from {
+            write!(words, " --from {address}")?;
+        }
         Ok(words)
     }
 
-    /// Adds an allowed request in words of a shell.
-    pub(crate) fn push_words(
+    /// An allowed request as a JSON object.
+    pub(crate) fn value(
         &self,
-        text: &mut String,
         alloc: Global,
-        allowed: Allowed,
-    ) -> Result<(), OutOfMemory> {
-        let Allowed { target, from } = allowed;
-        let words = self.words(alloc, target)?;
-        if self.lists {
-            push_listing(text, words.as_str())?;
-        } else {
-            text.push_str(words.as_str())?;
+        allowed: &AddressedExample,
+    ) -> Result<Value, OutOfMemory> {
+        let mut value = addressed_value(alloc, allowed)?;
+        let words = self.words(alloc, allowed)?;
+        if let Some(command) = value.get_mut("command") {
+            *command = Value::from(words);
         }
-        match from {
-            None => Ok(()),
-            Some(address) => write!(text, " --from {address}"),
-        }
+        Ok(value)
     }
 }
 
-/// Adds a read of the empty object's name as a listing.
-fn push_listing(text: &mut String, words: &str) -> Result<(), OutOfMemory> {
+/// A read of the empty object's name as a listing.
+fn listing_words(alloc: Global, words: &str) -> Result<String, OutOfMemory> {
     let words = words.strip_suffix(READS).unwrap_or(words);
     let (front, behind) = words.split_once(NO_OBJECT).unwrap_or((words, ""));
-    text.push_str(front)?;
-    text.push_str(behind)?;
-    text.push_str(" --list")
+    format!(in alloc; "{front}{behind} --list")
 }

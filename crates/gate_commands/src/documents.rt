@@ -1,22 +1,19 @@
 //! Documents of texts: of one of two that is refused, and of one that is tidied.
 
-use command_steps::Answered;
+use command_steps::{Answered, text_fault_value};
 use common_types::OutOfMemory;
 use serde_json::{Value, json};
 use std::alloc::Global;
 use verdict_text::{Printed, TextFault};
 
-/// The document of one of two texts that is refused: which one, its fault, and its byte if a byte is at fault.
+/// The document of one of two texts that is refused: its fault, and which one it is.
 pub(crate) fn refused_side(
     alloc: Global,
     side: &str,
     fault: TextFault,
 ) -> Result<Printed, OutOfMemory> {
-    let printed = format!(in alloc; "{fault}")?;
-    let document: Value = match fault.byte() {
-        Some(byte) => json!(in alloc; {"byte": byte, "fault": printed, "side": side})?,
-        None => json!(in alloc; {"fault": printed, "side": side})?,
-    };
+    let fault = text_fault_value(alloc, fault)?;
+    let document: Value = json!(in alloc; {"fault": fault, "side": side})?;
     let mut text = document.to_string(alloc)?;
     text.push_str("\n")?;
     Ok(Printed { text, fails: true })

@@ -18,7 +18,7 @@ use lint_text::{lint_read, lint_read_entities, tidy_read};
 use rights_core::Rights;
 use std::alloc::Global;
 use std::io::Read;
-use verdict_text::{Format, Printed, ReadEntity, ReadText, Reader, Rules, push_shown_text};
+use verdict_text::{Format, Printed, ReadEntity, ReadText, Reader, Rules, push_name};
 
 /// What is asked of a text or of entities.
 #[derive(Clone, Copy)]
@@ -193,7 +193,7 @@ fn known_entity(
         return Ok(None);
     };
     let mut before = String::new(alloc);
-    push_shown_text(&mut before, entity.name.as_str())?;
+    push_name(&mut before, entity.name.as_str())?;
     before.push_str(" ")?;
     known_lines(alloc, how, before.as_str(), rights, count)
 }

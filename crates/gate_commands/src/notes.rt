@@ -3,12 +3,12 @@
 use command_arguments::is_option;
 use command_steps::{Answered, RequestWords, call_of, with_line};
 use common_types::OutOfMemory;
-use gate_files::{Choice, Chosen, push_name, taken_line};
+use gate_files::{Choice, Chosen, taken_line};
 use object_core::{NeedsFault, needs_of, registry};
 use std::alloc::{AllocError, Global};
 use std::fmt::Write;
 use verdict_core::Condition;
-use verdict_text::{Answer, Asked, ReadEntity, Verdict, answer_of, needs_asked};
+use verdict_text::{Answer, Asked, ReadEntity, Verdict, answer_of, needs_asked, push_name};
 
 /// The tick of each request that `who` answers.
 pub(crate) const FIRST_TICK: u64 = 0;

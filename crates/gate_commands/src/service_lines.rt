@@ -1,10 +1,10 @@
 //! What is printed of the texts of services other than object stores. They are compared as texts: what they allow is not decided.
 
 use common_types::OutOfMemory;
-use gate_files::{Service, ServiceChange, ServiceText, can_raise, push_name};
+use gate_files::{Service, ServiceChange, ServiceText, can_raise};
 use serde_json::{Value, json};
 use std::alloc::Global;
-use verdict_text::{Format, push_shown_text};
+use verdict_text::{Format, push_name, push_shown_text};
 
 /// Adds a line of a text that a file has, behind a sign.
 fn push_side(text: &mut String, sign: &str, side: Option<&str>) -> Result<(), OutOfMemory> {

@@ -5,25 +5,26 @@ use crate::notes::{TagNames, tags_line, with_tag_names};
 use crate::who::WhoArguments;
 use command_steps::{Answered, RequestWords};
 use common_types::OutOfMemory;
-use gate_files::{Choice, Chosen, push_name};
+use gate_files::{Choice, Chosen};
 use serde_json::{Value, json};
 use std::alloc::Global;
-use verdict_text::{Format, Printed, ReadEntity, entities_by};
+use verdict_text::{Format, Printed, ReadEntity, entities_by, push_name};
 
-/// Adds an entity with its example, as a line or as a piece of a list.
-fn push_entity(
+/// Adds the line of an entity and its example.
+fn push_line(text: &mut String, name: &str, example: &str) -> Result<(), OutOfMemory> {
+    push_name(text, name)?;
+    text.push_str(" ")?;
+    text.push_str(example)?;
+    text.push_str("\n")
+}
+
+/// Adds the piece of an entity and its example.
+fn push_piece(
     text: &mut String,
     alloc: Global,
     name: &str,
-    example: &str,
-    format: Format,
+    example: Value,
 ) -> Result<(), OutOfMemory> {
-    if format == Format::Text {
-        push_name(text, name)?;
-        text.push_str(" ")?;
-        text.push_str(example)?;
-        return text.push_str("\n");
-    }
     let document: Value = json!(in alloc; {"entity": name, "example": example})?;
     text.push_str(",")?;
     text.push_str(document.to_string(alloc)?.as_str())
@@ -40,13 +41,13 @@ fn push_allowed(
     let Ok(rights) = entity.osd.read() else {
         return Ok(());
     };
-    match asked.allowed_by(alloc, rights)? {
-        None => Ok(()),
-        Some(allowed) => {
-            let mut example = String::new(alloc);
-            asked.push_words(&mut example, alloc, allowed)?;
-            push_entity(text, alloc, entity.name.as_str(), example.as_str(), format)
-        }
+    let Some(allowed) = asked.allowed_by(alloc, rights)? else {
+        return Ok(());
+    };
+    let name = entity.name.as_str();
+    match format {
+        Format::Text => push_line(text, name, asked.words(alloc, &allowed)?.as_str()),
+        Format::Json => push_piece(text, alloc, name, asked.value(alloc, &allowed)?),
     }
 }
 

@@ -1,12 +1,11 @@
 //! The entities of files that a command is about.
 
-use crate::names::push_name;
 use crate::unchecked::{Unchecked, all_unchecked, unchecked_line};
 use common_types::OutOfMemory;
 use name_patterns::{matches, matches_any};
 use std::alloc::Global;
 use std::mem;
-use verdict_text::{Entity, ReadEntity, ReadText, Reader};
+use verdict_text::{Entity, ReadEntity, ReadText, Reader, push_name};
 
 /// Which entities of a file a command is about.
 #[derive(Clone, Copy)]

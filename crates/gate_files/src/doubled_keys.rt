@@ -2,12 +2,12 @@
 
 use crate::file_fault::{DoubledKey, FileFault};
 use crate::json_text::line_of;
-use crate::names::push_name;
 use common_types::OutOfMemory;
 use indexmap::IndexSet;
 use json::{Reader, Scratch, Token};
 use std::alloc::Global;
 use std::fmt::Write;
+use verdict_text::push_name;
 
 /// How many keys of an object are compared with a key one by one. Those behind them are hashed.
 const FEW: usize = 16;

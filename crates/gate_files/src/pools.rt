@@ -1,9 +1,9 @@
 //! Pools of a cluster by name, and lines on them.
 
-use crate::names::push_name;
 use common_types::{AppTags, OutOfMemory, Tags};
 use share_core::Pool;
 use std::alloc::Global;
+use verdict_text::push_name;
 
 /// The pool of this name.
 pub fn pool_of<'a>(pools: &'a [Pool], name: &str) -> Option<&'a Pool> {

@@ -1,9 +1,8 @@
 //! Entities that could not be checked, since their texts have faults.
 
-use crate::names::push_name;
 use common_types::OutOfMemory;
 use std::alloc::Global;
-use verdict_text::{ReadEntity, TextFault, push_fault_number};
+use verdict_text::{ReadEntity, TextFault, push_fault_number, push_name};
 
 /// An entity that could not be checked, and the fault of its text.
 pub struct Unchecked {

@@ -12,7 +12,7 @@ use Rattle.lint_core.specs.declared.rights_lint.Reach.{Reach}
 use Rattle.lint_core.specs.declared.rights_lint.Reach.TheVariants.{Bounded, EveryPoolByPrefix, EveryPool}
 use Rattle.rights_core.specs.Rights.{Rights}
 use Rattle.share_core.specs.declared.pools.Pool.{Pool}
-use Rattle.verdict_text.specs.Caret.{shown}
+use Rattle.verdict_text.specs.ShownName.{shown_name}
 use Rattle.verdict_text.specs.EachTold.{AreAllTold}
 use Rattle.verdict_text.specs.Reading.{AreGrantsOf, IsCephFaultOf, fault_text}
 use Rattle.verdict_text.specs.Text.{refused_text}
@@ -82,7 +82,7 @@ IsCephLintAnswer pools check caps text fails = IsCephLinted pools check caps tex
 pub record IsCephEntityLinted (pools : Option (List Pool)) (check : Bool) (name caps text : List ℕ) (fails : Bool) : Type 0 where
   pub all : List GrantLint
   pub found : AreFound pools caps all
-  pub printed : text ≡ all_lines (shown name ++ codes " ") 1 all
+  pub printed : text ≡ all_lines (shown_name name ++ codes " ") 1 all
   pub ends : fails ≡ (check && list_any is_mistake all)
 
 -- an entity of no text, or of one that Ceph refuses, is left out

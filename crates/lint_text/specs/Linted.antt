@@ -13,7 +13,7 @@ use Rattle.lint_core.specs.Pools.{without_pools}
 use Rattle.lint_core.specs.declared.findings.Standing.{Standing}
 use Rattle.lint_core.specs.declared.findings.Standing.TheVariants.{Needed, CoveredTogether, Covered}
 use Rattle.share_core.specs.declared.pools.Pool.{Pool}
-use Rattle.verdict_text.specs.Caret.{shown}
+use Rattle.verdict_text.specs.ShownName.{shown_name}
 use Rattle.verdict_text.specs.Reading.{IsFaultOf, fault_text}
 use Rattle.verdict_text.specs.EachTold.{AreAllTold}
 use Rattle.verdict_text.specs.Text.{refused_text}
@@ -124,7 +124,7 @@ IsTidyAnswer check caps text fails = IsTidyText check caps text fails ⊎ IsRefu
 pub record IsEntityListLinted (pools : Option (List Pool)) (check : Bool) (name : List ℕ) (grants : List Grant) (text : List ℕ) (fails : Bool) : Type 0 where
   pub standings : List Standing
   pub are : AreStandings built_in grants standings
-  pub printed : text ≡ lines_from (shown name ++ codes " ") 1 grants standings (poolless_by pools grants)
+  pub printed : text ≡ lines_from (shown_name name ++ codes " ") 1 grants standings (poolless_by pools grants)
   pub ends : fails ≡ (check && has_mistake standings (poolless_by pools grants))
 
 -- the lines of each grant of an entity, behind its name

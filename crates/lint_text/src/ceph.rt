@@ -2,7 +2,7 @@
 
 ghost use Rattle.std.specs.Prelude.{◌≡◌, ◌++◌, ◌&&◌, [], false, codes, option_copied, IfOk, OnOk, string_bytes};
 ghost use Rattle.std.specs.List.{list_any};
-ghost use Rattle.verdict_text.specs.Caret.{shown};
+ghost use Rattle.verdict_text.specs.ShownName.{shown_name};
 ghost use Rattle.verdict_text.specs.declared.reading.Rules.TheVariants as by;
 ghost use Rattle.lint_text.specs.CephLinted.{AreCephLinted, IsCephEntityTold, IsCephLintAnswer, IsCephNameTold, IsFoundOf, all_lines, found_lines, is_mistake, line_of, live_lines, reach_line};
 ghost use Rattle.lint_text.specs.Linted.{is_redundant, or_nothing};
@@ -13,9 +13,7 @@ use common_types::OutOfMemory;
 use lint_core::{GrantLint, Pool, Reach, Standing, lint_rights};
 use std::alloc::Global;
 use std::fmt::Write;
-use verdict_text::{
-    Entity, Printed, ReadText, Spelled, TextFault, push_shown_text, read_ceph_rights,
-};
+use verdict_text::{Entity, Printed, ReadText, Spelled, TextFault, push_name, read_ceph_rights};
 
 /// Adds a line: what stands before it, the number of a grant, and words that end with a line feed.
 fn push_line(text: &mut String, before: &str, number: usize, words: &str) -> Result<(), OutOfMemory>
@@ -203,11 +201,11 @@ fn linted_entity(
     all: &[GrantLint],
     check: bool,
 ) -> Result<Printed, OutOfMemory>
-    ensures text { IfOk result (λ printed. string_bytes printed.text ≡ all_lines (shown name.now ++ codes " ") 1 all.now) }
+    ensures text { IfOk result (λ printed. string_bytes printed.text ≡ all_lines (shown_name name.now ++ codes " ") 1 all.now) }
     ensures fails { IfOk result (λ printed. printed.fails ≡ (check && list_any is_mistake all.now)) }
 {
     let mut before = String::new(alloc);
-    push_shown_text(&mut before, name)?;
+    push_name(&mut before, name)?;
     before.push_str(" ")?;
     let mut text = String::new(alloc);
     push_all(&mut text, before.as_str(), all)?;
@@ -261,8 +259,8 @@ fn told(
 }
 
 /// What the program prints by Ceph's rules of the grants of some entities that nobody needs: the lines of [`lint_ceph_caps`] for
-/// each entity's text, each behind the entity's name and a blank. A name's bytes outside 32 to 126 are shown as `\x` and two
-/// hexadecimal digits. An entity whose text Ceph refuses has no line. With a check it fails where it does for some text.
+/// each entity's text, each behind the entity's name and a blank. Names are written by [`verdict_text::push_name`].
+/// An entity whose text Ceph refuses has no line. With a check it fails where it does for some text.
 pub fn lint_ceph_entities(
     alloc: Global,
     entities: &[Entity],

@@ -1,7 +1,7 @@
 //! What is printed of the entities of a cluster.
 
 ghost use Rattle.std.specs.Prelude.{◌≡◌, ◌++◌, ◌&&◌, [], false, None, codes, length, option_copied, IfOk, string_bytes};
-ghost use Rattle.verdict_text.specs.Caret.{shown};
+ghost use Rattle.verdict_text.specs.ShownName.{shown_name};
 ghost use Rattle.verdict_text.specs.declared.reading.Rules.TheVariants as by;
 ghost use Rattle.grant_core.specs.BuiltIn.{built_in};
 ghost use Rattle.grant_core.specs.Refusal.{expand_refusal};
@@ -16,7 +16,7 @@ use common_types::OutOfMemory;
 use grant_core::ProfileTable;
 use lint_core::Pool;
 use std::alloc::Global;
-use verdict_text::{Entity, Printed, ReadEntity, ReadText, Reader, Rules, push_shown_text};
+use verdict_text::{Entity, Printed, ReadEntity, ReadText, Reader, Rules, push_name};
 
 /// What is printed of an entity whose grants are looked at: their lines, behind its name.
 fn linted(
@@ -28,11 +28,11 @@ fn linted(
 ) -> Result<Printed, OutOfMemory>
     requires all { length judged.now.standings.items ≡ length list.now }
     requires each { length judged.now.without.items ≡ length list.now }
-    ensures text { IfOk result (λ printed. string_bytes printed.text ≡ lines_from (shown name.now ++ codes " ") 1 list.now judged.now.standings.items judged.now.without.items) }
+    ensures text { IfOk result (λ printed. string_bytes printed.text ≡ lines_from (shown_name name.now ++ codes " ") 1 list.now judged.now.standings.items judged.now.without.items) }
     ensures fails { IfOk result (λ printed. printed.fails ≡ (check && has_mistake judged.now.standings.items judged.now.without.items)) }
 {
     let mut before = String::new(alloc);
-    push_shown_text(&mut before, name)?;
+    push_name(&mut before, name)?;
     before.push_str(" ")?;
     let mut text = String::new(alloc);
     push_lines(
@@ -147,8 +147,8 @@ fn told_read(
 }
 
 /// What the program prints of the grants of some entities that nobody needs: the lines of each entity's grants, in its
-/// text's order, each behind the entity's name and a blank. A name's bytes outside 32 to 126 are shown as `\x` and two
-/// hexadecimal digits. An entity whose text is refused has no line. With a check it fails if some grant is redundant or
+/// text's order, each behind the entity's name and a blank. Names are written by [`verdict_text::push_name`].
+/// An entity whose text is refused has no line. With a check it fails if some grant is redundant or
 /// matches no pool.
 pub fn lint_entities(
     alloc: Global,

@@ -1,11 +1,12 @@
 //! Pools of a log against a file of pools.
 
 use common_types::{OutOfMemory, Tags};
-use gate_files::{pool_of, push_name};
+use gate_files::pool_of;
 use indexmap::IndexMap;
 use log_text::{LogReading, has_tags};
 use share_core::Pool;
 use std::alloc::Global;
+use verdict_text::push_name;
 
 /// Adds the line of a pool whose tags the log and the file do not have alike.
 fn push_pool(

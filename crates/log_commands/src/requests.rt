@@ -4,11 +4,12 @@ use crate::log_files::{LogFiles, ShownReading, pour};
 use crate::log_notes::no_decision_line;
 use command_steps::{NoAnswer, Progress};
 use common_types::OutOfMemory;
-use gate_files::{InputFiles, push_name};
+use gate_files::InputFiles;
 use log_text::LogReading;
 use std::alloc::Global;
 use std::io;
 use std::io::{ErrorKind, Read, Write};
+use verdict_text::push_name;
 
 fn unread_line(alloc: Global, path: &str, error: &io::Error) -> Result<String, OutOfMemory> {
     let mut line = String::from_str(alloc, "the log ")?;

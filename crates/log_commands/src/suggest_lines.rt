@@ -2,8 +2,9 @@
 
 use caps_lines::{Verb, push_line};
 use common_types::OutOfMemory;
-use gate_files::{ServiceText, push_name};
+use gate_files::ServiceText;
 use std::alloc::Global;
+use verdict_text::push_name;
 
 /// The command that gives an entity a text, and keeps its texts for other services.
 pub(crate) fn caps_command(

@@ -2,6 +2,5 @@ pub mod Object
 pub mod Decision
 pub mod Reading
 pub mod Agreement
-pub mod Names
 pub mod Sides
 pub mod Suggested

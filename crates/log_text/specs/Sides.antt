@@ -18,7 +18,7 @@ use Rattle.rights_core.specs.Rights.{NetworkGrant, is_live}
 use Rattle.compare_text.specs.Words.{flag_words}
 use Rattle.verdict_core.specs.Verdict.{first_failure}
 use Rattle.log_text.specs.Decision.{tags_text}
-use Rattle.log_text.specs.Names.{shown_name}
+use Rattle.verdict_text.specs.ShownName.{shown_name}
 use Rattle.log_text.specs.declared.decided.Decided.{Decided}
 
 -- ---- the condition

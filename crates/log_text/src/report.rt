@@ -2,7 +2,6 @@
 
 use crate::agreement::Agreement;
 use crate::decided::Decided;
-use crate::names::push_entity;
 use crate::reading::LoggedRequest;
 use crate::sides::push_entry_failure;
 use crate::standing::Standing;
@@ -12,7 +11,7 @@ use log_core::Summary;
 use rights_core::Rights;
 use std::alloc::Global;
 use std::fmt::Write;
-use verdict_text::Reading;
+use verdict_text::{Reading, push_name};
 
 /// Adds the line of each grant of which a request fails a condition.
 fn push_grants(
@@ -99,7 +98,7 @@ pub fn push_report(
     read: Option<&Reading>,
 ) -> Result<(), OutOfMemory> {
     let decided = &request.decided;
-    push_entity(text, &request.entity)?;
+    push_name(text, request.entity.as_str())?;
     text.push_str(" ")?;
     push_words(text, alloc, decided)?;
     text.push_str("\n")?;

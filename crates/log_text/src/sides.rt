@@ -5,7 +5,6 @@ ghost use Rattle.compare_text.specs.Words.{flag_words};
 ghost use Rattle.log_text.specs.Sides as spec;
 
 use crate::decided::Decided;
-use crate::names::push_name;
 use crate::written::push_tags;
 use cap_text::{AllowGrant, NsMatch};
 use ceph_text::push_ceph_grant;
@@ -15,6 +14,7 @@ use rights_core::Entry;
 use std::alloc::Global;
 use std::fmt::Write;
 use verdict_core::{ClassCall, Condition, first_failure};
+use verdict_text::push_name;
 
 /// Whether a grant is for no address at all.
 fn is_dead(network: &Option<Network>) -> bool

@@ -8,6 +8,7 @@ use Rattle.compare_text.specs.declared.widening.AddressedExample.{AddressedExamp
 use Rattle.grant_core.specs.Text.{printed_path}
 use Rattle.rights_core.specs.Rights.{Rights}
 use Rattle.verdict_text.specs.Caret.{shown}
+use Rattle.verdict_text.specs.ShownName.{shown_name}
 use Rattle.verdict_text.specs.Reading.{Reading, fault_text}
 use Rattle.verdict_text.specs.declared.entity.ReadEntity.{ReadEntity}
 use Rattle.rules_core.specs.declared.checking.Finding.{Finding}
@@ -48,10 +49,10 @@ rule_words (Apart ones others) = demand_words Never
 -- an entity, a grant, and a request in words of `osdgate verdict`
 abbrev pub request_line : List ℕ → List ℕ → AddressedExample → List ℕ
 request_line words name found =
-    codes "  " ++ (shown name ++ (words ++ (printed_path found.example.path ++ (codes ": " ++ (addressed_words found ++ codes "\n")))))
+    codes "  " ++ (shown_name name ++ (words ++ (printed_path found.example.path ++ (codes ": " ++ (addressed_words found ++ codes "\n")))))
 
 abbrev pub unread_line : List ℕ → List ℕ → List ℕ
-unread_line name fault = codes "  " ++ (shown name ++ (codes " is not checked: " ++ (fault ++ codes "\n")))
+unread_line name fault = codes "  " ++ (shown_name name ++ (codes " is not checked: " ++ (fault ++ codes "\n")))
 
 abbrev pub finding_lines : List ReadEntity → Rule → ℕ → Finding → List ℕ
 finding_lines entities rule place Unread = unread_line (name_at entities place) (fault_of entities place)

@@ -3,18 +3,17 @@
 ghost use Rattle.std.specs.Prelude.{◌≡◌, IfOk, flat_map, map, string_bytes};
 ghost use Rattle.serde_json.specs.Data.{array};
 ghost use Rattle.serde_json.specs.View.{items_of, view};
-ghost use Rattle.compare_text.specs.Request.{addressed_words};
 ghost use Rattle.rules_text.specs.Json as spec;
 ghost use Rattle.rules_text.specs.Report.{fault_of};
 
 use crate::checked::CheckedRule;
-use crate::report::{name_at, outcome_word, push_addressed, push_fault_of};
+use crate::report::{name_at, outcome_word, push_fault_of};
 use common_types::OutOfMemory;
-use compare_text::AddressedExample;
+use compare_text::{AddressedExample, addressed_value};
 use rules_core::{Crossing, Finding, Found, Outcome};
 use serde_json::{Value, json};
 use std::alloc::Global;
-use verdict_text::{Format, ReadEntity, list_by, piece_of};
+use verdict_text::{Format, ReadEntity, fault_value, list_by, piece_of};
 
 fn fault_text(alloc: Global, entities: &[ReadEntity], place: usize) -> Result<String, OutOfMemory>
     ensures { IfOk result (λ text. string_bytes text ≡ fault_of entities.now place) }
@@ -24,12 +23,15 @@ fn fault_text(alloc: Global, entities: &[ReadEntity], place: usize) -> Result<St
     Ok(text)
 }
 
-fn request_text(alloc: Global, found: &AddressedExample) -> Result<String, OutOfMemory>
-    ensures { IfOk result (λ text. string_bytes text ≡ addressed_words found.now) }
+/// The byte of the fault for which the entity at an index is not checked, if the fault has one.
+fn byte_of(entities: &[ReadEntity], place: usize) -> Option<usize>
+    ensures { result ≡ spec.byte_of entities.now place }
 {
-    let mut text = String::new(alloc);
-    push_addressed(&mut text, found)?;
-    Ok(text)
+    let entity = entities.get(place)?;
+    match entity.osd.read() {
+        Ok(_) => None,
+        Err(fault) => fault.byte(),
+    }
 }
 
 fn unread_value(
@@ -38,9 +40,10 @@ fn unread_value(
     place: usize,
     name: &str,
 ) -> Result<Value, OutOfMemory>
-    ensures { IfOk result (λ value. view value ≡ spec.unread_document name.now (fault_of entities.now place)) }
+    ensures { IfOk result (λ value. view value ≡ spec.unread_document name.now (fault_of entities.now place) (spec.byte_of entities.now place)) }
 {
     let fault = fault_text(alloc, entities, place)?;
+    let fault = fault_value(alloc, fault.as_str(), byte_of(entities, place))?;
     json!(in alloc; {"entity": name, "fault": fault})
 }
 
@@ -49,7 +52,7 @@ fn request_value(alloc: Global, name: &str, found: &AddressedExample) -> Result<
 {
     let path = &found.example.path;
     let grant = format!(in alloc; "{path}")?;
-    let request = request_text(alloc, found)?;
+    let request = addressed_value(alloc, found)?;
     json!(in alloc; {"entity": name, "grant": grant, "request": request})
 }
 
@@ -64,7 +67,7 @@ fn crossed_value(
     let path = &crossing.one.example.path;
     let grant = format!(in alloc; "{path}")?;
     let other = request_value(alloc, other, &crossing.other)?;
-    let request = request_text(alloc, &crossing.one)?;
+    let request = addressed_value(alloc, &crossing.one)?;
     json!(in alloc; {"entity": name, "grant": grant, "other": other, "request": request})
 }
 
@@ -152,7 +155,8 @@ fn rule_pieces(
 
 /// Checked rules as a JSON document on a line, with the member `checks`. Each has `findings`, `line`, `outcome` (`holds`, `fails`
 /// or `nobody`) and `rule`, the text of the line. A finding has `entity` and either `fault`, for which the entity is not checked,
-/// or `grant` and `request`, in the arguments of `osdgate verdict`; and `other`, with the same three, where entities are not apart.
+/// or `grant` and `request`, an object as [`addressed_value`] makes it; and `other`, with the same three, where entities are not
+/// apart.
 ///
 /// The only error is out of memory.
 pub fn check_json(

@@ -12,7 +12,7 @@ use network_core::Address;
 use rules_core::{Demand, Finding, Found, Outcome, Rule};
 use std::alloc::Global;
 use std::fmt::Write;
-use verdict_text::{ReadEntity, push_shown_text};
+use verdict_text::{ReadEntity, push_name, push_shown_text};
 
 /// The name of the entity at an index.
 pub(crate) fn name_at(entities: &[ReadEntity], place: usize) -> &str
@@ -88,7 +88,7 @@ fn push_request_line(
     ensures { OnOk result (string_bytes text.new ≡ string_bytes text.old ++ spec.request_line words.now name.now found.now) }
 {
     text.push_str("  ")?;
-    push_shown_text(text, name)?;
+    push_name(text, name)?;
     text.push_str(words)?;
     let path = &found.example.path;
     write!(text, "{path}")?;
@@ -106,7 +106,7 @@ fn push_unread_line(
     ensures { OnOk result (string_bytes text.new ≡ string_bytes text.old ++ spec.unread_line (spec.name_at entities.now place) (spec.fault_of entities.now place)) }
 {
     text.push_str("  ")?;
-    push_shown_text(text, name_at(entities, place))?;
+    push_name(text, name_at(entities, place))?;
     text.push_str(" is not checked: ")?;
     push_fault_of(text, entities, place)?;
     text.push_str("\n")

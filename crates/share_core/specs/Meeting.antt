@@ -14,7 +14,7 @@ use Rattle.cap_grants.specs.declared.grant.Tag.{Tag}
 use Rattle.common_types.specs.declared.tags.AppTags.{AppTags}
 use Rattle.request_types.specs.Target.{Target}
 use Rattle.verdict_core.specs.Verdict.{can_read, can_write, covers}
-use Rattle.compare_core.specs.Fresh.{both_any}
+use Rattle.compare_core.specs.Fresh.{any_pool, both_any}
 use Rattle.share_core.specs.declared.touches.Touch.{Touch}
 use Rattle.share_core.specs.declared.touches.Touch.TheVariants.{Read, Write, Call, AnyRead, AnyWrite}
 use Rattle.share_core.specs.declared.reaching.Shared.{Shared}
@@ -58,7 +58,7 @@ pools_meet (Some pool) (Some other) = bytes_eq pool other
 abbrev pub common_pool : Option (List ℕ) → Option (List ℕ) → List ℕ
 common_pool (Some pool) other = pool
 common_pool None (Some other) = other
-common_pool None None = codes "a"
+common_pool None None = any_pool
 
 -- namespaces
 

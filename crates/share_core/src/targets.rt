@@ -7,7 +7,7 @@ ghost use Rattle.share_core.specs.Meeting as spec;
 use crate::meetings::same_key;
 use cap_text::{AllowGrant, NsMatch, Part, Tag};
 use common_types::{AppTags, Name, OutOfMemory, Pairs, Tags};
-use compare_core::OwnedTarget;
+use compare_core::{ANY_POOL, OwnedTarget};
 use std::alloc::Global;
 
 fn common_pool(
@@ -20,7 +20,7 @@ fn common_pool(
     match (mine, theirs) {
         (Some(pool), _) => pool.copy(),
         (None, Some(pool)) => pool.copy(),
-        (None, None) => Name::new(alloc, "a"),
+        (None, None) => Name::new(alloc, ANY_POOL),
     }
 }
 

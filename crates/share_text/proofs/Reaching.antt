@@ -8,7 +8,7 @@ use Rattle.std.proofs.lemmas.List.Elements.{Contains-append_left, Contains-push,
 use Rattle.std.proofs.lemmas.Option.{slice_get-get_or}
 use Rattle.flow_core.specs.Chains.{IsStep}
 use Rattle.flow_core.proofs.Listing.{in_none}
-use Rattle.verdict_text.specs.Caret.{shown}
+use Rattle.verdict_text.specs.ShownName.{shown_name}
 use Rattle.grant_core.specs.Flat.{Flat}
 use Rattle.share_core.specs.Near.{AreApart, AreNear}
 use Rattle.share_core.specs.declared.pools.Pool.{Pool}
@@ -148,10 +148,10 @@ each_for IsTold AlsoTold (suc n) also text fails (front, rest, first, later, bef
 
 -- one name more of a list
 pub listed_more : {X : Type 0} (f : X → List ℕ) (words : List ℕ) (xs : List X) (text middle after : List ℕ) (i : ℕ) (d : X) → i < length xs → middle ≡ text ++ words
-    → after ≡ middle ++ shown (f (get_or xs i d))
+    → after ≡ middle ++ shown_name (f (get_or xs i d))
     → after ++ listed (codes ", ") (map f (drop (i + 1) xs)) ≡ text ++ listed words (map f (drop i xs))
 listed_more f words xs text middle after i d inside first second =
-    let name = shown (f (get_or xs i d)) in
+    let name = shown_name (f (get_or xs i d)) in
     let rest = listed (codes ", ") (map f (drop (i + 1) xs)) in
     ap (λ l. l ++ rest) (second ∙ ap (λ l. l ++ name) first) ∙ (append_assoc (text ++ words) name rest ∙ (append_assoc text words (name ++ rest)
     ∙ sym (ap (λ l. text ++ listed words (map f l)) (drop_more xs i d inside))))

@@ -2,7 +2,7 @@
 -- What is printed of those who read and write every object of every pool (this project's profile). The line ends with byte 10.
 use Rattle.std.specs.Prelude.{ℕ, ◌≡◌, ◌-◌, List, [], ◌∷◌, ◌++◌, codes, decimal, filter, flat_map, if◌then◌else◌, length, map, nat_le, take}
 use Rattle.serde_json.specs.Data.{string}
-use Rattle.verdict_text.specs.Caret.{shown}
+use Rattle.verdict_text.specs.ShownName.{shown_name}
 use Rattle.verdict_text.specs.Documents.{list_by, piece}
 use Rattle.verdict_text.specs.declared.format.Format.{Format}
 use Rattle.verdict_text.specs.declared.format.Format.TheVariants.{Text, Json}
@@ -17,7 +17,7 @@ everybody tenants = map (λ tenant. tenant.name.now) (filter (λ tenant. tenant.
 -- names behind these words, and behind commas from the second one on
 abbrev pub listed : List ℕ → List (List ℕ) → List ℕ
 listed words [] = []
-listed words (name ∷ names) = words ++ (shown name ++ listed (codes ", ") names)
+listed words (name ∷ names) = words ++ (shown_name name ++ listed (codes ", ") names)
 
 -- how many names more there are than three
 abbrev pub more : ℕ → List ℕ

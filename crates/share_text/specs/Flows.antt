@@ -5,7 +5,7 @@ use Rattle.std.specs.Prelude.{ℕ, zero, suc, ◌+◌, ◌≡◌, ◌≢◌, ◌
 use Rattle.std.specs.List.{slice_index_or}
 use Rattle.flow_core.specs.Chains.{IsChain, IsShortest, IsStep}
 use Rattle.grant_core.specs.Flat.{Flat}
-use Rattle.verdict_text.specs.Caret.{shown}
+use Rattle.verdict_text.specs.ShownName.{shown_name}
 use Rattle.share_text.specs.declared.holder.Holder.{Holder}
 use Rattle.share_core.specs.declared.pools.Pool.{Pool}
 use Rattle.share_text.specs.Kinds.{ShareWithin}
@@ -35,7 +35,7 @@ pub record AreReaders (pools : Option (List Pool)) (tenants : List Tenant) (step
 
 -- a step to a tenant
 abbrev pub step_to : List Tenant → ℕ → List ℕ
-step_to tenants place = codes " -> " ++ shown (name_at tenants place)
+step_to tenants place = codes " -> " ++ shown_name (name_at tenants place)
 
 -- the first one of those between, and that others are left out
 abbrev pub first_between : List Tenant → Option ℕ → List ℕ
@@ -55,7 +55,7 @@ steps_words Whole count = []
 -- who writes, those between, and who reads
 abbrev pub flow_line : Detail → List Tenant → ℕ → ℕ → List ℕ → List ℕ
 flow_line detail tenants writer reader between =
-    shown (name_at tenants writer) ++ (between_words detail tenants between ++ (shown (name_at tenants reader) ++ (steps_words detail (length between) ++ codes "\n")))
+    shown_name (name_at tenants writer) ++ (between_words detail tenants between ++ (shown_name (name_at tenants reader) ++ (steps_words detail (length between) ++ codes "\n")))
 
 -- what is reported of two different tenants: a line by a shortest chain from the one to the other, or nothing where no
 -- chain exists; a check fails where there is a line

@@ -5,9 +5,10 @@ use Rattle.serde_json.specs.Data.{Data, object, string, member, no_members}
 use Rattle.grant_core.specs.Flat.{Flat}
 use Rattle.request_types.specs.Target.{Target}
 use Rattle.rights_core.specs.Rights.{Rights, live_grants}
-use Rattle.verdict_text.specs.Caret.{shown}
+use Rattle.verdict_text.specs.ShownName.{shown_name}
 use Rattle.verdict_text.specs.Documents.{list_by, piece}
 use Rattle.compare_text.specs.Request.{target_words}
+use Rattle.compare_text.specs.RequestDocument.{target_document}
 use Rattle.verdict_text.specs.declared.reading.TextFault.{TextFault}
 use Rattle.share_text.specs.declared.holder.Holder.{Holder}
 use Rattle.verdict_text.specs.declared.format.Format.{Format}
@@ -59,7 +60,7 @@ IsStrongest pools reads ones others None =
 
 -- two names with words between and behind them, and a target that `osdgate verdict` takes
 abbrev pub names_line : List ℕ → List ℕ → List ℕ → List ℕ → Target → List ℕ
-names_line first between second behind target = shown first ++ (between ++ (shown second ++ (behind ++ (target_words target ++ codes "\n"))))
+names_line first between second behind target = shown_name first ++ (between ++ (shown_name second ++ (behind ++ (target_words target ++ codes "\n"))))
 
 -- who writes stands first, where the other reads
 abbrev pub pair_line : Kind → List ℕ → List ℕ → Target → List ℕ
@@ -71,7 +72,7 @@ pair_line ReadsReads one other target = names_line one (codes " and ") other (co
 -- two that share a target so, as a document: what the first one does, and then the second one
 abbrev pub pair_document : Kind → List ℕ → List ℕ → Target → Data
 pair_document kind first second target =
-    object (member (codes "example") (string (target_words target)) (member (codes "first") (string first)
+    object (member (codes "example") (target_document target) (member (codes "first") (string first)
     (member (codes "kind") (string (kind_words kind)) (member (codes "second") (string second) no_members))))
 
 -- the same as a text or as a piece of a document

@@ -5,9 +5,10 @@ use crate::flows::steps_of;
 use crate::holder::Holder;
 use crate::kind::Kind;
 use crate::live::{live_ticket, ticket_in};
-use crate::tenants::{Tenant, lives_of, tenants_of, words_of};
+use crate::tenants::{Tenant, lives_of, tenants_of};
 use crate::texts::{Examples, all_examples, fails_check};
 use common_types::OutOfMemory;
+use compare_text::target_value;
 use flow_core::{Found, chains_from};
 use rights_core::Rights;
 use serde_json::{Value, json};
@@ -28,7 +29,7 @@ fn shared_value(alloc: Global, kind: Kind, shared: &Shared) -> Result<Value, Out
     let first = format!(in alloc; "{path}")?;
     let path = &shared.other_path;
     let second = format!(in alloc; "{path}")?;
-    let example = words_of(alloc, &shared.target)?;
+    let example = target_value(alloc, &shared.target)?;
     json!(in alloc; {"example": example, "first": first, "kind": kind.words(), "second": second})
 }
 

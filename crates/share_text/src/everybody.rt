@@ -13,7 +13,7 @@ use common_types::OutOfMemory;
 use serde_json::Value;
 use std::alloc::Global;
 use std::fmt::Write;
-use verdict_text::{Format, list_by, piece_of, push_shown_text};
+use verdict_text::{Format, list_by, piece_of, push_name};
 
 /// How many names are printed of more.
 const FEW: usize = 3;
@@ -38,7 +38,7 @@ fn push_names(text: &mut String, names: &[&str]) -> Result<(), OutOfMemory>
     let mut words = "";
     for name in names {
         text.push_str(words)?;
-        push_shown_text(text, *name)?;
+        push_name(text, *name)?;
         words = ", ";
     }
     Ok(())
@@ -55,7 +55,7 @@ fn push_more(text: &mut String, count: usize) -> Result<(), OutOfMemory>
     write!(text, " and {more} more")
 }
 
-/// The words for what so many do.
+/// The words for what this number of entities does.
 fn doing(count: usize) -> &'static str
     ensures { result.now ≡ spec.doing count }
 {
@@ -66,7 +66,7 @@ fn doing(count: usize) -> &'static str
     }
 }
 
-/// The line of some names, or the empty text where there are none.
+/// The line of some names. Without names it is empty.
 fn everybody_line(alloc: Global, names: &[&str]) -> Result<String, OutOfMemory>
     ensures { IfOk result (λ text. string_bytes text ≡ spec.everybody_line (map (λ name. name.now) names.now)) }
 {
@@ -117,13 +117,13 @@ fn everybody_by(alloc: Global, format: Format, names: &[&str]) -> Result<String,
 /// What the program prints of the entities that read and write every object of every pool. Each shares something with each
 /// other one that reads or writes anything.
 ///
-/// The line has the names of up to three of them, and then how many more there are. There is no line where there is none. As a
+/// The line has the names of up to three of them, and then how many more there are. Without such an entity there is no line. As a
 /// document it has the member `everybody`, a list of all their names.
 ///
 /// An entity reads and writes every object if its grants allow each read by itself and each write by itself, whatever the pool,
 /// its tags, the namespace and the object. A grant counts at the addresses of its network.
 ///
-/// An entity whose text has no rights is left out. A name's bytes outside 32 to 126 are shown as `\x` and two hexadecimal digits.
+/// An entity whose text has no rights is left out. Names are written by [`verdict_text::push_name`].
 /// The only error is `OutOfMemory`, which leaves nothing. Time grows with the number of grants. The lines are this project's
 /// profile.
 pub fn everybody_entities(

@@ -2,7 +2,7 @@
 
 ghost use Rattle.std.specs.Prelude.{ℕ, ◌≡◌, ◌++◌, ◌<◌, ◌↔◌, map, length, slice_get, string_bytes, option_copied, IfOk, OnOk};
 ghost use Rattle.std.specs.List.{Contains, flat_map};
-ghost use Rattle.verdict_text.specs.Caret.{shown};
+ghost use Rattle.verdict_text.specs.ShownName.{shown_name};
 ghost use Rattle.share_core.specs.Near.{AreNear};
 ghost use Rattle.share_text.specs.Behind.{grants_of};
 ghost use Rattle.share_text.specs.Kinds.{ShareWithin};
@@ -20,7 +20,7 @@ use share_core::Pool;
 use std::alloc::Global;
 use std::fmt::Write;
 use verdict_core::Ticket;
-use verdict_text::{Printed, push_shown_text};
+use verdict_text::{Printed, push_name};
 
 /// The places of the tenants that read what one writes, in some of the pools where they are given. The near ones are given: the
 /// others share nothing with it.
@@ -63,12 +63,12 @@ pub(crate) fn steps_of(
 }
 
 /// Adds the name at a place as it is shown.
-fn push_name(text: &mut String, tenants: &[Tenant<'_>], place: usize) -> Result<(), OutOfMemory>
-    ensures { OnOk result (string_bytes text.new ≡ string_bytes text.old ++ shown (name_at tenants.now place)) }
+fn push_name_at(text: &mut String, tenants: &[Tenant<'_>], place: usize) -> Result<(), OutOfMemory>
+    ensures { OnOk result (string_bytes text.new ≡ string_bytes text.old ++ shown_name (name_at tenants.now place)) }
 {
     match tenants.get(place) {
         None => Ok(()),
-        Some(tenant) => push_shown_text(text, tenant.name),
+        Some(tenant) => push_name(text, tenant.name),
     }
 }
 
@@ -77,7 +77,7 @@ fn push_step(text: &mut String, tenants: &[Tenant<'_>], place: usize) -> Result<
     ensures { OnOk result (string_bytes text.new ≡ string_bytes text.old ++ step_to tenants.now place) }
 {
     text.push_str(" -> ")?;
-    push_name(text, tenants, place)
+    push_name_at(text, tenants, place)
 }
 
 /// Adds steps to all of those between.
@@ -154,9 +154,9 @@ fn flow_line(
     ensures { IfOk result (λ text. string_bytes text ≡ spec.flow_line detail tenants.now writer reader between.now) }
 {
     let mut text = String::new(alloc);
-    push_name(&mut text, tenants, writer)?;
+    push_name_at(&mut text, tenants, writer)?;
     push_between(&mut text, tenants, between, detail)?;
-    push_name(&mut text, tenants, reader)?;
+    push_name_at(&mut text, tenants, reader)?;
     push_count(&mut text, between, detail)?;
     text.push_str("\n")?;
     Ok(text)
@@ -239,8 +239,8 @@ fn told_writers(
 ///
 /// A grant counts at the addresses of its network. One writes what another reads if they do from some address of each.
 ///
-/// An entity whose text has no rights is left out. A name's bytes outside 32 to 126 are shown as `\x` and two
-/// hexadecimal digits. The only error is `OutOfMemory`, which leaves nothing.
+/// An entity whose text has no rights is left out. Names are written by [`verdict_text::push_name`].
+/// The only error is `OutOfMemory`, which leaves nothing.
 ///
 /// Time grows with:
 /// - the pairs of entities that name a common pool, or of which one has a grant without a pool, and for each such pair

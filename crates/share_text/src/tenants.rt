@@ -22,13 +22,13 @@ use crate::live::{live_ticket, ticket_in};
 use crate::texts::examples_of;
 use common_types::OutOfMemory;
 use compare_core::OwnedTarget;
-use compare_text::push_target;
+use compare_text::{push_target, target_value};
 use rights_core::Rights;
 use serde_json::{Value, json};
 use share_core::{Pool, PoolIndex, example_in, share, share_in};
 use std::alloc::Global;
 use verdict_core::Ticket;
-use verdict_text::{Format, Printed, list_by, push_shown_text};
+use verdict_text::{Format, Printed, list_by, piece_of, push_name};
 
 /// How much of what entities share is reported, what fails, and in which format it is printed.
 #[derive(Clone, Copy, Debug)]
@@ -206,9 +206,9 @@ fn names_line(
     ensures { IfOk result (λ text. string_bytes text ≡ spec.names_line first.now between.now second.now behind.now target.now) }
 {
     let mut text = String::new(alloc);
-    push_shown_text(&mut text, first)?;
+    push_name(&mut text, first)?;
     text.push_str(between)?;
-    push_shown_text(&mut text, second)?;
+    push_name(&mut text, second)?;
     text.push_str(behind)?;
     push_target(&mut text, target)?;
     text.push_str("\n")?;
@@ -233,15 +233,6 @@ fn pair_line(
     }
 }
 
-/// The words of a target.
-pub(crate) fn words_of(alloc: Global, target: &OwnedTarget) -> Result<String, OutOfMemory>
-    ensures { IfOk result (λ text. string_bytes text ≡ target_words target.now) }
-{
-    let mut text = String::new(alloc);
-    push_target(&mut text, target)?;
-    Ok(text)
-}
-
 /// The document of two names that share a target so.
 fn pair_value(
     alloc: Global,
@@ -252,7 +243,7 @@ fn pair_value(
 ) -> Result<Value, OutOfMemory>
     ensures { IfOk result (λ value. view value ≡ pair_document kind first.now second.now target.now) }
 {
-    let example = words_of(alloc, target)?;
+    let example = target_value(alloc, target)?;
     json!(in alloc; {"example": example, "first": first, "kind": kind.words(), "second": second})
 }
 
@@ -267,10 +258,7 @@ fn pair_piece(
     ensures { IfOk result (λ text. string_bytes text ≡ piece (pair_document kind first.now second.now target.now)) }
 {
     let document = pair_value(alloc, kind, first, second, target)?;
-    let document = document.to_string(alloc)?;
-    let mut text = String::from_str(alloc, ",")?;
-    text.push_str(document.as_str())?;
-    Ok(text)
+    piece_of(alloc, &document)
 }
 
 /// Two names that share a target so, as a line or as a piece of a list.
@@ -547,8 +535,8 @@ fn told_each(
 ///
 /// A grant counts at the addresses of its network. Two entities share something if they do from some address of each.
 ///
-/// An entity whose text has no rights is left out. A name's bytes outside 32 to 126 are shown as `\x` and two
-/// hexadecimal digits. As a document it has the member `pairs`. Each item has `first`, `second`, `kind` and `example`.
+/// An entity whose text has no rights is left out. Names are written by [`verdict_text::push_name`].
+/// As a document it has the member `pairs`. Each item has `first`, `second`, `kind` and `example`.
 /// `kind` is what the first one does, then what the second one does. `example` is the target.
 ///
 /// The only error is `OutOfMemory`, which leaves nothing. Time grows with the pairs of entities that name a common

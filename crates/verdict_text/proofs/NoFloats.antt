@@ -1,6 +1,6 @@
 -- No document of an answer or an explanation has a float.
 use Rattle.std.proofs.Common.{◌≡◌, ℕ, List, [], ◌∷◌, ◌++◌, ◌||◌, false, Option, None, Some, Result, Ok, Err, codes, flat_map, map, refl, ap, ◌∙◌}
-use Rattle.serde_json.specs.Data.{Data, object, string, member, no_members}
+use Rattle.serde_json.specs.Data.{Data}
 use Rattle.serde_json.specs.View.{items_of}
 use Rattle.serde_json.specs.Written.{has_float, items_have_float}
 use Rattle.cap_grants.specs.declared.grant.Grant.{Grant}
@@ -10,7 +10,7 @@ use Rattle.grant_core.specs.Flat.{Flat}
 use Rattle.request_types.specs.declared.request.Condition.{Condition}
 use Rattle.rights_core.specs.Rights.{NetworkGrant}
 use Rattle.verdict_text.specs.CephExplained.{ceph_document, entry_document, fault_document, number_document}
-use Rattle.verdict_text.specs.Documents.{answer_document, byte_member, verdict_members, condition_document, entity_document, explained_document, grant_document, row_document}
+use Rattle.verdict_text.specs.Documents.{answer_document, condition_document, entity_document, fault_alone, fault_value, explained_document, grant_document, row_document}
 use Rattle.verdict_text.specs.Reasons.{Reason, allowed_document, allowed_items, allowing_items, denied_document, denied_items, failed_items}
 use Rattle.verdict_text.specs.declared.reading.Rules.{Rules}
 use Rattle.verdict_text.specs.declared.verdict.Verdict.{Verdict}
@@ -25,15 +25,19 @@ pub each : {X : Type 0} (document : X → Data) → ((x : X) → has_float (docu
 each document none [] = refl
 each document none (x ∷ xs) = ap (λ b. b || items_have_float (items_of (map document xs))) (none x) ∙ each document none xs
 
-with_byte : (byte : Option ℕ) (fault : List ℕ) → has_float (object (byte_member byte (member (codes "fault") (string fault) (verdict_members (codes "refused"))))) ≡ false
-with_byte (Some at) fault = refl
-with_byte None fault = refl
+-- the object of a fault has none, whatever else the document has
+pub of_fault_value : (printed : List ℕ) (byte : Option ℕ) → has_float (fault_value printed byte) ≡ false
+of_fault_value printed (Some at) = refl
+of_fault_value printed None = refl
+
+pub of_alone : (printed : List ℕ) (byte : Option ℕ) → has_float (fault_alone printed byte) ≡ false
+of_alone printed byte = ap (λ b. b || false) (of_fault_value printed byte)
 
 pub of_answer : (answer : Result Verdict VerdictFault) → has_float (answer_document answer) ≡ false
 of_answer (Ok Allowed) = refl
 of_answer (Ok (Denied report)) = ap (λ b. b || false) (each condition_document (λ _. refl) report)
 of_answer (Ok (Depends allowed denied)) = refl
-of_answer (Err (Text fault)) = with_byte (fault_byte fault) (fault_text fault)
+of_answer (Err (Text fault)) = ap (λ b. b || false) (of_fault_value (fault_text fault) (fault_byte fault))
 of_answer (Err (Calls fault)) = refl
 
 pub of_explained : (grants : List Grant) (ticket : Flat) → has_float (explained_document grants ticket) ≡ false
@@ -50,12 +54,8 @@ of_ceph list =
     ap (λ b. b || (items_have_float (items_of (map number_document (unknown_from 1 list))) || false)) (each entry_document (λ _. refl) (ceph_flat list))
     ∙ ap (λ b. b || false) (each number_document (λ _. refl) (unknown_from 1 list))
 
-of_byte : (byte : Option ℕ) (fault : List ℕ) → has_float (object (byte_member byte (member (codes "fault") (string fault) no_members))) ≡ false
-of_byte (Some at) fault = refl
-of_byte None fault = refl
-
 pub of_fault : (fault : TextFault) → has_float (fault_document fault) ≡ false
-of_fault fault = of_byte (fault_byte fault) (fault_text fault)
+of_fault fault = of_alone (fault_text fault) (fault_byte fault)
 
 -- what each of some things adds
 pub all : {X : Type 0} (items : X → List Data) → ((x : X) (more : List Data) → items_have_float (items_of (items x ++ more)) ≡ items_have_float (items_of more)) → (xs : List X)

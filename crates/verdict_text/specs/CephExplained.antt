@@ -12,7 +12,7 @@ use Rattle.ceph_text.specs.declared.fault.CephFault.TheVariants.{OutOfMemory, To
 use Rattle.ceph_text.specs.declared.grant.CephGrant.{CephGrant}
 use Rattle.grant_core.specs.Text.{printed_path}
 use Rattle.verdict_text.specs.Caret.{shown}
-use Rattle.verdict_text.specs.Documents.{byte_member, json_line}
+use Rattle.verdict_text.specs.Documents.{fault_alone, json_line}
 use Rattle.verdict_text.specs.Reading.{fault_byte, fault_text}
 use Rattle.verdict_text.specs.Text.{refused_text}
 use Rattle.verdict_text.specs.declared.format.Format.{Format}
@@ -57,9 +57,9 @@ abbrev pub ceph_by : Format → List CephGrant → List ℕ
 ceph_by Text list = ceph_text list
 ceph_by Json list = json_line (ceph_document list)
 
--- of a text that grants nothing: its fault, and the byte of it if it has one
+-- of a text that grants nothing: its fault
 abbrev pub fault_document : TextFault → Data
-fault_document fault = object (byte_member (fault_byte fault) (member (codes "fault") (string (fault_text fault)) no_members))
+fault_document fault = fault_alone (fault_text fault) (fault_byte fault)
 
 abbrev pub fault_by : Format → TextFault → List ℕ
 fault_by Text fault = refused_text (fault_text fault)

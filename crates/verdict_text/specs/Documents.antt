@@ -2,6 +2,7 @@
 -- Answers as JSON documents, which `--format json` prints (this project's profile). A document is a line of JSON without blanks,
 -- whose members stand in the order of their names.
 use Rattle.std.specs.Prelude.{ℕ, List, [], ◌∷◌, ◌++◌, ◌==◌, Option, None, Some, Result, Ok, Err, codes, map, if◌then◌else◌}
+use Rattle.std.specs.List.{after_first}
 use Rattle.serde_json.specs.Data.{Data, array, object, string, number, unsigned, Members, member, no_members}
 use Rattle.serde_json.specs.View.{items_of}
 use Rattle.serde_json.specs.Written.{compact_text}
@@ -19,7 +20,7 @@ use Rattle.object_core.specs.Faults as vectors
 use Rattle.object_core.specs.declared.needs.NeedsFault.{NeedsFault}
 use Rattle.request_types.specs.Text.{condition_text}
 use Rattle.request_types.specs.declared.request.Condition.{Condition}
-use Rattle.verdict_text.specs.Reading.{fault_byte, fault_text}
+use Rattle.verdict_text.specs.Reading.{fault_byte, fault_text, first_word}
 use Rattle.verdict_text.specs.Text.{answer_text}
 use Rattle.verdict_text.specs.declared.format.Format.{Format}
 use Rattle.verdict_text.specs.declared.format.Format.TheVariants.{Text, Json}
@@ -27,7 +28,6 @@ use Rattle.verdict_text.specs.declared.verdict.Verdict.{Verdict}
 use Rattle.verdict_text.specs.declared.verdict.Verdict.TheVariants.{Allowed, Denied, Depends}
 use Rattle.verdict_text.specs.declared.verdict.VerdictFault.{VerdictFault}
 use Rattle.verdict_text.specs.declared.verdict.VerdictFault.TheVariants as faults
-use Rattle.verdict_text.specs.declared.reading.TextFault.{TextFault}
 
 -- a document on a line
 abbrev pub json_line : Data → List ℕ
@@ -61,19 +61,27 @@ condition_document line =
 abbrev pub verdict_members : List ℕ → Members
 verdict_members word = member (codes "verdict") (string word) no_members
 
--- of what is refused for this reason
-abbrev pub refused_document : List ℕ → Data
-refused_document fault = object (member (codes "fault") (string fault) (verdict_members (codes "refused")))
-
 -- with the byte of a fault, if it has one
 abbrev pub byte_member : Option ℕ → Members → Members
 byte_member (Some at) members = member (codes "byte") (number (unsigned at)) members
 byte_member None members = members
 
--- of a text that grants nothing
-abbrev pub refused_text_document : TextFault → Data
-refused_text_document fault =
-    object (byte_member (fault_byte fault) (member (codes "fault") (string (fault_text fault)) (verdict_members (codes "refused"))))
+-- what is behind the first blank
+abbrev pub behind_blank : List ℕ → List ℕ
+behind_blank text = after_first (λ byte. byte == 32) text
+
+-- a fault by its printed form, which begins with its number and its name; and its byte, if it has one
+abbrev pub fault_value : List ℕ → Option ℕ → Data
+fault_value printed byte =
+    object (byte_member byte (member (codes "name") (string (first_word (behind_blank printed))) (member (codes "number") (string (first_word printed)) (member (codes "text") (string printed) no_members))))
+
+-- the fault alone
+abbrev pub fault_alone : List ℕ → Option ℕ → Data
+fault_alone printed byte = object (member (codes "fault") (fault_value printed byte) no_members)
+
+-- of what is refused for this reason
+abbrev pub refused_document : List ℕ → Option ℕ → Data
+refused_document printed byte = object (member (codes "fault") (fault_value printed byte) (verdict_members (codes "refused")))
 
 -- a verdict, or the fault that prevents one
 abbrev pub answer_document : Result Verdict VerdictFault → Data
@@ -82,8 +90,8 @@ answer_document (Ok (Denied report)) =
     object (member (codes "report") (array (items_of (map condition_document report))) (verdict_members (codes "deny")))
 answer_document (Ok (Depends allowed denied)) =
     object (member (codes "allowed_from") (string (address_text allowed)) (member (codes "denied_from") (string (address_text denied)) (verdict_members (codes "depends"))))
-answer_document (Err (faults.Text fault)) = refused_text_document fault
-answer_document (Err (faults.Calls fault)) = refused_document (vectors.text_of fault)
+answer_document (Err (faults.Text fault)) = refused_document (fault_text fault) (fault_byte fault)
+answer_document (Err (faults.Calls fault)) = refused_document (vectors.text_of fault) None
 
 -- what is printed of an answer
 abbrev pub answer_by : Format → Result Verdict VerdictFault → List ℕ
@@ -101,7 +109,7 @@ row_document name answers =
 
 -- why calls are refused
 abbrev pub calls_document : NeedsFault → Data
-calls_document fault = object (member (codes "fault") (string (vectors.text_of fault)) no_members)
+calls_document fault = fault_alone (vectors.text_of fault) None
 
 -- ---- explanations
 
@@ -117,9 +125,8 @@ explained_document grants ticket =
 
 -- of a list that is not expanded
 abbrev pub expansion_document : ExpandFault → Data
-expansion_document fault = object (member (codes "fault") (string (profiles.fault_text fault)) no_members)
+expansion_document fault = fault_alone (profiles.fault_text fault) None
 
 -- of a text that spells no list
 abbrev pub spelling_document : CapFault → Data
-spelling_document fault =
-    object (member (codes "byte") (number (unsigned fault.at)) (member (codes "fault") (string (cap.fault_text fault)) no_members))
+spelling_document fault = fault_alone (cap.fault_text fault) (Some fault.at)

@@ -3,6 +3,7 @@ pub mod Asked
 pub mod Answer
 pub mod Explain
 pub mod Caret
+pub mod ShownName
 pub mod Named
 pub mod Documents
 pub mod FirstPlaces

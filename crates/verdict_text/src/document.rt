@@ -1,18 +1,19 @@
 //! Answers as JSON documents.
 
-ghost use Rattle.std.specs.Prelude.{◌≡◌, ◌++◌, Err, IfOk, Ok, OnOk, Some, false, map, string_bytes};
+ghost use Rattle.std.specs.Prelude.{◌≡◌, ◌++◌, Err, IfOk, None, Ok, OnOk, false, map, string_bytes};
 ghost use Rattle.serde_json.specs.Data.{array};
 ghost use Rattle.serde_json.specs.View.{items_of, view};
 ghost use Rattle.serde_json.specs.Written.{has_float};
 ghost use Rattle.cap_text.specs.Printed.{printed};
-ghost use Rattle.verdict_text.specs.Documents.{answer_document, calls_document, condition_document, entity_document, expansion_document, explained_document, grant_document, json_line, piece, refused_document, refused_text_document, row_document, spelling_document};
+ghost use Rattle.verdict_text.specs.Documents.{answer_document, calls_document, condition_document, entity_document, expansion_document, explained_document, grant_document, json_line, piece, refused_document, row_document, spelling_document};
 ghost use Rattle.verdict_text.specs.Documents as spec;
 ghost use Rattle.verdict_text.specs.declared.format.Format.TheVariants.{Json};
 ghost use Rattle.verdict_text.specs.declared.verdict.Verdict.TheVariants.{Denied, Depends};
-ghost use Rattle.verdict_text.specs.Reading.{fault_byte};
+ghost use Rattle.verdict_text.specs.Reading.{fault_byte, fault_text};
+ghost use Rattle.object_core.specs.Faults as vectors;
 
 use crate::format::Format;
-use crate::reading::TextFault;
+use crate::reading::{TextFault, first_word};
 use crate::verdict::{Answer, Verdict, VerdictFault};
 use cap_text::{AllowGrant, CapFault, CapList, print, push_allow};
 use common_types::OutOfMemory;
@@ -140,30 +141,65 @@ fn depends_value(alloc: Global, allowed: &Address, denied: &Address) -> Result<V
     json!(in alloc; {"allowed_from": allowed, "denied_from": denied, "verdict": "depends"})
 }
 
-/// The document of an answer to a text whose fault is at a byte.
-fn refused_at_value(alloc: Global, fault: TextFault, at: usize) -> Result<Value, OutOfMemory>
-    requires { fault_byte fault ≡ Some at }
-    ensures { IfOk result (λ value. view value ≡ refused_text_document fault) }
+/// What is behind the first blank of a text.
+fn behind_blank(text: &str) -> &str
+    ensures { result.now ≡ spec.behind_blank text.now }
 {
-    let text = format!(in alloc; "{fault}")?;
-    json!(in alloc; {"byte": at, "fault": text, "verdict": "refused"})
+    match text.split_once(' ') {
+        Some((_, rest)) => rest,
+        None => "",
+    }
+}
+
+/// A fault as a JSON object, by its printed form, which begins with its number and its name: the members `byte` if a byte is at
+/// fault, `name`, `number`, and `text`, the printed form (this project's profile). The only error is out of memory.
+pub fn fault_value(alloc: Global, printed: &str, byte: Option<usize>) -> Result<Value, OutOfMemory>
+    ensures { IfOk result (λ value. view value ≡ spec.fault_value printed.now byte) }
+{
+    let number = first_word(printed);
+    let name = first_word(behind_blank(printed));
+    match byte {
+        Some(byte) => {
+            json!(in alloc; {"byte": byte, "name": name, "number": number, "text": printed})
+        }
+        None => json!(in alloc; {"name": name, "number": number, "text": printed}),
+    }
+}
+
+/// The document of a fault alone.
+pub(crate) fn fault_alone(
+    alloc: Global,
+    printed: &str,
+    byte: Option<usize>,
+) -> Result<Value, OutOfMemory>
+    ensures { IfOk result (λ value. view value ≡ spec.fault_alone printed.now byte) }
+{
+    let fault = fault_value(alloc, printed, byte)?;
+    json!(in alloc; {"fault": fault})
+}
+
+/// The document of an answer that is refused for this reason.
+fn refused_value(alloc: Global, printed: &str, byte: Option<usize>) -> Result<Value, OutOfMemory>
+    ensures { IfOk result (λ value. view value ≡ refused_document printed.now byte) }
+{
+    let fault = fault_value(alloc, printed, byte)?;
+    json!(in alloc; {"fault": fault, "verdict": "refused"})
 }
 
 /// The document of an answer to a text that grants nothing.
 fn refused_text_value(alloc: Global, fault: TextFault) -> Result<Value, OutOfMemory>
-    ensures { IfOk result (λ value. view value ≡ refused_text_document fault) }
+    ensures { IfOk result (λ value. view value ≡ refused_document (fault_text fault) (fault_byte fault)) }
 {
-    match fault.byte() {
-        Some(at) => refused_at_value(alloc, fault, at),
-        None => refused_value(alloc, format!(in alloc; "{fault}")?),
-    }
+    let printed = format!(in alloc; "{fault}")?;
+    refused_value(alloc, printed.as_str(), fault.byte())
 }
 
-/// The document of an answer that is refused for this reason.
-fn refused_value(alloc: Global, fault: String) -> Result<Value, OutOfMemory>
-    ensures { IfOk result (λ value. view value ≡ refused_document (string_bytes fault)) }
+/// The document of an answer to calls that are refused.
+fn refused_calls_value(alloc: Global, fault: NeedsFault) -> Result<Value, OutOfMemory>
+    ensures { IfOk result (λ value. view value ≡ refused_document (vectors.text_of fault) None) }
 {
-    json!(in alloc; {"fault": fault, "verdict": "refused"})
+    let printed = format!(in alloc; "{fault}")?;
+    refused_value(alloc, printed.as_str(), None)
 }
 
 /// The document of an answer.
@@ -175,7 +211,7 @@ pub(crate) fn answer_value(alloc: Global, answer: &Answer) -> Result<Value, OutO
         Ok(Verdict::Denied(report)) => denied_value(alloc, report.lines()),
         Ok(Verdict::Depends { allowed, denied }) => depends_value(alloc, allowed, denied),
         Err(VerdictFault::Text(fault)) => refused_text_value(alloc, *fault),
-        Err(VerdictFault::Calls(fault)) => refused_value(alloc, format!(in alloc; "{fault}")?),
+        Err(VerdictFault::Calls(fault)) => refused_calls_value(alloc, *fault),
     }
 }
 
@@ -237,7 +273,7 @@ fn calls_value(alloc: Global, fault: NeedsFault) -> Result<Value, OutOfMemory>
     ensures { IfOk result (λ value. view value ≡ calls_document fault) }
 {
     let text = format!(in alloc; "{fault}")?;
-    json!(in alloc; {"fault": text})
+    fault_alone(alloc, text.as_str(), None)
 }
 
 /// The document of calls that are refused, on a line: the member `fault`. The only error is out of memory.
@@ -300,7 +336,7 @@ fn expansion_value(alloc: Global, fault: ExpandFault) -> Result<Value, OutOfMemo
     ensures { IfOk result (λ value. view value ≡ expansion_document fault) }
 {
     let text = format!(in alloc; "{fault}")?;
-    json!(in alloc; {"fault": text})
+    fault_alone(alloc, text.as_str(), None)
 }
 
 /// The document of a list that is not expanded, on a line.
@@ -316,7 +352,7 @@ fn spelling_value(alloc: Global, fault: CapFault) -> Result<Value, OutOfMemory>
     ensures { IfOk result (λ value. view value ≡ spelling_document fault) }
 {
     let text = format!(in alloc; "{fault}")?;
-    json!(in alloc; {"byte": fault.at, "fault": text})
+    fault_alone(alloc, text.as_str(), Some(fault.at))
 }
 
 /// The document of a text that spells no list, on a line.

@@ -8,7 +8,7 @@ ghost use Rattle.verdict_text.specs.Documents.{json_line};
 ghost use Rattle.verdict_text.specs.CephExplained.{ceph_document, entry_document, fault_document, number_document};
 
 use crate::ceph_lines::text_of_entry;
-use crate::document::json_line;
+use crate::document::{fault_alone, json_line};
 use crate::reading::TextFault;
 use ceph_text::{CephEntry, CephList, unknown_profiles};
 use common_types::OutOfMemory;
@@ -76,10 +76,7 @@ fn fault_value(alloc: Global, fault: TextFault) -> Result<Value, OutOfMemory>
     ensures { IfOk result (λ value. view value ≡ fault_document fault) }
 {
     let text = format!(in alloc; "{fault}")?;
-    match fault.byte() {
-        Some(at) => json!(in alloc; {"byte": at, "fault": text}),
-        None => json!(in alloc; {"fault": text}),
-    }
+    fault_alone(alloc, text.as_str(), fault.byte())
 }
 
 /// The document of a text that grants nothing, on a line.

@@ -41,12 +41,13 @@ mod reading;
 mod reasons;
 mod reasons_json;
 mod rules_member;
+mod shown_name;
 mod verdict;
 
 pub use asked::{Asked, needs_asked};
 pub use caret::{point_at_fault, push_shown_text};
 pub use document::{
-    calls_json, entities_by, entity_piece, json_line, list_by, piece_of, row_piece,
+    calls_json, entities_by, entity_piece, fault_value, json_line, list_by, piece_of, row_piece,
 };
 pub use entity::{Entity, ReadEntity};
 pub use explain::{Explained, explain_ceph, explain_text, read_explained};
@@ -59,4 +60,5 @@ pub use reading::{
 };
 pub use reasons::{Printing, verdict_by};
 pub use rules_member::{rules_word, with_rules};
+pub use shown_name::push_name;
 pub use verdict::{Answer, Verdict, VerdictFault, answer, answer_of, text_of, verdict_text};

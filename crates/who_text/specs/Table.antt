@@ -4,7 +4,7 @@
 use Rattle.std.specs.Prelude.{ℕ, zero, suc, ◌≡◌, ◌-◌, List, [], ◌∷◌, ◌++◌, Result, Ok, Err, codes, decimal, flat_map, length, max, replicate, string_bytes}
 use Rattle.verdict_text.specs.Answer.{IsAnswerOf}
 use Rattle.verdict_text.specs.Asked.{Asked}
-use Rattle.verdict_text.specs.Caret.{shown}
+use Rattle.verdict_text.specs.ShownName.{shown_name}
 use Rattle.verdict_text.specs.Reading.{Reading, first_word}
 use Rattle.who_text.specs.Who.{AreInOrder}
 use Rattle.verdict_text.specs.Documents.{entities_by, piece, row_document}
@@ -21,7 +21,7 @@ use Rattle.verdict_text.specs.declared.verdict.VerdictFault.{VerdictFault}
 -- the largest of a width and those of the names of some entities
 abbrev pub widest : ℕ → List ReadEntity → ℕ
 widest width [] = width
-widest width (entity ∷ entities) = widest (max (length (shown (string_bytes entity.name))) width) entities
+widest width (entity ∷ entities) = widest (max (length (shown_name (string_bytes entity.name))) width) entities
 
 abbrev pub name_width : List ReadEntity → ℕ
 name_width entities = widest (length (codes "entity")) entities
@@ -42,7 +42,7 @@ cell (Ok (Depends allowed denied)) = aligned (codes "depends")
 cell (Err fault) = aligned (first_word (fault_text fault))
 
 abbrev pub row_line : ℕ → List ℕ → List (Result Verdict VerdictFault) → List ℕ
-row_line width name answers = padded width (shown name) ++ (flat_map cell answers ++ codes "\n")
+row_line width name answers = padded width (shown_name name) ++ (flat_map cell answers ++ codes "\n")
 
 abbrev pub row_by : Format → ℕ → List ℕ → List (Result Verdict VerdictFault) → List ℕ
 row_by Text width name answers = row_line width name answers

@@ -9,7 +9,7 @@ use Rattle.request_types.specs.Text.{report_line}
 use Rattle.request_types.specs.declared.request.Condition.{Condition}
 use Rattle.verdict_text.specs.Answer.{IsAnswerOf}
 use Rattle.verdict_text.specs.Asked.{Asked, calls_fault}
-use Rattle.verdict_text.specs.Caret.{shown}
+use Rattle.verdict_text.specs.ShownName.{shown_name}
 use Rattle.verdict_text.specs.Documents.{calls_document, entities_by, entity_document, json_line, piece}
 use Rattle.verdict_text.specs.Text.{fault_text, refused_text, verdict_text}
 use Rattle.verdict_text.specs.declared.entity.ReadEntity.{ReadEntity}
@@ -20,7 +20,7 @@ use Rattle.verdict_text.specs.declared.verdict.Verdict.TheVariants.{Allowed, Den
 use Rattle.verdict_text.specs.declared.verdict.VerdictFault.{VerdictFault}
 
 abbrev pub name_line : List ℕ → List ℕ
-name_line name = shown name ++ codes "\n"
+name_line name = shown_name name ++ codes "\n"
 
 -- a report's line, indented
 abbrev pub indented_line : List ℕ × Condition → List ℕ
@@ -35,7 +35,7 @@ answer_lines (Err fault) = refused_text (fault_text fault)
 
 -- an entity's name and its answer
 abbrev pub answered_lines : List ℕ → Result Verdict VerdictFault → List ℕ
-answered_lines name answer = shown name ++ (codes " " ++ answer_lines answer)
+answered_lines name answer = shown_name name ++ (codes " " ++ answer_lines answer)
 
 -- the same as a text or as a piece of a document
 abbrev pub answered_by : Format → List ℕ → Result Verdict VerdictFault → List ℕ
@@ -49,7 +49,7 @@ listed_by Json name = piece (entity_document name (Ok Allowed))
 
 -- one that may from some addresses is listed with one of them
 abbrev pub depending_line : List ℕ → Address → List ℕ
-depending_line name allowed = shown name ++ (codes " depends --from " ++ (address_text allowed ++ codes "\n"))
+depending_line name allowed = shown_name name ++ (codes " depends --from " ++ (address_text allowed ++ codes "\n"))
 
 abbrev pub depending_by : Format → List ℕ → Address → Address → List ℕ
 depending_by Text name allowed denied = depending_line name allowed

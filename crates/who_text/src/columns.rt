@@ -1,12 +1,12 @@
 //! The columns of a table: names at the left of theirs, all else at the right.
 
 ghost use Rattle.std.specs.Prelude.{◌≡◌, ◌++◌, IfOk, OnOk, replicate, string_bytes};
-ghost use Rattle.verdict_text.specs.Caret.{shown};
+ghost use Rattle.verdict_text.specs.ShownName as names;
 ghost use Rattle.who_text.specs.Table as spec;
 
 use common_types::OutOfMemory;
 use std::alloc::Global;
-use verdict_text::{ReadEntity, push_shown_text};
+use verdict_text::{ReadEntity, push_name};
 
 /// The head of the names' column.
 pub(crate) const HEAD: &str = "entity";
@@ -43,10 +43,10 @@ pub(crate) fn push_padded(text: &mut String, width: usize, name: &str) -> Result
 
 /// A name as it is shown.
 pub(crate) fn shown_name(alloc: Global, name: &str) -> Result<String, OutOfMemory>
-    ensures { IfOk result (λ text. string_bytes text ≡ shown name.now) }
+    ensures { IfOk result (λ text. string_bytes text ≡ names.shown_name name.now) }
 {
     let mut text = String::new(alloc);
-    push_shown_text(&mut text, name)?;
+    push_name(&mut text, name)?;
     Ok(text)
 }
 

@@ -175,7 +175,7 @@ fn table_by(
 /// each entity, in order: its name, and for each request `allow`, `deny`, or the number of the fault for which there is no
 /// verdict. The columns are aligned: names at the left, all else at the right.
 ///
-/// A name's bytes outside 32 to 126 are shown as `\x` and two hexadecimal digits. As a document it has the member
+/// Names are written by [`verdict_text::push_name`]. As a document it has the member
 /// `entities`, of whose items each has `entity` and `answers`, each of which is the document of a verdict.
 pub fn who_table(
     alloc: Global,

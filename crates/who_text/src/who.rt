@@ -15,7 +15,7 @@ use std::fmt::Write;
 use verdict_core::Condition;
 use verdict_text::{
     Answer, Asked, Format, Printed, ReadEntity, Verdict, answer_of, calls_json, entities_by,
-    entity_piece, needs_asked, push_shown_text,
+    entity_piece, needs_asked, push_name,
 };
 
 /// Adds a line of a report, indented.
@@ -61,7 +61,7 @@ fn push_answer(text: &mut String, answer: &Answer) -> Result<(), OutOfMemory>
 fn push_answered(text: &mut String, name: &str, answer: &Answer) -> Result<(), OutOfMemory>
     ensures { OnOk result (string_bytes text.new ≡ string_bytes text.old ++ answered_lines name.now answer.now) }
 {
-    push_shown_text(text, name)?;
+    push_name(text, name)?;
     text.push_str(" ")?;
     push_answer(text, answer)
 }
@@ -99,7 +99,7 @@ fn push_answered_by(
 fn push_name_line(text: &mut String, name: &str) -> Result<(), OutOfMemory>
     ensures { OnOk result (string_bytes text.new ≡ string_bytes text.old ++ name_line name.now) }
 {
-    push_shown_text(text, name)?;
+    push_name(text, name)?;
     text.push_str("\n")
 }
 
@@ -132,7 +132,7 @@ fn push_depending(
 {
     match format {
         Format::Text => {
-            push_shown_text(text, name)?;
+            push_name(text, name)?;
             write!(text, " depends --from {allowed}\n")
         }
         Format::Json => push_entity(text, alloc, name, answer),
@@ -254,7 +254,7 @@ fn refused_calls(alloc: Global, fault: NeedsFault, format: Format) -> Result<Pri
 /// order. With `all` each entity has its name and its answer, a denial's report indented by two blanks. Calls that
 /// are refused are asked of nobody: then the fault is printed, which fails.
 ///
-/// A name's bytes outside 32 to 126 are shown as `\x` and two hexadecimal digits. As a document it has the member
+/// Names are written by [`verdict_text::push_name`]. As a document it has the member
 /// `entities`, of whose items each has `entity` and `answer`, which is the document of a verdict; or `fault`.
 pub fn who_text(
     alloc: Global,
