@@ -1,6 +1,7 @@
 //! Names as they are shown in lines.
 
 ghost use Rattle.std.specs.Prelude.{◌≡◌, ◌++◌, IsTrue, OnOk, flat_map, string_bytes, ◌<◌};
+ghost use Rattle.std.specs.List.{list_all};
 ghost use Rattle.verdict_text.specs.ShownName as spec;
 
 use common_types::{OutOfMemory, push_escape};
@@ -20,11 +21,18 @@ fn is_bare_byte(byte: u8) -> bool
     is_quotable(byte) && byte != b' ' && byte != b','
 }
 
+/// Whether all bytes are shown as they are without quotes.
+fn are_bare_bytes(bytes: &[u8]) -> bool
+    ensures { result ≡ list_all spec.is_bare_byte bytes.now }
+{
+    bytes.iter().all(|byte| is_bare_byte(*byte))
+}
+
 /// Whether a name is shown without quotes.
 fn is_bare(name: &str) -> bool
     ensures { result ≡ spec.is_bare name.now }
 {
-    !name.is_empty() && name.as_bytes().iter().all(|byte| is_bare_byte(*byte))
+    !name.is_empty() && are_bare_bytes(name.as_bytes())
 }
 
 /// Adds a byte as it is shown between quotes.
