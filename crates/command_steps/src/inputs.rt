@@ -7,12 +7,12 @@ use clap::ArgMatches;
 use common_types::OutOfMemory;
 use gate_files::{
     AuthFile, Choice, Chosen, FileFault, InputFiles, Purpose, ServiceText, auth_of, keep_chosen,
-    keep_chosen_services, pools_of, push_name, read_text, unmatched_line,
+    keep_chosen_services, pools_of, read_text, unmatched_line,
 };
 use share_core::Pool;
 use std::alloc::Global;
 use std::io::Read;
-use verdict_text::{Entity, Reader};
+use verdict_text::{Entity, Reader, push_name};
 
 /// What is read of a file, or why it cannot be used.
 pub fn or_bad_file<T: Drop>(
