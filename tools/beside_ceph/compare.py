@@ -233,7 +233,8 @@ def bytes_of_refusals(folder, texts, request):
     rows = json.loads(run_ours(folder, texts, [request], "json"))["entities"]
     assert [row["entity"] for row in rows] == [f"client.{number}" for number, _ in texts]
     answers = [row["answers"][0] for row in rows]
-    return {number: answer.get("byte", answer.get("fault")) for (number, _), answer in zip(texts, answers)}
+    faults = [answer["fault"] for answer in answers]
+    return {number: fault.get("byte", fault["text"]) for (number, _), fault in zip(texts, faults)}
 
 
 def asked_of_program(folder, texts, requests):

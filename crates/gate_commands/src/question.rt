@@ -100,7 +100,7 @@ pub fn run_question<F: InputFiles, R: Read, O: Write, E: Write>(
 }
 
 /// Runs a program that has the questions to the access gate alone. The first argument is the program's own name. It returns the
-/// exit status, as `run_question` does. It has no `run` and no `threads`.
+/// exit status, as `run_question` does. It has no `audit`, `check`, `log`, `reach`, `run`, `suggest` and `threads`.
 pub fn run_gate<S: AsStr, F: InputFiles, R: Read, O: Write, E: Write>(
     alloc: Global,
     words: &[S],

@@ -1,7 +1,7 @@
 //! The program `osdgate_bench`: what verdicts, capability texts, expansions, comparisons, vectors of operations,
 //! groups, peering, scripts, shared objects and clusters cost, in nanoseconds a call.
 //!
-//! Only this crate reads a clock.
+//! It reads the clock.
 #![tactic(auto)]
 
 mod command;

@@ -231,18 +231,18 @@ const PRINTED: &[(&str, &str, &str); 6] = &[
     (
         "allow rw namespace=web",
         "allow r namespace=we*",
-        "writes reads 1 1 --pool a --namespace web --object a\nreads reads 1 1 --pool a --namespace web --object a\n",
+        "writes reads 1 1 --pool '<any>' --namespace web --object a\nreads reads 1 1 --pool '<any>' --namespace web --object a\n",
     ),
     ("allow w tag app k=v", "allow w tag app k=u", "apart\n"),
     (
         "allow w tag app k=v",
         "allow w tag app j=u",
-        "writes writes 1 1 --pool a --object a --tag app:k=v --tag app:j=u\n",
+        "writes writes 1 1 --pool '<any>' --object a --tag app:k=v --tag app:j=u\n",
     ),
     (
         "allow x object_prefix log",
         "allow class-read",
-        "writes reads 1 1 --pool a --object log\nreads reads 1 1 --pool a --object log\n",
+        "writes reads 1 1 --pool '<any>' --object log\nreads reads 1 1 --pool '<any>' --object log\n",
     ),
     ("allow r", "deny r", "refused second C3 UnknownWord at 0\n"),
 ];

@@ -83,7 +83,7 @@ const ROWS: &[Row; 9] = &[
         &[
             "osdgate", "check", "nobody", "--auth", "auth", "--format", "json",
         ],
-        "{\"rules\":\"ceph\",\"checks\":[{\"findings\":[],\"line\":1,\"outcome\":\"nobody\",\"rule\":\"apart client.web client.wbe\"}],\"not_checked\":[{\"entity\":\"client.bad\",\"fault\":{\"byte\":0,\"name\":\"CephRefuses\",\"number\":\"E1\"}}],\"notes\":[\"1 entity is not checked: client.bad (E1)\",\"by the rules of Ceph 16.2.15\"]}\n",
+        "{\"rules\":\"ceph\",\"checks\":[{\"findings\":[],\"line\":1,\"outcome\":\"nobody\",\"rule\":\"apart client.web client.wbe\"}],\"not_checked\":[{\"entity\":\"client.bad\",\"fault\":{\"byte\":0,\"name\":\"CephRefuses\",\"number\":\"E1\",\"text\":\"E1 CephRefuses at 0\"}}],\"notes\":[\"1 entity is not checked: client.bad (E1)\",\"by the rules of Ceph 16.2.15\"]}\n",
         "osdgate: 1 entity is not checked: client.bad (E1)\nosdgate: by the rules of Ceph 16.2.15\n",
         1,
     ),

@@ -165,7 +165,7 @@ fn entities_that_cannot_be_read_fail(rt: HostRuntime) -> Result<(), Fail> {
     let json = check_json(alloc, all.as_slice(), checked.as_slice())?;
     assert_eq!(rt;
         json.as_str(),
-        "{\"checks\":[{\"findings\":[{\"entity\":\"client.<a>\",\"fault\":\"E1 CephRefuses at 0\"}],\"line\":1,\"outcome\":\"fails\",\"rule\":\"never * 'allow r'\"}]}\n"
+        "{\"checks\":[{\"findings\":[{\"entity\":\"client.<a>\",\"fault\":{\"byte\":0,\"name\":\"CephRefuses\",\"number\":\"E1\",\"text\":\"E1 CephRefuses at 0\"}}],\"line\":1,\"outcome\":\"fails\",\"rule\":\"never * 'allow r'\"}]}\n"
     );
     let junit = check_junit(alloc, Rules::Ceph, all.as_slice(), checked.as_slice())?;
     assert_eq!(rt;

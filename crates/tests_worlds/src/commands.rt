@@ -42,7 +42,7 @@ const ROWS: &[Row; 16] = &[
         &[
             "osdgate", "compare", "--old", "allow r", "--new", "allow rw", "--check",
         ],
-        "wider\n+ 1 --pool a --namespace a --object a --write\n",
+        "wider\n+ 1 --pool '<any>' --namespace a --object a --write\n",
         "",
         1,
     ),
