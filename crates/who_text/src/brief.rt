@@ -50,7 +50,7 @@ fn brief_needed(
     }
 }
 
-/// The verdict of a text that was read on a request, or the fault for which there is none.
+/// The verdict of a text that was read on a request, or the fault that prevents one.
 fn brief_answer(
     alloc: Global,
     read: &Reading,
