@@ -5,7 +5,8 @@ A public call is a `pub fn` with an `ensures` clause, which `src/lib.rt` exports
 A mutant, crates/NAME/must-fail/*.edit, breaks the function whose body it edits and each function of the crate that calls it, by
 name. So the list is of calls that reach no edited body. A law, a function with an empty body, has no mutant and is not listed. Nor
 is `copy`, nor a reader or maker of a value: its body is one expression, perhaps behind one `let`, without a branch, a loop or a
-comparison, and of the crate's own functions it calls such ones alone. Its clause is its body.
+comparison, and of the crate's own functions it calls such ones alone. Its clause is its body. A line `let _field = &self.field;` in
+a body does not count: it only shows the prover the field's invariant.
 Calls are told apart by their names alone, so a call that shares its name with an edited function may be missed. --rows takes the
 rows of crates.txt. It prints a line a crate and, below it, a line a call with its clauses, and exits with 0. --write puts the list of
 all crates into docs/design/PROVED.md, in place of printing it.
@@ -25,6 +26,7 @@ HEAD = re.compile(r"^(?P<pad> *)(?P<public>pub(?P<within>\([a-z ]+\))? )?(?:cons
 BRANCH = re.compile(r"\b(if|match|for|while|loop|else)\b|&&|\|\||[=!<>]=| [<>] ")
 CLAUSE = re.compile(r"^ *ensures(?: (\w+))? \{", re.M)
 TYPE = re.compile(r"^(?:pub(?:\([a-z]+\))? )?(?:struct|enum|trait) (\w+)", re.M)
+SHOWN = re.compile(r"^ *let _\w* = &self\.\w+;\n?", re.M)
 CALL = re.compile(r"(?:\b(\w+)::)?\b([a-z_]\w*)(?:::<[^>()]*>)?\(")
 
 
@@ -38,7 +40,7 @@ def functions(text):
         whole = rest[: end.end()] if end else rest
         body = re.search(rf"^{pad}\{{|\{{[ \t]*$", whole, re.M)
         clauses = [it or "its clause" for it in CLAUSE.findall(whole)]
-        inner = whole[body.end():].rstrip().removesuffix("}") if body else ""
+        inner = SHOWN.sub("", whole[body.end():].rstrip().removesuffix("}")) if body else ""
         found.append((head["name"], bool(head["public"]) and not head["within"], clauses, inner))
     return found
 

@@ -7,8 +7,8 @@ use crate::arguments::{CheckArguments, CheckFormat};
 use crate::rules_file::rules_in;
 use clap::ArgMatches;
 use command_steps::{
-    Answered, NoAnswer, chosen_read_by, finish_answer, finish_unanswered, format_of, pools_given,
-    reader_of, with_rules_of,
+    Answered, NoAnswer, Progress, chosen_read_by, finish_answer, finish_unanswered, format_of,
+    pools_given, reader_of, with_rules_of,
 };
 use common_types::OutOfMemory;
 use gate_files::{Chosen, InputFiles};
@@ -20,12 +20,27 @@ use std::alloc::Global;
 use std::io::{Read, Write};
 use verdict_text::{Printed, ReadEntity};
 
-/// Looks on while rules are checked, and shows nothing.
-#[derive(Clone, Copy)]
-struct Silent;
+/// Shows how many rules are checked.
+struct Counting<'r, 'a, F, E> {
+    progress: &'r mut Progress<'a, F, E>,
+}
 
-impl Watch for Silent {
-    fn checked(&mut self, _count: usize) {}
+impl<F, E> Drop for Counting<'_, '_, F, E> {
+    fn drop(self) {
+        let Counting { progress: _ } = self;
+    }
+}
+
+impl<'r, 'a, F: InputFiles, E: Write> Counting<'r, 'a, F, E> {
+    fn of(progress: &'r mut Progress<'a, F, E>) -> Self {
+        Counting { progress }
+    }
+}
+
+impl<F: InputFiles, E: Write> Watch for Counting<'_, '_, F, E> {
+    fn checked(&mut self, count: usize) {
+        self.progress.show(count as u64, "rules are checked");
+    }
 }
 
 /// Checked rules in the form that is asked for.
@@ -78,12 +93,28 @@ fn checked<W: Watch>(
     Ok(answered)
 }
 
+/// The answer on rules, while it is shown how many are checked.
+fn checked_shown<F: InputFiles, E: Write>(
+    alloc: Global,
+    arguments: &CheckArguments<'_>,
+    rules: &[RuleLine],
+    pools: Option<&[Pool]>,
+    chosen: &Chosen,
+    progress: &mut Progress<'_, F, E>,
+) -> Result<Answered, OutOfMemory> {
+    let mut counting = Counting::of(progress);
+    let answered = checked(alloc, arguments, rules, pools, chosen, &mut counting);
+    counting.progress.end();
+    answered
+}
+
 /// Which rules the entities of a file keep.
-fn check<F: InputFiles, R: Read>(
+fn check<F: InputFiles, R: Read, E: Write>(
     alloc: Global,
     matches: &ArgMatches<'_>,
     files: &F,
     reader: &mut R,
+    err: &mut E,
 ) -> Result<Answered, NoAnswer> {
     let arguments = CheckArguments::of(matches)?;
     let pools = pools_given(alloc, files, reader, matches)?;
@@ -91,14 +122,9 @@ fn check<F: InputFiles, R: Read>(
     let by = reader_of(alloc, matches)?;
     let chosen = chosen_read_by(alloc, files, reader, matches, &by)?;
     let rules = rules_in(alloc, files, reader, arguments.path, chosen.entities(), &by)?;
-    let answered = checked(
-        alloc,
-        &arguments,
-        rules.as_slice(),
-        pools,
-        &chosen,
-        &mut Silent,
-    )?;
+    let mut progress = Progress::begin(files, err);
+    let rules = rules.as_slice();
+    let answered = checked_shown(alloc, &arguments, rules, pools, &chosen, &mut progress)?;
     let answered = with_rules_of(alloc, matches, answered)?;
     Ok(answered.documented(alloc, format_of(matches))?)
 }
@@ -117,7 +143,7 @@ pub fn run_check<F: InputFiles, R: Read, O: Write, E: Write>(
 ) -> u8
     ensures { result ≤ 2 }
 {
-    match check(alloc, matches, files, reader) {
+    match check(alloc, matches, files, reader, err) {
         Ok(answered) => finish_answer(&answered, out, err),
         Err(why) => finish_unanswered(&why, out, err),
     }
