@@ -1,24 +1,21 @@
 -- No document of a comparison has a float.
 use Rattle.std.proofs.Common.{◌≡◌, ℕ, List, ◌||◌, false, Option, None, Some, map, refl, ap, ◌∙◌}
-use Rattle.serde_json.specs.Data.{Members, array}
+use Rattle.serde_json.specs.Data.{array}
 use Rattle.serde_json.specs.View.{items_of}
-use Rattle.serde_json.specs.Written.{has_float, members_have_float}
+use Rattle.serde_json.specs.Written.{has_float}
 use Rattle.verdict_text.proofs.NoFloats.{each, of_fault_value}
 use Rattle.common_types.specs.declared.tags.AppTags.{AppTags}
 use Rattle.network_core.specs.declared.address.Address.{Address}
 use Rattle.request_types.specs.Target.{Target}
+use Rattle.request_types.specs.declared.request.Needs.{Needs}
 use Rattle.compare_text.specs.Compared.{compared_document, example_document, examples_document, side_document}
 use Rattle.compare_text.specs.Entities.{change_document, unjudged_document}
-use Rattle.compare_text.specs.RequestDocument.{addressed_document, call_document, from_member, key_document, request_members, tag_document, target_document}
+use Rattle.compare_text.specs.RequestDocument.{addressed_document, call_document, from_document, key_document, needs_document, tag_document, target_document, target_example}
 use Rattle.compare_text.specs.declared.relation.Relation.{Relation}
 use Rattle.compare_text.specs.declared.widening.AddressedExample.{AddressedExample}
 use Rattle.verdict_text.specs.declared.reading.TextFault.{TextFault}
 use Rattle.verdict_text.specs.Reading.{fault_byte, fault_text}
 use Rattle.compare_text.specs.declared.relation.Presence.{Presence}
-
-from_free : (from : Option Address) (members : Members) → members_have_float (from_member from members) ≡ members_have_float members
-from_free None members = refl
-from_free (Some address) members = refl
 
 of_tag : (app : AppTags) → has_float (tag_document app) ≡ false
 of_tag app = ap (λ b. b || false) (each key_document (λ _. refl) app.pairs)
@@ -27,14 +24,23 @@ of_tag app = ap (λ b. b || false) (each key_document (λ _. refl) app.pairs)
 tags_free : (tags : List AppTags) → has_float (array (items_of (map tag_document tags))) ≡ false
 tags_free tags = each tag_document of_tag tags
 
--- nor has the object of a target
-pub of_target : (target : Target) → has_float (target_document target) ≡ false
+of_target : (target : Target) → has_float (target_document target) ≡ false
 of_target target = ap (λ b. b || false) (tags_free target.tags)
+
+of_needs : (needs : Needs) → has_float (needs_document needs) ≡ false
+of_needs needs = ap (λ b. b || false) (each call_document (λ _. refl) needs.calls)
+
+of_from : (from : Option Address) → has_float (from_document from) ≡ false
+of_from None = refl
+of_from (Some address) = refl
+
+pub of_target_example : (target : Target) → has_float (target_example target) ≡ false
+of_target_example target = ap (λ b. b || false) (of_target target)
 
 pub of_addressed : (found : AddressedExample) → has_float (addressed_document found) ≡ false
 of_addressed found =
-    ap (λ b. b || members_have_float (from_member found.from (request_members found.example))) (each call_document (λ _. refl) found.example.needs.calls)
-    ∙ (from_free found.from (request_members found.example) ∙ ap (λ b. b || false) (tags_free found.example.target.tags))
+    ap (λ b. b || (has_float (needs_document found.example.needs) || (has_float (target_document found.example.target) || false))) (of_from found.from)
+    ∙ (ap (λ b. b || (has_float (target_document found.example.target) || false)) (of_needs found.example.needs) ∙ ap (λ b. b || false) (of_target found.example.target))
 
 of_example : (found : AddressedExample) → has_float (example_document found) ≡ false
 of_example found = ap (λ b. b || false) (of_addressed found)

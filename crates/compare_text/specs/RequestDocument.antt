@@ -2,14 +2,14 @@
 -- Requests as JSON objects (this project's profile): their parts, and `command`, the words of a shell that `osdgate verdict` takes. The
 -- members are in the order of their names.
 use Rattle.std.specs.Prelude.{ℕ, List, Option, None, Some, codes, map}
-use Rattle.serde_json.specs.Data.{Data, array, boolean, object, string, Members, member, no_members}
+use Rattle.serde_json.specs.Data.{Data, array, boolean, null, object, string, member, no_members}
 use Rattle.serde_json.specs.View.{items_of}
 use Rattle.common_types.specs.declared.tags.AppTags.{AppTags}
 use Rattle.network_core.specs.Address.{address_text}
 use Rattle.network_core.specs.declared.address.Address.{Address}
 use Rattle.request_types.specs.Target.{Target}
 use Rattle.request_types.specs.declared.request.ClassCall.{ClassCall}
-use Rattle.compare_core.specs.declared.comparing.Example.{Example}
+use Rattle.request_types.specs.declared.request.Needs.{Needs}
 use Rattle.compare_text.specs.Request.{addressed_words, target_words}
 use Rattle.compare_text.specs.declared.widening.AddressedExample.{AddressedExample}
 
@@ -32,23 +32,27 @@ call_document call =
 abbrev pub target_document : Target → Data
 target_document target =
     object
-    (member (codes "command") (string (target_words target)) (member (codes "namespace") (string target.namespace) (member (codes "object") (string target.object)
-    (member (codes "pool") (string target.pool) (member (codes "tags") (array (items_of (map tag_document target.tags))) no_members)))))
+    (member (codes "namespace") (string target.namespace) (member (codes "object") (string target.object)
+    (member (codes "pool") (string target.pool) (member (codes "tags") (array (items_of (map tag_document target.tags))) no_members))))
 
--- the address, if there is one
-abbrev pub from_member : Option Address → Members → Members
-from_member None members = members
-from_member (Some address) members = member (codes "from") (string (address_text address)) members
+-- what a request asks for
+abbrev pub needs_document : Needs → Data
+needs_document needs =
+    object
+    (member (codes "calls") (array (items_of (map call_document needs.calls))) (member (codes "read") (boolean needs.reads) (member (codes "write") (boolean needs.writes) no_members)))
 
--- where a request goes, and whether it reads and writes
-abbrev pub request_members : Example → Members
-request_members example =
-    member (codes "namespace") (string example.target.namespace) (member (codes "object") (string example.target.object) (member (codes "pool") (string example.target.pool)
-    (member (codes "read") (boolean example.needs.reads) (member (codes "tags") (array (items_of (map tag_document example.target.tags))) (member (codes "write") (boolean example.needs.writes) no_members)))))
+-- a target of which it does not matter what is asked for
+abbrev pub target_example : Target → Data
+target_example target = object (member (codes "command") (string (target_words target)) (member (codes "target") (target_document target) no_members))
 
--- the same, its calls, and where it comes from
+-- an address, or null
+abbrev pub from_document : Option Address → Data
+from_document None = null
+from_document (Some address) = string (address_text address)
+
+-- a request, and where it comes from
 abbrev pub addressed_document : AddressedExample → Data
 addressed_document found =
     object
-    (member (codes "calls") (array (items_of (map call_document found.example.needs.calls)))
-    (member (codes "command") (string (addressed_words found)) (from_member found.from (request_members found.example))))
+    (member (codes "command") (string (addressed_words found)) (member (codes "from") (from_document found.from)
+    (member (codes "needs") (needs_document found.example.needs) (member (codes "target") (target_document found.example.target) no_members))))

@@ -21,5 +21,5 @@ pub use comparison::Comparison;
 pub use pairs::{ReadPair, read_pairs};
 pub use relation::{Presence, Relation};
 pub use request::{push_request, push_target};
-pub use request_json::{addressed_value, target_value};
+pub use request_json::{addressed_value, target_example};
 pub use widening::{AddressedExample, widening_from};

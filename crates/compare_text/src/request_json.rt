@@ -4,15 +4,17 @@ ghost use Rattle.std.specs.Prelude.{◌≡◌, IfOk, map, string_bytes};
 ghost use Rattle.serde_json.specs.Data.{array};
 ghost use Rattle.serde_json.specs.View.{items_of, view};
 ghost use Rattle.compare_text.specs.Request.{addressed_words, target_words};
-ghost use Rattle.compare_text.specs.RequestDocument.{addressed_document, call_document, key_document, tag_document, target_document};
+ghost use Rattle.compare_text.specs.RequestDocument.{addressed_document, call_document, from_document, key_document, needs_document, tag_document, target_document};
+ghost use Rattle.compare_text.specs.RequestDocument as spec;
 
 use crate::request::{push_addressed, push_target};
 use crate::widening::AddressedExample;
 use common_types::{AppTags, Name, OutOfMemory};
 use compare_core::OwnedTarget;
+use network_core::Address;
 use serde_json::{Value, json};
 use std::alloc::Global;
-use verdict_core::ClassCall;
+use verdict_core::{ClassCall, Needs};
 
 fn key_value(alloc: Global, pair: &(Name, Name)) -> Result<Value, OutOfMemory>
     ensures { IfOk result (λ value. view value ≡ key_document pair.now) }
@@ -87,64 +89,52 @@ fn addressed_text(alloc: Global, found: &AddressedExample) -> Result<String, Out
     Ok(text)
 }
 
-/// A target as a JSON object, with the members `pool`, `namespace`, `object`, `tags`, and `command`, the arguments of `osdgate
-/// verdict` that [`push_target`] writes. Each tag has `application` and `pairs`, of which each has `key` and `value` (this
-/// project's profile). The only error is out of memory.
-pub fn target_value(alloc: Global, target: &OwnedTarget) -> Result<Value, OutOfMemory>
+fn target_value(alloc: Global, target: &OwnedTarget) -> Result<Value, OutOfMemory>
     ensures { IfOk result (λ value. view value ≡ target_document target.now) }
 {
-    let command = target_text(alloc, target)?;
+    let tags = tags_value(alloc, target.tags.as_slice())?;
     let namespace = target.namespace.as_str();
     let object = target.object.as_str();
     let pool = target.pool.as_str();
-    let tags = tags_value(alloc, target.tags.as_slice())?;
-    json!(in alloc; {
-        "command": command,
-        "namespace": namespace,
-        "object": object,
-        "pool": pool,
-        "tags": tags
-    })
+    json!(in alloc; {"namespace": namespace, "object": object, "pool": pool, "tags": tags})
 }
 
-/// A request as a JSON object: the members of [`target_value`], whose `command` has what is asked for too; `read`, `write` and
-/// `calls`; and `from`, if the request has an address. Each call has `class`, `method`, `read`, `write` and `listed`. The only
-/// error is out of memory.
+fn needs_value(alloc: Global, needs: &Needs) -> Result<Value, OutOfMemory>
+    ensures { IfOk result (λ value. view value ≡ needs_document needs.now) }
+{
+    let calls = calls_value(alloc, needs.calls.as_slice())?;
+    json!(in alloc; {"calls": calls, "read": needs.reads, "write": needs.writes})
+}
+
+fn from_value(alloc: Global, from: &Option<Address>) -> Result<Value, OutOfMemory>
+    ensures { IfOk result (λ value. view value ≡ from_document from.now) }
+{
+    match from {
+        None => Ok(Value::Null),
+        Some(address) => Ok(Value::from(format!(in alloc; "{address}")?)),
+    }
+}
+
+/// A target as a JSON object: `command`, the arguments of `osdgate verdict` that [`push_target`] writes, and `target`. That has
+/// `pool`, `namespace`, `object` and `tags`, of which each has `application` and `pairs` of `key` and `value` (this project's
+/// profile). The only error is out of memory.
+pub fn target_example(alloc: Global, target: &OwnedTarget) -> Result<Value, OutOfMemory>
+    ensures { IfOk result (λ value. view value ≡ spec.target_example target.now) }
+{
+    let command = target_text(alloc, target)?;
+    let target = target_value(alloc, target)?;
+    json!(in alloc; {"command": command, "target": target})
+}
+
+/// A request as a JSON object: the members of [`target_example`], whose `command` has what is asked for, too; `needs`, which has
+/// `read`, `write` and `calls`; and `from`, its address or null. Each call has `class`, `method`, `read`, `write` and `listed`.
+/// The only error is out of memory.
 pub fn addressed_value(alloc: Global, found: &AddressedExample) -> Result<Value, OutOfMemory>
     ensures { IfOk result (λ value. view value ≡ addressed_document found.now) }
 {
     let command = addressed_text(alloc, found)?;
-    let target = &found.example.target;
-    let needs = &found.example.needs;
-    let calls = calls_value(alloc, needs.calls.as_slice())?;
-    let namespace = target.namespace.as_str();
-    let object = target.object.as_str();
-    let pool = target.pool.as_str();
-    let tags = tags_value(alloc, target.tags.as_slice())?;
-    match &found.from {
-        None => json!(in alloc; {
-            "calls": calls,
-            "command": command,
-            "namespace": namespace,
-            "object": object,
-            "pool": pool,
-            "read": needs.reads,
-            "tags": tags,
-            "write": needs.writes
-        }),
-        Some(address) => {
-            let from = format!(in alloc; "{address}")?;
-            json!(in alloc; {
-                "calls": calls,
-                "command": command,
-                "from": from,
-                "namespace": namespace,
-                "object": object,
-                "pool": pool,
-                "read": needs.reads,
-                "tags": tags,
-                "write": needs.writes
-            })
-        }
-    }
+    let from = from_value(alloc, &found.from)?;
+    let needs = needs_value(alloc, &found.example.needs)?;
+    let target = target_value(alloc, &found.example.target)?;
+    json!(in alloc; {"command": command, "from": from, "needs": needs, "target": target})
 }

@@ -8,7 +8,7 @@ use Rattle.rights_core.specs.Rights.{Rights, live_grants}
 use Rattle.verdict_text.specs.ShownName.{shown_name}
 use Rattle.verdict_text.specs.Documents.{list_by, piece}
 use Rattle.compare_text.specs.Request.{target_words}
-use Rattle.compare_text.specs.RequestDocument.{target_document}
+use Rattle.compare_text.specs.RequestDocument.{target_example}
 use Rattle.verdict_text.specs.declared.reading.TextFault.{TextFault}
 use Rattle.share_text.specs.declared.holder.Holder.{Holder}
 use Rattle.verdict_text.specs.declared.format.Format.{Format}
@@ -72,7 +72,7 @@ pair_line ReadsReads one other target = names_line one (codes " and ") other (co
 -- two that share a target so, as a document: what the first one does, and then the second one
 abbrev pub pair_document : Kind → List ℕ → List ℕ → Target → Data
 pair_document kind first second target =
-    object (member (codes "example") (target_document target) (member (codes "first") (string first)
+    object (member (codes "example") (target_example target) (member (codes "first") (string first)
     (member (codes "kind") (string (kind_words kind)) (member (codes "second") (string second) no_members))))
 
 -- the same as a text or as a piece of a document

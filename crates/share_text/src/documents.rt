@@ -8,7 +8,7 @@ use crate::live::{live_ticket, ticket_in};
 use crate::tenants::{Tenant, lives_of, tenants_of};
 use crate::texts::{Examples, all_examples, fails_check};
 use common_types::OutOfMemory;
-use compare_text::target_value;
+use compare_text::target_example;
 use flow_core::{Found, chains_from};
 use rights_core::Rights;
 use serde_json::{Value, json};
@@ -29,7 +29,7 @@ fn shared_value(alloc: Global, kind: Kind, shared: &Shared) -> Result<Value, Out
     let first = format!(in alloc; "{path}")?;
     let path = &shared.other_path;
     let second = format!(in alloc; "{path}")?;
-    let example = target_value(alloc, &shared.target)?;
+    let example = target_example(alloc, &shared.target)?;
     json!(in alloc; {"example": example, "first": first, "kind": kind.words(), "second": second})
 }
 

@@ -22,7 +22,7 @@ use crate::live::{live_ticket, ticket_in};
 use crate::texts::examples_of;
 use common_types::OutOfMemory;
 use compare_core::OwnedTarget;
-use compare_text::{push_target, target_value};
+use compare_text::{push_target, target_example};
 use rights_core::Rights;
 use serde_json::{Value, json};
 use share_core::{Pool, PoolIndex, example_in, share, share_in};
@@ -243,7 +243,7 @@ fn pair_value(
 ) -> Result<Value, OutOfMemory>
     ensures { IfOk result (λ value. view value ≡ pair_document kind first.now second.now target.now) }
 {
-    let example = target_value(alloc, target)?;
+    let example = target_example(alloc, target)?;
     json!(in alloc; {"example": example, "first": first, "kind": kind.words(), "second": second})
 }
 
