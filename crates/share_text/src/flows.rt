@@ -67,7 +67,7 @@ fn push_name_at(text: &mut String, tenants: &[Tenant<'_>], place: usize) -> Resu
     ensures { OnOk result (string_bytes text.new ≡ string_bytes text.old ++ shown_name (name_at tenants.now place)) }
 {
     match tenants.get(place) {
-        None => Ok(()),
+        None => push_name(text, ""),
         Some(tenant) => push_name(text, tenant.name),
     }
 }
